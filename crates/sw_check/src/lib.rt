@@ -1,0 +1,4 @@
+//! The verdict on a program's text, and the call that the program's `main` makes.
+#![tactic(auto)]
+
+mod small;

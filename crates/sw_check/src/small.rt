@@ -1,0 +1,5 @@
+//! The small language: an entry that prints integer literals, itself or in detached tasks.
+
+mod tree;
+
+pub use tree::{Item, ItemList, Show, ShowList, Small};
