@@ -2,8 +2,7 @@
 use Rattle.std.specs.Prelude.{ℕ, List}
 use Rattle.sw_check.specs.declared.words.Command as code
 use Rattle.sw_check.specs.declared.words.Command.TheVariants as variants
-use Rattle.sw_check.specs.Words.{Command, Check, Run}
+use Rattle.sw_check.specs.Words.{Command, Check}
 
 abbrev pub command : code.Command → Command
 command (variants.Check file) = Check file.now
-command (variants.Run file schedule) = Run file.now schedule.now

@@ -6,7 +6,6 @@ ghost use Rattle.sw_check.specs.WordsRead.{command};
 #[derive(Clone, Copy)]
 pub enum Command<'a> {
     Check { file: &'a str },
-    Run { file: &'a str, schedule: &'a str },
 }
 
 /// Whether a word names a file: it isn't empty and doesn't begin with `-`.
@@ -29,14 +28,6 @@ pub fn read(words: &[String]) -> Option<Command<'_>>
             let (verb, file) = (verb.as_str(), file.as_str());
             if verb == "check" && is_file_name(file) {
                 Some(Command::Check { file })
-            } else {
-                None
-            }
-        }
-        [verb, file, schedule] => {
-            let (verb, file, schedule) = (verb.as_str(), file.as_str(), schedule.as_str());
-            if verb == "run" && is_file_name(file) && is_file_name(schedule) {
-                Some(Command::Run { file, schedule })
             } else {
                 None
             }
