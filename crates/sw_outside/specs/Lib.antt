@@ -1,0 +1,4 @@
+pub mod MemShelf
+pub mod MemSink
+pub mod Rise
+pub mod Shelf
