@@ -1,5 +1,5 @@
 -- Where a file stands among the files, and what is held once a file was added.
-use Rattle.std.proofs.Common.{◌≡◌, ◌≢◌, ℕ, ◌+◌, ◌<◌, ◌≤◌, ◌⊎◌, inl, inr, Bool, true, false, cond, ltb, List, [], ◌∷◌, ◌++◌, length, get_or, Option, Some, None, IfSome, IfNone, unwrap_or, refl, sym, ap, ◌∙◌, set, arith, rules}
+use Rattle.std.proofs.Common.{◌≡◌, ◌≢◌, ℕ, ◌<◌, ◌≤◌, ◌⊎◌, inl, inr, Bool, true, false, cond, ltb, List, [], ◌∷◌, ◌++◌, length, get_or, Option, Some, None, IfSome, IfNone, refl, sym, ap, ◌∙◌, set, arith}
 use Rattle.std.proofs.lemmas.Bool.Decides.{nat_tests}
 use Rattle.std.proofs.lemmas.Slice.Eq.{bytes_eq-Decides}
 use Rattle.std.specs.Str.{bytes_eq}
@@ -78,3 +78,46 @@ with_file-not_found files name o e =
     elim (searched o (place files name) (length files) e) [
       inl w ↦ rw w.0 tt
     | inr w ↦ rw w.0 (λ bytes. with_file-missing files name bytes w.1) ]
+
+-- two names differ
+names_differ : (a b : List ℕ) → a ≢ b → bytes_eq a b ≡ false
+names_differ a b h = by (bytes_eq a b) refl where
+  by : (t : Bool) → bytes_eq a b ≡ t → bytes_eq a b ≡ false
+  by true e = absurd (h ((bytes_eq-Decides a b).0 e))
+  by false e = e
+
+-- what is held under the name of a file that was added
+pub held-with_file : (files : List (List ℕ × List ℕ)) (name bytes : List ℕ) → held (with_file name bytes files) name ≡ Some bytes
+unfolding held with_file
+held-with_file [] name bytes =
+    let same : bytes_eq name name ≡ true = (bytes_eq-Decides name name).1 refl in rw same refl
+held-with_file (file ∷ files) name bytes = by (bytes_eq file.0 name) refl (held-with_file files name bytes) where
+  by : (b : Bool) → bytes_eq file.0 name ≡ b → held (with_file name bytes files) name ≡ Some bytes → held (with_file name bytes (file ∷ files)) name ≡ Some bytes
+  by true e rest = let same : bytes_eq name name ≡ true = (bytes_eq-Decides name name).1 refl in rw (e, same) refl
+  by false e rest = rw (e, e) rest
+
+-- what is held under the other names
+pub held-with_file_other : (files : List (List ℕ × List ℕ)) (name bytes other : List ℕ) → other ≢ name → held (with_file name bytes files) other ≡ held files other
+unfolding held with_file
+held-with_file_other [] name bytes other h =
+    let differ : bytes_eq name other ≡ false = names_differ name other (λ e. h (sym e)) in rw differ refl
+held-with_file_other (file ∷ files) name bytes other h =
+    by (bytes_eq file.0 name) refl (held-with_file_other files name bytes other h)
+  where
+  by : (b : Bool) → bytes_eq file.0 name ≡ b → held (with_file name bytes files) other ≡ held files other → held (with_file name bytes (file ∷ files)) other ≡ held (file ∷ files) other
+  by true e rest =
+      let same : file.0 ≡ name = (bytes_eq-Decides file.0 name).0 e in
+      let differ : bytes_eq name other ≡ false = names_differ name other (λ q. h (sym q)) in
+      let differ_too : bytes_eq file.0 other ≡ false = names_differ file.0 other (λ q. h (sym q ∙ same)) in
+      rw (e, differ, differ_too) refl
+  by false e rest = rw e (ap (λ (o : Option (List ℕ)). cond (bytes_eq file.0 other) (Some file.1) o) rest)
+
+-- the file of the name of a file that was added
+pub file_of-with_file : (files : List (List ℕ × List ℕ)) (name bytes : List ℕ) → file_of (with_file name bytes files) name ≡ bytes
+unfolding file_of
+file_of-with_file files name bytes = rw held-with_file refl
+
+-- the files of the other names
+pub file_of-with_file_other : (files : List (List ℕ × List ℕ)) (name bytes other : List ℕ) → other ≢ name → file_of (with_file name bytes files) other ≡ file_of files other
+unfolding file_of
+file_of-with_file_other files name bytes other h = rw held-with_file_other refl

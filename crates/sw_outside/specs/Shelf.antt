@@ -7,6 +7,10 @@ pub record Told : Type 0 where
   pub files : List (List ℕ × List ℕ)
   pub asked : List (List ℕ)
 
+-- what a shelf that doesn't tell has to say
+abbrev pub untold : Option Told
+untold = None
+
 -- the bytes under a name, where a file has that name
 unfoldable pub held : List (List ℕ × List ℕ) → List ℕ → Option (List ℕ)
 held [] name = None

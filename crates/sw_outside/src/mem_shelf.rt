@@ -1,4 +1,4 @@
-ghost use Rattle.std.specs.Prelude.{◌≡◌, List, ℕ, Some, None, [], ◌∷◌, ◌++◌, ◌<◌, ◌≤◌, length, true, false, slice_index_or, slice_set, position, IfSome, IfNone, OnSome, IfOk, OnOk, OnErr, IsErrOf, IfErr};
+ghost use Rattle.std.specs.Prelude.{◌≡◌, ◌≢◌, List, ℕ, Some, None, [], ◌∷◌, ◌++◌, ◌<◌, ◌≤◌, length, true, false, slice_index_or, slice_set, position, IfSome, IfNone, OnSome, IfOk, OnOk, OnErr, IsErrOf, IfErr};
 ghost use Rattle.std.specs.Str.{bytes_eq};
 ghost use Rattle.sw_outside.specs.MemShelf.{ShelfState, fails_at, after_fetch};
 ghost use Rattle.sw_outside.specs.Rise.{Rose, raised};
@@ -120,6 +120,11 @@ impl MemShelf {
             told = record self.old.told { files = with_file name.now bytes.now self.old.told.files }
         }) }
         ensures err { OnErr result (self.new ≡ self.old) }
+
+        // So this file is under its name, and the other names keep theirs.
+        ensures added { OnOk result (file_of self.new.told.files name.now ≡ bytes.now) }
+        ensures others { OnOk result ((other : List ℕ) → other ≢ name.now
+            → file_of self.new.told.files other ≡ file_of self.old.told.files other) }
     {
         let file = StoredFile::new(self.alloc, name, bytes)?;
         match place_of(&self.files, name) {
