@@ -1,12 +1,11 @@
 -- Lemmas on changes of a job.
-use Rattle.std.proofs.Common.{◌≡◌, ℕ, ◌+◌, ◌-◌, ◌<◌, Bool, Option, Some, None, List, [], ◌∷◌, ◌++◌, length, take, cond, refl, ap, sym, ◌∙◌, arith, length-append}
+use Rattle.std.proofs.Common.{◌≡◌, ◌-◌, Some, List, [], ◌∷◌, ◌++◌, length, take, cond, refl, ap, ◌∙◌, arith, length-append}
 use Rattle.std.specs.List.{slice_get, slice_set}
 use Rattle.sw_value.specs.declared.value.Value.{Value}
 use Rattle.sw_value.specs.declared.frame.Frame.{Frame}
 use Rattle.sw_value.specs.declared.job.Job.{Job}
 use Rattle.sw_value.specs.declared.job.Status.{Status}
-use Rattle.sw_value.specs.declared.job.Status.TheVariants.{Ready, Running, Waiting, Ended}
-use Rattle.sw_value.specs.Lists.{changed_at}
+use Rattle.sw_value.specs.declared.job.Status.TheVariants.{Ready, Ended}
 use Rattle.sw_value.specs.Frame.{with_result}
 use Rattle.sw_value.specs.Job.{top_frame, return_to, return_from, after_return}
 use Rattle.sw_value.proofs.ListLemmas.{changed_at_there, slice_get_end, take_front}

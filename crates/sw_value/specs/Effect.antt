@@ -1,5 +1,5 @@
 -- What the next instruction of a frame does.
-use Rattle.std.specs.Prelude.{ℕ, ◌+◌, nat_le, Bool, Option, Some, None, List, length, option_map, if◌then◌else◌}
+use Rattle.std.specs.Prelude.{ℕ, ◌+◌, nat_le, Option, Some, None, List, length, if◌then◌else◌}
 use Rattle.sw_graph.specs.declared.instr.Instr.{Instr}
 use Rattle.sw_graph.specs.declared.instr.Instr.TheVariants as instr
 use Rattle.sw_graph.specs.declared.instr.Operand.{Operand}

@@ -1,5 +1,5 @@
 -- Where functions run.
-use Rattle.std.specs.Prelude.{ℕ, ◌==◌, Bool, true, false, Option, Some, None, List, slice_get}
+use Rattle.std.specs.Prelude.{◌==◌, Bool, true, false, Option, Some, None, List}
 use Rattle.sw_types.specs.declared.isolation.Iso.{Iso}
 use Rattle.sw_types.specs.declared.isolation.Iso.TheVariants as iso
 use Rattle.sw_value.specs.declared.executor.Executor.{Executor}

@@ -1,5 +1,5 @@
 -- What an item of a schedule is, read off the state before it.
-use Rattle.std.specs.Prelude.{ℕ, ◌==◌, Bool, true, false, Option, Some, None, List, slice_get, length, ◌||◌, is_some, option_map, option_and_then, if◌then◌else◌}
+use Rattle.std.specs.Prelude.{ℕ, ◌==◌, Bool, false, Option, Some, None, slice_get, length, ◌||◌, is_some, option_map, option_and_then, if◌then◌else◌}
 use Rattle.sw_graph.specs.declared.graph.Graph.{Graph}
 use Rattle.sw_value.specs.declared.value.Value.{Value}
 use Rattle.sw_value.specs.declared.executor.Executor.{Executor}
@@ -34,29 +34,29 @@ pub record Occurrence : Type 0 where
 
 -- the executor that a job leaves where its top frame has that effect: a Return leaves it where the frame crosses or is
 -- the last one, and a trap leaves none
-abbrev left_by : Job → Frame → Effect → Option Executor
+abbrev pub left_by : Job → Frame → Effect → Option Executor
 left_by job frame (effect.Leave v) = if frame.crossing || length job.frames == 1 then Some frame.executor else None
 left_by job frame _ = None
 
-abbrev made_by : Effect → Option ℕ
+abbrev pub made_by : Effect → Option ℕ
 made_by (effect.Spawn r frame job cell next) = Some job
 made_by _ = None
 
-abbrev ends_by : Job → Effect → Bool
+abbrev pub ends_by : Job → Effect → Bool
 ends_by job (effect.Leave v) = length job.frames == 1
 ends_by job _ = false
 
-abbrev dispatch_of : State → ℕ → Frame → Option Occurrence
+abbrev pub dispatch_of : State → ℕ → Frame → Option Occurrence
 dispatch_of state j frame =
     if is_free frame.executor state.jobs
     then Some (record { job = j; act = Dispatch; enters = Some frame.executor; leaves = None; makes = None; ends = false; accesses = None })
     else None
 
-abbrev wake_of : ℕ → ℕ → Value → Occurrence
+abbrev pub wake_of : ℕ → ℕ → Value → Occurrence
 wake_of j r v = record { job = j; act = Wake r v; enters = None; leaves = None; makes = None; ends = false; accesses = None }
 
 -- a stuck job does nothing
-abbrev execution_of : Graph → State → ℕ → Job → Frame → Effect → Option Occurrence
+abbrev pub execution_of : Graph → State → ℕ → Job → Frame → Effect → Option Occurrence
 execution_of graph state j job frame effect.Stuck = None
 execution_of graph state j job frame e = Some (record {
   job = j;
@@ -68,7 +68,7 @@ execution_of graph state j job frame e = Some (record {
   accesses = frame_access graph state frame;
 })
 
-abbrev happening_by : Graph → State → ℕ → Job → Status → Option Occurrence
+abbrev pub happening_by : Graph → State → ℕ → Job → Status → Option Occurrence
 happening_by graph state j job Ready = option_and_then (dispatch_of state j) (top_frame job)
 happening_by graph state j job (Waiting on r) = option_map (wake_of j r) (result_of state on)
 happening_by graph state j job Running =

@@ -4,7 +4,7 @@ use Rattle.sw_value.specs.declared.value.Value.{Value}
 use Rattle.sw_value.specs.declared.frame.Frame.{Frame}
 use Rattle.sw_value.specs.declared.job.Job.{Job}
 use Rattle.sw_value.specs.declared.job.Status.{Status}
-use Rattle.sw_value.specs.declared.job.Status.TheVariants.{Ready, Running, Waiting, Ended}
+use Rattle.sw_value.specs.declared.job.Status.TheVariants.{Ready, Running, Ended}
 use Rattle.sw_value.specs.Lists.{changed_at}
 use Rattle.sw_value.specs.Frame.{with_register, with_result}
 

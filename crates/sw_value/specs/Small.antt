@@ -1,5 +1,5 @@
 -- Graphs of literals, prints and detached tasks.
-use Rattle.std.specs.Prelude.{◌≡◌, ℕ, ◌<◌, ◌^◌, List, length, All}
+use Rattle.std.specs.Prelude.{◌≡◌, ◌<◌, ◌^◌, length, All}
 use Rattle.sw_types.specs.declared.isolation.Iso.TheVariants.{Free}
 use Rattle.sw_graph.specs.declared.instr.Instr.TheVariants as instr
 use Rattle.sw_graph.specs.declared.instr.Last.TheVariants as last

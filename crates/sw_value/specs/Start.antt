@@ -1,5 +1,5 @@
 -- The state before any item.
-use Rattle.std.specs.Prelude.{ℕ, Option, None, List, [], ◌∷◌, length, reverse, replicate}
+use Rattle.std.specs.Prelude.{None, List, [], ◌∷◌, length, reverse, replicate}
 use Rattle.std.specs.List.{filter_map}
 use Rattle.sw_graph.specs.declared.graph.Graph.{Graph}
 use Rattle.sw_value.specs.declared.frame.Frame.{Frame}

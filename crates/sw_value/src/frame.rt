@@ -3,9 +3,8 @@ ghost use Rattle.std.specs.Option.{option_copied};
 ghost use Rattle.sw_value.specs.Frame.{with_register, after_instr, with_result};
 ghost use Rattle.sw_value.specs.Value.{value_at};
 
-use crate::value::Value;
 use crate::executor::Executor;
-use crate::value::ValueSlots;
+use crate::value::{Value, ValueSlots};
 use sw_list::ListOf;
 
 /// The frames of a job from the bottom to the top.

@@ -5,10 +5,9 @@ ghost use Rattle.sw_value.specs.Job.{top_frame, is_running, in_top, as_running, 
 ghost use Rattle.sw_value.specs.State.{runs_on};
 
 use crate::executor::Executor;
-use crate::frame::Frame;
-use std::alloc::{AllocError, Global};
-use crate::frame::FrameList;
+use crate::frame::{Frame, FrameList};
 use crate::value::Value;
+use std::alloc::{AllocError, Global};
 use sw_list::ListOf;
 
 /// The jobs of a state, by number. A job never goes away.
@@ -135,7 +134,9 @@ impl Job {
         if depth == 0 {
             self.status = Status::Ended { value };
         } else {
-            self.frames.at_mut(depth - 1).take_result(frame.result, value);
+            self.frames
+                .at_mut(depth - 1)
+                .take_result(frame.result, value);
             if frame.crossing {
                 self.status = Status::Ready;
             }

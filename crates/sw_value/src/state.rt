@@ -62,7 +62,9 @@ impl State {
         ensures { self.new ≡ in_job (in_top (after_instr reg value next)) job self.old }
     {
         if (job as usize) < self.jobs.len() {
-            self.jobs.at_mut(job as usize).finish_instr(reg, value, next);
+            self.jobs
+                .at_mut(job as usize)
+                .finish_instr(reg, value, next);
         }
     }
 
