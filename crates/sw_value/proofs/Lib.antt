@@ -1,0 +1,5 @@
+pub mod JobLemmas
+pub mod ListLemmas
+pub mod NeverRaces
+pub mod ReachLemmas
+pub mod StaysInBounds

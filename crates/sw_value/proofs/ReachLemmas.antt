@@ -1,0 +1,39 @@
+-- Lemmas on the states that items lead to.
+use Rattle.std.proofs.Common.{◌≡◌, ℕ, ◌+◌, Some, List, [], ◌∷◌, ◌++◌, take, refl, ap, ◌∙◌}
+use Rattle.std.specs.List.{slice_get, fold}
+use Rattle.std.proofs.lemmas.List.Sums.{fold-append}
+use Rattle.sw_graph.specs.declared.graph.Graph.{Graph}
+use Rattle.sw_value.specs.declared.state.State.{State}
+use Rattle.sw_value.specs.Start.{start_of}
+use Rattle.sw_value.specs.Reach.{step_of, reach, Reached}
+use Rattle.sw_value.proofs.ListLemmas.{take_next}
+
+pub reach_none : (graph : Graph) → reach graph [] ≡ start_of graph
+unfolding reach
+reach_none graph = refl
+
+-- one more item
+pub reach_push : (graph : Graph) (items : List ℕ) (item : ℕ) → reach graph (items ++ item ∷ []) ≡ step_of graph (reach graph items) item
+unfolding reach
+reach_push graph items item = fold-append (step_of graph) (start_of graph) items (item ∷ [])
+
+-- a loop over the items: the state after i + 1 of them
+pub reach_more : (graph : Graph) (items : List ℕ) (i item : ℕ) → slice_get items i ≡ Some item → reach graph (take (i + 1) items) ≡ step_of graph (reach graph (take i items)) item
+reach_more graph items i item e = ap (reach graph) (take_next items i item e) ∙ reach_push graph (take i items) item
+
+pub start_reached : (graph : Graph) → Reached graph (start_of graph)
+start_reached graph = record { items = []; gives = reach_none graph }
+
+pub step_reached : (graph : Graph) (state : State) (item : ℕ) → Reached graph state → Reached graph (step_of graph state item)
+step_reached graph state item r = record {
+  items = r.items ++ item ∷ [];
+  gives = reach_push graph r.items item ∙ ap (λ s. step_of graph s item) r.gives;
+}
+
+-- what holds at the start and is kept by each step holds of each state that items lead to
+pub reach_keeps : (P : State → Type 0) (graph : Graph) → P (start_of graph) → ((state : State) (item : ℕ) → P state → P (step_of graph state item)) → (items : List ℕ) → P (reach graph items)
+unfolding reach
+reach_keeps P graph begins keeps items = on (start_of graph) items begins where
+  on : (state : State) (is : List ℕ) → P state → P (fold (step_of graph) state is)
+  on state [] p = p
+  on state (i ∷ is) p = on (step_of graph state i) is (keeps state i p)

@@ -1,0 +1,14 @@
+pub mod Effect
+pub mod Executor
+pub mod Frame
+pub mod Happening
+pub mod Job
+pub mod Lists
+pub mod Point
+pub mod Printed
+pub mod Racing
+pub mod Reach
+pub mod Small
+pub mod Start
+pub mod State
+pub mod Value

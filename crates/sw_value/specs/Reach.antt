@@ -1,0 +1,45 @@
+-- The step of an item, and the states that items lead to.
+use Rattle.std.specs.Prelude.{◌≡◌, ℕ, Option, Some, None, List, [], ◌∷◌, fold}
+use Rattle.sw_graph.specs.declared.graph.Graph.{Graph}
+use Rattle.sw_value.specs.declared.value.Value.TheVariants as value
+use Rattle.sw_value.specs.declared.cell.HeapCell.TheVariants.{TaskOf}
+use Rattle.sw_value.specs.declared.state.State.{State}
+use Rattle.sw_value.specs.declared.effect.Effect.{Effect}
+use Rattle.sw_value.specs.declared.effect.Effect.TheVariants as effect
+use Rattle.sw_value.specs.Frame.{after_instr}
+use Rattle.sw_value.specs.Job.{in_top, as_running, after_wake, after_return, first_job}
+use Rattle.sw_value.specs.State.{in_job, with_job, with_cell, with_halt}
+use Rattle.sw_value.specs.Happening.{Act, Dispatch, Wake, Execute, Occurrence, happening}
+use Rattle.sw_value.specs.Start.{start_of}
+
+-- job j executes an instruction with that effect
+abbrev pub after_effect : ℕ → Effect → State → State
+after_effect j (effect.Set r v next) state = in_job (in_top (after_instr r v next)) j state
+after_effect j (effect.Print r line next) state = in_job (in_top (after_instr r value.Unit next)) j state
+after_effect j (effect.Spawn r frame job cell next) state =
+    in_job (in_top (after_instr r (value.Cell cell) next)) j (with_cell (TaskOf job) (with_job (first_job (frame ∷ [])) state))
+after_effect j (effect.Leave v) state = in_job (after_return v) j state
+after_effect j (effect.Halt kind at) state = with_halt kind at state
+after_effect j effect.Stuck state = state
+
+abbrev pub after_act : ℕ → Act → State → State
+after_act j Dispatch state = in_job as_running j state
+after_act j (Wake r v) state = in_job (after_wake r v) j state
+after_act j (Execute e) state = after_effect j e state
+
+abbrev pub after : Option Occurrence → State → State
+after None state = state
+after (Some o) state = after_act o.job o.act state
+
+-- the state after one item
+unfoldable pub step_of : Graph → State → ℕ → State
+step_of graph state item = after (happening graph state item) state
+
+-- the state after a list of items, of any length
+unfoldable pub reach : Graph → List ℕ → State
+reach graph items = fold (step_of graph) (start_of graph) items
+
+-- some items lead to the state
+pub record Reached (graph : Graph) (state : State) : Type 0 where
+  pub items : List ℕ
+  pub gives : reach graph items ≡ state

@@ -1,0 +1,39 @@
+use crate::frame::Frame;
+use crate::state::TrapKind;
+use crate::value::{Line, Value};
+
+/// What the next instruction of a running job does. `next` is the point at which the top frame goes on.
+#[derive(Debug, Drop)]
+pub enum Effect {
+    /// Register `reg` gets a value.
+    Set {
+        reg: u32,
+        value: Value,
+        next: u32,
+    },
+    /// A line is printed, and register `reg` gets the value of `Void`.
+    Print {
+        reg: u32,
+        line: Line,
+        next: u32,
+    },
+    /// The job `job` is made with one frame, and the cell `cell` as its task; register `reg` gets that cell.
+    Spawn {
+        reg: u32,
+        frame: Frame,
+        job: u32,
+        cell: u32,
+        next: u32,
+    },
+    /// The top frame returns a value.
+    Leave {
+        value: Value,
+    },
+    /// The machine halts at the instruction with this byte offset.
+    Halt {
+        kind: TrapKind,
+        at: u32,
+    },
+    /// Nothing: there is no such instruction, or it reads what has no value or a value of another kind.
+    Stuck,
+}

@@ -1,0 +1,70 @@
+ghost use Rattle.std.specs.Prelude.{◌≡◌};
+ghost use Rattle.std.specs.Option.{option_copied};
+ghost use Rattle.sw_value.specs.Frame.{with_register, after_instr, with_result};
+ghost use Rattle.sw_value.specs.Value.{value_at};
+
+use crate::executor::Executor;
+use crate::value::{Value, ValueSlots};
+use sw_list::ListOf;
+
+/// The frames of a job from the bottom to the top.
+pub type FrameList = ListOf<Frame>;
+
+/// A call that has not returned.
+#[derive(Debug, Drop)]
+pub struct Frame {
+    /// The number of the function that runs.
+    pub function: u32,
+    /// The point of that function at which the frame goes on.
+    pub point: u32,
+    pub regs: ValueSlots,
+    pub executor: Executor,
+    /// Whether the job gives its executor up when this frame returns.
+    pub crossing: bool,
+    /// The register of the frame below that gets the result, or 512 where no frame waits for one.
+    pub result: u32,
+}
+
+/// The result number of a frame that no other frame waits for; no register has it.
+pub const NO_REGISTER: u32 = 512;
+
+impl Frame {
+    /// The value of a register, if it is there and has one.
+    pub fn value_at(&self, reg: u32) -> Option<&Value>
+        ensures { option_copied result ≡ value_at self.now.regs reg }
+    {
+        match self.regs.get(reg as usize) {
+            Some(Some(value)) => Some(value),
+            _ => None,
+        }
+    }
+
+    /// Gives a register a value.
+    #[tactic(auto, using(std::proofs::lemmas::List::set_past), unfolding(crate::specs::Frame::with_register))]
+    pub fn set_register(&mut self, reg: u32, value: Value)
+        ensures { self.new ≡ with_register reg value self.old }
+    {
+        if (reg as usize) < self.regs.len() {
+            self.regs.set(reg as usize, Some(value));
+        }
+    }
+
+    #[tactic(auto, unfolding(crate::specs::Frame::with_register, crate::specs::Frame::after_instr))]
+    /// Gives a register the value of an instruction and goes on behind it.
+    pub fn finish_instr(&mut self, reg: u32, value: Value, next: u32)
+        ensures { self.new ≡ after_instr reg value next self.old }
+    {
+        self.set_register(reg, value);
+        self.point = next;
+    }
+
+    #[tactic(auto, unfolding(crate::specs::Frame::with_result))]
+    /// Takes the result of the frame above into the register that it is for.
+    pub fn take_result(&mut self, reg: u32, value: Value)
+        ensures { self.new ≡ with_result reg value self.old }
+    {
+        if reg != NO_REGISTER {
+            self.set_register(reg, value);
+        }
+    }
+}

@@ -1,0 +1,145 @@
+ghost use Rattle.std.specs.Prelude.{◌≡◌, IfOk, ◌∷◌, []};
+ghost use Rattle.std.specs.Option.{option_copied};
+ghost use Rattle.sw_value.specs.Frame.{after_instr};
+ghost use Rattle.sw_value.specs.Job.{top_frame, is_running, in_top, as_running, after_wake, after_return, return_to, first_job};
+ghost use Rattle.sw_value.specs.State.{runs_on};
+
+use crate::executor::Executor;
+use crate::frame::{Frame, FrameList};
+use crate::value::Value;
+use std::alloc::{AllocError, Global};
+use sw_list::ListOf;
+
+/// The jobs of a state, by number. A job never goes away.
+pub type JobList = ListOf<Job>;
+
+/// Whether a job can go on.
+#[derive(Debug, Drop)]
+pub enum Status {
+    /// It waits for its executor.
+    Ready,
+    /// It has its executor.
+    Running,
+    /// It waits for the end of another job, whose result goes into a register.
+    Waiting { job: u32, reg: u32 },
+    /// It has ended with a value.
+    Ended { value: Value },
+}
+
+/// A task: a stack of frames, and whether it can go on.
+#[derive(Debug, Drop)]
+pub struct Job {
+    pub frames: FrameList,
+    pub status: Status,
+}
+
+/// How many jobs there may be.
+pub const MAX_JOBS: usize = 65_536;
+
+impl Job {
+    /// A job that has not run yet, with one frame.
+    #[tactic(auto, unfolding(crate::specs::Job::first_job))]
+    pub fn new(alloc: Global, frame: Frame) -> Result<Job, AllocError>
+        ensures { IfOk result (λ job. job ≡ first_job (frame ∷ [])) }
+    {
+        let mut frames = ListOf::new(alloc);
+        frames.push(frame)?;
+        Ok(Job {
+            frames,
+            status: Status::Ready,
+        })
+    }
+
+    /// The frame that the job executes.
+    #[tactic(auto, unfolding(crate::specs::Job::top_frame))]
+    pub fn top_frame(&self) -> Option<&Frame>
+        ensures { option_copied result ≡ top_frame self.now }
+    {
+        let depth = self.frames.len();
+        if depth == 0 {
+            return None;
+        }
+        self.frames.get(depth - 1)
+    }
+
+    /// Whether the job has its executor.
+    #[tactic(auto, unfolding(crate::specs::Job::is_running))]
+    pub fn is_running(&self) -> bool
+        ensures { result ≡ is_running self.now }
+    {
+        matches!(self.status, Status::Running)
+    }
+
+    /// Whether the job runs on an executor.
+    #[tactic(auto, unfolding(crate::specs::State::runs_on))]
+    pub fn runs_on(&self, executor: Executor) -> bool
+        ensures { result ≡ runs_on executor self.now }
+    {
+        if !self.is_running() {
+            return false;
+        }
+        match self.top_frame() {
+            None => false,
+            Some(frame) => frame.executor.is_same(executor),
+        }
+    }
+
+    /// Gives the job its executor.
+    #[tactic(auto, unfolding(crate::specs::Job::as_running))]
+    pub fn start_running(&mut self)
+        ensures { self.new ≡ as_running self.old }
+    {
+        self.status = Status::Running;
+    }
+
+    /// Gives a register of the top frame the value that the job waited for.
+    #[tactic(auto, using(crate::proofs::ListLemmas::changes), unfolding(crate::specs::Job::after_wake))]
+    pub fn wake(&mut self, reg: u32, value: Value)
+        ensures { self.new ≡ after_wake reg value self.old }
+    {
+        let depth = self.frames.len();
+        if depth > 0 {
+            self.frames.at_mut(depth - 1).set_register(reg, value);
+        }
+        self.status = Status::Ready;
+    }
+
+    /// Gives a register of the top frame the value of its instruction and goes on behind it.
+    #[tactic(auto, using(crate::proofs::ListLemmas::changes), unfolding(crate::specs::Job::in_top))]
+    pub fn finish_instr(&mut self, reg: u32, value: Value, next: u32)
+        ensures { self.new ≡ in_top (after_instr reg value next) self.old }
+    {
+        let depth = self.frames.len();
+        if depth > 0 {
+            self.frames.at_mut(depth - 1).finish_instr(reg, value, next);
+        }
+    }
+
+    /// Returns a value from the top frame.
+    #[tactic(auto, using(crate::proofs::JobLemmas::returns), unfolding(crate::specs::Job::after_return, crate::specs::Job::top_frame))]
+    pub fn leave(&mut self, value: Value)
+        ensures { self.new ≡ after_return value self.old }
+    {
+        if let Some(frame) = self.frames.pop() {
+            self.return_from(&frame, value);
+        }
+    }
+
+    /// Gives the frames below a frame that has left them its value.
+    #[tactic(auto, using(crate::proofs::JobLemmas::returns))]
+    fn return_from(&mut self, frame: &Frame, value: Value)
+        ensures { self.new ≡ return_to self.old.frames frame.now value self.old.status }
+    {
+        let depth = self.frames.len();
+        if depth == 0 {
+            self.status = Status::Ended { value };
+        } else {
+            self.frames
+                .at_mut(depth - 1)
+                .take_result(frame.result, value);
+            if frame.crossing {
+                self.status = Status::Ready;
+            }
+        }
+    }
+}
