@@ -1,6 +1,7 @@
 pub mod Breach
 pub mod Call
 pub mod Exit
+pub mod Lines
 pub mod Reply
 pub mod Verdict
 pub mod Words

@@ -27,22 +27,21 @@ fn text_of(code: u16) -> &'static str
     }
 }
 
-/// A place of the text `bytes` as `LINE:COLUMN`.
+/// A place of the text `bytes` as `LINE:COLUMN`. One past the text is told as the text's end.
 #[tactic(auto, unfolding(crate::specs::Breach::place))]
 pub fn place(alloc: Global, bytes: &[u8], at: u32) -> Result<String, AllocError>
-    requires within { at ≤ length bytes.now }
-    requires short { length bytes.now < 4294967295 }
+    requires { length bytes.now < 4294967295 }
     ensures { IfOk result (λ text. string_bytes text ≡ place bytes.now at) }
 {
-    let (line, column) = line_col_of(bytes, at);
+    let within = at.min(bytes.len() as u32);
+    let (line, column) = line_col_of(bytes, within);
     format!(in alloc; "{line}:{column}")
 }
 
 /// The line that tells a breach of the text `bytes`.
 #[tactic(auto, unfolding(crate::specs::Breach::breach_line))]
 fn breach_line(alloc: Global, bytes: &[u8], breach: Breach) -> Result<String, AllocError>
-    requires within { breach.at ≤ length bytes.now }
-    requires short { length bytes.now < 4294967295 }
+    requires { length bytes.now < 4294967295 }
     ensures { IfOk result (λ line. string_bytes line ≡ breach_line bytes.now breach) }
 {
     let place = place(alloc, bytes, breach.at)?;
@@ -54,8 +53,7 @@ fn breach_line(alloc: Global, bytes: &[u8], breach: Breach) -> Result<String, Al
 /// The verdict on a text that is refused for one breach.
 #[tactic(auto, unfolding(crate::specs::Breach::verdict_text))]
 pub fn verdict_text(alloc: Global, bytes: &[u8], breach: Breach) -> Result<String, AllocError>
-    requires within { breach.at ≤ length bytes.now }
-    requires short { length bytes.now < 4294967295 }
+    requires { length bytes.now < 4294967295 }
     ensures { IfOk result (λ text. string_bytes text ≡ verdict_text bytes.now breach) }
 {
     let line = breach_line(alloc, bytes, breach)?;

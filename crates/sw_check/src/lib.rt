@@ -10,6 +10,7 @@ ghost use Rattle.sw_check.specs.Words.{command_of};
 
 mod breach;
 mod exit;
+mod lines;
 mod outcome;
 mod reply;
 mod small;
@@ -17,12 +18,11 @@ mod verdict;
 mod words;
 mod write;
 
+pub use exit::Exit;
 use reply::{Stop, answer};
 use std::alloc::Global;
 use sw_outside::{Shelf, Sink, SinkFault};
 use write::put_all;
-
-pub use exit::Exit;
 
 /// The most bytes that a program's file may have.
 pub const PROGRAM_LIMIT: usize = 262_144;

@@ -1,6 +1,5 @@
-use sw_list::ListOf;
-
 use crate::exit::Exit;
+use sw_list::ListOf;
 
 /// A reply to the words: the exit, where no write fails, and the bytes to write.
 #[derive(Drop)]

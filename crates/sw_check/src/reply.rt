@@ -2,13 +2,8 @@ ghost use Rattle.std.specs.Prelude.{◌≡◌, ◌<◌, ◌≤◌, IfOk, IfSome,
 ghost use Rattle.sw_outside.specs.Rise.{Rose};
 ghost use Rattle.sw_check.specs.Exit.{is_failure};
 ghost use Rattle.sw_check.specs.Reply.{Answered, IsCheckReply, Unanswered, check_outcome, refusal};
-ghost use Rattle.sw_check.specs.Verdict.{IsWithin};
 ghost use Rattle.sw_check.specs.Words.{Check, command_of};
 ghost use Rattle.sw_check.specs.declared.reply.Stop.TheVariants.{Memory};
-
-use std::alloc::{AllocError, Global};
-use sw_list::ListOf;
-use sw_outside::{FetchFault, Shelf};
 
 use crate::PROGRAM_LIMIT;
 use crate::breach::{Breach, verdict_text};
@@ -16,6 +11,9 @@ use crate::exit::Exit;
 use crate::outcome::Outcome;
 use crate::verdict::{Verdict, verdict_on};
 use crate::words::{self, Command};
+use std::alloc::{AllocError, Global};
+use sw_list::ListOf;
+use sw_outside::{FetchFault, Shelf};
 
 /// Why there is no reply.
 #[derive(Clone, Copy, Debug, PartialEq, Eq)]
@@ -45,8 +43,7 @@ fn line(alloc: Global, exit: Exit, text: &str) -> Result<Outcome, AllocError>
 
 /// The reply about a program that is refused.
 fn refused(alloc: Global, text: &[u8], breach: Breach) -> Result<Outcome, AllocError>
-    requires within { breach.at ≤ length text.now }
-    requires short { length text.now ≤ PROGRAM_LIMIT }
+    requires { length text.now ≤ PROGRAM_LIMIT }
     ensures { IfOk result (λ outcome. outcome ≡ refusal text.now breach) }
 {
     let lines = verdict_text(alloc, text, breach)?;
@@ -55,8 +52,7 @@ fn refused(alloc: Global, text: &[u8], breach: Breach) -> Result<Outcome, AllocE
 
 /// What `check` answers to a verdict.
 fn told(alloc: Global, text: &[u8], verdict: &Verdict) -> Result<Outcome, AllocError>
-    requires within { IsWithin text.now verdict.now }
-    requires short { length text.now ≤ PROGRAM_LIMIT }
+    requires { length text.now ≤ PROGRAM_LIMIT }
     ensures { IfOk result (λ outcome. outcome ≡ check_outcome text.now verdict.now) }
 {
     match verdict {

