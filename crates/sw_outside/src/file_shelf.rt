@@ -1,4 +1,4 @@
-ghost use Rattle.std.specs.Prelude.{◌≡◌, ℕ, List, Option, Some, None, [], ◌+◌, ◌<◌, ◌≤◌, length, take, vec_len, IfOk, OnOk, OnErr, IfSome, IfNone, IsErrOf, option_map, ⊤};
+ghost use Rattle.std.specs.Prelude.{◌≡◌, ℕ, List, Option, [], ◌+◌, ◌<◌, ◌≤◌, length, take, vec_len, IfOk, OnOk, OnErr, IfSome, IsErrOf, option_map, ⊤};
 ghost use Rattle.std.specs.Io.KnownBytes.{Consumes, IsAtEnd};
 ghost use Rattle.sw_outside.specs.Counts.{Counts};
 ghost use Rattle.sw_outside.specs.Rise.{Rose, raised};
@@ -129,7 +129,8 @@ fn read_once<F: Read>(file: &mut F, want: usize, bytes: &mut Vec<u8>) -> Result<
     ensures bound { IfOk result (λ n. n ≤ want) }
     ensures len { IfOk result (λ n. vec_len bytes.new ≡ vec_len bytes.old + n) }
     ensures stays { OnErr result (bytes.new.items ≡ bytes.old.items) }
-    ensures consumes { OnOk result ((all : Option (List ℕ)) → Consumes all (F.remaining file.old) bytes.old.items
+    ensures consumes { OnOk result ((all : Option (List ℕ))
+        → Consumes all (F.remaining file.old) bytes.old.items
         → Consumes all (F.remaining file.new) bytes.new.items) }
     ensures end { IfOk result (λ n. n ≡ 0 → IsAtEnd (F.remaining file.new)) }
 {

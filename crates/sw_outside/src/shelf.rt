@@ -1,4 +1,4 @@
-ghost use Rattle.std.specs.Prelude.{◌≡◌, ℕ, List, Option, ◌<◌, ◌≤◌, length, option_map, IfOk, OnOk, IfSome, IfNone, IsErrOf};
+ghost use Rattle.std.specs.Prelude.{◌≡◌, ℕ, Option, ◌<◌, ◌≤◌, length, option_map, IfOk, OnOk, IfSome, IfNone, IsErrOf};
 ghost use Rattle.sw_outside.specs.declared.shelf.FetchFault.TheVariants.{Memory};
 ghost use Rattle.sw_outside.specs.Rise.{Rose};
 ghost use Rattle.sw_outside.specs.Shelf.{Told, file_of, asked_too};
@@ -77,5 +77,6 @@ pub trait Shelf {
             (λ bytes. IfSome (told self.old) (λ t. bytes.items ≡ file_of t.files name.now)) }
         ensures long_told { IsErrOf result FetchFault.TooLong
             → IfSome (told self.old) (λ t. limit < length (file_of t.files name.now)) }
-        ensures long_untold { IsErrOf result FetchFault.TooLong → IfNone (told self.old) (limit < came self.new) };
+        ensures long_untold { IsErrOf result FetchFault.TooLong
+            → IfNone (told self.old) (limit < came self.new) };
 }

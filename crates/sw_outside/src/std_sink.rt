@@ -1,4 +1,4 @@
-ghost use Rattle.std.specs.Prelude.{◌≡◌, ℕ, None, ◌<◌, ◌≤◌, length, IfOk, OnOk, OnErr, option_map, ◌++◌, take};
+ghost use Rattle.std.specs.Prelude.{◌≡◌, ℕ, ◌<◌, ◌≤◌, length, IfOk, OnOk, OnErr, option_map, ◌++◌, take};
 ghost use Rattle.sw_outside.specs.Rise.{Rose, raised};
 ghost use Rattle.sw_outside.specs.Sink.{untold};
 
