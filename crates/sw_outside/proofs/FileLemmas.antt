@@ -58,26 +58,30 @@ searched o n m e = by (ltb n m) refl where
 pub held-found : (files : List (List ℕ × List ℕ)) (name : List ℕ) (o : Option ℕ) → o ≡ position (λ file. bytes_eq file.0 name) files → IfSome o (λ at. (d : List ℕ × List ℕ) → held files name ≡ Some (get_or files at d).1)
 held-found files name o e =
     elim (searched o (place files name) (length files) e) [
-      inl w ↦ rw w.0 (λ d. held-there files name d w.1)
-    | inr w ↦ rw w.0 tt ]
+      | inl w ↦ rw w.0 (λ d. held-there files name d w.1)
+      | inr w ↦ rw w.0 tt
+    ]
 
 pub held-not_found : (files : List (List ℕ × List ℕ)) (name : List ℕ) (o : Option ℕ) → o ≡ position (λ file. bytes_eq file.0 name) files → IfNone o (held files name ≡ None)
 held-not_found files name o e =
     elim (searched o (place files name) (length files) e) [
-      inl w ↦ rw w.0 tt
-    | inr w ↦ rw w.0 (held-missing files name w.1) ]
+      | inl w ↦ rw w.0 tt
+      | inr w ↦ rw w.0 (held-missing files name w.1)
+    ]
 
 pub with_file-found : (files : List (List ℕ × List ℕ)) (name : List ℕ) (o : Option ℕ) → o ≡ position (λ file. bytes_eq file.0 name) files → IfSome o (λ at. (bytes : List ℕ) → with_file name bytes files ≡ set files at (name, bytes))
 with_file-found files name o e =
     elim (searched o (place files name) (length files) e) [
-      inl w ↦ rw w.0 (λ bytes. with_file-there files name bytes w.1)
-    | inr w ↦ rw w.0 tt ]
+      | inl w ↦ rw w.0 (λ bytes. with_file-there files name bytes w.1)
+      | inr w ↦ rw w.0 tt
+    ]
 
 pub with_file-not_found : (files : List (List ℕ × List ℕ)) (name : List ℕ) (o : Option ℕ) → o ≡ position (λ file. bytes_eq file.0 name) files → IfNone o ((bytes : List ℕ) → with_file name bytes files ≡ files ++ (name, bytes) ∷ [])
 with_file-not_found files name o e =
     elim (searched o (place files name) (length files) e) [
-      inl w ↦ rw w.0 tt
-    | inr w ↦ rw w.0 (λ bytes. with_file-missing files name bytes w.1) ]
+      | inl w ↦ rw w.0 tt
+      | inr w ↦ rw w.0 (λ bytes. with_file-missing files name bytes w.1)
+    ]
 
 -- two names differ
 names_differ : (a b : List ℕ) → a ≢ b → bytes_eq a b ≡ false
@@ -104,13 +108,13 @@ held-with_file_other [] name bytes other h =
 held-with_file_other (file ∷ files) name bytes other h =
     by (bytes_eq file.0 name) refl (held-with_file_other files name bytes other h)
   where
-  by : (b : Bool) → bytes_eq file.0 name ≡ b → held (with_file name bytes files) other ≡ held files other → held (with_file name bytes (file ∷ files)) other ≡ held (file ∷ files) other
-  by true e rest =
-      let same : file.0 ≡ name = (bytes_eq-Decides file.0 name).0 e in
-      let differ : bytes_eq name other ≡ false = names_differ name other (λ q. h (sym q)) in
-      let differ_too : bytes_eq file.0 other ≡ false = names_differ file.0 other (λ q. h (sym q ∙ same)) in
-      rw (e, differ, differ_too) refl
-  by false e rest = rw e (ap (λ (o : Option (List ℕ)). cond (bytes_eq file.0 other) (Some file.1) o) rest)
+    by : (b : Bool) → bytes_eq file.0 name ≡ b → held (with_file name bytes files) other ≡ held files other → held (with_file name bytes (file ∷ files)) other ≡ held (file ∷ files) other
+    by true e rest =
+        let same : file.0 ≡ name = (bytes_eq-Decides file.0 name).0 e in
+        let differ : bytes_eq name other ≡ false = names_differ name other (λ q. h (sym q)) in
+        let differ_too : bytes_eq file.0 other ≡ false = names_differ file.0 other (λ q. h (sym q ∙ same)) in
+        rw (e, differ, differ_too) refl
+    by false e rest = rw e (ap (λ (o : Option (List ℕ)). cond (bytes_eq file.0 other) (Some file.1) o) rest)
 
 -- the file of the name of a file that was added
 pub file_of-with_file : (files : List (List ℕ × List ℕ)) (name bytes : List ℕ) → file_of (with_file name bytes files) name ≡ bytes

@@ -1,4 +1,4 @@
-ghost use Rattle.std.specs.Prelude.{◌≡◌, ℕ, List, Option, Some, None, [], ◌+◌, ◌<◌, ◌≤◌, length, take, vec_len, IfOk, OnOk, OnErr, IfSome, IfNone, IsErrOf, option_map, ⊤};
+ghost use Rattle.std.specs.Prelude.{◌≡◌, ℕ, List, Option, [], ◌+◌, ◌<◌, ◌≤◌, length, take, vec_len, IfOk, OnOk, OnErr, IfSome, IsErrOf, option_map, ⊤};
 ghost use Rattle.std.specs.Io.KnownBytes.{Consumes, IsAtEnd};
 ghost use Rattle.sw_outside.specs.Counts.{Counts};
 ghost use Rattle.sw_outside.specs.Rise.{Rose, raised};
@@ -63,7 +63,8 @@ impl<R: Files> Shelf for FileShelf<'_, R> {
         ensures came_ok { IfOk result (λ bytes. self.new.came ≡ length bytes.items) }
         ensures came_long { IsErrOf result FetchFault.TooLong → self.new.came ≡ limit + 1 }
         ensures came_failed { IsErrOf result FetchFault.Failed → self.new.came ≤ limit + 1 }
-        ensures one_fault { IsErrOf result FetchFault.Failed → self.new.faults ≡ raised self.old.faults }
+        ensures one_fault { IsErrOf result FetchFault.Failed
+            → self.new.faults ≡ raised self.old.faults }
 
         // Nothing is told, before and after.
         ensures asked_ok { OnOk result (untold ≡ option_map (asked_too name.now) untold) }
@@ -72,9 +73,11 @@ impl<R: Files> Shelf for FileShelf<'_, R> {
         ensures never_falls { self.old.faults ≤ self.new.faults }
         ensures failed { IsErrOf result FetchFault.Failed → Rose self.old.faults self.new.faults }
         ensures steady_ok { OnOk result (self.new.faults ≡ self.old.faults) }
-        ensures steady_long { IsErrOf result FetchFault.TooLong → self.new.faults ≡ self.old.faults }
+        ensures steady_long { IsErrOf result FetchFault.TooLong
+            → self.new.faults ≡ self.old.faults }
         ensures memory_came { IsErrOf result FetchFault.Memory → self.new.came ≡ self.old.came }
-        ensures memory_faults { IsErrOf result FetchFault.Memory → self.new.faults ≡ self.old.faults }
+        ensures memory_faults { IsErrOf result FetchFault.Memory
+            → self.new.faults ≡ self.old.faults }
         ensures within { IfOk result (λ bytes. length bytes.items ≤ limit) }
         ensures long_untold { IsErrOf result FetchFault.TooLong → limit < self.new.came }
     {
@@ -107,7 +110,8 @@ enum ReadFault {
 fn read_front<F: Read>(file: &mut F, most: usize, bytes: &mut Vec<u8>) -> Result<(), ReadFault>
     requires { bytes.old.items ≡ [] }
     ensures bound { vec_len bytes.new ≤ most }
-    ensures front { OnOk result (IfSome (F.remaining file.old) (λ all. bytes.new.items ≡ take most all)) }
+    ensures front { OnOk result
+        (IfSome (F.remaining file.old) (λ all. bytes.new.items ≡ take most all)) }
 {
     while bytes.len() < most {
         let want = most - bytes.len();
@@ -125,7 +129,8 @@ fn read_once<F: Read>(file: &mut F, want: usize, bytes: &mut Vec<u8>) -> Result<
     ensures bound { IfOk result (λ n. n ≤ want) }
     ensures len { IfOk result (λ n. vec_len bytes.new ≡ vec_len bytes.old + n) }
     ensures stays { OnErr result (bytes.new.items ≡ bytes.old.items) }
-    ensures consumes { OnOk result ((all : Option (List ℕ)) → Consumes all (F.remaining file.old) bytes.old.items
+    ensures consumes { OnOk result ((all : Option (List ℕ))
+        → Consumes all (F.remaining file.old) bytes.old.items
         → Consumes all (F.remaining file.new) bytes.new.items) }
     ensures end { IfOk result (λ n. n ≡ 0 → IsAtEnd (F.remaining file.new)) }
 {
@@ -139,4 +144,42 @@ fn read_once<F: Read>(file: &mut F, want: usize, bytes: &mut Vec<u8>) -> Result<
         return Err(ReadFault::Memory);
     };
     Ok(count)
+}
+
+#[cfg(test)]
+mod tests {
+    use super::{ReadFault, read_front};
+    use std::io;
+    use std::io::{ErrorKind, Read};
+    use std::test::Fail;
+
+    /// Gives one byte a read, and fails once its bytes are given.
+    #[derive(Drop)]
+    struct Short {
+        left: u8,
+    }
+
+    impl Read for Short {
+        fn read(&mut self, buffer: &mut [u8]) -> io::Result<usize> {
+            if self.left == 0 || buffer.is_empty() {
+                return Err(io::Error::from(ErrorKind::Other));
+            }
+            self.left -= 1;
+            buffer[0] = self.left;
+            Ok(1)
+        }
+    }
+
+    #[test]
+    fn reads_short_parts(rt: HostRuntime) -> Result<(), Fail> {
+        let mut enough = Vec::new(rt.alloc());
+        let read = read_front(&mut Short { left: 3 }, 3, &mut enough);
+        assert!(rt; read.is_ok());
+        assert_eq!(rt; enough.as_slice(), [2, 1, 0].as_slice());
+        let mut cut_off = Vec::new(rt.alloc());
+        let read = read_front(&mut Short { left: 3 }, 4, &mut cut_off);
+        assert!(rt; matches!(read, Err(ReadFault::Failed)));
+        assert_eq!(rt; cut_off.as_slice(), [2, 1, 0].as_slice());
+        Ok(())
+    }
 }

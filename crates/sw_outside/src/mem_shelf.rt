@@ -1,4 +1,4 @@
-ghost use Rattle.std.specs.Prelude.{◌≡◌, ◌≢◌, List, ℕ, Some, None, [], ◌∷◌, ◌++◌, ◌<◌, ◌≤◌, length, true, false, slice_index_or, slice_set, position, IfSome, IfNone, OnSome, IfOk, OnOk, OnErr, IsErrOf, IfErr};
+ghost use Rattle.std.specs.Prelude.{◌≡◌, ◌≢◌, List, ℕ, Some, None, [], ◌∷◌, ◌++◌, ◌<◌, ◌≤◌, length, slice_index_or, slice_set, position, IfSome, IfNone, IfOk, OnOk, OnErr, IsErrOf, IsTrue};
 ghost use Rattle.std.specs.Str.{bytes_eq};
 ghost use Rattle.sw_outside.specs.MemShelf.{ShelfState, fails_at, after_fetch};
 ghost use Rattle.sw_outside.specs.Rise.{Rose, raised};
@@ -87,10 +87,10 @@ impl Model for MemShelf {
     ghost Value = { ShelfState };
 
     ghost view = { λ s. record {
-        told = record { files = s.files.items; asked = s.asked.items };
-        fails = s.fails.items;
-        came = s.came;
-        faults = s.faults
+      told = record { files = s.files.items; asked = s.asked.items };
+      fails = s.fails.items;
+      came = s.came;
+      faults = s.faults;
     } };
 }
 
@@ -98,10 +98,10 @@ impl MemShelf {
     /// A shelf without files, which keeps the allocator.
     pub fn new(alloc: Global, fails: &[u64]) -> Result<MemShelf, AllocError>
         ensures { IfOk result (λ shelf. shelf ≡ record {
-            told = record { files = []; asked = [] };
-            fails = fails.now;
-            came = 0;
-            faults = 0
+          told = record { files = []; asked = [] };
+          fails = fails.now;
+          came = 0;
+          faults = 0;
         }) }
     {
         Ok(MemShelf {
@@ -117,7 +117,7 @@ impl MemShelf {
     /// Adds a file, or replaces the one of its name.
     pub fn add(&mut self, name: &str, bytes: &[u8]) -> Result<(), AllocError>
         ensures ok { OnOk result (self.new ≡ record self.old {
-            told = record self.old.told { files = with_file name.now bytes.now self.old.told.files }
+          told = record self.old.told { files = with_file name.now bytes.now self.old.told.files };
         }) }
         ensures err { OnErr result (self.new ≡ self.old) }
 
@@ -137,17 +137,16 @@ impl MemShelf {
     /// A copy of the file, or why there is none.
     #[tactic(auto, unfolding(crate::specs::Shelf::file_of))]
     fn copy_of(&self, alloc: Global, name: &str, limit: usize) -> Result<Vec<u8>, FetchFault>
-        ensures ok { OnOk result (fails_at self.now name.now ≡ false) }
+        ensures ok { OnOk result (¬ IsTrue (fails_at self.now name.now)) }
         ensures found { IfOk result (λ bytes. bytes.items ≡ file_of self.now.told.files name.now) }
         ensures within { IfOk result (λ bytes. length bytes.items ≤ limit) }
-        ensures failed { IsErrOf result FetchFault.Failed → fails_at self.now name.now ≡ true }
-        ensures long { IsErrOf result FetchFault.TooLong → fails_at self.now name.now ≡ false }
-        ensures above { IsErrOf result FetchFault.TooLong → limit < length (file_of self.now.told.files name.now) }
+        ensures failed { IsErrOf result FetchFault.Failed → IsTrue (fails_at self.now name.now) }
+        ensures long { IsErrOf result FetchFault.TooLong → ¬ IsTrue (fails_at self.now name.now) }
+        ensures above { IsErrOf result FetchFault.TooLong
+            → limit < length (file_of self.now.told.files name.now) }
     {
         let number = self.asked.len() as u64;
-        let Some(at) = place_of(&self.files, name) else {
-            return Err(FetchFault::Failed);
-        };
+        let at = place_of(&self.files, name).ok_or(FetchFault::Failed)?;
         if self.fails.contains(&number) {
             return Err(FetchFault::Failed);
         }
@@ -170,7 +169,7 @@ impl MemShelf {
     }
 }
 
-/// The place of the file of that name.
+/// The place of the file of that name, and what it says of the files as a look-up.
 fn place_of(files: &[StoredFile], name: &str) -> Option<usize>
     ensures there { IfSome result (λ at. at < length files.now) }
     ensures held { IfSome result
@@ -184,6 +183,7 @@ fn place_of(files: &[StoredFile], name: &str) -> Option<usize>
     first_named(files, name)
 }
 
+/// The place of the first file of that name.
 fn first_named(files: &[StoredFile], name: &str) -> Option<usize>
     ensures { result ≡ position (λ file. bytes_eq file.0 name.now) files.now }
 {
@@ -199,33 +199,44 @@ impl Shelf for MemShelf {
 
     fn fetch(&mut self, alloc: Global, name: &str, limit: usize) -> Result<Vec<u8>, FetchFault>
         // Failed comes exactly where the number or the name asks for it.
-        ensures passes { OnOk result (fails_at self.old name.now ≡ false) }
-        ensures fails { IsErrOf result FetchFault.Failed → fails_at self.old name.now ≡ true }
-        ensures passes_long { IsErrOf result FetchFault.TooLong → fails_at self.old name.now ≡ false }
+        ensures passes { OnOk result (¬ IsTrue (fails_at self.old name.now)) }
+        ensures fails { IsErrOf result FetchFault.Failed → IsTrue (fails_at self.old name.now) }
+        ensures passes_long { IsErrOf result FetchFault.TooLong
+            → ¬ IsTrue (fails_at self.old name.now) }
 
         // What a fetch leaves.
-        ensures after_ok { IfOk result (λ bytes. self.new ≡ after_fetch name.now (length bytes.items) self.old.faults self.old) }
-        ensures after_failed { IsErrOf result FetchFault.Failed → self.new ≡ after_fetch name.now 0 (raised self.old.faults) self.old }
-        ensures after_long { IsErrOf result FetchFault.TooLong → self.new ≡ after_fetch name.now 0 self.old.faults self.old }
+        ensures after_ok { IfOk result
+            (λ bytes. self.new ≡ after_fetch name.now (length bytes.items) self.old.faults self.old) }
+        ensures after_failed { IsErrOf result FetchFault.Failed
+            → self.new ≡ after_fetch name.now 0 (raised self.old.faults) self.old }
+        ensures after_long { IsErrOf result FetchFault.TooLong
+            → self.new ≡ after_fetch name.now 0 self.old.faults self.old }
         ensures after_memory { IsErrOf result FetchFault.Memory → self.new ≡ self.old }
 
         ensures never_falls { self.old.faults ≤ self.new.faults }
         ensures failed { IsErrOf result FetchFault.Failed → Rose self.old.faults self.new.faults }
         ensures steady_ok { OnOk result (self.new.faults ≡ self.old.faults) }
-        ensures steady_long { IsErrOf result FetchFault.TooLong → self.new.faults ≡ self.old.faults }
-        ensures asked_ok { OnOk result (Some self.new.told ≡ Some (asked_too name.now self.old.told)) }
-        ensures asked_failed { IsErrOf result FetchFault.Failed → Some self.new.told ≡ Some (asked_too name.now self.old.told) }
-        ensures asked_long { IsErrOf result FetchFault.TooLong → Some self.new.told ≡ Some (asked_too name.now self.old.told) }
-        ensures memory_told { IsErrOf result FetchFault.Memory → Some self.new.told ≡ Some self.old.told }
+        ensures steady_long { IsErrOf result FetchFault.TooLong
+            → self.new.faults ≡ self.old.faults }
+        ensures asked_ok { OnOk result
+            (Some self.new.told ≡ Some (asked_too name.now self.old.told)) }
+        ensures asked_failed { IsErrOf result FetchFault.Failed
+            → Some self.new.told ≡ Some (asked_too name.now self.old.told) }
+        ensures asked_long { IsErrOf result FetchFault.TooLong
+            → Some self.new.told ≡ Some (asked_too name.now self.old.told) }
+        ensures memory_told { IsErrOf result FetchFault.Memory
+            → Some self.new.told ≡ Some self.old.told }
         ensures memory_came { IsErrOf result FetchFault.Memory → self.new.came ≡ self.old.came }
-        ensures memory_faults { IsErrOf result FetchFault.Memory → self.new.faults ≡ self.old.faults }
+        ensures memory_faults { IsErrOf result FetchFault.Memory
+            → self.new.faults ≡ self.old.faults }
         ensures within { IfOk result (λ bytes. length bytes.items ≤ limit) }
         ensures found { IfOk result (λ bytes. bytes.items ≡ file_of self.old.told.files name.now) }
-        ensures long_told { IsErrOf result FetchFault.TooLong → limit < length (file_of self.old.told.files name.now) }
-        ensures long_untold { IsErrOf result FetchFault.TooLong → IfNone (Some self.old.told) (limit < self.new.came) }
+        ensures long_told { IsErrOf result FetchFault.TooLong
+            → limit < length (file_of self.old.told.files name.now) }
+        ensures long_untold { IsErrOf result FetchFault.TooLong
+            → IfNone (Some self.old.told) (limit < self.new.came) }
     {
-        let answer = self.copy_of(alloc, name, limit);
-        match answer {
+        match self.copy_of(alloc, name, limit) {
             Ok(bytes) => {
                 let came = bytes.len();
                 self.note(name, came, self.faults)?;

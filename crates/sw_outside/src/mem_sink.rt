@@ -1,4 +1,4 @@
-ghost use Rattle.std.specs.Prelude.{◌≡◌, Some, [], ◌++◌, ◌<◌, ◌≤◌, ◌↔◌, length, take, true, IsErr, IfOk, OnOk, OnErr};
+ghost use Rattle.std.specs.Prelude.{◌≡◌, Some, [], ◌++◌, ◌<◌, ◌≤◌, ◌↔◌, length, take, IsTrue, IsErr, IfOk, OnOk, OnErr};
 ghost use Rattle.sw_outside.specs.MemSink.{SinkState, put_fails, part_of};
 ghost use Rattle.sw_outside.specs.Rise.{Rose, raised};
 
@@ -25,12 +25,12 @@ impl Model for MemSink {
     ghost Value = { SinkState };
 
     ghost view = { λ s. record {
-        bytes = s.bytes.items;
-        step = s.step;
-        fails = s.fails.items;
-        room = s.room;
-        number = s.number;
-        faults = s.faults
+      bytes = s.bytes.items;
+      step = s.step;
+      fails = s.fails.items;
+      room = s.room;
+      number = s.number;
+      faults = s.faults;
     } };
 
     ghost invariant = { λ s. (0 < s.step) × (vec_len s.bytes ≤ s.room) × (s.room ≤ vec_capacity s.bytes) };
@@ -39,15 +39,20 @@ impl Model for MemSink {
 impl MemSink {
     /// A sink that takes `room` bytes in all and at most `step` in one put, and whose puts with a
     /// number in `fails` fail. It makes the room for all of them.
-    pub fn new(alloc: Global, step: usize, fails: &[u64], room: usize) -> Result<MemSink, AllocError>
+    pub fn new(
+        alloc: Global,
+        step: usize,
+        fails: &[u64],
+        room: usize,
+    ) -> Result<MemSink, AllocError>
         requires { 0 < step }
         ensures { IfOk result (λ sink. sink ≡ record {
-            bytes = [];
-            step = step;
-            fails = fails.now;
-            room = room;
-            number = 0;
-            faults = 0
+          bytes = [];
+          step = step;
+          fails = fails.now;
+          room = room;
+          number = 0;
+          faults = 0;
         }) }
     {
         Ok(MemSink {
@@ -77,22 +82,23 @@ impl Sink for MemSink {
         requires { 0 < length piece.now }
 
         // When it fails, and how many bytes it takes.
-        ensures fails { IsErr result ↔ (put_fails self.old ≡ true) }
+        ensures fails { IsErr result ↔ IsTrue (put_fails self.old) }
         ensures part { IfOk result (λ n. n ≡ part_of self.old (length piece.now)) }
 
         // What a put leaves.
         ensures after_ok { IfOk result (λ n. self.new ≡ record self.old {
-            bytes = self.old.bytes ++ take n piece.now;
-            number = raised self.old.number
+          bytes = self.old.bytes ++ take n piece.now;
+          number = raised self.old.number;
         }) }
         ensures after_failed { OnErr result (self.new ≡ record self.old {
-            number = raised self.old.number;
-            faults = raised self.old.faults
+          number = raised self.old.number;
+          faults = raised self.old.faults;
         }) }
 
         ensures some { IfOk result (λ n. 0 < n) }
         ensures within { IfOk result (λ n. n ≤ length piece.now) }
-        ensures taken { IfOk result (λ n. Some self.new.bytes ≡ Some (self.old.bytes ++ take n piece.now)) }
+        ensures taken { IfOk result
+            (λ n. Some self.new.bytes ≡ Some (self.old.bytes ++ take n piece.now)) }
         ensures nothing { OnErr result (Some self.new.bytes ≡ Some self.old.bytes) }
         ensures failed { OnErr result (Rose self.old.faults self.new.faults) }
         ensures steady { OnOk result (self.new.faults ≡ self.old.faults) }

@@ -24,7 +24,8 @@ pub trait Sink {
         requires { 0 < length piece.now }
         ensures some { IfOk result (λ n. 0 < n) }
         ensures within { IfOk result (λ n. n ≤ length piece.now) }
-        ensures taken { IfOk result (λ n. taken self.new ≡ option_map (λ bytes. bytes ++ take n piece.now) (taken self.old)) }
+        ensures taken { IfOk result
+            (λ n. taken self.new ≡ option_map (λ bytes. bytes ++ take n piece.now) (taken self.old)) }
         ensures nothing { OnErr result (taken self.new ≡ taken self.old) }
         ensures failed { OnErr result (Rose (faults self.old) (faults self.new)) }
         ensures steady { OnOk result (faults self.new ≡ faults self.old) }

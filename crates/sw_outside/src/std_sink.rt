@@ -1,4 +1,4 @@
-ghost use Rattle.std.specs.Prelude.{◌≡◌, ℕ, None, ◌<◌, ◌≤◌, length, IfOk, OnOk, OnErr, option_map, ◌++◌, take};
+ghost use Rattle.std.specs.Prelude.{◌≡◌, ℕ, ◌<◌, ◌≤◌, length, IfOk, OnOk, OnErr, option_map, ◌++◌, take};
 ghost use Rattle.sw_outside.specs.Rise.{Rose, raised};
 ghost use Rattle.sw_outside.specs.Sink.{untold};
 
@@ -40,7 +40,8 @@ impl<R: Print> Sink for StdSink<'_, R> {
         ensures one_fault { OnErr result (self.new ≡ raised self.old) }
 
         // Nothing is told, before and after.
-        ensures taken { IfOk result (λ n. untold ≡ option_map (λ bytes. bytes ++ take n piece.now) untold) }
+        ensures taken { IfOk result
+            (λ n. untold ≡ option_map (λ bytes. bytes ++ take n piece.now) untold) }
         ensures nothing { OnErr result (untold ≡ untold) }
 
         ensures some { IfOk result (λ n. 0 < n) }

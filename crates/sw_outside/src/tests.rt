@@ -1,8 +1,6 @@
 use crate::{FetchFault, FileShelf, MemShelf, MemSink, Shelf, Sink, SinkFault, StdSink};
-use std::env;
-use std::fs;
-use std::process;
 use std::test::Fail;
+use std::{env, fs, process};
 
 /// What a fetch answered: how many bytes came, or the fault.
 fn answer(fetched: &Result<Vec<u8>, FetchFault>) -> Result<usize, FetchFault> {
@@ -22,14 +20,23 @@ fn memory_shelf(rt: HostRuntime) -> Result<(), Fail> {
     let fetched = shelf.fetch(rt.alloc(), "a", 6)?;
     assert_eq!(rt; fetched.as_slice(), b"again!".as_slice());
     // 1: one byte less
-    assert_eq!(rt; answer(&shelf.fetch(rt.alloc(), "a", 5)), Err(FetchFault::TooLong));
+    assert_eq!(rt;
+        answer(&shelf.fetch(rt.alloc(), "a", 5)),
+        Err(FetchFault::TooLong)
+    );
     // 2: fails by its number
-    assert_eq!(rt; answer(&shelf.fetch(rt.alloc(), "b", 5)), Err(FetchFault::Failed));
+    assert_eq!(rt;
+        answer(&shelf.fetch(rt.alloc(), "b", 5)),
+        Err(FetchFault::Failed)
+    );
     // 3: the same fetch once more
     let fetched = shelf.fetch(rt.alloc(), "b", 5)?;
     assert_eq!(rt; fetched.as_slice(), b"other".as_slice());
     // 4: a name that isn't held
-    assert_eq!(rt; answer(&shelf.fetch(rt.alloc(), "c", 5)), Err(FetchFault::Failed));
+    assert_eq!(rt;
+        answer(&shelf.fetch(rt.alloc(), "c", 5)),
+        Err(FetchFault::Failed)
+    );
     Ok(())
 }
 
@@ -76,7 +83,10 @@ fn system_files(rt: HostRuntime) -> Result<(), Fail> {
     assert_eq!(rt; answer(&above), Err(FetchFault::TooLong));
     assert_eq!(rt; answer(&missing), Err(FetchFault::Failed));
     // a folder opens, and its read fails
-    assert_eq!(rt; answer(&shelf.fetch(rt.alloc(), "/", 10)), Err(FetchFault::Failed));
+    assert_eq!(rt;
+        answer(&shelf.fetch(rt.alloc(), "/", 10)),
+        Err(FetchFault::Failed)
+    );
     Ok(())
 }
 
