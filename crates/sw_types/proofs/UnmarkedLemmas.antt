@@ -17,6 +17,7 @@ layer_parts : (ps qs : List Ty) (r s : Ty) → layer.Func false ps r ≡ layer.F
 layer_parts ps qs r s e = ((cc), (cc))
 
 pub unmarked-functions : (a b : Ty) (m n : Bool) (ps qs : List Ty) (r s : Ty) → a ≡ Func m ps r → b ≡ Func n qs s → (unmarked a ≡ unmarked b) ↔ ((ps ≡ qs) × (r ≡ s))
-unmarked-functions a b m n ps qs r s e f =
-    (λ same. layer_parts ps qs r s (layer_of _ _ (sym (unmarked-Func a m ps r e) ∙ same ∙ unmarked-Func b n qs s f)),
-    λ both. unmarked-Func a m ps r e ∙ ap (λ p. roll-Ty (layer.Func false p r)) both.0 ∙ ap (λ t. roll-Ty (layer.Func false qs t)) both.1 ∙ sym (unmarked-Func b n qs s f))
+unmarked-functions a b m n ps qs r s e f = (
+  λ same. layer_parts ps qs r s (layer_of _ _ (sym (unmarked-Func a m ps r e) ∙ same ∙ unmarked-Func b n qs s f)),
+  λ both. unmarked-Func a m ps r e ∙ ap (λ p. roll-Ty (layer.Func false p r)) both.0 ∙ ap (λ t. roll-Ty (layer.Func false qs t)) both.1 ∙ sym (unmarked-Func b n qs s f),
+)

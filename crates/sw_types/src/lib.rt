@@ -12,3 +12,6 @@ pub use isolation::{CallKind, Iso};
 pub use shape::{CaseList, CaseShape, Part, PartList, Shape, ShapeKind, ShapeList};
 pub use shapes::{ShapeFault, Shapes};
 pub use ty::{Ty, TyList};
+
+#[cfg(test)]
+mod tests;
