@@ -1,5 +1,5 @@
 -- The kinds of the registers that instructions and last instructions ask for.
-use Rattle.std.specs.Prelude.{◌≡◌, ℕ, ◌<◌, Bool, true, false, IsTrue, List, Option, Some, None, length, slice_get}
+use Rattle.std.specs.Prelude.{◌≡◌, ℕ, Bool, true, false, IsTrue, List, Some, length, slice_get}
 use Rattle.std.specs.List.{All}
 use Rattle.sw_types.specs.declared.ty.Ty.{Ty, out-Ty}
 use Rattle.sw_types.specs.declared.ty.Ty.TheOpen as layer

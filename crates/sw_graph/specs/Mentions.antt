@@ -1,5 +1,5 @@
 -- What instructions and last instructions mention: registers, blocks, functions, globals and shapes, by number.
-use Rattle.std.specs.Prelude.{ℕ, List, [], ◌∷◌, ◌++◌, map, Option, Some, None}
+use Rattle.std.specs.Prelude.{ℕ, List, [], ◌∷◌, map, Some, None}
 use Rattle.sw_graph.specs.declared.instr.Operand.{Operand}
 use Rattle.sw_graph.specs.declared.instr.Instr.{Instr}
 use Rattle.sw_graph.specs.declared.instr.Instr.TheVariants.{Const, Un, Bin, Print, Copy, Field, Payload, SetField, Make, NewObject, NewBox, NewActor, LoadBox, StoreBox, LoadProp, StoreProp, LoadGlobal, StoreGlobal, NewClosure, Call, CallClosure, NewTask, Await, Yield}

@@ -1,5 +1,5 @@
 -- What every graph keeps: its numbers are in range, and its registers have the kinds that are asked for.
-use Rattle.std.specs.Prelude.{◌≡◌, ℕ, ◌<◌, ◌≤◌, Bool, IsTrue, List, Option, Some, length, slice_get}
+use Rattle.std.specs.Prelude.{◌≡◌, ℕ, ◌<◌, ◌≤◌, IsTrue, List, Some, length, slice_get}
 use Rattle.std.specs.List.{All}
 use Rattle.sw_types.specs.declared.ty.Ty.{Ty}
 use Rattle.sw_types.specs.declared.shape.Shape.{Shape}
