@@ -1,0 +1,3 @@
+pub mod FitsLemmas
+pub mod PlanLemmas
+pub mod SmallLemmas
