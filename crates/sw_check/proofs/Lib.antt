@@ -1,8 +1,17 @@
-<<<<<<< HEAD
 pub mod Answering
-pub mod Writing
-=======
+pub mod CursorSteps
+pub mod EachSteps
 pub mod FitsLemmas
 pub mod PlanLemmas
+pub mod Refusals
+pub mod ReaderLaws
+pub mod ReaderLoops
+pub mod Rising
+pub mod SmallLaws
 pub mod SmallLemmas
->>>>>>> d85c0058072a1ec86def047a0d226b9fd74c810b
+pub mod SmallRules
+pub mod SmallSize
+pub mod TokenReaders
+pub mod TokensSpelled
+pub mod Verdicts
+pub mod Writing
