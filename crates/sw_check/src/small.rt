@@ -1,5 +1,9 @@
 //! The small language: an entry that prints integer literals, itself or in detached tasks.
 
+mod cursor;
+mod fault;
+mod parser;
 mod tree;
 
+pub use fault::ParseFault;
 pub use tree::{Item, ItemList, Show, ShowList, Small};

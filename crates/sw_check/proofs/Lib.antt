@@ -1,0 +1,9 @@
+pub mod ReaderLaws
+pub mod ReaderLoops
+pub mod TokenReaders
+pub mod SmallRules
+pub mod Rising
+pub mod TokensSpelled
+pub mod EachSteps
+pub mod SmallLaws
+pub mod CursorSteps
