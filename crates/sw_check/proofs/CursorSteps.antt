@@ -1,12 +1,10 @@
 -- The readers of one token, step by step as the code takes them.
 use Rattle.std.proofs.Common.{◌≡◌, ℕ, Bool, true, false, cond, List, [], ◌∷◌, length, refl, sym, ◌∙◌, ap, subst, ℤ}
-use Rattle.std.specs.Prelude.{Option, Some, None, Result, Ok, Err, ◌&&◌, ◌||◌, not, option_map, MatchOption}
-use Rattle.sw_token.specs.declared.Kind.{Kind}
-use Rattle.sw_token.specs.declared.Kind.TheVariants as kinds
+use Rattle.std.specs.Prelude.{Some, None, Result, Ok, Err, ◌&&◌, not, option_map}
 use Rattle.sw_token.specs.declared.Token.{Token}
 use Rattle.sw_check.specs.Spelling.{Spelled, position}
-use Rattle.sw_check.specs.Reader.{head, taken, pure, next, check, choose}
-use Rattle.sw_check.specs.SmallReading.{has_text, sees, leads, names, literal, quoted, quoted_within_line, expect, expect_within_line, word, integer, skip, begin, may_begin}
+use Rattle.sw_check.specs.Reader.{head, taken}
+use Rattle.sw_check.specs.SmallReading.{has_text, sees, leads, names, literal, expect, expect_within_line, word, integer, skip, begin, may_begin}
 use Rattle.sw_check.specs.Outcome.{Gives, Takes}
 use Rattle.sw_check.specs.declared.small.fault.Stop.{Stop}
 use Rattle.sw_check.specs.declared.small.fault.Stop.TheVariants as stops
@@ -63,7 +61,7 @@ unfolding integer
 integer_takes value [] token left h takes = absurd takes
 integer_takes value (t ∷ ts) token left h takes =
     ap (λ o. taken (option_map (λ v. (position t, v)) o) ts) h
-      ∙ (ap (λ us. Ok ((position t, value), us)) (sym takes.1) ∙ ap (λ u. Ok ((u.span.start, value), left)) (sym takes.0))
+    ∙ (ap (λ us. Ok ((position t, value), us)) (sym takes.1) ∙ ap (λ u. Ok ((u.span.start, value), left)) (sym takes.0))
 
 pub integer_refuses : (ts : List Spelled) → literal (head ts) ≡ None → integer ts ≡ Err (length ts)
 unfolding integer

@@ -1,6 +1,6 @@
 -- Positions that rise, along a list, and spellings that go on with new tokens.
-use Rattle.std.proofs.Common.{◌≡◌, ℕ, zero, suc, ◌+◌, ◌≤◌, ◌<◌, List, [], ◌∷◌, ◌++◌, map, length, refl, sym, ◌∙◌, ap, subst, arith}
-use Rattle.std.specs.Prelude.{All, slice_index}
+use Rattle.std.proofs.Common.{◌≡◌, ℕ, zero, suc, ◌+◌, ◌≤◌, ◌<◌, List, [], ◌∷◌, ◌++◌, map, sym, subst, arith}
+use Rattle.std.specs.Prelude.{slice_index}
 use Rattle.std.specs.List.{AllByRecursion}
 use Rattle.std.specs.List.Sorted.{IsStrictlyIncreasing}
 use Rattle.std.proofs.lemmas.List.Elements.{All-from_recursion, recursion_from_All}
@@ -36,7 +36,7 @@ IsStrictlyIncreasing-from_rises from (t ∷ u ∷ ts) h zero in' = h.1.0
 IsStrictlyIncreasing-from_rises from (t ∷ u ∷ ts) h (suc k) in' =
     let here : suc k + 1 ≡ suc (k + 1) = omega arith in
     subst (λ j. slice_index (map position (u ∷ ts)) k < slice_index (map position (t ∷ u ∷ ts)) j) (sym here)
-      (IsStrictlyIncreasing-from_rises (suc (position t)) (u ∷ ts) h.1 k (omega arith))
+    (IsStrictlyIncreasing-from_rises (suc (position t)) (u ∷ ts) h.1 k (omega arith))
 
 increasing_tail : (x : ℕ) (xs : List ℕ) → IsStrictlyIncreasing (x ∷ xs) → IsStrictlyIncreasing xs
 increasing_tail x xs h k in' =

@@ -1,27 +1,27 @@
 -- The reader of each rule of the small grammar reads what the rule spells.
-use Rattle.std.proofs.Common.{◌≡◌, ℕ, zero, suc, ◌+◌, ◌<◌, Bool, true, false, cond, ◌⊎◌, inl, inr, List, [], ◌∷◌, ◌++◌, length, refl, sym, ◌∙◌, ap, subst, ℤ, pos, append_assoc, arith, length-append}
+use Rattle.std.proofs.Common.{◌≡◌, ℕ, suc, ◌<◌, Bool, true, false, inl, inr, List, [], ◌∷◌, ◌++◌, length, refl, sym, ◌∙◌, ap, subst, ℤ, pos, append_assoc, arith, length-append}
 use Rattle.std.proofs.lemmas.List.{append-nil}
-use Rattle.std.specs.Prelude.{Option, Some, None, Result, Ok, Err, IsTrue, IsFalse, ◌||◌, codes, bytes_eq}
+use Rattle.std.specs.Prelude.{Option, Some, None, Ok, codes, bytes_eq}
 use Rattle.sw_token.specs.declared.Kind.TheVariants as kinds
 use Rattle.sw_token.specs.Bytes.{is_digit, is_word_start}
-use Rattle.sw_token.specs.Kinds.{kind_of, word_kind, ruled_words, reserved_words, number_of, mark_number}
+use Rattle.sw_token.specs.Kinds.{kind_of, word_kind, ruled_words, reserved_words, mark_number}
 use Rattle.sw_check.specs.declared.small.tree.Show.{Show}
 use Rattle.sw_check.specs.declared.small.tree.Item.{Item}
 use Rattle.sw_check.specs.declared.small.tree.Item.TheVariants as items
 use Rattle.sw_check.specs.declared.small.tree.Small.{Small}
-use Rattle.sw_check.specs.Spelling.{Spelled, position, HasKind, IsNumeral}
-use Rattle.sw_check.specs.Small.{Is, IsWord, IsInt, SpellsShow, SpellsEnd, BeginsLine, MayBegin, SpellsEach, SpellsItem, SpellsSmall}
+use Rattle.sw_check.specs.Spelling.{Spelled, position}
+use Rattle.sw_check.specs.Small.{Is, IsWord, SpellsShow, SpellsEnd, MayBegin, SpellsEach, SpellsItem, SpellsSmall}
 use Rattle.sw_check.specs.Small.SpellsShow.{show as spelled_show}
-use Rattle.sw_check.specs.Small.SpellsEnd.{unmarked, semicolon}
+use Rattle.sw_check.specs.Small.SpellsEnd.{unmarked}
 use Rattle.sw_check.specs.Small.SpellsEach.{none as no_more, more as one_more}
 use Rattle.sw_check.specs.Small.SpellsItem.{show_item, task_item}
 use Rattle.sw_check.specs.Small.SpellsSmall.{small as spelled_small}
-use Rattle.sw_check.specs.Reader.{Reader, head, pure, ◌>>=◌, check, choose, loop, finish}
-use Rattle.sw_check.specs.SmallReading.{has_text, sees, expect, expect_within_line, word, integer, skip, may_begin, begin, show, turn, each, task, printed, item, block, signature, entry, small, whole}
-use Rattle.sw_check.proofs.ReaderLaws.{Relation, Follow, Anything, Filled, Reads, Then, Either, Nothing, Shows, Passing, HasFirst, IsEnd, restate, narrow, reads_pure, reads_choose, reads_then, then, reads_check, reads_finish}
+use Rattle.sw_check.specs.Reader.{Reader, head, pure, ◌>>=◌, loop}
+use Rattle.sw_check.specs.SmallReading.{sees, skip, may_begin, begin, show, turn, each, task, printed, item, block, signature, entry, small, whole}
+use Rattle.sw_check.proofs.ReaderLaws.{Relation, Anything, Filled, Reads, Then, Either, Nothing, Passing, IsEnd, restate, narrow, reads_pure, reads_choose, reads_then, then, reads_check, reads_finish}
 use Rattle.sw_check.proofs.ReaderLoops.Turns.{stop, turn as one_turn}
 use Rattle.sw_check.proofs.ReaderLoops.{Turns, Star, IsTurn, Stops, reads_loop, loop_ends, loop_turns}
-use Rattle.sw_check.proofs.TokenReaders.{Quoted, QuotedWithinLine, Named, Literal, Isnt, made, is_int, HasKind-of, Is-has_text, other_text, has_text-true, short_numeral, reads_expect, reads_expect_within_line, reads_word, reads_integer, reads_end}
+use Rattle.sw_check.proofs.TokenReaders.{Quoted, QuotedWithinLine, Literal, Isnt, made, is_int, HasKind-of, Is-has_text, other_text, has_text-true, short_numeral, reads_expect, reads_expect_within_line, reads_word, reads_integer, reads_end}
 
 -- one token more at the front of what is spelled
 more : {ts front back us : List Spelled} {t : Spelled} → ts ≡ front ++ back → front ≡ t ∷ [] → back ≡ us → ts ≡ t ∷ us
@@ -98,35 +98,51 @@ ShowParts = Then (Quoted (codes "print")) (λ at. Then (QuotedWithinLine (codes 
 
 show_there : (value : Show) (ts : List Spelled) → ShowParts value ts → SpellsShow value ts
 show_there value ts a =
-  let b = a.second in let c = b.second in let d = c.second in
-  let is : value ≡ show_of (position a.first.token) (position c.first.token) c.value.1
-        = d.second.0 ∙ (ap (λ at. show_of at c.value.0 c.value.1) a.first.place ∙ ap (λ at. show_of (position a.first.token) at c.value.1) c.first.place) in
-  let tokens : ts ≡ a.first.token ∷ b.first.token ∷ c.first.token ∷ d.first.token ∷ []
-        = more a.whole a.first.alone (more b.whole b.first.alone (more c.whole c.first.alone (more d.whole d.first.alone d.second.1))) in
-  subst (λ x. SpellsShow x ts) (sym is) (subst (λ us. SpellsShow (show_of (position a.first.token) (position c.first.token) c.value.1) us) (sym tokens)
+    let b = a.second in let c = b.second in let d = c.second in
+    let is : value ≡ show_of (position a.first.token) (position c.first.token) c.value.1
+    = d.second.0 ∙ (ap (λ at. show_of at c.value.0 c.value.1) a.first.place ∙ ap (λ at. show_of (position a.first.token) at c.value.1) c.first.place) in
+    let tokens : ts ≡ a.first.token ∷ b.first.token ∷ c.first.token ∷ d.first.token ∷ []
+    = more a.whole a.first.alone (more b.whole b.first.alone (more c.whole c.first.alone (more d.whole d.first.alone d.second.1))) in
+    subst (λ x. SpellsShow x ts) (sym is) (subst (λ us. SpellsShow (show_of (position a.first.token) (position c.first.token) c.value.1) us) (sym tokens)
     (spelled_show a.first.token b.first.token c.first.token d.first.token c.value.1 a.first.is b.first.is b.first.within c.first.is d.first.is))
 
 show_back : (value : Show) (ts : List Spelled) → SpellsShow value ts → ShowParts value ts
 show_back _ _ (spelled_show print opening literal closing value p o w l c) = record {
-    value = position print; front = print ∷ []; back = opening ∷ literal ∷ closing ∷ []; whole = refl;
-    first = record { token = print; is = p; place = refl; alone = refl };
+  value = position print;
+  front = print ∷ [];
+  back = opening ∷ literal ∷ closing ∷ [];
+  whole = refl;
+  first = record { token = print; is = p; place = refl; alone = refl };
+  second = record {
+    value = position opening;
+    front = opening ∷ [];
+    back = literal ∷ closing ∷ [];
+    whole = refl;
+    first = record { token = opening; is = o; within = w; place = refl; alone = refl };
     second = record {
-      value = position opening; front = opening ∷ []; back = literal ∷ closing ∷ []; whole = refl;
-      first = record { token = opening; is = o; within = w; place = refl; alone = refl };
+      value = (position literal, value);
+      front = literal ∷ [];
+      back = closing ∷ [];
+      whole = refl;
+      first = record { token = literal; is = l; place = refl; alone = refl };
       second = record {
-        value = (position literal, value); front = literal ∷ []; back = closing ∷ []; whole = refl;
-        first = record { token = literal; is = l; place = refl; alone = refl };
-        second = record {
-          value = position closing; front = closing ∷ []; back = []; whole = refl;
-          first = record { token = closing; is = c; place = refl; alone = refl };
-          second = (refl, refl) } } } }
+        value = position closing;
+        front = closing ∷ [];
+        back = [];
+        whole = refl;
+        first = record { token = closing; is = c; place = refl; alone = refl };
+        second = (refl, refl);
+      };
+    };
+  };
+}
 
 pub reads_show : Reads SpellsShow Anything show
 unfolding show
 reads_show = restate
-  (then (reads_expect (codes "print") plain_print) (λ at. then (reads_expect_within_line (codes "(") plain_open) (λ _.
+    (then (reads_expect (codes "print") plain_print) (λ at. then (reads_expect_within_line (codes "(") plain_open) (λ _.
     then reads_integer (λ literal. then (reads_expect (codes ")") plain_close) (λ _. reads_pure (show_of at literal.0 literal.1))))))
-  show_there show_back
+    show_there show_back
 
 -- the items of a block
 
@@ -166,7 +182,6 @@ end_isnt None h = refl
 end_isnt (Some t) h = other_text (codes "}") (codes ";") t (has_text-true (codes "}") t h) refl
 
 module _ {X : Type 0} (One : Relation X) (one : Reader X) (is : IsItem One one) where
-
   -- an item and what ends it, behind those read so far
   abbrev Rest : List X × Bool → Relation (List X × Bool)
   Rest state = Then One (λ x. Then SpellsEnd (λ marked. Nothing (state.0 ++ x ∷ [], marked)))
@@ -182,33 +197,41 @@ module _ {X : Type 0} (One : Relation X) (one : Reader X) (is : IsItem One one) 
 
   reads_rest : (state : List X × Bool) → Reads (Rest state) (Isnt (codes ";")) (one >>= λ x. skip (codes ";") >>= λ marked. pure (state.0 ++ x ∷ [], marked))
   reads_rest state = then is.reads
-    (λ x. reads_then reads_end (λ marked. narrow (reads_pure (state.0 ++ x ∷ [], marked)) (λ token f. tt))
+      (λ x. reads_then reads_end (λ marked. narrow (reads_pure (state.0 ++ x ∷ [], marked)) (λ token f. tt))
       (λ marked t back rest s f. ap (λ us. sees (codes ";") (head (us ++ rest))) s.1 ∙ f))
 
   turn_fill : (state : List X × Bool) (from : ℕ) → Filled (Turn state) [] from
   turn_fill state from = let one = is.fill from in
-    let whole : one.filler ≡ one.filler ++ ([] ++ []) = sym (append-nil one.filler) in
-    record {
-      value = (state.0 ++ one.value ∷ [], false);
-      filler = one.filler;
-      spelled = (record { value = one.value; front = one.filler; back = [] ++ []; first = one.spelled.0; whole = whole;
-          second = record { value = false; front = []; back = []; first = unmarked; second = (refl, refl); whole = refl } },
-        may_begin_ended state.1 (head one.filler) one.spelled.1);
-      fills = one.fills
-    }
+      let whole : one.filler ≡ one.filler ++ ([] ++ []) = sym (append-nil one.filler) in
+      record {
+        value = (state.0 ++ one.value ∷ [], false);
+        filler = one.filler;
+        spelled = (
+          record {
+            value = one.value;
+            front = one.filler;
+            back = [] ++ [];
+            first = one.spelled.0;
+            whole = whole;
+            second = record { value = false; front = []; back = []; first = unmarked; second = (refl, refl); whole = refl };
+          },
+          may_begin_ended state.1 (head one.filler) one.spelled.1,
+        );
+        fills = one.fills;
+      }
 
   reads_turn : (state : List X × Bool) → Reads (Turn state) (Isnt (codes ";")) (turn one state)
   unfolding turn begin
   reads_turn state = reads_check (may_begin state.1) (reads_rest state)
-    (λ t front rest h. first_stays front rest (rest_takes state t front h)) (turn_fill state)
+      (λ t front rest h. first_stays front rest (rest_takes state t front h)) (turn_fill state)
 
   is_turn : IsTurn Turn (Isnt (codes ";")) (sees (codes "}"))
   is_turn = record {
-      takes = λ s t ts h. rest_takes s t ts h.0;
-      goes_on = λ s t ts rest h. ap (sees (codes "}")) (rest_begins s t ts rest h.0) ∙ is.no_end h.0.value h.0.front (h.0.back ++ rest) h.0.first;
-      stopped = end_isnt;
-      followed = λ s t ts rest h. ap (sees (codes ";")) (rest_begins s t ts rest h.0) ∙ is.no_semicolon h.0.value h.0.front (h.0.back ++ rest) h.0.first
-    }
+    takes = λ s t ts h. rest_takes s t ts h.0;
+    goes_on = λ s t ts rest h. ap (sees (codes "}")) (rest_begins s t ts rest h.0) ∙ is.no_end h.0.value h.0.front (h.0.back ++ rest) h.0.first;
+    stopped = end_isnt;
+    followed = λ s t ts rest h. ap (sees (codes ";")) (rest_begins s t ts rest h.0) ∙ is.no_semicolon h.0.value h.0.front (h.0.back ++ rest) h.0.first;
+  }
 
   -- Turns add the items that they read behind those that there are.
   record Added (state t : List X × Bool) (ts : List Spelled) : Type 0 where
@@ -219,22 +242,22 @@ module _ {X : Type 0} (One : Relation X) (one : Reader X) (is : IsItem One one) 
   turns_there : (n : ℕ) (state t : List X × Bool) (ts : List Spelled) → Turns Turn n state t ts → Added state t ts
   turns_there n state t ts (stop _ _) = record { items = []; added = sym (append-nil state.0); spelled = no_more state.1 }
   turns_there n state t ts (one_turn m _ mid _ us vs one others) =
-    let rest = turns_there m mid t vs others in
-    let end = one.0.second in
-    let step : mid ≡ (state.0 ++ one.0.value ∷ [], end.value) = end.second.0 in
-    let back : one.0.back ≡ end.front = end.whole ∙ (ap (λ ws. end.front ++ ws) end.second.1 ∙ append-nil end.front) in
-    let front : us ≡ one.0.front ++ end.front = one.0.whole ∙ ap (λ ws. one.0.front ++ ws) back in
-    let some = is.takes one.0.value one.0.front one.0.first in
-    let first : head us ≡ head one.0.front = ap head one.0.whole ∙ first_stays one.0.front one.0.back some in
-    record {
-      items = one.0.value ∷ rest.items;
-      added = rest.added ∙ (ap (λ s. s.0 ++ rest.items) step ∙ append_assoc state.0 (one.0.value ∷ []) rest.items);
-      spelled = subst (λ ws. SpellsEach One state.1 (one.0.value ∷ rest.items) ws)
-        (sym (ap (λ ws. ws ++ vs) front ∙ append_assoc one.0.front end.front vs))
-        (one_more state.1 end.value one.0.value rest.items one.0.front end.front vs
-          (may_begin-MayBegin state.1 one.0.front some (ap (may_begin state.1) (sym first) ∙ one.1))
-          one.0.first end.first (subst (λ b. SpellsEach One b rest.items vs) (ap (λ s. s.1) step) rest.spelled))
-    }
+      let rest = turns_there m mid t vs others in
+      let end = one.0.second in
+      let step : mid ≡ (state.0 ++ one.0.value ∷ [], end.value) = end.second.0 in
+      let back : one.0.back ≡ end.front = end.whole ∙ (ap (λ ws. end.front ++ ws) end.second.1 ∙ append-nil end.front) in
+      let front : us ≡ one.0.front ++ end.front = one.0.whole ∙ ap (λ ws. one.0.front ++ ws) back in
+      let some = is.takes one.0.value one.0.front one.0.first in
+      let first : head us ≡ head one.0.front = ap head one.0.whole ∙ first_stays one.0.front one.0.back some in
+      record {
+        items = one.0.value ∷ rest.items;
+        added = rest.added ∙ (ap (λ s. s.0 ++ rest.items) step ∙ append_assoc state.0 (one.0.value ∷ []) rest.items);
+        spelled = subst (λ ws. SpellsEach One state.1 (one.0.value ∷ rest.items) ws)
+            (sym (ap (λ ws. ws ++ vs) front ∙ append_assoc one.0.front end.front vs))
+            (one_more state.1 end.value one.0.value rest.items one.0.front end.front vs
+            (may_begin-MayBegin state.1 one.0.front some (ap (may_begin state.1) (sym first) ∙ one.1))
+            one.0.first end.first (subst (λ b. SpellsEach One b rest.items vs) (ap (λ s. s.1) step) rest.spelled));
+      }
 
   record Reached (state : List X × Bool) (items : List X) (ts : List Spelled) : Type 0 where
     ended : Bool
@@ -242,41 +265,54 @@ module _ {X : Type 0} (One : Relation X) (one : Reader X) (is : IsItem One one) 
     turns : Turns Turn count state (state.0 ++ items, ended) ts
 
   turns_back : (before : List X) (ended : Bool) (items : List X) (ts : List Spelled) → SpellsEach One ended items ts → Reached (before, ended) items ts
-  turns_back before ended _ _ (no_more _) = record { ended = ended; count = 0;
-    turns = subst (λ xs. Turns Turn 0 (before, ended) (xs, ended) []) (sym (append-nil before)) (stop 0 (before, ended)) }
+  turns_back before ended _ _ (no_more _) = record {
+    ended = ended;
+    count = 0;
+    turns = subst (λ xs. Turns Turn 0 (before, ended) (xs, ended) []) (sym (append-nil before)) (stop 0 (before, ended));
+  }
   turns_back before ended _ _ (one_more _ marked x xs item end others may spelled ends rest) =
-    let after = turns_back (before ++ x ∷ []) marked xs others rest in
-    let some = is.takes x item spelled in
-    let first : head (item ++ end) ≡ head item = first_stays item end some in
-    let turned : Turn (before, ended) (before ++ x ∷ [], marked) (item ++ end) = (record {
-        value = x; front = item; back = end; first = spelled; whole = refl;
-        second = record { value = marked; front = end; back = []; first = ends; second = (refl, refl); whole = sym (append-nil end) } },
-      ap (may_begin ended) first ∙ MayBegin-may_begin ended item may) in
-    record { ended = after.ended; count = suc after.count;
-      turns = subst (λ ws. Turns Turn (suc after.count) (before, ended) (before ++ x ∷ xs, after.ended) ws) (append_assoc item end others)
-        (one_turn after.count (before, ended) (before ++ x ∷ [], marked) (before ++ x ∷ xs, after.ended) (item ++ end) others turned
-          (subst (λ ys. Turns Turn after.count (before ++ x ∷ [], marked) (ys, after.ended) others) (append_assoc before (x ∷ []) xs) after.turns)) }
+      let after = turns_back (before ++ x ∷ []) marked xs others rest in
+      let some = is.takes x item spelled in
+      let first : head (item ++ end) ≡ head item = first_stays item end some in
+      let turned : Turn (before, ended) (before ++ x ∷ [], marked) (item ++ end) = (
+        record {
+          value = x;
+          front = item;
+          back = end;
+          first = spelled;
+          whole = refl;
+          second = record { value = marked; front = end; back = []; first = ends; second = (refl, refl); whole = sym (append-nil end) };
+        },
+        ap (may_begin ended) first ∙ MayBegin-may_begin ended item may,
+      ) in
+      record {
+        ended = after.ended;
+        count = suc after.count;
+        turns = subst (λ ws. Turns Turn (suc after.count) (before, ended) (before ++ x ∷ xs, after.ended) ws) (append_assoc item end others)
+            (one_turn after.count (before, ended) (before ++ x ∷ [], marked) (before ++ x ∷ xs, after.ended) (item ++ end) others turned
+            (subst (λ ys. Turns Turn after.count (before ++ x ∷ [], marked) (ys, after.ended) others) (append_assoc before (x ∷ []) xs) after.turns));
+      }
 
   abbrev Each : Relation (List X)
   Each = Then (Star Turn ([], true)) (λ state. Nothing state.0)
 
   each_there : (items : List X) (ts : List Spelled) → Each items ts → SpellsEach One true items ts
   each_there items ts h =
-    let read = turns_there h.first.count ([], true) h.value h.front h.first.turns in
-    let same : items ≡ read.items = h.second.0 ∙ read.added in
-    let whole : ts ≡ h.front = h.whole ∙ (ap (λ us. h.front ++ us) h.second.1 ∙ append-nil h.front) in
-    subst (λ xs. SpellsEach One true xs ts) (sym same) (subst (λ us. SpellsEach One true read.items us) (sym whole) read.spelled)
+      let read = turns_there h.first.count ([], true) h.value h.front h.first.turns in
+      let same : items ≡ read.items = h.second.0 ∙ read.added in
+      let whole : ts ≡ h.front = h.whole ∙ (ap (λ us. h.front ++ us) h.second.1 ∙ append-nil h.front) in
+      subst (λ xs. SpellsEach One true xs ts) (sym same) (subst (λ us. SpellsEach One true read.items us) (sym whole) read.spelled)
 
   each_back : (items : List X) (ts : List Spelled) → SpellsEach One true items ts → Each items ts
   each_back items ts h = let read = turns_back [] true items ts h in
-    record { value = (items, read.ended); front = ts; back = []; first = record { count = read.count; turns = read.turns }; second = (refl, refl); whole = sym (append-nil ts) }
+      record { value = (items, read.ended); front = ts; back = []; first = record { count = read.count; turns = read.turns }; second = (refl, refl); whole = sym (append-nil ts) }
 
   pub reads_each : Reads (SpellsEach One true) (Stops (sees (codes "}"))) (each one)
   unfolding each
   reads_each = restate
-    (reads_then (reads_loop (sees (codes "}")) reads_turn is_turn ([], true)) (λ state. narrow (reads_pure state.0) (λ token f. tt))
+      (reads_then (reads_loop (sees (codes "}")) reads_turn is_turn ([], true)) (λ state. narrow (reads_pure state.0) (λ token f. tt))
       (λ state items back rest h f. ap (λ us. sees (codes "}") (head (us ++ rest))) h.1 ∙ f))
-    each_there each_back
+      each_there each_back
 
   -- What the code's loop needs.
 
@@ -290,8 +326,8 @@ module _ {X : Type 0} (One : Relation X) (one : Reader X) (is : IsItem One one) 
 
   pub turn_takes : (state t : List X × Bool) (ts rest : List Spelled) → turn one state ts ≡ Ok (t, rest) → length rest < length ts
   turn_takes state t ts rest e = let found = (reads_turn state).sound ts t rest e in
-    let some = rest_takes state t found.front found.spelled.0 in
-    omega (arith, ap length found.split, length-append found.front rest)
+      let some = rest_takes state t found.front found.spelled.0 in
+      omega (arith, ap length found.split, length-append found.front rest)
 
 -- A first token that isn't the token with another text
 first_isnt : (text other : List ℕ) (t : Spelled) (ts us rest : List Spelled) → us ≡ t ∷ ts → Is text t → bytes_eq text other ≡ false
@@ -300,19 +336,28 @@ first_isnt text other t ts us rest whole is differs = ap (λ vs. sees other (hea
 
 show_fill : (from : ℕ) → Filled (Passing (may_begin false) SpellsShow) [] from
 show_fill from =
-  let print = made (kind_of (codes "print")) true from (codes "print") in
-  let opening = made (kind_of (codes "(")) false (suc from) (codes "(") in
-  let literal = made (kinds.Int (pos 1)) true (suc (suc from)) (codes "1") in
-  let closing = made (kind_of (codes ")")) true (suc (suc (suc from))) (codes ")") in
-  record {
-    value = show_of from (suc (suc from)) (pos 1);
-    filler = print ∷ opening ∷ literal ∷ closing ∷ [];
-    spelled = (spelled_show print opening literal closing (pos 1) refl refl refl refl refl, refl);
-    fills = ((refl, HasKind-of (kind_of (codes "print")) (codes "print") refl plain_print,
-      (refl, HasKind-of (kind_of (codes "(")) (codes "(") refl plain_open,
-      (refl, short_numeral,
-      (refl, HasKind-of (kind_of (codes ")")) (codes ")") refl plain_close, tt)))))
-  }
+    let print = made (kind_of (codes "print")) true from (codes "print") in
+    let opening = made (kind_of (codes "(")) false (suc from) (codes "(") in
+    let literal = made (kinds.Int (pos 1)) true (suc (suc from)) (codes "1") in
+    let closing = made (kind_of (codes ")")) true (suc (suc (suc from))) (codes ")") in
+    record {
+      value = show_of from (suc (suc from)) (pos 1);
+      filler = print ∷ opening ∷ literal ∷ closing ∷ [];
+      spelled = (spelled_show print opening literal closing (pos 1) refl refl refl refl refl, refl);
+      fills = ((
+        refl,
+        HasKind-of (kind_of (codes "print")) (codes "print") refl plain_print,
+        (
+          refl,
+          HasKind-of (kind_of (codes "(")) (codes "(") refl plain_open,
+          (
+            refl,
+            short_numeral,
+            (refl, HasKind-of (kind_of (codes ")")) (codes ")") refl plain_close, tt),
+          ),
+        ),
+      ));
+    }
 
 show_takes : (x : Show) (ts : List Spelled) → SpellsShow x ts → 0 < length ts
 show_takes _ _ (spelled_show print opening literal closing value p o w l c) = omega arith
@@ -322,10 +367,12 @@ show_isnt other differs _ _ rest (spelled_show print opening literal closing val
 
 pub show_is : IsItem SpellsShow show
 show_is = record {
-    reads = reads_show; takes = show_takes;
-    no_end = show_isnt (codes "}") refl; no_semicolon = show_isnt (codes ";") refl;
-    fill = show_fill
-  }
+  reads = reads_show;
+  takes = show_takes;
+  no_end = show_isnt (codes "}") refl;
+  no_semicolon = show_isnt (codes ";") refl;
+  fill = show_fill;
+}
 
 -- an item
 
@@ -340,8 +387,8 @@ unfolding task
 reads_task = then (reads_expect (codes "Task") plain_task) (λ at. then (reads_expect (codes ".") plain_dot) (λ _.
     then (reads_expect (codes "detached") plain_detached) (λ _. then (reads_expect (codes "{") plain_begin) (λ body.
     reads_then (reads_each SpellsShow show show_is) (λ shows. then (reads_expect (codes "}") plain_end) (λ _. reads_pure (items.Task at body shows)))
-      (λ shows x back rest h f.
-        ap (λ us. sees (codes "}") (head (us ++ rest))) (more h.whole h.first.alone refl) ∙ Is-has_text (codes "}") h.first.token h.first.is)))))
+    (λ shows x back rest h f.
+    ap (λ us. sees (codes "}") (head (us ++ rest))) (more h.whole h.first.alone refl) ∙ Is-has_text (codes "}") h.first.token h.first.is)))))
 
 abbrev PrintedParts : Relation Item
 PrintedParts = Then SpellsShow (λ read. Nothing (items.Show read))
@@ -352,27 +399,56 @@ reads_printed = then reads_show (λ read. reads_pure (items.Show read))
 
 item_there : (x : Item) (ts : List Spelled) → Either TaskParts PrintedParts x ts → SpellsItem x ts
 item_there x ts (inl a) =
-  let b = a.second in let c = b.second in let d = c.second in let e = d.second in let f = e.second in
-  let is : x ≡ items.Task (position a.first.token) (position d.first.token) e.value
-        = f.second.0 ∙ (ap (λ at. items.Task at d.value e.value) a.first.place ∙ ap (λ at. items.Task (position a.first.token) at e.value) d.first.place) in
-  let body : e.back ≡ f.first.token ∷ [] = more f.whole f.first.alone f.second.1 in
-  let tokens : ts ≡ a.first.token ∷ b.first.token ∷ c.first.token ∷ d.first.token ∷ (e.front ++ (f.first.token ∷ []))
-        = more a.whole a.first.alone (more b.whole b.first.alone (more c.whole c.first.alone (more d.whole d.first.alone (e.whole ∙ ap (λ us. e.front ++ us) body)))) in
-  subst (λ y. SpellsItem y ts) (sym is) (subst (λ us. SpellsItem (items.Task (position a.first.token) (position d.first.token) e.value) us) (sym tokens)
+    let b = a.second in let c = b.second in let d = c.second in let e = d.second in let f = e.second in
+    let is : x ≡ items.Task (position a.first.token) (position d.first.token) e.value
+    = f.second.0 ∙ (ap (λ at. items.Task at d.value e.value) a.first.place ∙ ap (λ at. items.Task (position a.first.token) at e.value) d.first.place) in
+    let body : e.back ≡ f.first.token ∷ [] = more f.whole f.first.alone f.second.1 in
+    let tokens : ts ≡ a.first.token ∷ b.first.token ∷ c.first.token ∷ d.first.token ∷ (e.front ++ (f.first.token ∷ []))
+    = more a.whole a.first.alone (more b.whole b.first.alone (more c.whole c.first.alone (more d.whole d.first.alone (e.whole ∙ ap (λ us. e.front ++ us) body)))) in
+    subst (λ y. SpellsItem y ts) (sym is) (subst (λ us. SpellsItem (items.Task (position a.first.token) (position d.first.token) e.value) us) (sym tokens)
     (task_item a.first.token b.first.token c.first.token d.first.token e.value e.front f.first.token a.first.is b.first.is c.first.is d.first.is e.first f.first.is))
 item_there x ts (inr a) =
-  let whole : ts ≡ a.front = a.whole ∙ (ap (λ us. a.front ++ us) a.second.1 ∙ append-nil a.front) in
-  subst (λ y. SpellsItem y ts) (sym a.second.0) (subst (λ us. SpellsItem (items.Show a.value) us) (sym whole) (show_item a.value a.front a.first))
+    let whole : ts ≡ a.front = a.whole ∙ (ap (λ us. a.front ++ us) a.second.1 ∙ append-nil a.front) in
+    subst (λ y. SpellsItem y ts) (sym a.second.0) (subst (λ us. SpellsItem (items.Show a.value) us) (sym whole) (show_item a.value a.front a.first))
 
 item_back : (x : Item) (ts : List Spelled) → SpellsItem x ts → Either TaskParts PrintedParts x ts
 item_back _ _ (show_item read tokens h) = inr (record { value = read; front = tokens; back = []; first = h; second = (refl, refl); whole = sym (append-nil tokens) })
 item_back _ _ (task_item at dot detached opening shows body closing t p d o b c) = inl (record {
-    value = position at; front = at ∷ []; back = dot ∷ detached ∷ opening ∷ (body ++ (closing ∷ [])); first = alone (codes "Task") at t; whole = refl;
-    second = record { value = position dot; front = dot ∷ []; back = detached ∷ opening ∷ (body ++ (closing ∷ [])); first = alone (codes ".") dot p; whole = refl;
-    second = record { value = position detached; front = detached ∷ []; back = opening ∷ (body ++ (closing ∷ [])); first = alone (codes "detached") detached d; whole = refl;
-    second = record { value = position opening; front = opening ∷ []; back = body ++ (closing ∷ []); first = alone (codes "{") opening o; whole = refl;
-    second = record { value = shows; front = body; back = closing ∷ []; first = b; whole = refl;
-    second = record { value = position closing; front = closing ∷ []; back = []; first = alone (codes "}") closing c; second = (refl, refl); whole = refl } } } } } })
+  value = position at;
+  front = at ∷ [];
+  back = dot ∷ detached ∷ opening ∷ (body ++ (closing ∷ []));
+  first = alone (codes "Task") at t;
+  whole = refl;
+  second = record {
+    value = position dot;
+    front = dot ∷ [];
+    back = detached ∷ opening ∷ (body ++ (closing ∷ []));
+    first = alone (codes ".") dot p;
+    whole = refl;
+    second = record {
+      value = position detached;
+      front = detached ∷ [];
+      back = opening ∷ (body ++ (closing ∷ []));
+      first = alone (codes "detached") detached d;
+      whole = refl;
+      second = record {
+        value = position opening;
+        front = opening ∷ [];
+        back = body ++ (closing ∷ []);
+        first = alone (codes "{") opening o;
+        whole = refl;
+        second = record {
+          value = shows;
+          front = body;
+          back = closing ∷ [];
+          first = b;
+          whole = refl;
+          second = record { value = position closing; front = closing ∷ []; back = []; first = alone (codes "}") closing c; second = (refl, refl); whole = refl };
+        };
+      };
+    };
+  };
+})
 
 item_takes : (x : Item) (ts : List Spelled) → SpellsItem x ts → 0 < length ts
 item_takes _ _ (show_item read tokens h) = show_takes read tokens h
@@ -386,19 +462,21 @@ item_isnt other differs differs' _ _ rest (task_item at dot detached opening sho
 pub reads_item : Reads SpellsItem Anything item
 unfolding item
 reads_item = restate
-  (reads_choose (sees (codes "Task")) reads_task reads_printed
+    (reads_choose (sees (codes "Task")) reads_task reads_printed
     (λ x front rest h f. ap (λ us. sees (codes "Task") (head (us ++ rest))) (more h.whole h.first.alone refl) ∙ Is-has_text (codes "Task") h.first.token h.first.is)
     (λ x front rest h f. ap (λ us. sees (codes "Task") (head us)) (ap (λ us. us ++ rest) h.whole ∙ append_assoc h.front h.back rest)
-      ∙ show_isnt (codes "Task") refl h.value h.front (h.back ++ rest) h.first))
-  item_there item_back
+    ∙ show_isnt (codes "Task") refl h.value h.front (h.back ++ rest) h.first))
+    item_there item_back
 
 pub item_is : IsItem SpellsItem item
 item_is = record {
-    reads = reads_item; takes = item_takes;
-    no_end = item_isnt (codes "}") refl refl; no_semicolon = item_isnt (codes ";") refl refl;
-    fill = λ from. let one = show_fill from in
-      record { value = items.Show one.value; filler = one.filler; spelled = (show_item one.value one.filler one.spelled.0, one.spelled.1); fills = one.fills }
-  }
+  reads = reads_item;
+  takes = item_takes;
+  no_end = item_isnt (codes "}") refl refl;
+  no_semicolon = item_isnt (codes ";") refl refl;
+  fill = λ from. let one = show_fill from in
+      record { value = items.Show one.value; filler = one.filler; spelled = (show_item one.value one.filler one.spelled.0, one.spelled.1); fills = one.fills };
+}
 
 -- the whole program
 
@@ -417,17 +495,41 @@ record EntryParts (value : Unit {0}) (tokens : List Spelled) : Type 0 where
 reads_entry : Reads EntryParts Anything entry
 unfolding entry
 reads_entry = restate
-  (then (reads_expect (codes "@main") plain_entry) (λ _. then (reads_expect (codes "struct") plain_struct) (λ _. then reads_word (λ _.
+    (then (reads_expect (codes "@main") plain_entry) (λ _. then (reads_expect (codes "struct") plain_struct) (λ _. then reads_word (λ _.
     then (reads_expect (codes "{") plain_begin) (λ _. reads_pure tt)))))
-  (λ x ts a. let b = a.second in let c = b.second in let d = c.second in record {
-    entry_at = a.first.token; struct_at = b.first.token; name = c.first.token; opening = d.first.token;
-    is_entry = a.first.is; is_struct = b.first.is; is_name = c.first.is; is_opening = d.first.is;
-    whole = more a.whole a.first.alone (more b.whole b.first.alone (more c.whole c.first.alone (more d.whole d.first.alone d.second.1))) })
-  (λ x ts h. record {
-    value = position h.entry_at; front = h.entry_at ∷ []; back = h.struct_at ∷ h.name ∷ h.opening ∷ []; first = alone (codes "@main") h.entry_at h.is_entry; whole = h.whole;
-    second = record { value = position h.struct_at; front = h.struct_at ∷ []; back = h.name ∷ h.opening ∷ []; first = alone (codes "struct") h.struct_at h.is_struct; whole = refl;
-    second = record { value = tt; front = h.name ∷ []; back = h.opening ∷ []; first = record { token = h.name; is = h.is_name; alone = refl }; whole = refl;
-    second = record { value = position h.opening; front = h.opening ∷ []; back = []; first = alone (codes "{") h.opening h.is_opening; second = (refl, refl); whole = refl } } } })
+    (λ x ts a. let b = a.second in let c = b.second in let d = c.second in record {
+      entry_at = a.first.token;
+      struct_at = b.first.token;
+      name = c.first.token;
+      opening = d.first.token;
+      is_entry = a.first.is;
+      is_struct = b.first.is;
+      is_name = c.first.is;
+      is_opening = d.first.is;
+      whole = more a.whole a.first.alone (more b.whole b.first.alone (more c.whole c.first.alone (more d.whole d.first.alone d.second.1)));
+    })
+    (λ x ts h. record {
+      value = position h.entry_at;
+      front = h.entry_at ∷ [];
+      back = h.struct_at ∷ h.name ∷ h.opening ∷ [];
+      first = alone (codes "@main") h.entry_at h.is_entry;
+      whole = h.whole;
+      second = record {
+        value = position h.struct_at;
+        front = h.struct_at ∷ [];
+        back = h.name ∷ h.opening ∷ [];
+        first = alone (codes "struct") h.struct_at h.is_struct;
+        whole = refl;
+        second = record {
+          value = tt;
+          front = h.name ∷ [];
+          back = h.opening ∷ [];
+          first = record { token = h.name; is = h.is_name; alone = refl };
+          whole = refl;
+          second = record { value = position h.opening; front = h.opening ∷ []; back = []; first = alone (codes "{") h.opening h.is_opening; second = (refl, refl); whole = refl };
+        };
+      };
+    })
 
 -- `"static" "func" "main" "(" ")"`
 record SignatureParts (value : ℕ) (tokens : List Spelled) : Type 0 where
@@ -447,19 +549,51 @@ record SignatureParts (value : ℕ) (tokens : List Spelled) : Type 0 where
 reads_signature : Reads SignatureParts Anything signature
 unfolding signature
 reads_signature = restate
-  (then (reads_expect (codes "static") plain_static) (λ _. then (reads_expect (codes "func") plain_func) (λ _. then (reads_expect (codes "main") plain_main) (λ main.
+    (then (reads_expect (codes "static") plain_static) (λ _. then (reads_expect (codes "func") plain_func) (λ _. then (reads_expect (codes "main") plain_main) (λ main.
     then (reads_expect (codes "(") plain_open) (λ _. then (reads_expect (codes ")") plain_close) (λ _. reads_pure main))))))
-  (λ x ts a. let b = a.second in let c = b.second in let d = c.second in let e = d.second in record {
-    static_at = a.first.token; func_at = b.first.token; main_at = c.first.token; left = d.first.token; right = e.first.token;
-    is_static = a.first.is; is_func = b.first.is; is_main = c.first.is; is_left = d.first.is; is_right = e.first.is;
-    place = e.second.0 ∙ c.first.place;
-    whole = more a.whole a.first.alone (more b.whole b.first.alone (more c.whole c.first.alone (more d.whole d.first.alone (more e.whole e.first.alone e.second.1)))) })
-  (λ x ts h. record {
-    value = position h.static_at; front = h.static_at ∷ []; back = h.func_at ∷ h.main_at ∷ h.left ∷ h.right ∷ []; first = alone (codes "static") h.static_at h.is_static; whole = h.whole;
-    second = record { value = position h.func_at; front = h.func_at ∷ []; back = h.main_at ∷ h.left ∷ h.right ∷ []; first = alone (codes "func") h.func_at h.is_func; whole = refl;
-    second = record { value = position h.main_at; front = h.main_at ∷ []; back = h.left ∷ h.right ∷ []; first = alone (codes "main") h.main_at h.is_main; whole = refl;
-    second = record { value = position h.left; front = h.left ∷ []; back = h.right ∷ []; first = alone (codes "(") h.left h.is_left; whole = refl;
-    second = record { value = position h.right; front = h.right ∷ []; back = []; first = alone (codes ")") h.right h.is_right; second = (h.place, refl); whole = refl } } } } })
+    (λ x ts a. let b = a.second in let c = b.second in let d = c.second in let e = d.second in record {
+      static_at = a.first.token;
+      func_at = b.first.token;
+      main_at = c.first.token;
+      left = d.first.token;
+      right = e.first.token;
+      is_static = a.first.is;
+      is_func = b.first.is;
+      is_main = c.first.is;
+      is_left = d.first.is;
+      is_right = e.first.is;
+      place = e.second.0 ∙ c.first.place;
+      whole = more a.whole a.first.alone (more b.whole b.first.alone (more c.whole c.first.alone (more d.whole d.first.alone (more e.whole e.first.alone e.second.1))));
+    })
+    (λ x ts h. record {
+      value = position h.static_at;
+      front = h.static_at ∷ [];
+      back = h.func_at ∷ h.main_at ∷ h.left ∷ h.right ∷ [];
+      first = alone (codes "static") h.static_at h.is_static;
+      whole = h.whole;
+      second = record {
+        value = position h.func_at;
+        front = h.func_at ∷ [];
+        back = h.main_at ∷ h.left ∷ h.right ∷ [];
+        first = alone (codes "func") h.func_at h.is_func;
+        whole = refl;
+        second = record {
+          value = position h.main_at;
+          front = h.main_at ∷ [];
+          back = h.left ∷ h.right ∷ [];
+          first = alone (codes "main") h.main_at h.is_main;
+          whole = refl;
+          second = record {
+            value = position h.left;
+            front = h.left ∷ [];
+            back = h.right ∷ [];
+            first = alone (codes "(") h.left h.is_left;
+            whole = refl;
+            second = record { value = position h.right; front = h.right ∷ []; back = []; first = alone (codes ")") h.right h.is_right; second = (h.place, refl); whole = refl };
+          };
+        };
+      };
+    })
 
 -- `"{" { item } "}"`, with a `;` or none
 record BlockParts (value : List Item) (tokens : List Spelled) : Type 0 where
@@ -477,23 +611,48 @@ record BlockParts (value : List Item) (tokens : List Spelled) : Type 0 where
 reads_block : Reads BlockParts (Isnt (codes ";")) block
 unfolding block
 reads_block = restate
-  (then (reads_expect (codes "{") plain_begin) (λ _.
+    (then (reads_expect (codes "{") plain_begin) (λ _.
     reads_then (reads_each SpellsItem item item_is) (λ read.
-      then (reads_expect (codes "}") plain_end) (λ _. reads_then reads_end (λ marked. narrow (reads_pure read) (λ token f. tt))
-        (λ marked x back rest h f. ap (λ us. sees (codes ";") (head (us ++ rest))) h.1 ∙ f)))
-      (λ read x back rest h f.
-        ap (λ us. sees (codes "}") (head (us ++ rest))) (more h.whole h.first.alone refl) ∙ Is-has_text (codes "}") h.first.token h.first.is)))
-  (λ x ts a. let b = a.second in let c = b.second in let d = c.second in
+    then (reads_expect (codes "}") plain_end) (λ _. reads_then reads_end (λ marked. narrow (reads_pure read) (λ token f. tt))
+    (λ marked x back rest h f. ap (λ us. sees (codes ";") (head (us ++ rest))) h.1 ∙ f)))
+    (λ read x back rest h f.
+    ap (λ us. sees (codes "}") (head (us ++ rest))) (more h.whole h.first.alone refl) ∙ Is-has_text (codes "}") h.first.token h.first.is)))
+    (λ x ts a. let b = a.second in let c = b.second in let d = c.second in
     let tail : d.front ≡ c.back = sym (d.whole ∙ (ap (λ us. d.front ++ us) d.second.1 ∙ append-nil d.front)) in
     record {
-      start = a.first.token; body = b.front; end = c.first.token; marked = d.value; last = d.front;
-      is_start = a.first.is; is_body = subst (λ y. SpellsEach SpellsItem true y b.front) (sym d.second.0) b.first; is_end = c.first.is; is_last = d.first;
-      whole = more a.whole a.first.alone (b.whole ∙ ap (λ us. b.front ++ us) (more c.whole c.first.alone (sym tail))) })
-  (λ x ts h. record {
-    value = position h.start; front = h.start ∷ []; back = h.body ++ (h.end ∷ h.last); first = alone (codes "{") h.start h.is_start; whole = h.whole;
-    second = record { value = x; front = h.body; back = h.end ∷ h.last; first = h.is_body; whole = refl;
-    second = record { value = position h.end; front = h.end ∷ []; back = h.last; first = alone (codes "}") h.end h.is_end; whole = refl;
-    second = record { value = h.marked; front = h.last; back = []; first = h.is_last; second = (refl, refl); whole = sym (append-nil h.last) } } } })
+      start = a.first.token;
+      body = b.front;
+      end = c.first.token;
+      marked = d.value;
+      last = d.front;
+      is_start = a.first.is;
+      is_body = subst (λ y. SpellsEach SpellsItem true y b.front) (sym d.second.0) b.first;
+      is_end = c.first.is;
+      is_last = d.first;
+      whole = more a.whole a.first.alone (b.whole ∙ ap (λ us. b.front ++ us) (more c.whole c.first.alone (sym tail)));
+    })
+    (λ x ts h. record {
+      value = position h.start;
+      front = h.start ∷ [];
+      back = h.body ++ (h.end ∷ h.last);
+      first = alone (codes "{") h.start h.is_start;
+      whole = h.whole;
+      second = record {
+        value = x;
+        front = h.body;
+        back = h.end ∷ h.last;
+        first = h.is_body;
+        whole = refl;
+        second = record {
+          value = position h.end;
+          front = h.end ∷ [];
+          back = h.last;
+          first = alone (codes "}") h.end h.is_end;
+          whole = refl;
+          second = record { value = h.marked; front = h.last; back = []; first = h.is_last; second = (refl, refl); whole = sym (append-nil h.last) };
+        };
+      };
+    })
 
 abbrev small_of : ℕ → List Item → Small
 small_of main items = record { main = main; items = items }
@@ -503,62 +662,108 @@ SmallParts = Then EntryParts (λ _. Then SignatureParts (λ main. Then BlockPart
 
 small_there : (x : Small) (ts : List Spelled) → SmallParts x ts → SpellsSmall x ts
 small_there x ts a =
-  let b = a.second in let c = b.second in let d = c.second in let e = d.second in
-  let p = a.first in let q = b.first in let r = c.first in
-  let is : x ≡ small_of (position q.main_at) c.value = e.second.0 ∙ ap (λ at. small_of at c.value) q.place in
-  let last : e.back ≡ [] = e.second.1 in
-  let behind : c.back ≡ d.first.token ∷ e.front = more d.whole d.first.alone (e.whole ∙ (ap (λ us. e.front ++ us) last ∙ append-nil e.front)) in
-  let third : b.back ≡ r.start ∷ (r.body ++ (r.end ∷ (r.last ++ (d.first.token ∷ e.front))))
-        = c.whole ∙ (ap (λ us. us ++ c.back) r.whole ∙ (ap (λ us. r.start ∷ us) (append_assoc r.body (r.end ∷ r.last) c.back)
-          ∙ ap (λ us. r.start ∷ (r.body ++ (r.end ∷ (r.last ++ us)))) behind)) in
-  let second : a.back ≡ q.static_at ∷ q.func_at ∷ q.main_at ∷ q.left ∷ q.right ∷ b.back = b.whole ∙ ap (λ us. us ++ b.back) q.whole in
-  let first : ts ≡ p.entry_at ∷ p.struct_at ∷ p.name ∷ p.opening ∷ a.back = a.whole ∙ ap (λ us. us ++ a.back) p.whole in
-  let tokens : ts ≡ p.entry_at ∷ p.struct_at ∷ p.name ∷ p.opening ∷ q.static_at ∷ q.func_at ∷ q.main_at ∷ q.left ∷ q.right
-          ∷ r.start ∷ (r.body ++ (r.end ∷ (r.last ++ (d.first.token ∷ e.front))))
-        = first ∙ ap (λ us. p.entry_at ∷ p.struct_at ∷ p.name ∷ p.opening ∷ us)
-            (second ∙ ap (λ us. q.static_at ∷ q.func_at ∷ q.main_at ∷ q.left ∷ q.right ∷ us) third) in
-  subst (λ y. SpellsSmall y ts) (sym is) (subst (λ us. SpellsSmall (small_of (position q.main_at) c.value) us) (sym tokens)
+    let b = a.second in let c = b.second in let d = c.second in let e = d.second in
+    let p = a.first in let q = b.first in let r = c.first in
+    let is : x ≡ small_of (position q.main_at) c.value = e.second.0 ∙ ap (λ at. small_of at c.value) q.place in
+    let last : e.back ≡ [] = e.second.1 in
+    let behind : c.back ≡ d.first.token ∷ e.front = more d.whole d.first.alone (e.whole ∙ (ap (λ us. e.front ++ us) last ∙ append-nil e.front)) in
+    let third : b.back ≡ r.start ∷ (r.body ++ (r.end ∷ (r.last ++ (d.first.token ∷ e.front))))
+    = c.whole ∙ (ap (λ us. us ++ c.back) r.whole ∙ (ap (λ us. r.start ∷ us) (append_assoc r.body (r.end ∷ r.last) c.back)
+    ∙ ap (λ us. r.start ∷ (r.body ++ (r.end ∷ (r.last ++ us)))) behind)) in
+    let second : a.back ≡ q.static_at ∷ q.func_at ∷ q.main_at ∷ q.left ∷ q.right ∷ b.back = b.whole ∙ ap (λ us. us ++ b.back) q.whole in
+    let first : ts ≡ p.entry_at ∷ p.struct_at ∷ p.name ∷ p.opening ∷ a.back = a.whole ∙ ap (λ us. us ++ a.back) p.whole in
+    let tokens : ts ≡ p.entry_at ∷ p.struct_at ∷ p.name ∷ p.opening ∷ q.static_at ∷ q.func_at ∷ q.main_at ∷ q.left ∷ q.right
+    ∷ r.start ∷ (r.body ++ (r.end ∷ (r.last ++ (d.first.token ∷ e.front))))
+    = first ∙ ap (λ us. p.entry_at ∷ p.struct_at ∷ p.name ∷ p.opening ∷ us)
+    (second ∙ ap (λ us. q.static_at ∷ q.func_at ∷ q.main_at ∷ q.left ∷ q.right ∷ us) third) in
+    subst (λ y. SpellsSmall y ts) (sym is) (subst (λ us. SpellsSmall (small_of (position q.main_at) c.value) us) (sym tokens)
     (spelled_small p.entry_at p.struct_at p.name p.opening q.static_at q.func_at q.main_at q.left q.right r.start
-      c.value r.body r.end r.marked r.last d.first.token e.value e.front
-      p.is_entry p.is_struct p.is_name p.is_opening q.is_static q.is_func q.is_main q.is_left q.is_right
-      r.is_start r.is_body r.is_end r.is_last d.first.is e.first))
+    c.value r.body r.end r.marked r.last d.first.token e.value e.front
+    p.is_entry p.is_struct p.is_name p.is_opening q.is_static q.is_func q.is_main q.is_left q.is_right
+    r.is_start r.is_body r.is_end r.is_last d.first.is e.first))
 
 small_back : (x : Small) (ts : List Spelled) → SpellsSmall x ts → SmallParts x ts
 small_back _ _ (spelled_small entry_at struct_at name opening static_at func_at main_at left right start read body end marked last closing marked' last'
-      is_entry is_struct is_name is_opening is_static is_func is_main is_left is_right is_start is_body is_end is_last is_closing is_last') =
-  let tail = end ∷ (last ++ (closing ∷ last')) in
-  record {
-    value = tt; front = entry_at ∷ struct_at ∷ name ∷ opening ∷ []; back = static_at ∷ func_at ∷ main_at ∷ left ∷ right ∷ start ∷ (body ++ tail); whole = refl;
-    first = record { entry_at = entry_at; struct_at = struct_at; name = name; opening = opening;
-      is_entry = is_entry; is_struct = is_struct; is_name = is_name; is_opening = is_opening; whole = refl };
-    second = record { value = position main_at; front = static_at ∷ func_at ∷ main_at ∷ left ∷ right ∷ []; back = start ∷ (body ++ tail); whole = refl;
-      first = record { static_at = static_at; func_at = func_at; main_at = main_at; left = left; right = right;
-        is_static = is_static; is_func = is_func; is_main = is_main; is_left = is_left; is_right = is_right; place = refl; whole = refl };
-    second = record { value = read; front = start ∷ (body ++ (end ∷ last)); back = closing ∷ last';
-      whole = ap (λ us. start ∷ us) (sym (append_assoc body (end ∷ last) (closing ∷ last')));
-      first = record { start = start; body = body; end = end; marked = marked; last = last; is_start = is_start; is_body = is_body; is_end = is_end; is_last = is_last; whole = refl };
-    second = record { value = position closing; front = closing ∷ []; back = last'; first = alone (codes "}") closing is_closing; whole = refl;
-    second = record { value = marked'; front = last'; back = []; first = is_last'; second = (refl, refl); whole = sym (append-nil last') } } } } }
+    is_entry is_struct is_name is_opening is_static is_func is_main is_left is_right is_start is_body is_end is_last is_closing is_last') =
+    let tail = end ∷ (last ++ (closing ∷ last')) in
+    record {
+      value = tt;
+      front = entry_at ∷ struct_at ∷ name ∷ opening ∷ [];
+      back = static_at ∷ func_at ∷ main_at ∷ left ∷ right ∷ start ∷ (body ++ tail);
+      whole = refl;
+      first = record {
+        entry_at = entry_at;
+        struct_at = struct_at;
+        name = name;
+        opening = opening;
+        is_entry = is_entry;
+        is_struct = is_struct;
+        is_name = is_name;
+        is_opening = is_opening;
+        whole = refl;
+      };
+      second = record {
+        value = position main_at;
+        front = static_at ∷ func_at ∷ main_at ∷ left ∷ right ∷ [];
+        back = start ∷ (body ++ tail);
+        whole = refl;
+        first = record {
+          static_at = static_at;
+          func_at = func_at;
+          main_at = main_at;
+          left = left;
+          right = right;
+          is_static = is_static;
+          is_func = is_func;
+          is_main = is_main;
+          is_left = is_left;
+          is_right = is_right;
+          place = refl;
+          whole = refl;
+        };
+        second = record {
+          value = read;
+          front = start ∷ (body ++ (end ∷ last));
+          back = closing ∷ last';
+          whole = ap (λ us. start ∷ us) (sym (append_assoc body (end ∷ last) (closing ∷ last')));
+          first = record { start = start; body = body; end = end; marked = marked; last = last; is_start = is_start; is_body = is_body; is_end = is_end; is_last = is_last; whole = refl };
+          second = record {
+            value = position closing;
+            front = closing ∷ [];
+            back = last';
+            first = alone (codes "}") closing is_closing;
+            whole = refl;
+            second = record { value = marked'; front = last'; back = []; first = is_last'; second = (refl, refl); whole = sym (append-nil last') };
+          };
+        };
+      };
+    }
 
 pub reads_small : Reads SpellsSmall (Isnt (codes ";")) small
 unfolding small
 reads_small = restate
-  (then reads_entry (λ _. then reads_signature (λ main. reads_then reads_block (λ read.
+    (then reads_entry (λ _. then reads_signature (λ main. reads_then reads_block (λ read.
     then (reads_expect (codes "}") plain_end) (λ _. reads_then reads_end (λ marked. narrow (reads_pure (small_of main read)) (λ token f. tt))
-      (λ marked x back rest h f. ap (λ us. sees (codes ";") (head (us ++ rest))) h.1 ∙ f)))
+    (λ marked x back rest h f. ap (λ us. sees (codes ";") (head (us ++ rest))) h.1 ∙ f)))
     (λ read x back rest h f. first_isnt (codes "}") (codes ";") h.first.token h.back back rest (more h.whole h.first.alone refl) h.first.is refl))))
-  small_there small_back
+    small_there small_back
 
 pub reads_whole : Reads SpellsSmall IsEnd whole
 unfolding whole
 reads_whole = restate
-  (reads_then reads_small (λ program. reads_then reads_finish (λ _. narrow (reads_pure program) (λ token f. tt))
-      (λ x q back rest h f. ap (λ us. head (us ++ rest)) h.1 ∙ f))
+    (reads_then reads_small (λ program. reads_then reads_finish (λ _. narrow (reads_pure program) (λ token f. tt))
+    (λ x q back rest h f. ap (λ us. head (us ++ rest)) h.1 ∙ f))
     (λ program q back rest h f. let nothing : back ≡ [] = h.whole ∙ (ap (λ us. us ++ h.back) h.first.1 ∙ h.second.1) in
-      ap (λ us. sees (codes ";") (head (us ++ rest))) nothing ∙ ap (sees (codes ";")) f))
-  (λ x ts h.
+    ap (λ us. sees (codes ";") (head (us ++ rest))) nothing ∙ ap (sees (codes ";")) f))
+    (λ x ts h.
     let rest : h.back ≡ [] = h.second.whole ∙ (ap (λ us. us ++ h.second.back) h.second.first.1 ∙ h.second.second.1) in
     let whole : ts ≡ h.front = h.whole ∙ (ap (λ us. h.front ++ us) rest ∙ append-nil h.front) in
     subst (λ y. SpellsSmall y ts) (sym h.second.second.0) (subst (λ us. SpellsSmall h.value us) (sym whole) h.first))
-  (λ x ts h. record { value = x; front = ts; back = []; first = h; whole = sym (append-nil ts);
-    second = record { value = tt; front = []; back = []; first = (refl, refl); second = (refl, refl); whole = refl } })
+    (λ x ts h. record {
+      value = x;
+      front = ts;
+      back = [];
+      first = h;
+      whole = sym (append-nil ts);
+      second = record { value = tt; front = []; back = []; first = (refl, refl); second = (refl, refl); whole = refl };
+    })

@@ -1,25 +1,25 @@
 -- The readers of one token, against the conditions of the grammar on that token.
-use Rattle.std.proofs.Common.{◌≡◌, ℕ, Bool, true, false, cond, ◌⊎◌, inl, inr, List, [], ◌∷◌, ◌++◌, length, refl, sym, ◌∙◌, ap, subst, ℤ, pos}
-use Rattle.std.specs.Prelude.{Option, Some, None, Result, Ok, Err, IsTrue, IsFalse, ◌&&◌, not, codes, bytes_eq}
+use Rattle.std.proofs.Common.{◌≡◌, ℕ, Bool, true, false, cond, inl, inr, List, [], ◌∷◌, ◌++◌, refl, sym, ◌∙◌, ap, subst, ℤ, pos}
+use Rattle.std.specs.Prelude.{Some, None, IsFalse, ◌&&◌, not, codes, bytes_eq}
 use Rattle.std.proofs.lemmas.Slice.Eq.{bytes_eq-Decides}
 use Rattle.sw_token.specs.declared.Kind.{Kind}
 use Rattle.sw_token.specs.declared.Kind.TheVariants as kinds
 use Rattle.sw_token.specs.declared.Fixity.TheVariants as fixities
 use Rattle.sw_token.specs.Bytes.{is_digit, is_word_start}
-use Rattle.sw_token.specs.Kinds.{kind_of, word_kind, ruled_words, reserved_words, number_of, mark_number}
+use Rattle.sw_token.specs.Kinds.{kind_of, word_kind, ruled_words, reserved_words, mark_number}
 use Rattle.sw_check.specs.Spelling.{Spelled, position, HasKind, IsNumeral}
 use Rattle.sw_check.specs.Small.{Is, IsWord, IsInt, SpellsEnd}
 use Rattle.sw_check.specs.Small.SpellsEnd.{unmarked, semicolon}
-use Rattle.sw_check.specs.Reader.{Reader, head, pure, ◌>>=◌, next, check, choose}
+use Rattle.sw_check.specs.Reader.{head}
 use Rattle.sw_check.specs.SmallReading.{has_text, sees, quoted, quoted_within_line, named, valued, expect, expect_within_line, word, integer, skip}
 use Rattle.sw_check.proofs.ReaderLaws.{Relation, Follow, Anything, Reads, One, Filler, Then, Either, Nothing, Shows, restate, narrow, reads_next, reads_pure, reads_choose, then}
 
 -- a token to go on with, of any text
 abbrev pub made : Kind → Bool → ℕ → List ℕ → Spelled
 made kind first at text = record {
-    token = record { kind = kind; span = record { start = at; end = at }; fixity = fixities.None; first = first };
-    text = text
-  }
+  token = record { kind = kind; span = record { start = at; end = at }; fixity = fixities.None; first = first };
+  text = text;
+}
 
 -- `Quoted text at`: the token with this text, at the place `at`
 pub record Quoted (text : List ℕ) (at : ℕ) (tokens : List Spelled) : Type 0 where
@@ -77,16 +77,16 @@ some_if false at a e = absurd (cc)
 module _ (text : List ℕ) (plain : is_int (kind_of text) ≡ false) where
   quoted_filler : (first : Bool) (from : ℕ) → Filler (quoted text) from
   quoted_filler first from = record {
-      value = from;
-      token = made (kind_of text) first from text;
-      taken = ap (λ b. cond b (Some from) None) (Is-has_text text (made (kind_of text) first from text) refl);
-      at = refl;
-      kind = HasKind-of (kind_of text) text refl plain
-    }
+    value = from;
+    token = made (kind_of text) first from text;
+    taken = ap (λ b. cond b (Some from) None) (Is-has_text text (made (kind_of text) first from text) refl);
+    at = refl;
+    kind = HasKind-of (kind_of text) text refl plain;
+  }
 
   quoted_there : (at : ℕ) (ts : List Spelled) → One (quoted text) at ts → Quoted text at ts
   quoted_there at ts h = let is = some_if (has_text text h.0) (position h.0) at h.1 in
-    record { token = h.0; is = has_text-true text h.0 is.0; place = sym is.1; alone = h.2 }
+      record { token = h.0; is = has_text-true text h.0 is.0; place = sym is.1; alone = h.2 }
 
   quoted_back : (at : ℕ) (ts : List Spelled) → Quoted text at ts → One (quoted text) at ts
   quoted_back at ts h = (h.token, ap (λ b. cond b (Some (position h.token)) None) (Is-has_text text h.token h.is) ∙ ap (λ n. Some n) (sym h.place), h.alone)
@@ -97,12 +97,12 @@ module _ (text : List ℕ) (plain : is_int (kind_of text) ≡ false) where
 
   within_filler : (from : ℕ) → Filler (quoted_within_line text) from
   within_filler from = record {
-      value = from;
-      token = made (kind_of text) false from text;
-      taken = ap (λ b. cond (b && true) (Some from) None) (Is-has_text text (made (kind_of text) false from text) refl);
-      at = refl;
-      kind = HasKind-of (kind_of text) text refl plain
-    }
+    value = from;
+    token = made (kind_of text) false from text;
+    taken = ap (λ b. cond (b && true) (Some from) None) (Is-has_text text (made (kind_of text) false from text) refl);
+    at = refl;
+    kind = HasKind-of (kind_of text) text refl plain;
+  }
 
   both : (a b : Bool) → (a && not b) ≡ true → (a ≡ true) × (b ≡ false)
   both true false h = (refl, refl)
@@ -111,13 +111,16 @@ module _ (text : List ℕ) (plain : is_int (kind_of text) ≡ false) where
 
   within_there : (at : ℕ) (ts : List Spelled) → One (quoted_within_line text) at ts → QuotedWithinLine text at ts
   within_there at ts h = let is = some_if (has_text text h.0 && not h.0.token.first) (position h.0) at h.1 in
-    let parts = both (has_text text h.0) h.0.token.first is.0 in
-    record { token = h.0; is = has_text-true text h.0 parts.0; within = parts.1; place = sym is.1; alone = h.2 }
+      let parts = both (has_text text h.0) h.0.token.first is.0 in
+      record { token = h.0; is = has_text-true text h.0 parts.0; within = parts.1; place = sym is.1; alone = h.2 }
 
   within_back : (at : ℕ) (ts : List Spelled) → QuotedWithinLine text at ts → One (quoted_within_line text) at ts
-  within_back at ts h = (h.token,
+  within_back at ts h = (
+    h.token,
     ap (λ b. cond (b && not h.token.token.first) (Some (position h.token)) None) (Is-has_text text h.token h.is)
-      ∙ (ap (λ b. cond (true && not b) (Some (position h.token)) None) h.within ∙ ap (λ n. Some n) (sym h.place)), h.alone)
+        ∙ (ap (λ b. cond (true && not b) (Some (position h.token)) None) h.within ∙ ap (λ n. Some n) (sym h.place)),
+    h.alone,
+  )
 
   pub reads_expect_within_line : Reads (QuotedWithinLine text) Anything (expect_within_line text)
   unfolding expect_within_line
@@ -153,19 +156,29 @@ short_numeral = (λ e. cc, refl)
 pub reads_word : Reads Named Anything word
 unfolding word
 reads_word = restate
-  (reads_next (λ token. named token.token.kind) (λ from. record {
-      value = tt; token = made kinds.Word true from (codes "a"); taken = refl; at = refl; kind = short_name }))
-  (λ value ts h. record { token = h.0; is = named_is h.0.token.kind value h.1; alone = h.2 })
-  (λ value ts h. (h.token, ap named h.is, h.alone))
+    (reads_next (λ token. named token.token.kind) (λ from. record {
+      value = tt;
+      token = made kinds.Word true from (codes "a");
+      taken = refl;
+      at = refl;
+      kind = short_name;
+    }))
+    (λ value ts h. record { token = h.0; is = named_is h.0.token.kind value h.1; alone = h.2 })
+    (λ value ts h. (h.token, ap named h.is, h.alone))
 
 pub reads_integer : Reads Literal Anything integer
 unfolding integer
 reads_integer = restate
-  (reads_next (λ token. valued token.token.kind (position token)) (λ from. record {
-      value = (from, pos 1); token = made (kinds.Int (pos 1)) true from (codes "1"); taken = refl; at = refl; kind = short_numeral }))
-  (λ value ts h. let is = valued_is h.0.token.kind (position h.0) value h.1 in
+    (reads_next (λ token. valued token.token.kind (position token)) (λ from. record {
+      value = (from, pos 1);
+      token = made (kinds.Int (pos 1)) true from (codes "1");
+      taken = refl;
+      at = refl;
+      kind = short_numeral;
+    }))
+    (λ value ts h. let is = valued_is h.0.token.kind (position h.0) value h.1 in
     record { token = h.0; is = is.0; place = is.1; alone = h.2 })
-  (λ value ts h. (h.token, ap (λ kind. valued kind (position h.token)) h.is ∙ ap (λ at. Some (at, value.1)) (sym h.place), h.alone))
+    (λ value ts h. (h.token, ap (λ kind. valued kind (position h.token)) h.is ∙ ap (λ at. Some (at, value.1)) (sym h.place), h.alone))
 
 -- An optional token
 
@@ -180,16 +193,16 @@ Skipped text = Either (Then (Quoted text) (λ _. Nothing true)) (Nothing false)
 module _ (text : List ℕ) (plain : is_int (kind_of text) ≡ false) where
   shows_quoted : Shows (sees text) true (Then (Quoted text) (λ _. Nothing true)) (Isnt text)
   shows_quoted marked front rest h f =
-    let whole : front ≡ h.first.token ∷ h.back = h.whole ∙ ap (λ us. us ++ h.back) h.first.alone in
-    ap (λ us. sees text (head (us ++ rest))) whole ∙ Is-has_text text h.first.token h.first.is
+      let whole : front ≡ h.first.token ∷ h.back = h.whole ∙ ap (λ us. us ++ h.back) h.first.alone in
+      ap (λ us. sees text (head (us ++ rest))) whole ∙ Is-has_text text h.first.token h.first.is
 
   pub reads_skip : Reads (Skipped text) (Isnt text) (skip text)
   unfolding skip
   reads_skip = reads_choose (sees text)
-    (narrow (then (reads_expect text plain) (λ at. reads_pure true)) (λ token f. tt))
-    (narrow (reads_pure false) (λ token f. tt))
-    shows_quoted
-    (λ marked front rest h f. ap (λ us. sees text (head (us ++ rest))) h.1 ∙ f)
+      (narrow (then (reads_expect text plain) (λ at. reads_pure true)) (λ token f. tt))
+      (narrow (reads_pure false) (λ token f. tt))
+      shows_quoted
+      (λ marked front rest h f. ap (λ us. sees text (head (us ++ rest))) h.1 ∙ f)
 
 -- The marks and words of the grammar are no integers.
 pub semicolon_plain : is_int (kind_of (codes ";")) ≡ false
@@ -198,16 +211,20 @@ semicolon_plain = refl
 
 end_there : (marked : Bool) (ts : List Spelled) → Skipped (codes ";") marked ts → SpellsEnd marked ts
 end_there marked ts (inl h) =
-  let whole : ts ≡ h.first.token ∷ [] = h.whole ∙ (ap (λ us. us ++ h.back) h.first.alone ∙ ap (λ us. h.first.token ∷ us) h.second.1) in
-  subst (λ b. SpellsEnd b ts) (sym h.second.0) (subst (λ us. SpellsEnd true us) (sym whole) (semicolon h.first.token h.first.is))
+    let whole : ts ≡ h.first.token ∷ [] = h.whole ∙ (ap (λ us. us ++ h.back) h.first.alone ∙ ap (λ us. h.first.token ∷ us) h.second.1) in
+    subst (λ b. SpellsEnd b ts) (sym h.second.0) (subst (λ us. SpellsEnd true us) (sym whole) (semicolon h.first.token h.first.is))
 end_there marked ts (inr h) = subst (λ b. SpellsEnd b ts) (sym h.0) (subst (λ us. SpellsEnd false us) (sym h.1) unmarked)
 
 end_back : (marked : Bool) (ts : List Spelled) → SpellsEnd marked ts → Skipped (codes ";") marked ts
 end_back marked ts unmarked = inr (refl, refl)
 end_back marked ts (semicolon mark is) = inl (record {
-    value = position mark; front = mark ∷ []; back = [];
-    first = record { token = mark; is = is; place = refl; alone = refl };
-    second = (refl, refl); whole = refl })
+  value = position mark;
+  front = mark ∷ [];
+  back = [];
+  first = record { token = mark; is = is; place = refl; alone = refl };
+  second = (refl, refl);
+  whole = refl;
+})
 
 -- what may end an item
 pub reads_end : Reads SpellsEnd (Isnt (codes ";")) (skip (codes ";"))

@@ -1,22 +1,20 @@
 -- The tokens of a text, with their texts, are a spelling; and their spans cut the text between characters.
-use Rattle.std.proofs.Common.{◌≡◌, ℕ, zero, suc, ◌+◌, ◌-◌, ◌*◌, ◌≤◌, ◌<◌, ◌≢◌, Bool, true, false, cond, ◌⊎◌, inl, inr, List, [], ◌∷◌, ◌++◌, map, length, take, drop, get_or, refl, sym, ◌∙◌, ap, subst, ℤ, append_assoc, arith, length-append}
-use Rattle.std.proofs.lemmas.Bool.Decides.{nat_tests}
-use Rattle.std.proofs.lemmas.List.{append-nil, take_at, drop_at, get_or_at}
-use Rattle.std.proofs.lemmas.List.Elements.{All-from_recursion}
-use Rattle.std.proofs.lemmas.Str.{IsCharBoundary-end, IsCharBoundary-before_ascii}
-use Rattle.std.proofs.Math.Dec.{lit<}
-use Rattle.std.specs.Prelude.{Option, Some, None, All, IsTrue, slice_range, codes, ◌||◌, ◌&&◌}
+use Rattle.std.proofs.Common.{◌≡◌, ℕ, suc, ◌+◌, ◌-◌, ◌≤◌, ◌<◌, Bool, true, false, cond, List, [], ◌∷◌, ◌++◌, length, take, drop, refl, sym, ◌∙◌, ap, subst, ℤ, append_assoc, arith, length-append}
+use Rattle.std.proofs.lemmas.List.{take_at, drop_at}
+use Rattle.std.proofs.lemmas.List.Elements.{All-weaker}
+use Rattle.std.specs.Prelude.{Option, Some, None, All, slice_range, codes, ◌&&◌}
 use Rattle.std.specs.List.{AllByRecursion, list_all}
-use Rattle.std.specs.Str.{IsCharBoundary}
+use Rattle.std.specs.Str.{IsUtf8}
 use Rattle.sw_token.specs.declared.Kind.{Kind}
 use Rattle.sw_token.specs.declared.Kind.TheVariants as kinds
 use Rattle.sw_token.specs.declared.Token.{Token}
-use Rattle.sw_token.specs.Bytes.{is_gap_byte, is_word_start, is_digit, is_word_byte, is_mark, has_line_feed}
-use Rattle.sw_token.specs.Kinds.{kind_of, word_kind, named_kind, key_words}
-use Rattle.sw_token.specs.Tokens.{IsGap, EndsWord, IsToken, token_of, Splits, IsTokens}
+use Rattle.sw_token.specs.Bytes.{is_word_start, is_digit}
+use Rattle.sw_token.specs.Kinds.{kind_of, word_kind, named_kind}
+use Rattle.sw_token.specs.Tokens.{IsToken, Splits, IsTokens, IsTokenIn}
+use Rattle.sw_token.proofs.Laws.{IsTokens-each, IsTokenIn-borders}
 use Rattle.sw_token.specs.Tokens.IsToken.{word, number, at_main, mark}
 use Rattle.sw_token.specs.Tokens.Splits.{last_gap, then_token}
-use Rattle.sw_check.specs.Spelling.{Spelled, spelled, spelling_of, position, HasKind, IsNumeral, IsSpelling, IsWithin}
+use Rattle.sw_check.specs.Spelling.{Spelled, spelling_of, HasKind, IsNumeral, IsSpelling, IsWithin}
 use Rattle.sw_check.proofs.Rising.{Rises, IsKind, is_spelling}
 use Rattle.sw_check.proofs.TokenReaders.{is_int, HasKind-of}
 
@@ -80,9 +78,9 @@ cut : (source before gap text after : List ℕ) → source ≡ before ++ (gap ++
 cut source before gap text after split =
     let whole : source ≡ (before ++ gap) ++ (text ++ after) = split ∙ sym (append_assoc before gap (text ++ after)) in
     let behind : drop (length before + length gap) source ≡ text ++ after
-          = ap (λ us. drop (length before + length gap) us) whole ∙ drop_at (before ++ gap) (text ++ after) (length before + length gap) (length-append before gap) in
+    = ap (λ us. drop (length before + length gap) us) whole ∙ drop_at (before ++ gap) (text ++ after) (length before + length gap) (length-append before gap) in
     ap (λ us. take (length before + length gap + length text - (length before + length gap)) us) behind
-      ∙ take_at text after (length before + length gap + length text - (length before + length gap)) (omega arith)
+    ∙ take_at text after (length before + length gap + length text - (length before + length gap)) (omega arith)
 
 -- where the text goes on behind a token
 next_split : (source before gap text after : List ℕ) → source ≡ before ++ (gap ++ (text ++ after)) → source ≡ (before ++ (gap ++ text)) ++ after
@@ -95,11 +93,12 @@ next_length before gap text = omega (arith, length-append before (gap ++ text), 
 tokens_kinds : (source before bytes : List ℕ) (at : ℕ) (leads : Bool) (tokens : List Token) → source ≡ before ++ bytes → length before ≡ at
     → Splits at leads bytes tokens → AllByRecursion IsKind (spelling_of source tokens)
 tokens_kinds source before _ _ _ _ split is (last_gap at leads gap _) = tt
-tokens_kinds source before _ _ _ _ split is (then_token at leads gap text after tokens _ token rest) =
-    (subst (λ n. HasKind (kind_of text) (slice_range source (n + length gap) (n + length gap + length text))) is
-        (subst (HasKind (kind_of text)) (sym (cut source before gap text after split)) (token_kind text after token)),
-      tokens_kinds source (before ++ (gap ++ text)) after (at + length gap + length text) false tokens
-        (next_split source before gap text after split) (next_length before gap text ∙ ap (λ n. n + length gap + length text) is) rest)
+tokens_kinds source before _ _ _ _ split is (then_token at leads gap text after tokens _ token rest) = (
+  subst (λ n. HasKind (kind_of text) (slice_range source (n + length gap) (n + length gap + length text))) is
+      (subst (HasKind (kind_of text)) (sym (cut source before gap text after split)) (token_kind text after token)),
+  tokens_kinds source (before ++ (gap ++ text)) after (at + length gap + length text) false tokens
+      (next_split source before gap text after split) (next_length before gap text ∙ ap (λ n. n + length gap + length text) is) rest,
+)
 
 -- Tokens begin one behind the other.
 
@@ -110,83 +109,22 @@ Rises-weaker m n (t ∷ ts) less h = (omega (arith, h.0), h.1)
 tokens_rise : (source bytes : List ℕ) (at : ℕ) (leads : Bool) (tokens : List Token) → Splits at leads bytes tokens → Rises at (spelling_of source tokens)
 tokens_rise source _ _ _ _ (last_gap at leads gap _) = tt
 tokens_rise source _ _ _ _ (then_token at leads gap text after tokens _ token rest) =
-    let some = token_takes text after token in
-    (omega arith, Rises-weaker (suc (at + length gap)) (at + length gap + length text) (spelling_of source tokens) (omega arith)
-      (tokens_rise source after (at + length gap + length text) false tokens rest))
+    let some = token_takes text after token in (
+      omega arith,
+      Rises-weaker (suc (at + length gap)) (at + length gap + length text) (spelling_of source tokens) (omega arith)
+          (tokens_rise source after (at + length gap + length text) false tokens rest),
+    )
 
 -- The tokens of a text are a spelling.
 pub tokens_spelled : (source : List ℕ) (tokens : List Token) → IsTokens source tokens → IsSpelling (spelling_of source tokens)
 tokens_spelled source tokens is =
     is_spelling 0 (spelling_of source tokens) (tokens_kinds source [] source 0 true tokens refl refl is) (tokens_rise source source 0 true tokens is)
 
--- Every byte of a gap or a token is one of ASCII, so a span cuts no character in two.
-
-gap_ascii : (byte : ℕ) → is_gap_byte byte ≡ true → byte < 128
-unfolding is_gap_byte
-gap_ascii byte h = grind (arith, nat_tests)
-
-word_ascii : (byte : ℕ) → is_word_start byte ≡ true → byte < 128
-unfolding is_word_start
-word_ascii byte h = grind (arith, nat_tests)
-
-digit_ascii : (byte : ℕ) → is_digit byte ≡ true → byte < 128
-unfolding is_digit
-digit_ascii byte h = grind (arith, nat_tests)
-
-mark_ascii : (byte : ℕ) → is_mark byte ≡ true → byte < 128
-unfolding is_mark
-mark_ascii byte h = grind (arith, nat_tests)
-
-token_ascii : (text after : List ℕ) → IsToken text after → get_or text 0 0 < 128
-token_ascii _ _ (word byte more after starts all ends) = word_ascii byte starts
-token_ascii _ _ (number byte more after first all short ends) = digit_ascii byte first
-token_ascii _ _ (at_main after ends) = lit< tt
-token_ascii _ _ (mark byte after is) = mark_ascii byte is
-
-first_of : (us vs : List ℕ) → 0 < length us → get_or (us ++ vs) 0 0 ≡ get_or us 0 0
-first_of [] vs some = absurd (omega arith)
-first_of (u ∷ us) vs some = refl
-
-gap_first : (gap : List ℕ) → IsGap gap → 0 < length gap → get_or gap 0 0 < 128
-gap_first [] is some = absurd (omega arith)
-gap_first (byte ∷ gap) is some = gap_ascii byte (and_left (is_gap_byte byte) (list_all is_gap_byte gap) is)
-  where
-    and_left : (a b : Bool) → (a && b) ≡ true → a ≡ true
-    and_left true b h = refl
-    and_left false b h = absurd (cc)
-
--- what stands at a token and behind it
-split_ascii : (at : ℕ) (leads : Bool) (bytes : List ℕ) (tokens : List Token) → Splits at leads bytes tokens → 0 < length bytes → get_or bytes 0 0 < 128
-split_ascii _ _ _ _ (last_gap at leads gap is) some = gap_first gap is some
-split_ascii _ _ _ _ (then_token at leads [] text after tokens is token rest) some =
-    let here = first_of text after (token_takes text after token) in
-    let ascii = token_ascii text after token in omega arith
-split_ascii _ _ _ _ (then_token at leads (byte ∷ gap) text after tokens is token rest) some = gap_first (byte ∷ gap) is (omega arith)
-
-boundary : (source before bytes : List ℕ) → source ≡ before ++ bytes → (0 < length bytes → get_or bytes 0 0 < 128) → IsCharBoundary source (length before)
-boundary source before [] split ascii =
-    subst (λ us. IsCharBoundary us (length before)) (sym (split ∙ append-nil before)) (IsCharBoundary-end before)
-boundary source before (byte ∷ bytes) split ascii =
-    let here : get_or source (length before) 0 ≡ byte = ap (λ us. get_or us (length before) 0) split ∙ get_or_at before byte bytes 0 (length before) refl in
-    let small : byte < 128 = ascii (omega arith) in
-    IsCharBoundary-before_ascii source (length before) (omega (arith, ap length split, length-append before (byte ∷ bytes))) (omega arith)
-
-tokens_within : (source before bytes : List ℕ) (at : ℕ) (leads : Bool) (tokens : List Token) → source ≡ before ++ bytes → length before ≡ at
-    → Splits at leads bytes tokens → AllByRecursion (IsWithin source) tokens
-tokens_within source before _ _ _ _ split is (last_gap at leads gap _) = tt
-tokens_within source before _ _ _ _ split is (then_token at leads gap text after tokens _ token rest) =
-    let behind = next_split source before gap text after split in
-    let long = next_length before gap text ∙ ap (λ n. n + length gap + length text) is in
-    let from : source ≡ (before ++ gap) ++ (text ++ after) = split ∙ sym (append_assoc before gap (text ++ after)) in
-    let start : length (before ++ gap) ≡ at + length gap = length-append before gap ∙ ap (λ n. n + length gap) is in
-    (record {
-        ordered = omega arith;
-        start = subst (IsCharBoundary source) start (boundary source (before ++ gap) (text ++ after) from
-          (λ some. rw (first_of text after (token_takes text after token)) (token_ascii text after token)));
-        end = subst (IsCharBoundary source) long (boundary source (before ++ (gap ++ text)) after behind (split_ascii _ _ after tokens rest))
-      },
-      tokens_within source (before ++ (gap ++ text)) after (at + length gap + length text) false tokens behind long rest)
-
 -- The spans of the tokens of a text cut parts out of it.
-pub tokens_cut : (source : List ℕ) (tokens : List Token) → IsTokens source tokens → All (IsWithin source) tokens
-tokens_cut source tokens is = All-from_recursion (IsWithin source) tokens (tokens_within source [] source 0 true tokens refl refl is)
+
+within_each : (source : List ℕ) (token : Token) → IsUtf8 source → IsTokenIn source token → IsWithin source token
+within_each source token utf8 is = let borders = IsTokenIn-borders source token utf8 is in
+    record { ordered = omega (arith, is.some); start = borders.0; end = borders.1 }
+
+pub tokens_cut : (source : List ℕ) (tokens : List Token) → IsUtf8 source → IsTokens source tokens → All (IsWithin source) tokens
+tokens_cut source tokens utf8 is = All-weaker (IsTokenIn source) (IsWithin source) (λ token h. within_each source token utf8 h) tokens (IsTokens-each source tokens is)

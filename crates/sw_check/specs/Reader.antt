@@ -1,7 +1,7 @@
 -- Readers: functions that read a value off the front of a list of tokens, from left to right. Where
 -- a token can't be taken, the fault is how many tokens are left from that one on, so that it doesn't
 -- change when readers are put together; 0 is the end.
-use Rattle.std.specs.Prelude.{◌≡◌, ℕ, zero, suc, Bool, true, false, ◌||◌, if◌then◌else◌, List, [], ◌∷◌, length, Option, Some, None, Result, Ok, Err}
+use Rattle.std.specs.Prelude.{ℕ, zero, suc, Bool, if◌then◌else◌, List, [], ◌∷◌, length, Option, Some, None, Result, Ok, Err}
 use Rattle.sw_check.specs.Spelling.{Spelled}
 
 -- a value and the tokens behind it, or a fault

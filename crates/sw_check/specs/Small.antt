@@ -26,7 +26,7 @@ pub data SpellsShow : Show → List Spelled → Type 0 where
       → Is (codes "print") print → Is (codes "(") opening → IsFalse opening.token.first
       → IsInt value literal → Is (codes ")") closing
       → SpellsShow (record { at = position print; value_at = position literal; value = value })
-          (print ∷ opening ∷ literal ∷ closing ∷ [])
+      (print ∷ opening ∷ literal ∷ closing ∷ [])
 
 -- `SpellsEnd marked`: what stands behind an item, a `;` or nothing. One `;` ends one item.
 pub data SpellsEnd : Bool → List Spelled → Type 0 where
@@ -56,7 +56,7 @@ pub data SpellsItem : Item → List Spelled → Type 0 where
       → Is (codes "Task") task → Is (codes ".") dot → Is (codes "detached") detached
       → Is (codes "{") opening → SpellsEach SpellsShow true shows body → Is (codes "}") closing
       → SpellsItem (items.Task (position task) (position opening) shows)
-          (task ∷ dot ∷ detached ∷ opening ∷ (body ++ (closing ∷ [])))
+      (task ∷ dot ∷ detached ∷ opening ∷ (body ++ (closing ∷ [])))
 
 -- "@main" "struct" Word "{" "static" "func" "main" "(" ")" "{" { item } "}" "}", with a `;` or none
 -- behind the block of `main`, which is a member of the struct, and behind the struct
@@ -70,8 +70,8 @@ pub data SpellsSmall : Small → List Spelled → Type 0 where
       → Is (codes "{") begin → SpellsEach SpellsItem true items block → Is (codes "}") end → SpellsEnd marked_main end_main
       → Is (codes "}") closing → SpellsEnd marked last
       → SpellsSmall (record { main = position main; items = items })
-          (entry ∷ struct ∷ name ∷ opening ∷ static ∷ func ∷ main ∷ left ∷ right ∷ begin
-            ∷ (block ++ (end ∷ (end_main ++ (closing ∷ last)))))
+      (entry ∷ struct ∷ name ∷ opening ∷ static ∷ func ∷ main ∷ left ∷ right ∷ begin
+      ∷ (block ++ (end ∷ (end_main ++ (closing ∷ last)))))
 
 -- The tokens are a spelling of the program.
 pub record Spells (program : Small) (tokens : List Spelled) : Type 0 where

@@ -1,5 +1,5 @@
 -- How a list of tokens with their texts may be the value of a type of the code.
-use Rattle.std.specs.Prelude.{◌≡◌, ℕ, List, refl}
+use Rattle.std.specs.Prelude.{ℕ, List, refl}
 use Rattle.std.specs.Coded.{Coded, code_by, coded_list, coded_ℕ, coded×}
 use Rattle.sw_token.specs.declared.Token.{Token}
 use Rattle.sw_token.specs.contracts.Token as token

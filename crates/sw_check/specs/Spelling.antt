@@ -17,9 +17,9 @@ pub record Spelled : Type 0 where
 -- the token with the text that its span cuts out of a source
 abbrev pub spelled : List ℕ → Token → Spelled
 spelled source token = record {
-    token = token;
-    text = slice_range source token.span.start token.span.end
-  }
+  token = token;
+  text = slice_range source token.span.start token.span.end;
+}
 
 -- The span of the token is a part of the source, and cuts no character in two.
 pub record IsWithin (source : List ℕ) (token : Token) : Type 0 where

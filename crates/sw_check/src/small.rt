@@ -3,6 +3,8 @@
 mod cursor;
 mod fault;
 mod parser;
+#[cfg(test)]
+mod tests;
 mod tree;
 
 pub use fault::ParseFault;

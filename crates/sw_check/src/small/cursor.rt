@@ -12,6 +12,7 @@ use sw_text::Source;
 use sw_token::{Kind, Token};
 
 /// The tokens that are left. Contracts see the list of them with their texts.
+#[derive(Drop)]
 pub struct Cursor<'a> {
     source: &'a Source,
     left: &'a [Token],

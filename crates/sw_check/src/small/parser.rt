@@ -56,11 +56,7 @@ fn task(alloc: Global, tokens: &mut Cursor<'_>) -> Result<Item, Stop>
     let body = tokens.expect("{")?;
     let shows = shows(alloc, tokens)?;
     tokens.expect("}")?;
-    Ok(Item::Task {
-        at,
-        body,
-        shows,
-    })
+    Ok(Item::Task { at, body, shows })
 }
 
 /// An item of `main`.
@@ -146,4 +142,21 @@ fn whole(alloc: Global, tokens: &mut Cursor<'_>) -> Result<Small, Stop>
     let program = small(alloc, tokens)?;
     tokens.finish()?;
     Ok(program)
+}
+
+/// The small program that the tokens of a text spell, or the first token that none has there.
+pub(crate) fn parse(alloc: Global, source: &Source, tokens: &[Token]) -> Result<Small, ParseFault>
+    requires { IsTokens source.now tokens.now }
+    ensures found { IfOk result (λ program. Spells program (spelling_of source.now tokens.now)) }
+    ensures fault { IfErr result (λ fault. Explains fault (spelling_of source.now tokens.now)) }
+{
+    let bytes = source.len() as usize;
+    prove!(tokens.len() <= bytes);
+    match whole(alloc, &mut Cursor::new(source, tokens)) {
+        Ok(program) => Ok(program),
+        Err(Stop::Unexpected { left }) => Err(ParseFault::Unexpected {
+            token: (tokens.len() - left) as u32,
+        }),
+        Err(Stop::Memory) => Err(ParseFault::Memory),
+    }
 }

@@ -4,8 +4,8 @@ use Rattle.sw_check.specs.SmallReading.{item}
 use Rattle.sw_check.proofs.EachSteps.{Rest}
 use Rattle.sw_check.proofs.small.parser.items.Given as goal
 
-abbrev pub invariant-loop-tokens : goal.invariant-loop-tokens
-invariant-loop-tokens l = Rest item l.items.items l.ended l.tokens ≡ Rest item [] true l.initial.tokens
+abbrev pub invariant-loop-alloc : goal.invariant-loop-alloc
+invariant-loop-alloc l = Rest item l.items.items l.ended l.tokens ≡ Rest item [] true l.initial.tokens
 
-abbrev pub decreases-loop-tokens : goal.decreases-loop-tokens
-decreases-loop-tokens l = length l.tokens
+abbrev pub decreases-loop-alloc : goal.decreases-loop-alloc
+decreases-loop-alloc l = length l.tokens
