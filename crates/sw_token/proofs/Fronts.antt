@@ -49,12 +49,6 @@ prefix_len-append p (x ∷ xs) rest passes fails =
     let parts = and_parts (p x) (list_all p xs) passes in
     prefix_len-yes p x (xs ++ rest) parts.0 ∙ ap suc (prefix_len-append p xs rest parts.1 fails)
 
-pub prefix_len-all : (p : ℕ → Bool) (xs : List ℕ) → list_all p xs ≡ true → prefix_len p xs ≡ length xs
-prefix_len-all p [] passes = refl
-prefix_len-all p (x ∷ xs) passes =
-    let parts = and_parts (p x) (list_all p xs) passes in
-    prefix_len-yes p x xs parts.0 ∙ ap suc (prefix_len-all p xs parts.1)
-
 -- what passes one test passes a wider one
 pub list_all-wider : (p q : ℕ → Bool) → ((x : ℕ) → p x ≡ true → q x ≡ true) → (xs : List ℕ) → list_all p xs ≡ true → list_all q xs ≡ true
 list_all-wider p q wider [] passes = refl

@@ -22,7 +22,7 @@ unfolding NextHolds
 token_ahead at leads bytes token e =
     let held : NextHolds at leads bytes (Ok (Some token)) = rw (← e) at (next_holds at leads bytes) in
     let begins = token_begins held.1 held.2 held.5 in
-    let end = ap (λ (t : Token). t.span.end) held.6 in
+    let end : token.span.end ≡ at + length held.0 + length held.1 = ap (λ (t : Token). t.span.end) held.6 in
     let long = ap length held.3 in
     (omega (arith, end, ap length begins.2), omega (arith, end, long, length-append held.0 (held.1 ++ held.2), length-append held.1 held.2))
 

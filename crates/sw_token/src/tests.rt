@@ -115,6 +115,12 @@ fn forms(rt: HostRuntime) {
 }
 
 #[test]
+fn laws() {
+    one_reading();
+    tokens_in_text();
+}
+
+#[test]
 fn faults(rt: HostRuntime) {
     for (text, at) in [
         ("1234567890123456789", 0),
