@@ -1,0 +1,4 @@
+pub mod Fronts
+pub mod Numbers
+pub mod Readings
+pub mod Turns
