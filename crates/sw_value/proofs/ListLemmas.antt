@@ -1,12 +1,16 @@
 -- Lemmas on the words of specs/Lists.antt.
-use Rattle.std.proofs.Common.{◌≡◌, ℕ, ◌+◌, ◌≤◌, Option, Some, None, List, [], ◌∷◌, ◌++◌, zero, suc, length, take, drop, reverse, refl, ap, subst, ◌∙◌, arith, add-one}
+use Rattle.std.proofs.Common.{get_or, ◌<◌, sym, ◌≡◌, ℕ, ◌+◌, ◌≤◌, Option, Some, None, List, [], ◌∷◌, ◌++◌, zero, suc, length, take, drop, reverse, refl, ap, subst, ◌∙◌, arith, add-one}
 use Rattle.std.specs.List.{slice_get, slice_set, filter_map, cons_option, All}
 use Rattle.std.specs.Option.{option_to_list}
-use Rattle.std.proofs.lemmas.List.{length-set}
+use Rattle.std.proofs.lemmas.List.{length-set, take_all}
 use mathlib.Core.List.{reverse-cons}
 use Rattle.std.proofs.lemmas.List.Elements.{filter_map-append, All-get_or}
-use Rattle.std.proofs.lemmas.Option.{slice_get_past, slice_get_within, get_or_from_slice_get}
-use Rattle.sw_value.specs.Lists.{changed_by, changed_at}
+use Rattle.std.proofs.lemmas.Option.{slice_get_past, slice_get_within, slice_get-get_or, get_or_from_slice_get}
+use Rattle.sw_value.specs.Lists.{changed_by, changed_at, each_of}
+use Rattle.std.specs.Option.{option_map, option_and_then}
+
+some_injective : {A : Type 0} {x y : A} → Some x ≡ Some y → x ≡ y
+some_injective e = cc
 
 pub changed_at_there : {A : Type 0} (g : A → A) (i : ℕ) (xs : List A) (x : A) → slice_get xs i ≡ Some x → changed_at g i xs ≡ slice_set xs i (g x)
 unfolding changed_at
@@ -63,5 +67,39 @@ take_next {A = A} xs i x e = rw add-one (by xs i e) where
   by [] k h = cc
   by (y ∷ ys) zero h = cc
   by (y ∷ ys) (suc k) h = ap (λ l. y ∷ l) (by ys k h)
+
+-- a loop that asks each item: the items so far, one more, and one that gives nothing
+pub each_none : {A B : Type 0} (f : A → Option B) (xs : List A) → each_of f (take 0 xs) ≡ Some []
+each_none f xs = refl
+
+pub each_push : {A B : Type 0} (f : A → Option B) (xs : List A) (x : A) (ys : List B) (y : B) → each_of f xs ≡ Some ys → f x ≡ Some y → each_of f (xs ++ x ∷ []) ≡ Some (ys ++ y ∷ [])
+each_push f [] x ys y e h = rw h (ap (λ l. Some (l ++ y ∷ [])) (some_injective e))
+each_push {A = A} {B = B} f (z ∷ zs) x ys y e h = by (f z) (each_of f zs) (λ ws r. each_push f zs x ws y r h) e where
+  by : (o : Option B) (rest : Option (List B)) → ((ws : List B) → rest ≡ Some ws → each_of f (zs ++ x ∷ []) ≡ Some (ws ++ y ∷ [])) → option_and_then (λ w. option_map (λ ws. w ∷ ws) rest) o ≡ Some ys → option_and_then (λ w. option_map (λ ws. w ∷ ws) (each_of f (zs ++ x ∷ []))) o ≡ Some (ys ++ y ∷ [])
+  by None rest _ k = cc
+  by (Some w) None _ k = cc
+  by (Some w) (Some ws) r k = rw (r ws refl) (ap (λ l. Some (l ++ y ∷ [])) (some_injective k))
+
+pub each_missing : {A B : Type 0} (f : A → Option B) (xs : List A) (i : ℕ) (x : A) → slice_get xs i ≡ Some x → f x ≡ None → each_of f xs ≡ None
+each_missing f [] i x e h = cc
+each_missing f (y ∷ ys) zero x e h =
+    ap (option_and_then (λ w. option_map (λ ws. w ∷ ws) (each_of f ys))) (ap f (some_injective e) ∙ h)
+each_missing {B = B} f (y ∷ ys) (suc i) x e h = by (f y) (each_missing f ys i x e h) where
+  by : (o : Option B) → each_of f ys ≡ None → option_and_then (λ w. option_map (λ ws. w ∷ ws) (each_of f ys)) o ≡ None
+  by None _ = refl
+  by (Some w) none = ap (option_map (λ ws. w ∷ ws)) none
+
+-- the same at a place of the list
+pub each_more : {A B : Type 0} (f : A → Option B) (xs : List A) (i : ℕ) (d : A) (ys : List B) (y : B) → i < length xs → each_of f (take i xs) ≡ Some ys → f (get_or xs i d) ≡ Some y → each_of f (take (i + 1) xs) ≡ Some (ys ++ y ∷ [])
+each_more f xs i d ys y inside so_far h =
+    ap (each_of f) (take_next xs i (get_or xs i d) (slice_get-get_or xs i d inside)) ∙ each_push f (take i xs) (get_or xs i d) ys y so_far h
+
+pub each_lacks : {A B : Type 0} (f : A → Option B) (xs : List A) (i : ℕ) (d : A) → i < length xs → f (get_or xs i d) ≡ None → each_of f xs ≡ None
+each_lacks f xs i d inside h = each_missing f xs i (get_or xs i d) (slice_get-get_or xs i d inside) h
+
+pub each_all : {A B : Type 0} (f : A → Option B) (xs : List A) (i : ℕ) (ys : List B) → length xs ≤ i → each_of f (take i xs) ≡ Some ys → each_of f xs ≡ Some ys
+each_all f xs i ys past e = ap (each_of f) (sym (take_all i xs past)) ∙ e
+
+pub ruleset each = (each_none, each_more, each_lacks, each_all)
 
 pub ruleset changes = (changed_at_there, changed_at_past)

@@ -1,12 +1,27 @@
 -- Lemmas on the states that items lead to.
-use Rattle.std.proofs.Common.{◌≡◌, ℕ, ◌+◌, Some, List, [], ◌∷◌, ◌++◌, take, refl, ap, ◌∙◌}
+use Rattle.std.proofs.Common.{Option, None, ◌≡◌, ℕ, ◌+◌, Some, List, [], ◌∷◌, ◌++◌, take, refl, ap, ◌∙◌}
 use Rattle.std.specs.List.{slice_get, fold}
 use Rattle.std.proofs.lemmas.List.Sums.{fold-append}
 use Rattle.sw_graph.specs.declared.graph.Graph.{Graph}
 use Rattle.sw_value.specs.declared.state.State.{State}
 use Rattle.sw_value.specs.Start.{start_of}
-use Rattle.sw_value.specs.Reach.{step_of, reach, Reached}
+use Rattle.sw_value.specs.declared.effect.Act.{Act}
+use Rattle.sw_value.specs.Happening.{occurrence_of, act_of, happening}
+use Rattle.std.specs.Option.{option_map}
+use Rattle.sw_value.specs.Reach.{after, after_act, step_of, reach, Reached}
 use Rattle.sw_value.proofs.ListLemmas.{take_next}
+
+-- what an act of job j, or none, leads to
+abbrev pub after_acts : ℕ → Option Act → State → State
+after_acts j None state = state
+after_acts j (Some act) state = after_act j act state
+
+pub step_by_act : (graph : Graph) (state : State) (j : ℕ) → step_of graph state j ≡ after_acts j (act_of graph state j) state
+unfolding step_of happening
+step_by_act graph state j = by (act_of graph state j) where
+  by : (o : Option Act) → after (option_map (occurrence_of graph state j) o) state ≡ after_acts j o state
+  by None = refl
+  by (Some act) = refl
 
 pub reach_none : (graph : Graph) → reach graph [] ≡ start_of graph
 unfolding reach

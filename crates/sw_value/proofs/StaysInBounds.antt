@@ -1,5 +1,5 @@
 -- How many jobs and cells the states of small graphs have.
-use Rattle.std.proofs.Common.{◌≡◌, ℕ, ◌+◌, ◌<◌, ◌≤◌, leb, Bool, true, false, cond, Option, Some, None, [], ◌∷◌, length, refl, subst, arith, lit≤, lit<, length-append}
+use Rattle.std.proofs.Common.{sym, ◌≡◌, ℕ, ◌+◌, ◌<◌, ◌≤◌, leb, Bool, true, false, cond, Option, Some, None, [], ◌∷◌, length, refl, subst, arith, lit≤, lit<, length-append}
 use Rattle.std.specs.Prelude.{option_and_then, option_map, is_some}
 use Rattle.std.specs.List.{slice_get}
 use Rattle.std.proofs.lemmas.Bool.Decides.{nat_tests}
@@ -25,11 +25,13 @@ use Rattle.sw_value.specs.State.{in_job, with_job, with_cell, with_halt, is_free
 use Rattle.sw_value.specs.Point.{Point, Middle, End, point_at}
 use Rattle.sw_value.specs.Printed.{printed_line}
 use Rattle.sw_value.specs.Effect.{needs, spawn_of, returned_value, point_effect, effect_of}
-use Rattle.sw_value.specs.Happening.{Dispatch, Occurrence, happening, happening_by, execution_of, dispatch_of, wake_of}
+use Rattle.sw_value.specs.declared.effect.Act.{Act}
+use Rattle.sw_value.specs.declared.effect.Act.TheVariants.{Dispatch, Wake}
+use Rattle.sw_value.specs.Happening.{execution_of, dispatch_of, act_by, act_of}
 use Rattle.sw_value.specs.Start.{start_of}
-use Rattle.sw_value.specs.Reach.{after, step_of, Reached}
+use Rattle.sw_value.specs.Reach.{step_of, Reached}
 use Rattle.sw_value.proofs.ListLemmas.{length-changed_at}
-use Rattle.sw_value.proofs.ReachLemmas.{reach_keeps}
+use Rattle.sw_value.proofs.ReachLemmas.{reach_keeps, after_acts, step_by_act}
 
 -- no more jobs than there may be, and fewer cells than jobs
 pub record IsInBounds (state : State) : Type 0 where
@@ -82,44 +84,44 @@ halt_in_bounds : (kind : TrapKind) (at : ℕ) (state : State) → IsInBounds sta
 unfolding with_halt
 halt_in_bounds kind at state b = record { jobs = b.jobs; cells = b.cells }
 
--- what an item may be keeps the bounds
-Keeps : State → Option Occurrence → Type 0
-Keeps state o = IsInBounds (after o state)
+-- an act of job j, or none, keeps the bounds
+Keeps : State → ℕ → Option Act → Type 0
+Keeps state j act = IsInBounds (after_acts j act state)
 
-execution_keeps : (graph : Graph) (state : State) (j : ℕ) (job : Job) (frame : Frame) → IsInBounds state → (e : Effect) → HasRoom state e → Keeps state (execution_of graph state j job frame e)
+execution_keeps : (state : State) (j : ℕ) → IsInBounds state → (e : Effect) → HasRoom state e → Keeps state j (execution_of e)
 unfolding Keeps HasRoom
-execution_keeps graph state j job frame b effect.Stuck room = b
-execution_keeps graph state j job frame b (effect.Set r v next) room = in_job_in_bounds _ j state b
-execution_keeps graph state j job frame b (effect.Print r line next) room = in_job_in_bounds _ j state b
-execution_keeps graph state j job frame b (effect.Spawn r f made cell next) room = in_job_in_bounds _ j _ (task_in_bounds state f made b room)
-execution_keeps graph state j job frame b (effect.Leave v) room = in_job_in_bounds _ j state b
-execution_keeps graph state j job frame b (effect.Halt kind at) room = halt_in_bounds kind at state b
+execution_keeps state j b effect.Stuck room = b
+execution_keeps state j b (effect.Set r v next) room = in_job_in_bounds _ j state b
+execution_keeps state j b (effect.Print r line next) room = in_job_in_bounds _ j state b
+execution_keeps state j b (effect.Spawn r f made cell next) room = in_job_in_bounds _ j _ (task_in_bounds state f made b room)
+execution_keeps state j b (effect.Leave v) room = in_job_in_bounds _ j state b
+execution_keeps state j b (effect.Halt kind at) room = halt_in_bounds kind at state b
 
-and_then_keeps : {A : Type 0} (state : State) (f : A → Option Occurrence) → Keeps state None → ((x : A) → Keeps state (f x)) → (o : Option A) → Keeps state (option_and_then f o)
-and_then_keeps state f none keeps None = none
-and_then_keeps state f none keeps (Some x) = keeps x
+and_then_keeps : {A : Type 0} (state : State) (j : ℕ) (f : A → Option Act) → Keeps state j None → ((x : A) → Keeps state j (f x)) → (o : Option A) → Keeps state j (option_and_then f o)
+and_then_keeps state j f none keeps None = none
+and_then_keeps state j f none keeps (Some x) = keeps x
 
-happening_keeps : (graph : Graph) (state : State) (j : ℕ) (job : Job) → IsInBounds state → (status : Status) → Keeps state (happening_by graph state j job status)
+act_keeps : (graph : Graph) (state : State) (j : ℕ) (job : Job) → IsInBounds state → (status : Status) → Keeps state j (act_by graph state job status)
 unfolding Keeps
-happening_keeps graph state j job b Ready = and_then_keeps state (dispatch_of state j) b (λ frame. by (is_free frame.executor state.jobs) frame) (top_frame job) where
-  by : (free : Bool) (frame : Frame) → Keeps state (cond free (Some (record { job = j; act = Dispatch; enters = Some frame.executor; leaves = None; makes = None; ends = false; accesses = None })) None)
-  by true frame = in_job_in_bounds as_running j state b
-  by false frame = b
-happening_keeps graph state j job b (Waiting on r) = by (result_of state on) where
-  by : (o : Option Value) → Keeps state (option_map (wake_of j r) o)
+act_keeps graph state j job b Ready = and_then_keeps state j (dispatch_of state) b (λ frame. by (is_free frame.executor state.jobs)) (top_frame job) where
+  by : (free : Bool) → Keeps state j (cond free (Some Dispatch) None)
+  by true = in_job_in_bounds as_running j state b
+  by false = b
+act_keeps graph state j job b (Waiting on r) = by (result_of state on) where
+  by : (o : Option Value) → Keeps state j (option_map (Wake r) o)
   by None = b
   by (Some v) = in_job_in_bounds (after_wake r v) j state b
-happening_keeps graph state j job b Running =
-    and_then_keeps state (λ frame. execution_of graph state j job frame (effect_of graph state frame)) b
-    (λ frame. execution_keeps graph state j job frame b (effect_of graph state frame) (effect_has_room graph state frame)) (top_frame job)
-happening_keeps graph state j job b (Ended v) = b
+act_keeps graph state j job b Running =
+    and_then_keeps state j (λ frame. execution_of (effect_of graph state frame)) b
+    (λ frame. execution_keeps state j b (effect_of graph state frame) (effect_has_room graph state frame)) (top_frame job)
+act_keeps graph state j job b (Ended v) = b
 
 step_in_bounds : (graph : Graph) (state : State) (j : ℕ) → IsInBounds state → IsInBounds (step_of graph state j)
-unfolding step_of happening Keeps
-step_in_bounds graph state j b = by (is_some state.halted) where
-  by : (halted : Bool) → Keeps state (cond halted None (option_and_then (λ job. happening_by graph state j job job.status) (slice_get state.jobs j)))
+unfolding act_of Keeps
+step_in_bounds graph state j b = subst IsInBounds (sym (step_by_act graph state j)) (by (is_some state.halted)) where
+  by : (halted : Bool) → Keeps state j (cond halted None (option_and_then (λ job. act_by graph state job job.status) (slice_get state.jobs j)))
   by true = b
-  by false = and_then_keeps state (λ job. happening_by graph state j job job.status) b (λ job. happening_keeps graph state j job b job.status) (slice_get state.jobs j)
+  by false = and_then_keeps state j (λ job. act_by graph state job job.status) b (λ job. act_keeps graph state j job b job.status) (slice_get state.jobs j)
 
 start_in_bounds : (graph : Graph) → IsInBounds (start_of graph)
 unfolding start_of

@@ -1,7 +1,7 @@
 -- What an item of a schedule is, read off the state before it.
 use Rattle.std.specs.Prelude.{ℕ, ◌==◌, Bool, false, Option, Some, None, slice_get, length, ◌||◌, is_some, option_map, option_and_then, if◌then◌else◌}
+use Rattle.std.specs.Option.{option_map_or}
 use Rattle.sw_graph.specs.declared.graph.Graph.{Graph}
-use Rattle.sw_value.specs.declared.value.Value.{Value}
 use Rattle.sw_value.specs.declared.executor.Executor.{Executor}
 use Rattle.sw_value.specs.declared.frame.Frame.{Frame}
 use Rattle.sw_value.specs.declared.job.Job.{Job}
@@ -10,19 +10,36 @@ use Rattle.sw_value.specs.declared.job.Status.TheVariants.{Ready, Running, Waiti
 use Rattle.sw_value.specs.declared.state.State.{State}
 use Rattle.sw_value.specs.declared.effect.Effect.{Effect}
 use Rattle.sw_value.specs.declared.effect.Effect.TheVariants as effect
+use Rattle.sw_value.specs.declared.effect.Act.{Act}
+use Rattle.sw_value.specs.declared.effect.Act.TheVariants.{Dispatch, Wake, Execute}
 use Rattle.sw_value.specs.Job.{top_frame}
 use Rattle.sw_value.specs.State.{is_free, result_of}
 use Rattle.sw_value.specs.Effect.{effect_of}
-use Rattle.sw_value.specs.Racing.{Access, frame_access}
+use Rattle.sw_value.specs.Racing.{Access, next_access}
 
--- a job gets its executor; a job gets the value that it waited for, in a register; a job executes an instruction
-pub data Act : Type 0 where
-  Dispatch : Act
-  Wake : ℕ → Value → Act
-  Execute : Effect → Act
+-- an instruction that is stuck is not executed
+abbrev pub execution_of : Effect → Option Act
+execution_of effect.Stuck = None
+execution_of e = Some (Execute e)
 
--- Everything that an item is: the job and what it does, the executor that it enters or leaves, the job that it makes,
--- whether it ends, and the location that it accesses.
+-- a job that is ready begins to run if its executor is free
+abbrev pub dispatch_of : State → Frame → Option Act
+dispatch_of state frame = if is_free frame.executor state.jobs then Some Dispatch else None
+
+-- one that waits goes on if what it waits for has ended, and one that runs executes its next instruction
+abbrev pub act_by : Graph → State → Job → Status → Option Act
+act_by graph state job Ready = option_and_then (dispatch_of state) (top_frame job)
+act_by graph state job (Waiting on r) = option_map (Wake r) (result_of state on)
+act_by graph state job Running = option_and_then (λ frame. execution_of (effect_of graph state frame)) (top_frame job)
+act_by graph state job (Ended v) = None
+
+-- What the item j makes job j do: nothing where the machine is halted or j is no job.
+unfoldable pub act_of : Graph → State → ℕ → Option Act
+act_of graph state j =
+    if is_some state.halted then None else option_and_then (λ job. act_by graph state job job.status) (slice_get state.jobs j)
+
+-- All that an item is: the job and what it does, the executor that it enters or leaves, the job that it makes, whether it
+-- ends, and the location that it accesses.
 pub record Occurrence : Type 0 where
   pub job : ℕ
   pub act : Act
@@ -32,52 +49,47 @@ pub record Occurrence : Type 0 where
   pub ends : Bool
   pub accesses : Option Access
 
--- the executor that a job leaves where its top frame has that effect: a Return leaves it where the frame crosses or is
--- the last one, and a trap leaves none
-abbrev pub left_by : Job → Frame → Effect → Option Executor
-left_by job frame (effect.Leave v) = if frame.crossing || length job.frames == 1 then Some frame.executor else None
-left_by job frame _ = None
+-- whether the top frame of a job is its last one
+abbrev pub is_last_frame : Job → Bool
+is_last_frame job = length job.frames == 1
 
-abbrev pub made_by : Effect → Option ℕ
-made_by (effect.Spawn r frame job cell next) = Some job
+-- a dispatch enters the executor of the top frame
+abbrev pub entered_by : Act → Job → Option Executor
+entered_by Dispatch job = option_map (λ frame. frame.executor) (top_frame job)
+entered_by _ job = None
+
+-- a return leaves the executor of its frame where that frame crosses or is the last one
+abbrev pub left_by : Act → Job → Option Executor
+left_by (Execute (effect.Leave v)) job =
+    option_and_then (λ frame. if frame.crossing || is_last_frame job then Some frame.executor else None) (top_frame job)
+left_by _ job = None
+
+abbrev pub made_by : Act → Option ℕ
+made_by (Execute (effect.Spawn r frame made cell next)) = Some made
 made_by _ = None
 
-abbrev pub ends_by : Job → Effect → Bool
-ends_by job (effect.Leave v) = length job.frames == 1
-ends_by job _ = false
+abbrev pub ends_by : Act → Job → Bool
+ends_by (Execute (effect.Leave v)) job = is_last_frame job
+ends_by _ job = false
 
-abbrev pub dispatch_of : State → ℕ → Frame → Option Occurrence
-dispatch_of state j frame =
-    if is_free frame.executor state.jobs
-    then Some (record { job = j; act = Dispatch; enters = Some frame.executor; leaves = None; makes = None; ends = false; accesses = None })
-    else None
+-- an instruction that is executed makes the access that its job was about to make
+abbrev pub accessed_by : Act → Option Access → Option Access
+accessed_by (Execute e) access = access
+accessed_by _ access = None
 
-abbrev pub wake_of : ℕ → ℕ → Value → Occurrence
-wake_of j r v = record { job = j; act = Wake r v; enters = None; leaves = None; makes = None; ends = false; accesses = None }
+abbrev pub occurrence_of : Graph → State → ℕ → Act → Occurrence
+occurrence_of graph state j act =
+    let job = slice_get state.jobs j in
+    record {
+      job = j;
+      act = act;
+      enters = option_and_then (entered_by act) job;
+      leaves = option_and_then (left_by act) job;
+      makes = made_by act;
+      ends = option_map_or (ends_by act) job false;
+      accesses = accessed_by act (next_access graph state j);
+    }
 
--- a stuck job does nothing
-abbrev pub execution_of : Graph → State → ℕ → Job → Frame → Effect → Option Occurrence
-execution_of graph state j job frame effect.Stuck = None
-execution_of graph state j job frame e = Some (record {
-  job = j;
-  act = Execute e;
-  enters = None;
-  leaves = left_by job frame e;
-  makes = made_by e;
-  ends = ends_by job e;
-  accesses = frame_access graph state frame;
-})
-
-abbrev pub happening_by : Graph → State → ℕ → Job → Status → Option Occurrence
-happening_by graph state j job Ready = option_and_then (dispatch_of state j) (top_frame job)
-happening_by graph state j job (Waiting on r) = option_map (wake_of j r) (result_of state on)
-happening_by graph state j job Running =
-    option_and_then (λ frame. execution_of graph state j job frame (effect_of graph state frame)) (top_frame job)
-happening_by graph state j job (Ended v) = None
-
--- What the item j is: a job that is ready is dispatched if its executor is free, one that waits is woken if what it waits
--- for has ended, one that runs executes its next instruction. Nothing happens where the machine is halted, where j is no
--- job, and else.
+-- What the item j is, or None where nothing happens.
 unfoldable pub happening : Graph → State → ℕ → Option Occurrence
-happening graph state j =
-    if is_some state.halted then None else option_and_then (λ job. happening_by graph state j job job.status) (slice_get state.jobs j)
+happening graph state j = option_map (occurrence_of graph state j) (act_of graph state j)

@@ -9,7 +9,9 @@ use Rattle.sw_value.specs.declared.effect.Effect.TheVariants as effect
 use Rattle.sw_value.specs.Frame.{after_instr}
 use Rattle.sw_value.specs.Job.{in_top, as_running, after_wake, after_return, first_job}
 use Rattle.sw_value.specs.State.{in_job, with_job, with_cell, with_halt}
-use Rattle.sw_value.specs.Happening.{Act, Dispatch, Wake, Execute, Occurrence, happening}
+use Rattle.sw_value.specs.declared.effect.Act.{Act}
+use Rattle.sw_value.specs.declared.effect.Act.TheVariants.{Dispatch, Wake, Execute}
+use Rattle.sw_value.specs.Happening.{Occurrence, happening}
 use Rattle.sw_value.specs.Start.{start_of}
 
 -- job j executes an instruction with that effect

@@ -16,9 +16,12 @@ value_of (literal.Bool b) = value.Bool b
 abbrev pub value_at : List (Option Value) → ℕ → Option Value
 value_at regs r = option_and_then (λ v. v) (slice_get regs r)
 
+abbrev pub operand_value : List (Option Value) → Operand → Option Value
+operand_value regs o = value_at regs o.reg
+
 -- the values of all operands, if each has one
 abbrev pub values_at : List (Option Value) → List Operand → Option (List Value)
-values_at regs operands = each_of (λ o. value_at regs o.reg) operands
+values_at regs operands = each_of (operand_value regs) operands
 
 -- n registers of which the first have these values
 unfoldable pub registers : ℕ → List Value → List (Option Value)

@@ -37,3 +37,14 @@ pub enum Effect {
     /// Nothing: there is no such instruction, or it reads what has no value or a value of another kind.
     Stuck,
 }
+
+/// What an item of a schedule makes its job do.
+#[derive(Debug, Drop)]
+pub enum Act {
+    /// The job gets its executor.
+    Dispatch,
+    /// The job gets the value that it waited for, in register `reg`.
+    Wake { reg: u32, value: Value },
+    /// The job executes an instruction, which is not stuck.
+    Execute { effect: Effect },
+}

@@ -13,7 +13,7 @@ mod value;
 
 pub use beginning::{first_frame, start};
 pub use cell::{CellList, HeapCell};
-pub use effect::Effect;
+pub use effect::{Act, Effect};
 pub use executor::Executor;
 pub use frame::{Frame, FrameList, NO_REGISTER};
 pub use job::{Job, JobList, MAX_JOBS, Status};

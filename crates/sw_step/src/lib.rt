@@ -1,0 +1,12 @@
+//! One item of a schedule on the actor machine: a job is dispatched, is woken or executes one instruction.
+#![tactic(auto)]
+
+mod event;
+mod execute;
+mod operands;
+mod point;
+mod stepping;
+
+pub use event::Event;
+pub use stepping::step;
+pub use sw_value::Line;

@@ -1,0 +1,110 @@
+ghost use Rattle.std.specs.Prelude.{◌≡◌, ◌<◌, IfOk, OnOk, OnErr, length};
+ghost use Rattle.sw_value.specs.Small.{IsSmall};
+ghost use Rattle.sw_value.specs.Happening.{execution_of, dispatch_of, act_by, act_of};
+ghost use Rattle.sw_value.specs.Reach.{after_act, step_of, Reached};
+ghost use Rattle.sw_step.specs.Event.{act_event, event_of};
+
+use crate::event::Event;
+use crate::execute::{apply, effect_of};
+use std::alloc::{AllocError, Global};
+use sw_graph::Graph;
+use sw_value::{Act, Effect, Frame, Job, State, Status};
+
+/// Does what one item of a schedule says: the job with that number is dispatched, is woken or executes one instruction.
+/// Want of memory leaves the state as it was.
+#[tactic(auto, using(crate::proofs::StepLemmas::steps))]
+pub fn step(alloc: Global, graph: &Graph, state: &mut State, item: u32) -> Result<Event, AllocError>
+    requires small { IsSmall graph.now }
+    requires cells { length state.old.cells < 4294967295 }
+    ensures steps { OnOk result (state.new ≡ step_of graph.now state.old item) }
+    ensures event { IfOk result (λ event. event ≡ event_of graph.now state.old item) }
+    ensures err { OnErr result (state.new ≡ state.old) }
+    ensures reached { Reached graph.now state.old → Reached graph.now state.new }
+{
+    match act_of(alloc, graph, state, item)? {
+        None => Ok(Event::Nothing),
+        Some(act) => {
+            let event = perform(alloc, state, item, act)?;
+            Ok(event)
+        }
+    }
+}
+
+/// What an item makes its job do.
+#[tactic(auto, unfolding(sw_value::specs::Happening::act_of))]
+fn act_of(alloc: Global, graph: &Graph, state: &State, item: u32) -> Result<Option<Act>, AllocError>
+    requires small { IsSmall graph.now }
+    requires cells { length state.now.cells < 4294967295 }
+    ensures { IfOk result (λ act. act ≡ act_of graph.now state.now item) }
+{
+    if state.halted.is_some() {
+        return Ok(None);
+    }
+    match state.jobs.get(item as usize) {
+        None => Ok(None),
+        Some(job) => act_by(alloc, graph, state, job),
+    }
+}
+
+fn act_by(alloc: Global, graph: &Graph, state: &State, job: &Job) -> Result<Option<Act>, AllocError>
+    requires small { IsSmall graph.now }
+    requires cells { length state.now.cells < 4294967295 }
+    ensures { IfOk result (λ act. act ≡ act_by graph.now state.now job.now job.now.status) }
+{
+    match &job.status {
+        Status::Ready => match job.top_frame() {
+            None => Ok(None),
+            Some(frame) => Ok(dispatch_of(state, frame)),
+        },
+        Status::Waiting { job: awaited, reg } => match state.result_of(*awaited) {
+            None => Ok(None),
+            Some(value) => Ok(Some(Act::Wake {
+                reg: *reg,
+                value: value.copied(alloc)?,
+            })),
+        },
+        Status::Running => match job.top_frame() {
+            None => Ok(None),
+            Some(frame) => Ok(execution_of(effect_of(alloc, graph, state, frame)?)),
+        },
+        Status::Ended { .. } => Ok(None),
+    }
+}
+
+fn dispatch_of(state: &State, frame: &Frame) -> Option<Act>
+    ensures { result ≡ dispatch_of state.now frame.now }
+{
+    if state.is_free(frame.executor) {
+        Some(Act::Dispatch)
+    } else {
+        None
+    }
+}
+
+fn execution_of(effect: Effect) -> Option<Act>
+    ensures { result ≡ execution_of effect }
+{
+    if matches!(effect, Effect::Stuck) {
+        return None;
+    }
+    Some(Act::Execute { effect })
+}
+
+/// Lets a job do an act. Want of memory leaves the state as it was.
+fn perform(alloc: Global, state: &mut State, item: u32, act: Act) -> Result<Event, AllocError>
+    ensures ok { OnOk result (state.new ≡ after_act item act state.old) }
+    ensures event { IfOk result (λ event. event ≡ act_event act) }
+    ensures err { OnErr result (state.new ≡ state.old) }
+{
+    match act {
+        Act::Dispatch => {
+            state.dispatch(item);
+            Ok(Event::Dispatched)
+        }
+        Act::Wake { reg, value } => {
+            state.wake(item, reg, value);
+            Ok(Event::Woken)
+        }
+        Act::Execute { effect } => apply(alloc, state, item, effect),
+    }
+}
