@@ -3,8 +3,12 @@
 
 mod items;
 mod laws;
+mod output;
+mod replaying;
 mod text;
 
 pub use items::{MAX_ITEMS, Schedule};
-pub use laws::schedule_texts_have_one_reading;
+pub use laws::{schedule_texts_have_one_reading, watched_replays_are_one};
+pub use output::{End, Replay};
+pub use replaying::replay;
 pub use text::{SCHEDULE_LIMIT, SchedFault, schedule};

@@ -1,4 +1,4 @@
-use Rattle.std.proofs.Common.{◌≡◌, ◌<◌, ◌≤◌, ◌+◌, ◌^◌, Option, Some, None, Ok, Err, length, drop, arith}
+use Rattle.std.proofs.Common.{◌≡◌, ◌<◌, ◌≤◌, Some, None, Ok, Err, length, drop, arith}
 use Rattle.std.proofs.lemmas.List.{length-drop, take_rest}
 use Rattle.std.proofs.lemmas.Result.{err_from_is_err_and}
 use Rattle.sw_replay.specs.declared.items.TheConstants.{MAX_ITEMS}
