@@ -1,0 +1,9 @@
+pub mod Breach
+pub mod Call
+pub mod Exit
+pub mod Lines
+pub mod Reply
+pub mod Verdict
+pub mod Words
+pub mod WordsRead
+pub mod Written

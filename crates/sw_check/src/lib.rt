@@ -1,4 +1,63 @@
 //! The verdict on a program's text, and the call that the program's `main` makes.
 #![tactic(auto)]
 
+ghost use Rattle.std.specs.Prelude.{◌≡◌, ◌≢◌, ◌<◌, ◌≤◌, IfSome, IfNone, IsTrue, IsFalse, length, map, string_bytes};
+ghost use Rattle.sw_outside.specs.Rise.{Rose};
+ghost use Rattle.sw_check.specs.Exit.{is_failure, is_silent};
+ghost use Rattle.sw_check.specs.Reply.{Answered, Unanswered};
+ghost use Rattle.sw_check.specs.Call.{Replied, Interrupted};
+ghost use Rattle.sw_check.specs.Words.{command_of};
+
+mod breach;
+mod exit;
+mod lines;
+mod outcome;
+mod reply;
 mod small;
+mod verdict;
+mod words;
+mod write;
+
+pub use exit::Exit;
+use reply::{Stop, answer};
+use std::alloc::Global;
+use sw_outside::{Shelf, Sink, SinkFault};
+use write::put_all;
+
+/// The most bytes that a program's file may have.
+pub const PROGRAM_LIMIT: usize = 262_144;
+
+/// Answers the words behind the program's name over the shelf's files, and writes the reply into the sink.
+pub fn run_words<S: Shelf, K: Sink>(
+    alloc: Global,
+    words: &Vec<String>,
+    shelf: &mut S,
+    out: &mut K,
+) -> Exit
+    // An exit that tells no failure is that of the reply, and the whole reply was written.
+    ensures replied { IsFalse (is_failure result) → Replied (command_of (map string_bytes words.now.items)) result (S.told shelf.old) (S.told shelf.new) (K.taken out.old) (K.taken out.new) }
+    // Where neither the outside nor memory failed, the exit is that of the reply.
+    ensures complete { ¬ (Rose (S.faults shelf.old) (S.faults shelf.new)) → ¬ (Rose (K.faults out.old) (K.faults out.new)) → result ≢ Exit.Memory → IsFalse (is_failure result) }
+
+    // After a failure of the outside or of memory.
+    ensures not_read { result ≡ Exit.NotRead → Unanswered (command_of (map string_bytes words.now.items)) 1 (S.told shelf.old) (S.told shelf.new) }
+    ensures no_memory { result ≡ Exit.Memory → Unanswered (command_of (map string_bytes words.now.items)) 0 (S.told shelf.old) (S.told shelf.new) }
+    ensures not_written { result ≡ Exit.NotWritten → Interrupted (command_of (map string_bytes words.now.items)) (S.told shelf.old) (S.told shelf.new) (K.taken out.old) (K.taken out.new) }
+    ensures silent { IsTrue (is_silent result) → K.taken out.new ≡ K.taken out.old }
+
+    // Each failure has its cause, and its cause has no other exit.
+    ensures not_read_only { result ≡ Exit.NotRead → Rose (S.faults shelf.old) (S.faults shelf.new) }
+    ensures read_failed { S.faults shelf.old < S.faults shelf.new → result ≡ Exit.NotRead }
+    ensures not_written_only { result ≡ Exit.NotWritten → Rose (K.faults out.old) (K.faults out.new) }
+    ensures write_failed { K.faults out.old < K.faults out.new → result ≡ Exit.NotWritten }
+    ensures long_untold { result ≡ Exit.TooLong → IfNone (S.told shelf.old) (PROGRAM_LIMIT < S.came shelf.new) }
+{
+    match answer(alloc, words, shelf) {
+        Ok(outcome) => match put_all(out, outcome.bytes.as_slice()) {
+            Ok(()) => outcome.exit,
+            Err(SinkFault::Failed) => Exit::NotWritten,
+        },
+        Err(Stop::NotRead) => Exit::NotRead,
+        Err(Stop::Memory) => Exit::Memory,
+    }
+}

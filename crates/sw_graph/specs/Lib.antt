@@ -1,0 +1,4 @@
+pub mod Kinds
+pub mod Mentions
+pub mod WellFormed
+pub mod OneProof

@@ -10,3 +10,6 @@ pub use graph::Graph;
 pub use instr::{
     BinOp, Block, BlockList, IdList, Instr, InstrList, Last, Literal, Operand, OperandList, UnOp,
 };
+
+#[cfg(test)]
+mod tests;

@@ -8,3 +8,6 @@ mod list_of;
 
 pub use boxed::Boxed;
 pub use list_of::ListOf;
+
+#[cfg(test)]
+mod tests;

@@ -1,3 +1,4 @@
+pub mod EventLemmas
 pub mod LineLemmas
 pub mod PointLemmas
 pub mod StepLemmas

@@ -6,7 +6,7 @@ use Rattle.sw_value.specs.declared.effect.Act.{Act}
 use Rattle.sw_value.specs.declared.state.State.{State}
 use Rattle.sw_value.specs.Happening.{occurrence_of, act_of, happening}
 use Rattle.sw_value.specs.Reach.{after_act, step_of}
-use Rattle.sw_value.proofs.ReachLemmas.{after_acts, step_by_act, step_reached}
+use Rattle.sw_value.proofs.ReachLemmas.{after_acts, step_by_act}
 use Rattle.sw_step.specs.declared.event.Event.TheVariants.{Nothing}
 use Rattle.sw_step.specs.Event.{act_event, occurrence_event, event_of}
 
@@ -26,4 +26,4 @@ pub event_act : (graph : Graph) (state : State) (item : ℕ) (act : Act) → act
 unfolding event_of happening
 event_act graph state item act e = ap (λ a. occurrence_event (option_map (occurrence_of graph state item) a)) e
 
-pub ruleset steps = (step_nothing, event_nothing, step_act, event_act, step_reached)
+pub ruleset steps = (step_nothing, event_nothing, step_act, event_act)

@@ -1,6 +1,8 @@
-ghost use Rattle.std.specs.Prelude.{◌≡◌, ◌<◌, IfOk, OnOk, OnErr, length};
+ghost use Rattle.std.specs.Prelude.{◌≡◌, ℕ, ◌↔◌, ◌<◌, IfOk, OnOk, OnErr, length};
 ghost use Rattle.sw_value.specs.Small.{IsSmall};
-ghost use Rattle.sw_value.specs.Happening.{execution_of, dispatch_of, act_by, act_of};
+ghost use Rattle.sw_value.specs.declared.state.TrapKind.{TrapKind};
+ghost use Rattle.sw_step.specs.declared.event.Event.TheVariants.{Nothing, Trapped};
+ghost use Rattle.sw_value.specs.Happening.{happening, execution_of, dispatch_of, act_by, act_of};
 ghost use Rattle.sw_value.specs.Reach.{after_act, step_of, Reached};
 ghost use Rattle.sw_step.specs.Event.{act_event, event_of};
 
@@ -12,21 +14,45 @@ use sw_value::{Act, Effect, Frame, Job, State, Status};
 
 /// Does what one item of a schedule says: the job with that number is dispatched, is woken or executes one instruction.
 /// Want of memory leaves the state as it was.
+pub fn step(
+    alloc: Global,
+    graph: &Graph,
+    state: &mut State,
+    item: u32,
+) -> Result<Event, AllocError>
+    requires small { IsSmall graph.now }
+    requires cells { length state.old.cells < 4294967295 }
+
+    ensures steps { OnOk result (state.new ≡ step_of graph.now state.old item) }
+    ensures event { IfOk result (λ event. event ≡ event_of graph.now state.old item) }
+    ensures err { OnErr result (state.new ≡ state.old) }
+
+    // What the event tells, and that the new state is reached if the old one was.
+    ensures nothing { IfOk result (λ event. (event ≡ Nothing) ↔ (happening graph.now state.old item ≡ None)) }
+    ensures trapped { IfOk result (λ event. (kind : TrapKind) (at : ℕ) →
+        (event ≡ Trapped kind at) ↔ ((state.old.halted ≡ None) × (state.new.halted ≡ Some (kind, at)))) }
+    ensures reached { Reached graph.now state.old → Reached graph.now state.new }
+{
+    let event = do_item(alloc, graph, state, item)?;
+    Ok(event)
+}
+
 #[tactic(auto, using(crate::proofs::StepLemmas::steps))]
-pub fn step(alloc: Global, graph: &Graph, state: &mut State, item: u32) -> Result<Event, AllocError>
+fn do_item(
+    alloc: Global,
+    graph: &Graph,
+    state: &mut State,
+    item: u32,
+) -> Result<Event, AllocError>
     requires small { IsSmall graph.now }
     requires cells { length state.old.cells < 4294967295 }
     ensures steps { OnOk result (state.new ≡ step_of graph.now state.old item) }
     ensures event { IfOk result (λ event. event ≡ event_of graph.now state.old item) }
     ensures err { OnErr result (state.new ≡ state.old) }
-    ensures reached { Reached graph.now state.old → Reached graph.now state.new }
 {
     match act_of(alloc, graph, state, item)? {
         None => Ok(Event::Nothing),
-        Some(act) => {
-            let event = perform(alloc, state, item, act)?;
-            Ok(event)
-        }
+        Some(act) => perform(alloc, state, item, act),
     }
 }
 

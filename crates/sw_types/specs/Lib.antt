@@ -1,0 +1,4 @@
+pub mod Accepts
+pub mod Named
+pub mod Parts
+pub mod Sendable

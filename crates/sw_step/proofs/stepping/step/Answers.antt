@@ -1,12 +1,22 @@
-use Rattle.std.proofs.Common.{sym, subst, ◌∙◌}
+use Rattle.std.proofs.Common.{◌≡◌, ◌↔◌, None, Some, sym, subst}
+use Rattle.sw_value.specs.declared.state.State.{State}
+use Rattle.sw_value.specs.Happening.{happening}
 use Rattle.sw_value.specs.Reach.{Reached}
 use Rattle.sw_value.proofs.ReachLemmas.{step_reached}
-use Rattle.sw_step.proofs.StepLemmas.{step_act}
+use Rattle.sw_step.specs.declared.event.Event.{Event}
+use Rattle.sw_step.specs.declared.event.Event.TheVariants.{Nothing, Trapped}
+use Rattle.sw_step.specs.Event.{event_of}
+use Rattle.sw_step.proofs.EventLemmas.{nothing_tells, trapped_tells}
 use Rattle.sw_step.proofs.stepping.step.Goals as goal
 
-pub returns-in_ok-event-in-Some-clause-reached : goal.returns-in_ok-event-in-Some-clause-reached
-returns-in_ok-event-in-Some-clause-reached c = λ reached.
-    let graph = c.args.graph.now in
-    let state = c.args.state.now in
-    let act = sym c.in_ok-act_of.ensures ∙ c.in-Some.is in
-    subst (Reached graph) (step_act graph state c.args.item c.in-Some.act act ∙ sym c.in_ok-event-in-Some.ensures.ok) (step_reached graph state c.args.item reached)
+pub returns-clause-nothing : goal.returns-clause-nothing
+returns-clause-nothing c =
+    rw c.in_ok-event.ensures.event (nothing_tells c.args.graph.now c.args.state.now c.args.item)
+
+pub returns-clause-trapped : goal.returns-clause-trapped
+returns-clause-trapped c = λ kind at.
+    rw (c.in_ok-event.ensures.event, c.in_ok-event.ensures.steps) (trapped_tells c.args.graph.now c.args.state.now c.args.item kind at)
+
+pub returns-clause-reached : goal.returns-clause-reached
+returns-clause-reached c = λ reached.
+    subst (Reached c.args.graph.now) (sym c.in_ok-event.ensures.steps) (step_reached c.args.graph.now c.args.state.now c.args.item reached)

@@ -1,0 +1,12 @@
+use Rattle.std.proofs.Common.{◌≡◌, length}
+use Rattle.sw_check.proofs.Writing.{IsPartWritten}
+use Rattle.sw_check.proofs.write.put_all.Given as goal
+
+abbrev pub invariant-loop-rest : goal.invariant-loop-rest
+invariant-loop-rest g l = record {
+  steady : g.K.Sink.faults l.out ≡ g.K.Sink.faults l.fn.out;
+  part : IsPartWritten l.bytes l.rest (g.K.Sink.taken l.fn.out) (g.K.Sink.taken l.out);
+}
+
+abbrev pub decreases-loop-rest : goal.decreases-loop-rest
+decreases-loop-rest g l = length l.rest

@@ -1,0 +1,19 @@
+-- The words of the command line, behind the program's name.
+use Rattle.std.specs.Prelude.{ℕ, ◌==◌, Bool, true, false, ◌&&◌, not, List, [], ◌∷◌, Option, Some, None, if◌then◌else◌, codes}
+use Rattle.std.specs.Str.{bytes_eq}
+
+-- A file is named by a word that isn't empty and doesn't begin with `-`, the byte 45.
+abbrev pub is_file_name : List ℕ → Bool
+is_file_name [] = false
+is_file_name (first ∷ rest) = not (first == 45)
+
+-- what the words ask for
+pub data Command : Type 0 where
+  -- is the program in the file accepted?
+  Check : (file : List ℕ) → Command
+
+-- `check FILE` is the form; any other list of words has none.
+unfoldable pub command_of : List (List ℕ) → Option Command
+command_of (verb ∷ file ∷ []) =
+    if bytes_eq verb (codes "check") && is_file_name file then Some (Check file) else None
+command_of words = None

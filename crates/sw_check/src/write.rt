@@ -1,0 +1,20 @@
+ghost use Rattle.std.specs.Prelude.{◌≡◌, ◌≤◌, ℕ, OnOk, OnErr, length, take};
+ghost use Rattle.sw_outside.specs.Rise.{Rose};
+ghost use Rattle.sw_check.specs.Written.{Appended, IsFrontWritten};
+
+use sw_outside::{Sink, SinkFault};
+
+/// Hands the bytes to the sink, piece by piece, until all were taken or a put fails.
+pub fn put_all<K: Sink>(out: &mut K, bytes: &[u8]) -> Result<(), SinkFault>
+    ensures whole { OnOk result (Appended bytes.now (K.taken out.old) (K.taken out.new)) }
+    ensures front { OnErr result (IsFrontWritten bytes.now (K.taken out.old) (K.taken out.new)) }
+    ensures steady { OnOk result (K.faults out.new ≡ K.faults out.old) }
+    ensures failed { OnErr result (Rose (K.faults out.old) (K.faults out.new)) }
+{
+    let mut rest = bytes;
+    while !rest.is_empty() {
+        let taken = out.put(rest)?;
+        (_, rest) = rest.split_at(taken);
+    }
+    Ok(())
+}

@@ -1,0 +1,70 @@
+-- The front of a list that passes a test, and what stands behind it.
+use Rattle.std.proofs.Common.{◌≡◌, ℕ, suc, ◌+◌, Bool, true, false, cond, ◌&&◌, ◌||◌, List, [], ◌∷◌, ◌++◌, length, take, drop, refl, ap, ◌∙◌, ◌⊎◌, inl, inr, arith}
+use Rattle.std.proofs.Math.Numerals.{one-add}
+use Rattle.std.specs.List.{list_all, prefix_len}
+use Rattle.sw_token.specs.Tokens.{BeginsWithout}
+
+pub cases_of : (b : Bool) → (b ≡ true) ⊎ (b ≡ false)
+cases_of true = inl refl
+cases_of false = inr refl
+
+-- which way a test went
+pub chosen : {A : Type 0} (b : Bool) (x y z : A) → cond b x y ≡ z → ((b ≡ true) × (x ≡ z)) ⊎ ((b ≡ false) × (y ≡ z))
+chosen true x y z e = inl (refl, e)
+chosen false x y z e = inr (refl, e)
+
+pub and_parts : (a b : Bool) → (a && b) ≡ true → (a ≡ true) × (b ≡ true)
+and_parts true b e = (refl, e)
+and_parts false b e = cc
+
+pub or_parts : (a b : Bool) → (a || b) ≡ false → (a ≡ false) × (b ≡ false)
+or_parts true b e = cc
+or_parts false b e = (refl, e)
+
+pub prefix_len-yes : (p : ℕ → Bool) (x : ℕ) (xs : List ℕ) → p x ≡ true → prefix_len p (x ∷ xs) ≡ suc (prefix_len p xs)
+prefix_len-yes p x xs h = rw (h, one-add) refl
+
+pub prefix_len-no : (p : ℕ → Bool) (x : ℕ) (xs : List ℕ) → p x ≡ false → prefix_len p (x ∷ xs) ≡ 0
+prefix_len-no p x xs h = rw h refl
+
+pub front_passes : (p : ℕ → Bool) (xs : List ℕ) → list_all p (take (prefix_len p xs) xs) ≡ true
+front_passes p [] = refl
+front_passes p (x ∷ xs) = elim (cases_of (p x)) [
+  | inl h ↦ rw (prefix_len-yes p x xs h) (rw h (front_passes p xs))
+  | inr h ↦ rw (prefix_len-no p x xs h) refl
+]
+
+pub rest_fails : (p : ℕ → Bool) (xs : List ℕ) → BeginsWithout p (drop (prefix_len p xs) xs)
+rest_fails p [] = tt
+rest_fails p (x ∷ xs) = elim (cases_of (p x)) [
+  | inl h ↦ rw (prefix_len-yes p x xs h) (rest_fails p xs)
+  | inr h ↦ rw (prefix_len-no p x xs h) h
+]
+
+-- a front that passes, with nothing behind it that does, is the whole front
+pub prefix_len-append : (p : ℕ → Bool) (front rest : List ℕ) → list_all p front ≡ true → BeginsWithout p rest → prefix_len p (front ++ rest) ≡ length front
+prefix_len-append p [] [] passes fails = refl
+prefix_len-append p [] (y ∷ ys) passes fails = prefix_len-no p y ys fails
+prefix_len-append p (x ∷ xs) rest passes fails =
+    let parts = and_parts (p x) (list_all p xs) passes in
+    prefix_len-yes p x (xs ++ rest) parts.0 ∙ ap suc (prefix_len-append p xs rest parts.1 fails)
+
+pub prefix_len-all : (p : ℕ → Bool) (xs : List ℕ) → list_all p xs ≡ true → prefix_len p xs ≡ length xs
+prefix_len-all p [] passes = refl
+prefix_len-all p (x ∷ xs) passes =
+    let parts = and_parts (p x) (list_all p xs) passes in
+    prefix_len-yes p x xs parts.0 ∙ ap suc (prefix_len-all p xs parts.1)
+
+-- what passes one test passes a wider one
+pub list_all-wider : (p q : ℕ → Bool) → ((x : ℕ) → p x ≡ true → q x ≡ true) → (xs : List ℕ) → list_all p xs ≡ true → list_all q xs ≡ true
+list_all-wider p q wider [] passes = refl
+list_all-wider p q wider (x ∷ xs) passes =
+    let parts = and_parts (p x) (list_all p xs) passes in
+    rw (wider x parts.0) (list_all-wider p q wider xs parts.1)
+
+-- behind a front that passes, the count goes on
+pub prefix_len-through : (p : ℕ → Bool) (front rest : List ℕ) → list_all p front ≡ true → prefix_len p (front ++ rest) ≡ length front + prefix_len p rest
+prefix_len-through p [] rest passes = omega arith
+prefix_len-through p (x ∷ xs) rest passes =
+    let parts = and_parts (p x) (list_all p xs) passes in
+    omega (arith, prefix_len-yes p x (xs ++ rest) parts.0, prefix_len-through p xs rest parts.1)

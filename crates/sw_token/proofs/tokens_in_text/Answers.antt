@@ -1,0 +1,20 @@
+use Rattle.sw_token.proofs.Laws.{IsTokens-each, IsTokens-order, IsTokens-few, IsTokens-empty, IsTokens-borders, IsLexicalPlace-within}
+use Rattle.sw_token.proofs.tokens_in_text.Goals as goal
+
+pub returns-clause-each : goal.returns-clause-each
+returns-clause-each c = IsTokens-each
+
+pub returns-clause-order : goal.returns-clause-order
+returns-clause-order c = IsTokens-order
+
+pub returns-clause-few : goal.returns-clause-few
+returns-clause-few c = IsTokens-few
+
+pub returns-clause-empty : goal.returns-clause-empty
+returns-clause-empty c = IsTokens-empty
+
+pub returns-clause-borders : goal.returns-clause-borders
+returns-clause-borders c = IsTokens-borders
+
+pub returns-clause-place : goal.returns-clause-place
+returns-clause-place c = IsLexicalPlace-within

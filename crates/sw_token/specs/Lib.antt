@@ -1,0 +1,4 @@
+pub mod Bytes
+pub mod Kinds
+pub mod Tokens
+pub mod Reading

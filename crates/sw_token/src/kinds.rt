@@ -1,0 +1,153 @@
+//! The kind of a token, from its text.
+ghost use Rattle.std.specs.Prelude.{ℕ, ◌≡◌, ◌==◌, IsTrue, IfSome, length, ◌≤◌, ◌<◌, pos, position, map, bytes_eq};
+ghost use Rattle.std.specs.List.{list_all};
+ghost use Rattle.sw_token.specs.Bytes.{is_digit};
+ghost use Rattle.sw_token.specs.Kinds.{kind_of, word_kind, key_words, marks, mark_number, number_of, NumberFits};
+
+use super::Kind;
+use super::bytes::{is_digit, is_word_start};
+
+/// The words with a rule, and then those that are reserved without one.
+const KEY_WORDS: [&str; 59] = [
+    "actor",
+    "async",
+    "await",
+    "break",
+    "case",
+    "class",
+    "continue",
+    "default",
+    "else",
+    "enum",
+    "false",
+    "final",
+    "func",
+    "if",
+    "in",
+    "init",
+    "let",
+    "nonisolated",
+    "return",
+    "self",
+    "sending",
+    "static",
+    "struct",
+    "switch",
+    "true",
+    "var",
+    "while",
+    "Any",
+    "as",
+    "associatedtype",
+    "catch",
+    "defer",
+    "deinit",
+    "do",
+    "extension",
+    "fallthrough",
+    "fileprivate",
+    "for",
+    "guard",
+    "import",
+    "inout",
+    "internal",
+    "is",
+    "nil",
+    "operator",
+    "precedencegroup",
+    "private",
+    "protocol",
+    "public",
+    "repeat",
+    "rethrows",
+    "Self",
+    "subscript",
+    "super",
+    "throw",
+    "throws",
+    "try",
+    "typealias",
+    "where",
+];
+
+/// The kind of the token with this text.
+#[tactic(auto, unfolding(crate::specs::Kinds::kind_of))]
+pub fn kind_of(text: &[u8]) -> Kind
+    requires { NumberFits text.now }
+    ensures { result ≡ kind_of text.now }
+{
+    let Some(byte) = text.first().copied() else {
+        return Kind::Word;
+    };
+    if is_word_start(byte) {
+        word_kind(text)
+    } else if is_digit(byte) {
+        Kind::Int(number_of(text))
+    } else if byte == b'@' {
+        Kind::At
+    } else {
+        Kind::Mark(mark_number(byte))
+    }
+}
+
+#[tactic(auto, unfolding(crate::specs::Kinds::word_kind))]
+fn word_kind(text: &[u8]) -> Kind
+    ensures { result ≡ word_kind text.now }
+{
+    if text == b"_".as_slice() {
+        return Kind::Underscore;
+    }
+    match key_number(text) {
+        Some(number) => Kind::Key(number),
+        None => Kind::Word,
+    }
+}
+
+fn key_number(text: &[u8]) -> Option<u8>
+    ensures { result ≡ position (λ word. bytes_eq word text.now) key_words }
+{
+    let words: [&str; 59] = KEY_WORDS;
+    match place_of(words.as_slice(), text) {
+        Some(place) => Some(place as u8),
+        None => None,
+    }
+}
+
+fn place_of(words: &[&str], text: &[u8]) -> Option<usize>
+    ensures place { result ≡ position (λ word. bytes_eq word.now text.now) words.now }
+    ensures within { IfSome result (λ place. place < length words.now) }
+{
+    words.iter().position(|word| is_same(word, text))
+}
+
+fn is_same(word: &str, text: &[u8]) -> bool
+    ensures { result ≡ bytes_eq word.now text.now }
+{
+    word.as_bytes() == text
+}
+
+#[tactic(auto, unfolding(crate::specs::Kinds::mark_number))]
+fn mark_number(byte: u8) -> u8
+    ensures { result ≡ mark_number byte }
+{
+    mark_place(byte).unwrap_or(0) as u8
+}
+
+fn mark_place(byte: u8) -> Option<usize>
+    ensures place { result ≡ position (λ mark. mark == byte) marks }
+    ensures within { IfSome result (λ place. place < 10) }
+{
+    b"(){}[],:;.".iter().position(|mark| *mark == byte)
+}
+
+fn number_of(digits: &[u8]) -> i64
+    requires digits { IsTrue (list_all is_digit digits.now) }
+    requires short { length digits.now ≤ 18 }
+    ensures { result ≡ pos (number_of digits.now) }
+{
+    let mut number: u64 = 0;
+    for digit in digits {
+        number = number * 10 + u64::from(*digit - b'0');
+    }
+    number as i64
+}
