@@ -1,0 +1,6 @@
+pub mod Fronts
+pub mod Numbers
+pub mod Readings
+pub mod Turns
+pub mod Watches
+pub mod Runs

@@ -1,0 +1,6 @@
+use Rattle.sw_replay.specs.Items.{is_digit}
+use Rattle.sw_replay.proofs.Fronts.{front_passes}
+use Rattle.sw_replay.proofs.text.number_at.Goals as goal
+
+pub number_of-requires : goal.number_of-requires
+number_of-requires c = rw c.digits_len-len.ensures.value (front_passes is_digit c.args.bytes.now)

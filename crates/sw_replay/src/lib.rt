@@ -1,0 +1,14 @@
+//! Schedules: the items that a schedule text spells, and what an accepted program prints when they are replayed.
+#![tactic(auto)]
+
+mod items;
+mod laws;
+mod output;
+mod replaying;
+mod text;
+
+pub use items::{MAX_ITEMS, Schedule};
+pub use laws::{schedule_texts_have_one_reading, watched_replays_are_one};
+pub use output::{End, Replay};
+pub use replaying::replay;
+pub use text::{SCHEDULE_LIMIT, SchedFault, schedule};
