@@ -4,6 +4,7 @@ pub mod EachSteps
 pub mod FitsLemmas
 pub mod PlanLemmas
 pub mod Refusals
+pub mod Runnable
 pub mod ReaderLaws
 pub mod ReaderLoops
 pub mod Rising

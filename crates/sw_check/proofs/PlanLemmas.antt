@@ -49,7 +49,7 @@ shows_anywhere (show ∷ shows) functions registers =
     ap (joined (show_plan show functions registers))
     (shows_anywhere shows (functions + 0) (registers + 2) ∙ sym (shows_anywhere shows (0 + 0) (registers + 2)))
 
-shows_bodies : (shows : List Show) (functions registers : ℕ) → (in_order (map show_plan shows) functions registers).bodies ≡ []
+pub shows_bodies : (shows : List Show) (functions registers : ℕ) → (in_order (map show_plan shows) functions registers).bodies ≡ []
 shows_bodies [] functions registers = refl
 shows_bodies (show ∷ shows) functions registers = shows_bodies shows (functions + 0) (registers + 2)
 

@@ -4,6 +4,8 @@ mod cursor;
 mod fault;
 mod lower;
 mod parser;
+#[cfg(test)]
+mod tests;
 mod tree;
 
 pub use fault::ParseFault;
