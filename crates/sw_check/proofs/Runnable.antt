@@ -39,15 +39,15 @@ end_small _ small = cc
 block_small : (block : Block) → IsSmallBlock block → All IsSmallPoint (points_of_block block)
 block_small block small =
     All-append IsSmallPoint (map Middle block.instrs) (End block.last ∷ [])
-      (All-map IsSmallPoint Middle block.instrs (λ k d inside. middle_small (get_or block.instrs k d) (small.instrs k d inside)))
-      (All-cons IsSmallPoint (End block.last) [] (end_small block.last small.last) (All-nil IsSmallPoint))
+    (All-map IsSmallPoint Middle block.instrs (λ k d inside. middle_small (get_or block.instrs k d) (small.instrs k d inside)))
+    (All-cons IsSmallPoint (End block.last) [] (end_small block.last small.last) (All-nil IsSmallPoint))
 
 blocks_small : (blocks : List Block) → All IsSmallBlock blocks → All IsSmallPoint (points_of blocks)
 unfolding points_of
 blocks_small [] each = All-nil IsSmallPoint
 blocks_small (block ∷ blocks) each =
     All-append IsSmallPoint (points_of_block block) (points_of blocks) (block_small block (All-head IsSmallBlock block blocks each))
-      (blocks_small blocks (All-tail IsSmallBlock block blocks each))
+    (blocks_small blocks (All-tail IsSmallBlock block blocks each))
 
 -- the points of a function have numbers of 32 bits
 abbrev IsNumbered : Function → Type 0
@@ -56,8 +56,13 @@ IsNumbered function = length (points_of function.blocks) < 2 ^ 32
 function_numbered : (key : ℕ) (is_async : Bool) (instrs : List Instr) (regs : List RegKind) → length instrs + 1 < 2 ^ 32 → IsNumbered (function_of key is_async instrs regs)
 unfolding points_of
 function_numbered key is_async instrs regs few =
-    omega (arith, few, length-map instrs Middle, length-append (map Middle instrs) (End (last.Return None) ∷ []),
-      ap length (append-nil (map Middle instrs ++ End (last.Return None) ∷ [])))
+    omega (
+      arith,
+      few,
+      length-map instrs Middle,
+      length-append (map Middle instrs) (End (last.Return None) ∷ []),
+      ap length (append-nil (map Middle instrs ++ End (last.Return None) ∷ [])),
+    )
 
 -- a print makes two instructions
 shows_instrs : (shows : List Show) (functions registers : ℕ) → length (in_order (map show_plan shows) functions registers).instrs ≡ 2 * length shows
@@ -75,8 +80,8 @@ item_short (Task at body shows) functions registers few =
     record {
       instrs = omega arith;
       bodies = All-cons IsNumbered (function_of body true inside.instrs inside.regs) inside.bodies
-        (function_numbered body true inside.instrs inside.regs (omega (arith, shows_instrs shows (functions + 1) 0, few)))
-        (subst (All IsNumbered) (sym (shows_bodies shows (functions + 1) 0)) (All-nil IsNumbered));
+          (function_numbered body true inside.instrs inside.regs (omega (arith, shows_instrs shows (functions + 1) 0, few)))
+          (subst (All IsNumbered) (sym (shows_bodies shows (functions + 1) 0)) (All-nil IsNumbered));
     }
 
 items_short : (items : List Item) (functions registers : ℕ) → sum_by item_size items < 2 ^ 31 → IsShort (sum_by item_size items) (in_order (map item_plan items) functions registers)
@@ -97,8 +102,8 @@ program_numbered program few =
     let inside = in_order (map item_plan program.items) 1 0 in
     let short = items_short program.items 1 0 few in
     All-cons IsNumbered (function_of program.main false inside.instrs inside.regs) inside.bodies
-      (function_numbered program.main false inside.instrs inside.regs (omega (arith, short.instrs, few)))
-      short.bodies
+    (function_numbered program.main false inside.instrs inside.regs (omega (arith, short.instrs, few)))
+    short.bodies
 
 -- the machine runs the graph of a small program
 pub lowered_runnable : (program : Small) (graph : Graph) → graph.functions ≡ functions_of program → size_of program < 2 ^ 31 → IsRunnable graph

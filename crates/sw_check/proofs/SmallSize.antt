@@ -1,12 +1,16 @@
 -- A program is no larger than its spelling.
-use Rattle.std.proofs.Common.{◌≡◌, ℕ, suc, ◌+◌, ◌<◌, ◌≤◌, Bool, List, [], ◌∷◌, ◌++◌, length, sum_by, arith, length-append}
+use Rattle.std.proofs.Common.{◌≡◌, ℕ, suc, ◌+◌, ◌^◌, ◌<◌, ◌≤◌, Bool, List, [], ◌∷◌, ◌++◌, length, sum_by, arith, length-append}
 use Rattle.std.proofs.lemmas.List.Sums.{sum_by-cons}
 use Rattle.sw_check.specs.declared.small.tree.Show.{Show}
 use Rattle.sw_check.specs.declared.small.tree.Item.{Item}
 use Rattle.sw_check.specs.declared.small.tree.Small.{Small}
 use Rattle.sw_check.specs.Lower.{item_size, size_of}
 use Rattle.sw_check.specs.Small.{SpellsShow, show, SpellsEach, none, more, SpellsItem, show_item, task_item, SpellsSmall, small, Spells}
-use Rattle.sw_check.specs.Spelling.{Spelled}
+use Rattle.sw_check.specs.declared.TheConstants.{PROGRAM_LIMIT}
+use Rattle.sw_check.specs.Spelling.{Spelled, spelled, spelling_of}
+use Rattle.sw_check.specs.Verdict.{IsProgram}
+use Rattle.sw_token.proofs.Laws.{IsTokens-few}
+use Rattle.std.proofs.lemmas.List.{length-map}
 
 -- where an item is no larger than its spelling, so are all together
 each_size : {X : Type 0} {One : X → List Spelled → Type 0} (size : X → ℕ) → ((x : X) (tokens : List Spelled) → One x tokens → size x ≤ length tokens) → (ended : Bool) (xs : List X) (tokens : List Spelled) → SpellsEach One ended xs tokens → sum_by size xs ≤ length tokens
@@ -34,3 +38,9 @@ small_length program tokens (small _ _ _ _ _ _ _ _ _ begin items block end _ end
 
 pub size_of-spelled : {program : Small} {tokens : List Spelled} → Spells program tokens → size_of program ≤ length tokens
 size_of-spelled {program} {tokens} spells = small_length program tokens spells.form
+
+-- a program that a text within the limit spells
+pub size_of-program : (text : List ℕ) (program : Small) → IsProgram text program → length text ≤ PROGRAM_LIMIT → size_of program < 2 ^ 31
+size_of-program text program is short =
+    let spelled_size : size_of program ≤ length (spelling_of text is.tokens) = size_of-spelled is.spells in
+    omega (arith, spelled_size, length-map is.tokens (spelled text), IsTokens-few text is.tokens is.are_tokens, short)

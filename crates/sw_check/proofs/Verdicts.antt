@@ -84,8 +84,8 @@ some_tokens text tokens program spells none =
 program_is : (text : List ℕ) (program : Small) → IsProgram text program → Accepted program ≡ verdict_of text
 program_is text program is =
     sym (of_text text is.utf8 ∙ ap (verdict_of_tokens text) (reading-IsTokens text is.tokens is.are_tokens)
-      ∙ of_tokens text is.tokens (some_tokens text is.tokens program is.spells)
-      ∙ ap (verdict_of_parse text is.tokens) (only_small program (spelling_of text is.tokens) is.spells))
+    ∙ of_tokens text is.tokens (some_tokens text is.tokens program is.spells)
+    ∙ ap (verdict_of_parse text is.tokens) (only_small program (spelling_of text is.tokens) is.spells))
 
 verdict_is : (text : List ℕ) (verdict : Verdict) → IsVerdict text verdict → verdict ≡ verdict_of text
 verdict_is text (Accepted program) is = program_is text program is

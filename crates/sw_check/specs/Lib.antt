@@ -6,6 +6,7 @@ pub mod Lower
 pub mod Outcome
 pub mod Reader
 pub mod Reply
+pub mod Running
 pub mod Small
 pub mod SmallReading
 pub mod SpelledCode

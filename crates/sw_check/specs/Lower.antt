@@ -4,6 +4,7 @@ use Rattle.std.specs.Prelude.{◌≡◌, ℕ, ◌+◌, Bool, true, false, IsTrue
 use Rattle.std.specs.List.{All}
 use Rattle.sw_types.specs.declared.ty.Ty.TheVariants.{Int, Unit as Void, Task as TaskOf}
 use Rattle.sw_types.specs.declared.isolation.Iso.TheVariants.{Free}
+use Rattle.sw_graph.specs.declared.graph.Graph.{Graph}
 use Rattle.sw_graph.specs.declared.function.Function.{Function}
 use Rattle.sw_graph.specs.declared.function.RegKind.{RegKind}
 use Rattle.sw_graph.specs.declared.function.RegKind.TheVariants.{Plain}
@@ -118,3 +119,11 @@ pub record IsSmallFunction (function : Function) : Type 0 where
 -- The functions of a small program's graph print literals and start tasks, and do nothing else.
 abbrev pub IsSmall : List Function → Type 0
 IsSmall functions = All IsSmallFunction functions
+
+-- the graph of a small program: its functions, and no shapes and no globals
+pub record IsLowered (program : Small) (graph : Graph) : Type 0 where
+  pub functions : graph.functions ≡ functions_of program
+  pub entry : graph.entry ≡ 0
+  pub starts : graph.starts ≡ []
+  pub globals : graph.globals ≡ []
+  pub shapes : graph.shapes ≡ []

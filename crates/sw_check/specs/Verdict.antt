@@ -60,4 +60,3 @@ Accepts text = (program : Small) × IsProgram text program
 -- the text has a breach
 abbrev pub Refuses : List ℕ → Type 0
 Refuses text = (breach : Breach) × IsFirstBreach text breach
-

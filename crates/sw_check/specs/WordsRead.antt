@@ -2,7 +2,8 @@
 use Rattle.std.specs.Prelude.{ℕ, List}
 use Rattle.sw_check.specs.declared.words.Command as code
 use Rattle.sw_check.specs.declared.words.Command.TheVariants as variants
-use Rattle.sw_check.specs.Words.{Command, Check}
+use Rattle.sw_check.specs.Words.{Command, Check, Run}
 
 abbrev pub command : code.Command → Command
 command (variants.Check file) = Check file.now
+command (variants.Run file schedule_file) = Run file.now schedule_file.now

@@ -11,15 +11,18 @@ ghost use Rattle.sw_check.specs.Words.{command_of};
 mod breach;
 mod exit;
 mod lines;
+mod no_reply;
 mod outcome;
 mod reply;
+mod run;
 mod small;
 mod verdict;
 mod words;
 mod write;
 
 pub use exit::Exit;
-use reply::{Stop, answer};
+use no_reply::NoReply;
+use reply::answer;
 use std::alloc::Global;
 use sw_outside::{Shelf, Sink, SinkFault};
 use write::put_all;
@@ -57,7 +60,7 @@ pub fn run_words<S: Shelf, K: Sink>(
             Ok(()) => outcome.exit,
             Err(SinkFault::Failed) => Exit::NotWritten,
         },
-        Err(Stop::NotRead) => Exit::NotRead,
-        Err(Stop::Memory) => Exit::Memory,
+        Err(NoReply::NotRead) => Exit::NotRead,
+        Err(NoReply::Memory) => Exit::Memory,
     }
 }

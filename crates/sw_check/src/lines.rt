@@ -1,10 +1,12 @@
 //! The lines about a replay.
 
 ghost use Rattle.std.specs.Prelude.{◌≡◌, ◌<◌, ◌≤◌, IfOk, length, string_bytes};
-ghost use Rattle.sw_check.specs.Lines.{summary, trap_line, trap_text};
+ghost use Rattle.sw_replay.specs.Items.{place_of};
+ghost use Rattle.sw_check.specs.Lines.{schedule_line, schedule_text, summary, trap_line, trap_text};
 
 use crate::breach::place;
 use std::alloc::{AllocError, Global};
+use sw_replay::SchedFault;
 use sw_value::TrapKind;
 
 /// `done D of J jobs`.
@@ -36,4 +38,37 @@ pub fn trap_line(alloc: Global, bytes: &[u8], kind: TrapKind, at: u32) -> Result
     let place = place(alloc, bytes, at)?;
     let text = trap_text(kind);
     format!(in alloc; "{place}: trap: {text}\n")
+}
+
+/// The byte offset that a fault of a schedule names.
+fn place_of(fault: SchedFault) -> u32
+    ensures { result ≡ place_of fault }
+{
+    match fault {
+        SchedFault::BadItem { at } | SchedFault::TooBig { at } | SchedFault::TooMany { at } => at,
+        SchedFault::Memory => 0,
+    }
+}
+
+/// What is wrong with a schedule, in words.
+fn schedule_text(fault: SchedFault) -> &'static str
+    ensures { result.now ≡ schedule_text fault }
+{
+    match fault {
+        SchedFault::BadItem { .. } => "not a number",
+        SchedFault::TooBig { .. } => "number too big",
+        SchedFault::TooMany { .. } => "too many items",
+        SchedFault::Memory => "out of memory",
+    }
+}
+
+/// The line about a fault of the schedule's text `bytes`.
+#[tactic(auto, unfolding(crate::specs::Lines::schedule_line))]
+pub fn schedule_line(alloc: Global, bytes: &[u8], fault: SchedFault) -> Result<String, AllocError>
+    requires { length bytes.now < 4294967295 }
+    ensures { IfOk result (λ text. string_bytes text ≡ schedule_line bytes.now fault) }
+{
+    let place = place(alloc, bytes, place_of(fault))?;
+    let text = schedule_text(fault);
+    format!(in alloc; "{place}: schedule: {text}\n")
 }

@@ -1,53 +1,27 @@
-ghost use Rattle.std.specs.Prelude.{◌≡◌, ◌<◌, ◌≤◌, IfOk, IfSome, IfNone, OnOk, IsErrOf, IsFalse, length, map, string_bytes, Some};
+ghost use Rattle.std.specs.Prelude.{◌≡◌, ◌<◌, ◌≤◌, IfOk, IfNone, OnOk, IsErrOf, IsFalse, length, map, string_bytes, Some};
 ghost use Rattle.sw_outside.specs.Rise.{Rose};
 ghost use Rattle.sw_check.specs.Exit.{is_failure};
 ghost use Rattle.sw_check.specs.Reply.{Answered, IsCheckReply, Unanswered, check_outcome, refusal};
 ghost use Rattle.sw_check.specs.Words.{Check, command_of};
-ghost use Rattle.sw_check.specs.declared.reply.Stop.TheVariants.{Memory};
 
 use crate::PROGRAM_LIMIT;
 use crate::breach::{Breach, verdict_text};
 use crate::exit::Exit;
-use crate::outcome::Outcome;
+use crate::no_reply::NoReply;
+use crate::outcome::{Outcome, lines, too_long};
+use crate::run::run;
 use crate::verdict::{Verdict, verdict_on};
 use crate::words::{self, Command};
 use std::alloc::{AllocError, Global};
-use sw_list::ListOf;
 use sw_outside::{FetchFault, Shelf};
 
-/// Why there is no reply.
-#[derive(Clone, Copy, Debug, PartialEq, Eq)]
-pub enum Stop {
-    /// A fetch failed.
-    NotRead,
-    Memory,
-}
-
-impl From<AllocError> for Stop {
-    ghost from_gives = { λ _ stop. stop ≡ Memory };
-
-    fn from(_: AllocError) -> Stop {
-        Stop::Memory
-    }
-}
-
-/// A reply that is one line.
-fn line(alloc: Global, exit: Exit, text: &str) -> Result<Outcome, AllocError>
-    ensures { IfOk result (λ outcome. outcome ≡ record { exit = exit; bytes = text.now }) }
-{
-    Ok(Outcome {
-        exit,
-        bytes: ListOf::from_slice(alloc, text.as_bytes())?,
-    })
-}
-
 /// The reply about a program that is refused.
-fn refused(alloc: Global, text: &[u8], breach: Breach) -> Result<Outcome, AllocError>
+pub fn refused(alloc: Global, text: &[u8], breach: Breach) -> Result<Outcome, AllocError>
     requires { length text.now ≤ PROGRAM_LIMIT }
     ensures { IfOk result (λ outcome. outcome ≡ refusal text.now breach) }
 {
-    let lines = verdict_text(alloc, text, breach)?;
-    line(alloc, Exit::Breached, lines.as_str())
+    let told = verdict_text(alloc, text, breach)?;
+    lines(alloc, Exit::Breached, told.as_str())
 }
 
 /// What `check` answers to a verdict.
@@ -56,7 +30,7 @@ fn told(alloc: Global, text: &[u8], verdict: &Verdict) -> Result<Outcome, AllocE
     ensures { IfOk result (λ outcome. outcome ≡ check_outcome text.now verdict.now) }
 {
     match verdict {
-        Verdict::Accepted { .. } => line(alloc, Exit::Done, "accepted\n"),
+        Verdict::Accepted { .. } => lines(alloc, Exit::Done, "accepted\n"),
         Verdict::Refused { breach } => refused(alloc, text, *breach),
     }
 }
@@ -71,44 +45,47 @@ fn check_text(alloc: Global, text: &[u8]) -> Result<Outcome, AllocError>
 }
 
 /// The reply to `check FILE`.
-fn check<S: Shelf>(alloc: Global, file: &str, shelf: &mut S) -> Result<Outcome, Stop>
+fn check<S: Shelf>(alloc: Global, file: &str, shelf: &mut S) -> Result<Outcome, NoReply>
     ensures answered { IfOk result (λ outcome. Answered (Some (Check file.now)) (S.told shelf.old) outcome (S.told shelf.new)) }
     ensures tells_none { IfOk result (λ outcome. IsFalse (is_failure outcome.exit)) }
-    ensures not_read { IsErrOf result Stop.NotRead → Unanswered (Some (Check file.now)) 1 (S.told shelf.old) (S.told shelf.new) }
-    ensures no_memory { IsErrOf result Stop.Memory → Unanswered (Some (Check file.now)) 0 (S.told shelf.old) (S.told shelf.new) }
+    ensures not_read { IsErrOf result NoReply.NotRead → Unanswered (Some (Check file.now)) 1 (S.told shelf.old) (S.told shelf.new) }
+    ensures no_memory { IsErrOf result NoReply.Memory → Unanswered (Some (Check file.now)) 0 (S.told shelf.old) (S.told shelf.new) }
     ensures long { IfOk result (λ outcome. outcome.exit ≡ Exit.TooLong → IfNone (S.told shelf.old) (PROGRAM_LIMIT < S.came shelf.new)) }
     ensures steady { OnOk result (S.faults shelf.new ≡ S.faults shelf.old) }
-    ensures failed { IsErrOf result Stop.NotRead → Rose (S.faults shelf.old) (S.faults shelf.new) }
-    ensures memory { IsErrOf result Stop.Memory → S.faults shelf.new ≡ S.faults shelf.old }
+    ensures failed { IsErrOf result NoReply.NotRead → Rose (S.faults shelf.old) (S.faults shelf.new) }
+    ensures memory { IsErrOf result NoReply.Memory → S.faults shelf.new ≡ S.faults shelf.old }
 {
     match shelf.fetch(alloc, file, PROGRAM_LIMIT) {
         Ok(text) => Ok(check_text(alloc, &text)?),
-        Err(FetchFault::TooLong) => Ok(Outcome {
-            exit: Exit::TooLong,
-            bytes: ListOf::new(alloc),
-        }),
-        Err(FetchFault::Failed) => Err(Stop::NotRead),
-        Err(FetchFault::Memory) => Err(Stop::Memory),
+        Err(FetchFault::TooLong) => Ok(too_long(alloc)),
+        Err(FetchFault::Failed) => Err(NoReply::NotRead),
+        Err(FetchFault::Memory) => Err(NoReply::Memory),
     }
 }
 
 /// The reply to the words behind the program's name.
-pub fn answer<S: Shelf>(alloc: Global, words: &[String], shelf: &mut S) -> Result<Outcome, Stop>
+pub fn answer<S: Shelf>(alloc: Global, words: &[String], shelf: &mut S) -> Result<Outcome, NoReply>
     ensures answered { IfOk result (λ outcome. Answered (command_of (map string_bytes words.now)) (S.told shelf.old) outcome (S.told shelf.new)) }
     ensures tells_none { IfOk result (λ outcome. IsFalse (is_failure outcome.exit)) }
-    ensures not_read { IsErrOf result Stop.NotRead → Unanswered (command_of (map string_bytes words.now)) 1 (S.told shelf.old) (S.told shelf.new) }
-    ensures no_memory { IsErrOf result Stop.Memory → Unanswered (command_of (map string_bytes words.now)) 0 (S.told shelf.old) (S.told shelf.new) }
+    ensures not_read { IsErrOf result NoReply.NotRead → Unanswered (command_of (map string_bytes words.now)) 1 (S.told shelf.old) (S.told shelf.new) }
+    ensures no_memory { IsErrOf result NoReply.Memory → Unanswered (command_of (map string_bytes words.now)) 0 (S.told shelf.old) (S.told shelf.new) }
     ensures long { IfOk result (λ outcome. outcome.exit ≡ Exit.TooLong → IfNone (S.told shelf.old) (PROGRAM_LIMIT < S.came shelf.new)) }
     ensures steady { OnOk result (S.faults shelf.new ≡ S.faults shelf.old) }
-    ensures failed { IsErrOf result Stop.NotRead → Rose (S.faults shelf.old) (S.faults shelf.new) }
-    ensures memory { IsErrOf result Stop.Memory → S.faults shelf.new ≡ S.faults shelf.old }
+    ensures failed { IsErrOf result NoReply.NotRead → Rose (S.faults shelf.old) (S.faults shelf.new) }
+    ensures memory { IsErrOf result NoReply.Memory → S.faults shelf.new ≡ S.faults shelf.old }
 {
     match words::read(words) {
-        None => Ok(line(
+        None => Ok(lines(
             alloc,
             Exit::Usage,
             "usage: swiftcheck COMMAND FILE [SCHEDULE]\n",
         )?),
         Some(Command::Check { file }) => check(alloc, file, shelf),
+        Some(
+            Command::Run {
+                file,
+                schedule_file,
+            },
+        ) => run(alloc, file, schedule_file, shelf),
     }
 }

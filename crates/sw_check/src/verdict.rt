@@ -4,12 +4,11 @@ ghost use Rattle.sw_token.specs.Tokens.{IsTokens};
 ghost use Rattle.sw_check.specs.declared.TheConstants.{PROGRAM_LIMIT};
 ghost use Rattle.sw_check.specs.Verdict.{IsVerdict, lexical_place, token_place};
 
+use crate::breach::{Breach, NOT_ONE_ENTRY, UNEXPECTED_TOKEN};
+use crate::small::{ParseFault, Small, parse};
 use std::alloc::{AllocError, Global};
 use sw_text::{Source, TextFault};
 use sw_token::{LexFault, Token, tokens};
-
-use crate::breach::{Breach, NOT_ONE_ENTRY, UNEXPECTED_TOKEN};
-use crate::small::{ParseFault, Small, parse};
 
 /// What the rules say of a program's text.
 #[derive(Drop)]

@@ -5,7 +5,13 @@ ghost use Rattle.sw_check.specs.WordsRead.{command};
 /// What the words ask for. The names are lent from the words.
 #[derive(Clone, Copy)]
 pub enum Command<'a> {
-    Check { file: &'a str },
+    Check {
+        file: &'a str,
+    },
+    Run {
+        file: &'a str,
+        schedule_file: &'a str,
+    },
 }
 
 /// Whether a word names a file: it isn't empty and doesn't begin with `-`.
@@ -28,6 +34,21 @@ pub fn read(words: &[String]) -> Option<Command<'_>>
             let (verb, file) = (verb.as_str(), file.as_str());
             if verb == "check" && is_file_name(file) {
                 Some(Command::Check { file })
+            } else {
+                None
+            }
+        }
+        [verb, file, schedule_file] => {
+            let (verb, file, schedule_file) = (
+                verb.as_str(),
+                file.as_str(),
+                schedule_file.as_str(),
+            );
+            if verb == "run" && is_file_name(file) && is_file_name(schedule_file) {
+                Some(Command::Run {
+                    file,
+                    schedule_file,
+                })
             } else {
                 None
             }

@@ -1,5 +1,5 @@
 ghost use Rattle.std.specs.Prelude.{◌≡◌, ℕ, ◌+◌, ◌^◌, ◌<◌, ◌≤◌, true, [], ◌∷◌, ◌++◌, length, map, sum_by, IfOk, OnOk};
-ghost use Rattle.sw_check.specs.Lower.{in_order, function_of, body_of, functions_of, show_plan, item_plan, item_size, size_of, IsSmall};
+ghost use Rattle.sw_check.specs.Lower.{in_order, function_of, body_of, functions_of, show_plan, item_plan, item_size, size_of, IsLowered, IsSmall};
 
 use super::tree::{Item, ItemList, Show, ShowList, Small};
 use std::alloc::{AllocError, Global};
@@ -185,11 +185,7 @@ fn functions(alloc: Global, program: &Small) -> Result<FunctionList, AllocError>
 /// The graph of a small program.
 pub(crate) fn lower(alloc: Global, program: &Small) -> Result<Graph, AllocError>
     requires size { size_of program.now < 2 ^ 31 }
-    ensures functions { IfOk result (λ graph. graph.functions ≡ functions_of program.now) }
-    ensures entry { IfOk result (λ graph. graph.entry ≡ 0) }
-    ensures starts { IfOk result (λ graph. graph.starts ≡ []) }
-    ensures globals { IfOk result (λ graph. graph.globals ≡ []) }
-    ensures shapes { IfOk result (λ graph. graph.shapes ≡ []) }
+    ensures lowered { IfOk result (IsLowered program.now) }
     ensures small { IfOk result (λ graph. IsSmall graph.functions) }
 {
     let functions = functions(alloc, program)?;

@@ -18,5 +18,5 @@ returns-in-Ok c = record {
 pub returns-in-Err-Unexpected : goal.returns-in-Err-Unexpected
 returns-in-Err-Unexpected c =
     refused_token _ c.args.tokens.now c.in-Err-Unexpected.token _ _ c.requires.utf8 c.requires.tokens (search rules)
-      (subst (λ fault. Explains fault (spelling_of c.args.source.now c.args.tokens.now)) c.in-Err-Unexpected.field-0-is c.in-Err-Unexpected.ensures.fault)
-      c.token_place-at.ensures c.refused-in-Err-Unexpected.ensures
+    (subst (λ fault. Explains fault (spelling_of c.args.source.now c.args.tokens.now)) c.in-Err-Unexpected.field-0-is c.in-Err-Unexpected.ensures.fault)
+    c.token_place-at.ensures c.refused-in-Err-Unexpected.ensures

@@ -7,4 +7,4 @@ use Rattle.sw_check.proofs.verdict.verdict_on.Goals as goal
 pub returns-in-Err-NotUtf8 : goal.returns-in-Err-NotUtf8
 returns-in-Err-NotUtf8 c =
     refused_bytes _ c.in-Err-NotUtf8.at _ ((c.in-Err-NotUtf8.ensures.not_utf8 c.in-Err-NotUtf8.at).0 (ap Err c.in-Err-NotUtf8.field-0-is))
-      (c.refused.ensures ∙ ap (λ at. Refused (record { code = UNEXPECTED_TOKEN; at = at })) c.in-Err-NotUtf8.at-is)
+    (c.refused.ensures ∙ ap (λ at. Refused (record { code = UNEXPECTED_TOKEN; at = at })) c.in-Err-NotUtf8.at-is)

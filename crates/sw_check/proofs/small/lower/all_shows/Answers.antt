@@ -7,6 +7,7 @@ pub loop-show-preserved : goal.loop-show-preserved
 loop-show-preserved c =
     let made = rw c.as_slice-show-items.ensures at c.in_ok-show.ensures.ok in
     let inside = rw c.as_slice-show-items.ensures at c.loop-show-test.true in
-    let regs = ap (λ piece. length piece.regs) c.in_ok-show.ensures.ok in
-    (omega (arith, regs, c.loop-show.invariant.0, length-append c.loop-show.piece.regs),
-    completed_more show_plan _ _ _ c.loop-show.piece _ _ 0 inside c.loop-show.invariant.1 made)
+    let regs = ap (λ piece. length piece.regs) c.in_ok-show.ensures.ok in (
+      omega (arith, regs, c.loop-show.invariant.0, length-append c.loop-show.piece.regs),
+      completed_more show_plan _ _ _ c.loop-show.piece _ _ 0 inside c.loop-show.invariant.1 made,
+    )
