@@ -43,7 +43,7 @@ asked_more name names (Some told) middle after one others =
 -- `check`
 
 check_agrees : (told : Option Told) (file program : List ℕ) → IfSome told (λ t. program ≡ file_of t.files file) → Agrees told (Some (Check file)) program []
-check_agrees (Some told) file program found = found
+check_agrees (Some told) file program found = (found, refl)
 check_agrees None file program found = tt
 
 -- the file was fetched, and gave a text
@@ -106,7 +106,7 @@ check_not_fetched {before} file same =
 
 no_texts : (told : Option Told) → Agrees told None [] []
 no_texts None = tt
-no_texts (Some told) = tt
+no_texts (Some told) = (refl, refl)
 
 -- words of no form fetch nothing
 pub no_form_answered : {command : Option Command} {outcome : Outcome} (told : Option Told) → None ≡ command → outcome ≡ record { exit = exits.Usage; bytes = usage } → Answered command told outcome told

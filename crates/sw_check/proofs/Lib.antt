@@ -1,4 +1,5 @@
 pub mod Answering
+pub mod Claims
 pub mod CursorSteps
 pub mod EachSteps
 pub mod FitsLemmas

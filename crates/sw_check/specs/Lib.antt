@@ -1,5 +1,6 @@
 pub mod Breach
 pub mod Call
+pub mod Claims
 pub mod Exit
 pub mod Lines
 pub mod Lower

@@ -98,12 +98,21 @@ pub data Asked : Option Command → List ℕ → List (List ℕ) → Type 0 wher
   to_run : (file schedule_file program : List ℕ) → length program ≤ PROGRAM_LIMIT → Accepts program
       → Asked (Some (Run file schedule_file)) program (file ∷ schedule_file ∷ [])
 
+-- the text in the program's file
+abbrev pub program_text : Told → Option Command → List ℕ
+program_text told (Some (Check file)) = file_of told.files file
+program_text told (Some (Run file schedule_file)) = file_of told.files file
+program_text told None = []
+
+-- the text in the schedule's file
+abbrev pub schedule_text : Told → Option Command → List ℕ
+schedule_text told (Some (Run file schedule_file)) = file_of told.files schedule_file
+schedule_text told (Some (Check file)) = []
+schedule_text told None = []
+
 -- Where the shelf tells its files, the texts are those of the program's file and of the schedule's.
 abbrev pub Agrees : Option Told → Option Command → List ℕ → List ℕ → Type 0
-Agrees (Some told) (Some (Check file)) program schedule = program ≡ file_of told.files file
-Agrees (Some told) (Some (Run file schedule_file)) program schedule =
-    (program ≡ file_of told.files file) × (schedule ≡ file_of told.files schedule_file)
-Agrees (Some told) None program schedule = Unit {0}
+Agrees (Some told) command program schedule = (program ≡ program_text told command) × (schedule ≡ schedule_text told command)
 Agrees None command program schedule = Unit {0}
 
 -- these names were asked too, in this order

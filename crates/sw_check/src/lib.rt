@@ -1,12 +1,15 @@
 //! The verdict on a program's text, and the call that the program's `main` makes.
 #![tactic(auto)]
 
-ghost use Rattle.std.specs.Prelude.{◌≡◌, ◌≢◌, ◌<◌, ◌≤◌, IfSome, IfNone, IsTrue, IsFalse, length, map, string_bytes};
+ghost use Rattle.std.specs.Prelude.{◌≡◌, ◌≢◌, ◌<◌, ◌≤◌, ℕ, List, Some, None, IfSome, IfNone, IsTrue, IsFalse, length, map, string_bytes};
 ghost use Rattle.sw_outside.specs.Rise.{Rose};
+ghost use Rattle.sw_outside.specs.Shelf.{Told, file_of};
 ghost use Rattle.sw_check.specs.Exit.{is_failure, is_silent};
-ghost use Rattle.sw_check.specs.Reply.{Answered, Unanswered};
+ghost use Rattle.sw_check.specs.Claims.{Says};
+ghost use Rattle.sw_check.specs.Reply.{Answered, Unanswered, program_text, schedule_text};
 ghost use Rattle.sw_check.specs.Call.{Replied, Interrupted};
-ghost use Rattle.sw_check.specs.Words.{command_of};
+ghost use Rattle.sw_check.specs.Verdict.{Accepts, Refuses};
+ghost use Rattle.sw_check.specs.Words.{Check, Command, command_of};
 
 mod breach;
 mod exit;
@@ -41,6 +44,21 @@ pub fn run_words<S: Shelf, K: Sink>(
     ensures replied { IsFalse (is_failure result) → Replied (command_of (map string_bytes words.now.items)) result (S.told shelf.old) (S.told shelf.new) (K.taken out.old) (K.taken out.new) }
     // Where neither the outside nor memory failed, the exit is that of the reply.
     ensures complete { ¬ (Rose (S.faults shelf.old) (S.faults shelf.new)) → ¬ (Rose (K.faults out.old) (K.faults out.new)) → result ≢ Exit.Memory → IsFalse (is_failure result) }
+
+    // What such an exit says of the files, where the shelf tells them: acceptance and the absence of races among it.
+    ensures says { IsFalse (is_failure result) → IfSome (S.told shelf.old) (λ told.
+        Says (command_of (map string_bytes words.now.items)) (program_text told (command_of (map string_bytes words.now.items)))
+            (schedule_text told (command_of (map string_bytes words.now.items))) result) }
+    // Where nothing failed, words of no form, a refused program and an accepted one have these exits.
+    ensures usage { command_of (map string_bytes words.now.items) ≡ None → IsFalse (is_failure result) → result ≡ Exit.Usage }
+    ensures breached { (told : Told) (command : Command) → S.told shelf.old ≡ Some told
+        → command_of (map string_bytes words.now.items) ≡ Some command → length (program_text told (Some command)) ≤ PROGRAM_LIMIT
+        → Refuses (program_text told (Some command)) → IsFalse (is_failure result) → result ≡ Exit.Breached }
+    ensures accepted { (told : Told) (file : List ℕ) → S.told shelf.old ≡ Some told
+        → command_of (map string_bytes words.now.items) ≡ Some (Check file) → length (file_of told.files file) ≤ PROGRAM_LIMIT
+        → Accepts (file_of told.files file) → IsFalse (is_failure result) → result ≡ Exit.Done }
+    // No exit says that a race came.
+    ensures never_raced { result ≢ Exit.Raced }
 
     // After a failure of the outside or of memory.
     ensures not_read { result ≡ Exit.NotRead → Unanswered (command_of (map string_bytes words.now.items)) 1 (S.told shelf.old) (S.told shelf.new) }

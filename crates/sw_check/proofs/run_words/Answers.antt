@@ -1,5 +1,9 @@
-use Rattle.std.proofs.Common.{subst}
+use Rattle.std.proofs.Common.{Some, IfSome, map, string_bytes, subst}
+use Rattle.sw_check.specs.Claims.{Says}
+use Rattle.sw_check.specs.Reply.{Answered, program_text, schedule_text}
+use Rattle.sw_check.specs.Words.{command_of}
 use Rattle.sw_check.specs.Written.{Appended}
+use Rattle.sw_check.proofs.Claims.{answer_says, never_raced, usage_told, accepted_told, refused_told}
 use Rattle.sw_check.proofs.Tells.{silent_written}
 use Rattle.sw_check.proofs.run_words.Goals as goal
 
@@ -7,3 +11,22 @@ pub returns-in-Ok-put_all-clause-silent : goal.returns-in-Ok-put_all-clause-sile
 returns-in-Ok-put_all-clause-silent g c silent =
     silent_written c.in-Ok.ensures.answered
       (subst (λ bytes. Appended bytes (g.K.Sink.taken c.args.out.now) (g.K.Sink.taken c.put_all.new.out)) c.as_slice.ensures c.in-Ok-put_all.ensures.whole) silent
+
+pub returns-in-Ok-put_all-clause-says : goal.returns-in-Ok-put_all-clause-says
+returns-in-Ok-put_all-clause-says g c _ =
+    answer_says (subst (λ words. Answered (command_of (map string_bytes words)) (g.S.Shelf.told c.args.shelf.now) c.in-Ok.outcome (g.S.Shelf.told c.answer.new.shelf)) c.deref.ensures.value c.in-Ok.ensures.answered)
+
+pub returns-in-Ok-put_all-clause-never_raced : goal.returns-in-Ok-put_all-clause-never_raced
+returns-in-Ok-put_all-clause-never_raced g c raced = never_raced c.in-Ok.ensures.answered raced
+
+pub returns-in-Ok-put_all-clause-usage : goal.returns-in-Ok-put_all-clause-usage
+returns-in-Ok-put_all-clause-usage g c none _ =
+    usage_told (subst (λ words. Answered (command_of (map string_bytes words)) (g.S.Shelf.told c.args.shelf.now) c.in-Ok.outcome (g.S.Shelf.told c.answer.new.shelf)) c.deref.ensures.value c.in-Ok.ensures.answered) none
+
+pub returns-in-Ok-put_all-clause-breached : goal.returns-in-Ok-put_all-clause-breached
+returns-in-Ok-put_all-clause-breached g c told command tells is short refuses _ =
+    refused_told (subst (λ words. Answered (command_of (map string_bytes words)) (g.S.Shelf.told c.args.shelf.now) c.in-Ok.outcome (g.S.Shelf.told c.answer.new.shelf)) c.deref.ensures.value c.in-Ok.ensures.answered) told command tells is short refuses
+
+pub returns-in-Ok-put_all-clause-accepted : goal.returns-in-Ok-put_all-clause-accepted
+returns-in-Ok-put_all-clause-accepted g c told file tells is short accepts _ =
+    accepted_told (subst (λ words. Answered (command_of (map string_bytes words)) (g.S.Shelf.told c.args.shelf.now) c.in-Ok.outcome (g.S.Shelf.told c.answer.new.shelf)) c.deref.ensures.value c.in-Ok.ensures.answered) told file tells is short accepts
