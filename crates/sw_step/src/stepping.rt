@@ -14,12 +14,7 @@ use sw_value::{Act, Effect, Frame, Job, State, Status};
 
 /// Does what one item of a schedule says: the job with that number is dispatched, is woken or executes one instruction.
 /// Want of memory leaves the state as it was.
-pub fn step(
-    alloc: Global,
-    graph: &Graph,
-    state: &mut State,
-    item: u32,
-) -> Result<Event, AllocError>
+pub fn step(alloc: Global, graph: &Graph, state: &mut State, item: u32) -> Result<Event, AllocError>
     requires small { IsSmall graph.now }
     requires cells { length state.old.cells < 4294967295 }
 
@@ -38,12 +33,7 @@ pub fn step(
 }
 
 #[tactic(auto, using(crate::proofs::StepLemmas::steps))]
-fn do_item(
-    alloc: Global,
-    graph: &Graph,
-    state: &mut State,
-    item: u32,
-) -> Result<Event, AllocError>
+fn do_item(alloc: Global, graph: &Graph, state: &mut State, item: u32) -> Result<Event, AllocError>
     requires small { IsSmall graph.now }
     requires cells { length state.old.cells < 4294967295 }
     ensures steps { OnOk result (state.new ≡ step_of graph.now state.old item) }

@@ -2,4 +2,5 @@ pub mod JobLemmas
 pub mod ListLemmas
 pub mod NeverRaces
 pub mod ReachLemmas
+pub mod SmallLemmas
 pub mod StaysInBounds
