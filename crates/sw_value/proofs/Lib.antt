@@ -2,5 +2,4 @@ pub mod JobLemmas
 pub mod ListLemmas
 pub mod NeverRaces
 pub mod ReachLemmas
-pub mod SmallLemmas
 pub mod StaysInBounds

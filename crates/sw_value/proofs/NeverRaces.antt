@@ -1,9 +1,7 @@
 -- No state that items lead to in a small graph is racing: none of its instructions accesses a location.
-use Rattle.std.proofs.Common.{List, [], ◌∷◌, ◌++◌, map, IsTrue, ◌≡◌, ℕ, Bool, true, false, cond, Option, Some, None, refl}
+use Rattle.std.proofs.Common.{◌≡◌, ℕ, Bool, true, false, cond, Option, Some, None, refl}
 use Rattle.std.specs.Prelude.{option_and_then, is_some}
-use Rattle.std.specs.List.{slice_get, All}
-use Rattle.std.proofs.lemmas.List.Elements.{All-nil, All-head, All-tail, All-map, All-append, All-push}
-use Rattle.sw_graph.specs.declared.instr.Block.{Block}
+use Rattle.std.specs.List.{slice_get}
 use Rattle.sw_graph.specs.declared.instr.Instr.TheVariants as instr
 use Rattle.sw_graph.specs.declared.function.Function.{Function}
 use Rattle.sw_graph.specs.declared.graph.Graph.{Graph}
@@ -12,39 +10,24 @@ use Rattle.sw_value.specs.declared.job.Job.{Job}
 use Rattle.sw_value.specs.declared.state.State.{State}
 use Rattle.sw_value.specs.Job.{top_frame, is_running}
 use Rattle.sw_value.specs.Point.{Point, Middle, End, points_of, point_in, point_at}
-use Rattle.sw_value.specs.Small.{is_small_instr, is_small_last, IsSmallBlock, IsSmallFunction, IsSmall}
+use Rattle.sw_value.specs.Small.{IsSmallPoint, IsSmallFunction, IsSmall}
 use Rattle.sw_value.specs.Racing.{point_access, frame_access, next_access, Racing}
 use Rattle.sw_value.proofs.ListLemmas.{All-at}
 
-IsSmallPoint : Point → Type 0
-IsSmallPoint (Middle i) = IsTrue (is_small_instr i)
-IsSmallPoint (End l) = IsTrue (is_small_last l)
-
-small_points : (blocks : List Block) → All IsSmallBlock blocks → All IsSmallPoint (points_of blocks)
-unfolding points_of IsSmallPoint
-small_points [] all = All-nil IsSmallPoint
-small_points (b ∷ bs) all =
-    let first = All-head IsSmallBlock b bs all in
-    let instrs = All-map IsSmallPoint Middle b.instrs first.instrs in
-    All-append IsSmallPoint (map Middle b.instrs ++ End b.last ∷ []) (points_of bs)
-    (All-push IsSmallPoint (map Middle b.instrs) (End b.last) instrs first.last)
-    (small_points bs (All-tail IsSmallBlock b bs all))
-
 -- what stands at a point of a small graph
-small_point : (graph : Graph) → IsSmall graph → (frame : Frame) (p : Point) → point_at graph frame ≡ Some p → IsSmallPoint p
+pub small_point : (graph : Graph) → IsSmall graph → (frame : Frame) (p : Point) → point_at graph frame ≡ Some p → IsSmallPoint p
 unfolding point_at
 small_point graph small frame p = by (slice_get graph.functions frame.function) refl where
   by : (o : Option Function) → slice_get graph.functions frame.function ≡ o → option_and_then (λ f. point_in f frame.point) o ≡ Some p → IsSmallPoint p
   by None _ e = cc
   by (Some f) there e =
-      All-at IsSmallPoint (points_of f.blocks) frame.point p (small_points f.blocks (All-at IsSmallFunction graph.functions frame.function f small.functions there).blocks) e
+      All-at IsSmallPoint (points_of f.blocks) frame.point p (All-at IsSmallFunction graph.functions frame.function f small.functions there).small e
 
 small_point_access : (graph : Graph) (state : State) (frame : Frame) (p : Point) → IsSmallPoint p → point_access graph state frame p ≡ None
-unfolding IsSmallPoint
 small_point_access graph state frame (Middle (instr.Const at r v)) s = refl
 small_point_access graph state frame (Middle (instr.Print at r ss)) s = refl
 small_point_access graph state frame (Middle (instr.NewTask at r f cs)) s = refl
-small_point_access graph state frame (Middle _) s = cc
+small_point_access graph state frame (Middle _) s = absurd s
 small_point_access graph state frame (End l) s = refl
 
 small_frame_access : (graph : Graph) → IsSmall graph → (state : State) (frame : Frame) → frame_access graph state frame ≡ None
