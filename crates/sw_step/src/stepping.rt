@@ -23,7 +23,8 @@ pub fn step(alloc: Global, graph: &Graph, state: &mut State, item: u32) -> Resul
     ensures err { OnErr result (state.new ≡ state.old) }
 
     // What the event tells, and that the new state is reached if the old one was.
-    ensures nothing { IfOk result (λ event. (event ≡ Nothing) ↔ (happening graph.now state.old item ≡ None)) }
+    ensures nothing { IfOk result (λ event.
+        (event ≡ Nothing) ↔ (happening graph.now state.old item ≡ None)) }
     ensures trapped { IfOk result (λ event. (kind : TrapKind) (at : ℕ) →
         (event ≡ Trapped kind at) ↔ ((state.old.halted ≡ None) × (state.new.halted ≡ Some (kind, at)))) }
     ensures reached { Reached graph.now state.old → Reached graph.now state.new }
