@@ -1,5 +1,5 @@
 -- What the event of an item tells.
-use Rattle.std.proofs.Common.{◌≡◌, ◌↔◌, ℕ, Bool, true, false, cond, Option, Some, None, refl, ap, sym, ◌∙◌, subst}
+use Rattle.std.proofs.Common.{◌≡◌, ◌↔◌, ℕ, Bool, true, false, cond, Option, Some, None, refl, ap, sym, ◌∙◌}
 use Rattle.std.specs.Prelude.{option_and_then, is_some}
 use Rattle.std.specs.Option.{option_map}
 use Rattle.std.specs.List.{slice_get}
@@ -80,6 +80,7 @@ unfolding happening Tells event_of
 nothing_tells graph state j = (to, back) where
   to : event_of graph state j ≡ Nothing → happening graph state j ≡ None
   to h = ap (option_map (occurrence_of graph state j)) (acts_tell graph state j (sym (event_by_act graph state j) ∙ h))
+
   back : happening graph state j ≡ None → event_of graph state j ≡ Nothing
   back h = ap occurrence_event h
 
@@ -101,6 +102,7 @@ halted_after j state (Execute (effect.Halt k a)) kind at none = (to, back) where
       let same_kind : k ≡ kind = cc in
       let same_at : a ≡ at = cc in
       ap (λ x. trap_of x a) same_kind ∙ ap (trap_of kind) same_at
+
   back : trap_of k a ≡ trap_of kind at → Trapped k a ≡ Trapped kind at
   back h =
       let same_kind : k ≡ kind = ap (λ (o : Option (TrapKind × ℕ)). elim o [ None ↦ k | Some t ↦ t.0 ]) h in

@@ -69,8 +69,6 @@ pub none_at : (blocks : List Block) (k place : ℕ) → length blocks ≤ k → 
 unfolding points_of
 none_at blocks k place h = rw (drop_all k blocks h) refl
 
-pub ruleset walk = (middle_at, end_at, further_at, none_at)
-
 -- a point has a number of 32 bits behind it
 pub next_point_fits : (graph : Graph) (frame : Frame) (p : Point) → IsSmall graph → point_at graph frame ≡ Some p → frame.point + 1 < 2 ^ 32
 unfolding point_at

@@ -10,3 +10,6 @@ mod stepping;
 pub use event::Event;
 pub use stepping::step;
 pub use sw_value::Line;
+
+#[cfg(test)]
+mod tests;

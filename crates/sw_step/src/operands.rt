@@ -50,7 +50,8 @@ pub fn printed_line(
 
 /// Adds a text to a line, with a blank before it unless it is the first.
 fn add_text(line: &mut Vec<u8>, first: bool, text: &str) -> Result<(), AllocError>
-    ensures { OnOk result (line.new.items ≡ line.old.items ++ (if first then text.now else 32 ∷ text.now)) }
+    ensures { OnOk result
+        (line.new.items ≡ line.old.items ++ (if first then text.now else 32 ∷ text.now)) }
 {
     if !first {
         line.push(b' ')?;

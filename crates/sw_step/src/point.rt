@@ -26,7 +26,6 @@ pub fn point_at<'a>(graph: &'a Graph, frame: &Frame) -> Option<Point<'a>>
     }
 }
 
-#[tactic(auto, using(crate::proofs::PointLemmas::walk))]
 fn point_in(blocks: &BlockList, point: u32) -> Option<Point<'_>>
     ensures { seen result ≡ slice_get (points_of blocks.now) point }
 {

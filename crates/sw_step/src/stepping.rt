@@ -14,12 +14,7 @@ use sw_value::{Act, Effect, Frame, Job, State, Status};
 
 /// Does what one item of a schedule says: the job with that number is dispatched, is woken or executes one instruction.
 /// Want of memory leaves the state as it was.
-pub fn step(
-    alloc: Global,
-    graph: &Graph,
-    state: &mut State,
-    item: u32,
-) -> Result<Event, AllocError>
+pub fn step(alloc: Global, graph: &Graph, state: &mut State, item: u32) -> Result<Event, AllocError>
     requires small { IsSmall graph.now }
     requires cells { length state.old.cells < 4294967295 }
 
@@ -28,7 +23,8 @@ pub fn step(
     ensures err { OnErr result (state.new ≡ state.old) }
 
     // What the event tells, and that the new state is reached if the old one was.
-    ensures nothing { IfOk result (λ event. (event ≡ Nothing) ↔ (happening graph.now state.old item ≡ None)) }
+    ensures nothing { IfOk result (λ event.
+        (event ≡ Nothing) ↔ (happening graph.now state.old item ≡ None)) }
     ensures trapped { IfOk result (λ event. (kind : TrapKind) (at : ℕ) →
         (event ≡ Trapped kind at) ↔ ((state.old.halted ≡ None) × (state.new.halted ≡ Some (kind, at)))) }
     ensures reached { Reached graph.now state.old → Reached graph.now state.new }
@@ -38,12 +34,7 @@ pub fn step(
 }
 
 #[tactic(auto, using(crate::proofs::StepLemmas::steps))]
-fn do_item(
-    alloc: Global,
-    graph: &Graph,
-    state: &mut State,
-    item: u32,
-) -> Result<Event, AllocError>
+fn do_item(alloc: Global, graph: &Graph, state: &mut State, item: u32) -> Result<Event, AllocError>
     requires small { IsSmall graph.now }
     requires cells { length state.old.cells < 4294967295 }
     ensures steps { OnOk result (state.new ≡ step_of graph.now state.old item) }

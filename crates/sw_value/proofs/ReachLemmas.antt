@@ -1,6 +1,6 @@
 -- Lemmas on the states that items lead to.
-use Rattle.std.proofs.Common.{Option, None, ◌≡◌, ℕ, ◌+◌, Some, List, [], ◌∷◌, ◌++◌, take, refl, ap, ◌∙◌}
-use Rattle.std.specs.List.{slice_get, fold}
+use Rattle.std.proofs.Common.{Option, None, ◌≡◌, ℕ, Some, List, [], ◌∷◌, ◌++◌, refl, ap, ◌∙◌}
+use Rattle.std.specs.List.{fold}
 use Rattle.std.proofs.lemmas.List.Sums.{fold-append}
 use Rattle.sw_graph.specs.declared.graph.Graph.{Graph}
 use Rattle.sw_value.specs.declared.state.State.{State}
@@ -9,7 +9,6 @@ use Rattle.sw_value.specs.declared.effect.Act.{Act}
 use Rattle.sw_value.specs.Happening.{occurrence_of, act_of, happening}
 use Rattle.std.specs.Option.{option_map}
 use Rattle.sw_value.specs.Reach.{after, after_act, step_of, reach, Reached}
-use Rattle.sw_value.proofs.ListLemmas.{take_next}
 
 -- what an act of job j, or none, leads to
 abbrev pub after_acts : ℕ → Option Act → State → State
@@ -31,10 +30,6 @@ reach_none graph = refl
 pub reach_push : (graph : Graph) (items : List ℕ) (item : ℕ) → reach graph (items ++ item ∷ []) ≡ step_of graph (reach graph items) item
 unfolding reach
 reach_push graph items item = fold-append (step_of graph) (start_of graph) items (item ∷ [])
-
--- a loop over the items: the state after i + 1 of them
-pub reach_more : (graph : Graph) (items : List ℕ) (i item : ℕ) → slice_get items i ≡ Some item → reach graph (take (i + 1) items) ≡ step_of graph (reach graph (take i items)) item
-reach_more graph items i item e = ap (reach graph) (take_next items i item e) ∙ reach_push graph (take i items) item
 
 pub start_reached : (graph : Graph) → Reached graph (start_of graph)
 start_reached graph = record { items = []; gives = reach_none graph }

@@ -49,8 +49,8 @@ impl Frame {
         }
     }
 
-    #[tactic(auto, unfolding(crate::specs::Frame::with_register, crate::specs::Frame::after_instr))]
     /// Gives a register the value of an instruction and goes on behind it.
+    #[tactic(auto, unfolding(crate::specs::Frame::with_register, crate::specs::Frame::after_instr))]
     pub fn finish_instr(&mut self, reg: u32, value: Value, next: u32)
         ensures { self.new ≡ after_instr reg value next self.old }
     {
@@ -58,8 +58,8 @@ impl Frame {
         self.point = next;
     }
 
-    #[tactic(auto, unfolding(crate::specs::Frame::with_result))]
     /// Takes the result of the frame above into the register that it is for.
+    #[tactic(auto, unfolding(crate::specs::Frame::with_result))]
     pub fn take_result(&mut self, reg: u32, value: Value)
         ensures { self.new ≡ with_result reg value self.old }
     {

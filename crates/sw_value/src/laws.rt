@@ -10,18 +10,22 @@ use crate::job::MAX_JOBS;
 
 /// No list of items, of any length, leads a small graph to a state that is racing.
 pub fn small_graphs_never_race()
-    ensures never_races { (graph : Graph) → IsSmall graph → (items : List ℕ) → ¬ Racing graph (reach graph items) }
+    ensures never_races { (graph : Graph) → IsSmall graph → (items : List ℕ) →
+        ¬ Racing graph (reach graph items) }
 {}
 
 /// However long the items are, there are never more jobs than the machine allows, and a small graph has fewer cells than
 /// jobs. So the number of one more cell fits 32 bits in each state that a small graph reaches.
 pub fn small_graphs_stay_in_bounds()
-    ensures jobs { (graph : Graph) (state : State) → Reached graph state → length state.jobs ≤ MAX_JOBS }
-    ensures cells { (graph : Graph) (state : State) → IsSmall graph → Reached graph state → length state.cells < length state.jobs }
+    ensures jobs { (graph : Graph) (state : State) → Reached graph state →
+        length state.jobs ≤ MAX_JOBS }
+    ensures cells { (graph : Graph) (state : State) → IsSmall graph → Reached graph state →
+        length state.cells < length state.jobs }
 {}
 
 /// The start is reached, and so is what a step leads to from a state that is reached.
 pub fn steps_reach()
     ensures starts { (graph : Graph) → Reached graph (start_of graph) }
-    ensures goes_on { (graph : Graph) (state : State) (item : ℕ) → Reached graph state → Reached graph (step_of graph state item) }
+    ensures goes_on { (graph : Graph) (state : State) (item : ℕ) → Reached graph state →
+        Reached graph (step_of graph state item) }
 {}

@@ -20,3 +20,6 @@ pub use job::{Job, JobList, MAX_JOBS, Status};
 pub use laws::{small_graphs_never_race, small_graphs_stay_in_bounds, steps_reach};
 pub use state::{State, TrapKind};
 pub use value::{Line, Value, ValueList, ValueSlots};
+
+#[cfg(test)]
+mod tests;

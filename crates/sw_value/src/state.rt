@@ -89,7 +89,8 @@ impl State {
     /// Adds a job with one frame, and then the cell of its task. Want of memory adds neither.
     #[tactic(auto, unfolding(crate::specs::State::with_job, crate::specs::State::with_cell))]
     pub fn add_task(&mut self, alloc: Global, frame: Frame, job: u32) -> Result<(), AllocError>
-        ensures ok { OnOk result (self.new ≡ with_cell (TaskOf job) (with_job (first_job (frame ∷ [])) self.old)) }
+        ensures ok { OnOk result
+            (self.new ≡ with_cell (TaskOf job) (with_job (first_job (frame ∷ [])) self.old)) }
         ensures err { OnErr result (self.new ≡ self.old) }
     {
         let made = Job::new(alloc, frame)?;

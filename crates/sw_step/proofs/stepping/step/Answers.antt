@@ -1,11 +1,6 @@
-use Rattle.std.proofs.Common.{◌≡◌, ◌↔◌, None, Some, sym, subst}
-use Rattle.sw_value.specs.declared.state.State.{State}
-use Rattle.sw_value.specs.Happening.{happening}
+use Rattle.std.proofs.Common.{sym, subst}
 use Rattle.sw_value.specs.Reach.{Reached}
 use Rattle.sw_value.proofs.ReachLemmas.{step_reached}
-use Rattle.sw_step.specs.declared.event.Event.{Event}
-use Rattle.sw_step.specs.declared.event.Event.TheVariants.{Nothing, Trapped}
-use Rattle.sw_step.specs.Event.{event_of}
 use Rattle.sw_step.proofs.EventLemmas.{nothing_tells, trapped_tells}
 use Rattle.sw_step.proofs.stepping.step.Goals as goal
 

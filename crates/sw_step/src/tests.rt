@@ -1,0 +1,186 @@
+ghost use Rattle.std.specs.Prelude.{◌≡◌, false, [], ◌∷◌, IfOk};
+ghost use Rattle.sw_types.specs.declared.isolation.Iso.TheVariants.{Free};
+ghost use Rattle.sw_types.specs.declared.ty.Ty.TheVariants.{Unit as Void};
+ghost use Rattle.sw_graph.specs.declared.instr.Last.TheVariants.{Return};
+ghost use Rattle.sw_graph.specs.WellFormed.{IsWellFormed};
+ghost use Rattle.sw_value.specs.Small.{IsSmall};
+
+use super::*;
+use std::alloc::{AllocError, Global};
+use std::process::Abort;
+use std::test::Fail;
+use sw_graph::{
+    Block, Function, FunctionList, Graph, Instr, InstrList, Last, Literal, Operand, RegKind,
+    RegList,
+};
+use sw_list::{Boxed, ListOf};
+use sw_types::{Iso, Shapes, Ty};
+use sw_value::{HeapCell, State, Status, TrapKind, Value, start};
+
+fn one<T: Drop>(alloc: Global, item: T) -> Result<ListOf<T>, AllocError>
+    ensures { IfOk result (λ list. list ≡ item ∷ []) }
+{
+    let mut list = ListOf::new(alloc);
+    list.push(item)?;
+    Ok(list)
+}
+
+fn two<T: Drop>(alloc: Global, first: T, second: T) -> Result<ListOf<T>, AllocError>
+    ensures { IfOk result (λ list. list ≡ first ∷ second ∷ []) }
+{
+    let mut list = one(alloc, first)?;
+    list.push(second)?;
+    Ok(list)
+}
+
+fn body(alloc: Global, instrs: InstrList, regs: RegList) -> Result<Function, AllocError>
+    ensures { IfOk result (λ function. function ≡ record {
+      key = 0;
+      iso = Free;
+      is_async = false;
+      takes = 0;
+      sending = [];
+      sends = false;
+      result = Void;
+      regs = regs;
+      blocks = record { instrs = instrs; last = Return None } ∷ [];
+    }) }
+{
+    Ok(Function {
+        key: 0,
+        iso: Iso::Free,
+        is_async: false,
+        takes: 0,
+        sending: ListOf::new(alloc),
+        sends: false,
+        result: Ty::Unit,
+        regs,
+        blocks: one(
+            alloc,
+            Block {
+                instrs,
+                last: Last::Return { s: None },
+            },
+        )?,
+    })
+}
+
+fn graph_of(alloc: Global, functions: FunctionList) -> Result<Graph, Fail>
+    requires { IsWellFormed [] [] functions 0 [] }
+    ensures { IfOk result (λ graph. graph.functions ≡ functions) }
+{
+    let shapes = Shapes::new(alloc, ListOf::new(alloc))?;
+    Ok(Graph::new(shapes, ListOf::new(alloc), functions, 0, ListOf::new(alloc)))
+}
+
+/// The graph of `main` that prints 7.
+#[tactic(auto, unfolding(sw_value::specs::Point::points_of))]
+fn seven(alloc: Global) -> Result<Graph, Fail>
+    ensures { IfOk result IsSmall }
+{
+    let literal = Instr::Const {
+        at: 52,
+        r: 0,
+        v: Literal::Int(7),
+    };
+    let print = Instr::Print {
+        at: 46,
+        r: 1,
+        ss: one(alloc, Operand { reg: 0, at: 52 })?,
+    };
+    let main = body(
+        alloc,
+        two(alloc, literal, print)?,
+        two(alloc, RegKind::Plain(Ty::Int), RegKind::Plain(Ty::Unit))?,
+    )?;
+    graph_of(alloc, one(alloc, main)?)
+}
+
+/// The graph of a `main` that makes a task of itself.
+#[tactic(auto, unfolding(sw_value::specs::Point::points_of))]
+fn endless(alloc: Global) -> Result<Graph, Fail>
+    ensures { IfOk result IsSmall }
+{
+    let task = Instr::NewTask {
+        at: 20,
+        r: 0,
+        f: 0,
+        cs: ListOf::new(alloc),
+    };
+    let kind = RegKind::Plain(Ty::Task(Boxed::new(alloc, Ty::Unit)?));
+    let main = body(alloc, one(alloc, task)?, one(alloc, kind)?)?;
+    graph_of(alloc, one(alloc, main)?)
+}
+
+fn next(
+    rt: &impl Abort,
+    alloc: Global,
+    graph: &Graph,
+    state: &mut State,
+    item: u32,
+) -> Result<Event, Fail>
+    requires { IsSmall graph.now }
+{
+    assert!(rt; state.cells.len() < 100_000);
+    Ok(step(alloc, graph, state, item)?)
+}
+
+#[test]
+fn prints_seven(rt: HostRuntime) -> Result<(), Fail> {
+    let alloc = rt.alloc();
+    let graph = seven(alloc)?;
+    let mut state = start(alloc, &graph)?;
+    assert!(rt; matches!(next(&rt, alloc, &graph, &mut state, 1)?, Event::Nothing));
+    assert!(rt; matches!(next(&rt, alloc, &graph, &mut state, 0)?, Event::Dispatched));
+    assert!(rt; matches!(next(&rt, alloc, &graph, &mut state, 0)?, Event::Ran));
+    let Event::Printed { line } = next(&rt, alloc, &graph, &mut state, 0)? else {
+        return Err(Fail::from("no line"));
+    };
+    assert_eq!(rt; line.as_slice(), b"7\n".as_slice());
+    assert!(rt; matches!(next(&rt, alloc, &graph, &mut state, 0)?, Event::Ran));
+    let job = state.jobs.get(0).ok_or("no job")?;
+    assert!(rt; matches!(job.status, Status::Ended { value: Value::Unit }));
+    assert!(rt; matches!(next(&rt, alloc, &graph, &mut state, 0)?, Event::Nothing));
+    Ok(())
+}
+
+/// Each job makes the next one, until there are 65,536.
+#[test]
+fn makes_too_many_tasks(rt: HostRuntime) -> Result<(), Fail> {
+    let alloc = rt.alloc();
+    let graph = endless(alloc)?;
+    let mut state = start(alloc, &graph)?;
+    for job in 0..65_535u32 {
+        assert!(rt;
+            matches!(
+                next(&rt, alloc, &graph, &mut state, job)?,
+                Event::Dispatched
+            )
+        );
+        assert!(rt; matches!(next(&rt, alloc, &graph, &mut state, job)?, Event::Ran));
+        let made = state.jobs.get(job as usize + 1).ok_or("no job")?;
+        assert!(rt; matches!(made.status, Status::Ready));
+        let cell = state.cells.get(job as usize).ok_or("no cell")?;
+        assert!(rt; matches!(cell, HeapCell::TaskOf { job: task } if *task == job + 1));
+    }
+    assert!(rt;
+        matches!(
+            next(&rt, alloc, &graph, &mut state, 65_535)?,
+            Event::Dispatched
+        )
+    );
+    let last = next(&rt, alloc, &graph, &mut state, 65_535)?;
+    assert!(rt;
+        matches!(
+            last,
+            Event::Trapped {
+                kind: TrapKind::Jobs,
+                at: 20
+            }
+        )
+    );
+    assert_eq!(rt; state.halted, Some((TrapKind::Jobs, 20)));
+    assert_eq!(rt; state.jobs.len(), 65_536);
+    assert!(rt; matches!(next(&rt, alloc, &graph, &mut state, 0)?, Event::Nothing));
+    Ok(())
+}
