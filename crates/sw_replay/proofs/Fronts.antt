@@ -23,16 +23,16 @@ prefix_len-no p x xs h = rw h refl
 pub front_passes : (p : ℕ → Bool) (xs : List ℕ) → list_all p (take (prefix_len p xs) xs) ≡ true
 front_passes p [] = refl
 front_passes p (x ∷ xs) = elim (cases_of (p x)) [
-    inl h ↦ rw (prefix_len-yes p x xs h) (rw h (front_passes p xs))
+  | inl h ↦ rw (prefix_len-yes p x xs h) (rw h (front_passes p xs))
   | inr h ↦ rw (prefix_len-no p x xs h) refl
-  ]
+]
 
 pub rest_fails : (p : ℕ → Bool) (xs : List ℕ) → BeginsWithout p (drop (prefix_len p xs) xs)
 rest_fails p [] = tt
 rest_fails p (x ∷ xs) = elim (cases_of (p x)) [
-    inl h ↦ rw (prefix_len-yes p x xs h) (rest_fails p xs)
+  | inl h ↦ rw (prefix_len-yes p x xs h) (rest_fails p xs)
   | inr h ↦ rw (prefix_len-no p x xs h) h
-  ]
+]
 
 -- a front that passes, with nothing behind it that does, is the whole front
 pub prefix_len-append : (p : ℕ → Bool) (front rest : List ℕ) → list_all p front ≡ true → BeginsWithout p rest → prefix_len p (front ++ rest) ≡ length front
@@ -50,9 +50,9 @@ digit_is_no_separator b h = grind (arith, nat_tests)
 
 pub separator_is_no_digit : (b : ℕ) → is_separator b ≡ true → is_digit b ≡ false
 separator_is_no_digit b h = elim (cases_of (is_digit b)) [
-    inl d ↦ (let s = digit_is_no_separator b d in cc)
+  | inl d ↦ (let s = digit_is_no_separator b d in cc)
   | inr d ↦ d
-  ]
+]
 
 -- a number begins with a digit, and so with no separator
 pub number_begins : (digits after : List ℕ) → IsNumber digits after → (b : ℕ) × (more : List ℕ) × (digits ≡ b ∷ more) × (is_digit b ≡ true) × (is_separator b ≡ false)

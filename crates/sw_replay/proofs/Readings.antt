@@ -77,7 +77,7 @@ next_item at before gap digits after passes n fits room =
     let t : leb MAX_ITEMS before ≡ false = grind (arith, nat_tests) in
     next_gap at before gap (digits ++ after) passes fails
     ∙ (number_item (at + length gap) before digits after n
-      ∙ (ap (item_or_fault (at + length gap) before (length digits)) (fits_some (number_of digits) fits) ∙ rw t refl))
+    ∙ (ap (item_or_fault (at + length gap) before (length digits)) (fits_some (number_of digits) fits) ∙ rw t refl))
 
 next_stop : (at before : ℕ) (gap rest : List ℕ) (fault : SchedFault) → list_all is_separator gap ≡ true → Stop (at + length gap) before rest fault
     → next_of at before (gap ++ rest) ≡ Err fault
@@ -130,7 +130,7 @@ read-Stop _ _ (items.then_number gap digits after numbers passes n on) at before
     let place : at + length (gap ++ (digits ++ after)) ≡ (at + length gap + length digits) + length after = omega (arith, length-append gap (digits ++ after), length-append digits after) in
     let count : before + suc (length numbers) ≡ (before + 1) + length numbers = omega arith in
     let later : Stop ((at + length gap + length digits) + length after) ((before + 1) + length numbers) rest fault =
-        subst (λ k. Stop k ((before + 1) + length numbers) rest fault) place (subst (λ m. Stop (at + length (gap ++ (digits ++ after))) m rest fault) count stop) in
+    subst (λ k. Stop k ((before + 1) + length numbers) rest fault) place (subst (λ m. Stop (at + length (gap ++ (digits ++ after))) m rest fault) count stop) in
     let last = read-Stop after numbers on (at + length gap + length digits) (before + 1) (All-tail (λ n. n < 2 ^ 32) (number_of digits) numbers small) (omega arith) rest fault behind.0 later turns fewer in
     ap (read (suc turns) at before) joined
     ∙ (one_turn turns at before gap digits (after ++ rest) passes behind.1 (All-head (λ n. n < 2 ^ 32) (number_of digits) numbers small) (omega arith) ∙ ap (with_front (number_of digits ∷ [])) last)
@@ -183,9 +183,9 @@ NextHolds at before bytes (Err fault) = NextStops at before bytes fault
 
 no_digits : (b : ℕ) (more : List ℕ) → eqb (prefix_len is_digit (b ∷ more)) 0 ≡ true → is_digit b ≡ false
 no_digits b more e = elim (cases_of (is_digit b)) [
-    inl d ↦ (let len = prefix_len-yes is_digit b more d in absurd (grind (arith, nat_tests)))
+  | inl d ↦ (let len = prefix_len-yes is_digit b more d in absurd (grind (arith, nat_tests)))
   | inr d ↦ d
-  ]
+]
 
 number_there : (bytes : List ℕ) → eqb (prefix_len is_digit bytes) 0 ≡ false → IsNumber (take (prefix_len is_digit bytes) bytes) (drop (prefix_len is_digit bytes) bytes)
 number_there bytes e =
@@ -274,7 +274,7 @@ behind_number at before gap digits after passes n fits room (Err fault) h =
       };
       apart = before_it.0;
       stop = subst (λ k. Stop k (before + suc (length h.numbers)) h.rest fault) place
-        (subst (λ m. Stop ((at + length gap + length digits) + length h.front) m h.rest fault) count h.stop);
+          (subst (λ m. Stop ((at + length gap + length digits) + length h.front) m h.rest fault) count h.stop);
     }
 
 read_turn : (turns at before : ℕ) (bytes : List ℕ) → before ≤ MAX_ITEMS → length bytes ≤ suc turns
@@ -294,7 +294,7 @@ read_turn turns at before bytes few left on (Ok None) h = record { splits = item
 read_turn turns at before bytes few left on (Ok (Some number)) h =
     rw (h.whole, h.is, past_number at h.gap h.digits h.after)
     (behind_number at before h.gap h.digits h.after h.passes h.number_there h.fits h.room _
-      (on (at + length h.gap + length h.digits) (before + 1) h.after (omega (arith, h.room)) (fewer_left turns h.gap h.digits h.after h.number_there (subst (λ xs. length xs ≤ suc turns) h.whole left))))
+    (on (at + length h.gap + length h.digits) (before + 1) h.after (omega (arith, h.room)) (fewer_left turns h.gap h.digits h.after h.number_there (subst (λ xs. length xs ≤ suc turns) h.whole left))))
 
 read_holds : (turns at before : ℕ) (bytes : List ℕ) → before ≤ MAX_ITEMS → length bytes ≤ turns → ReadHolds at before bytes (read turns at before bytes)
 unfolding read
@@ -316,7 +316,7 @@ item_ahead at before bytes number e =
     let ends : number.end ≡ at + length h.gap + length h.digits = ap (λ (n : Number). n.end) h.is in
     let value : number.value ≡ number_of h.digits = ap (λ (n : Number). n.value) h.is in
     let whole : length bytes ≡ length h.gap + (length h.digits + length h.after) =
-        omega (arith, ap length h.whole, length-append h.gap (h.digits ++ h.after), length-append h.digits h.after) in
+    omega (arith, ap length h.whole, length-append h.gap (h.digits ++ h.after), length-append h.digits h.after) in
     (omega arith, omega (arith, h.number_there.some), omega arith, h.room, omega (arith, h.fits))
 
 settles : (at before : ℕ) (bytes : List ℕ) (outcome : Result (List ℕ) SchedFault) → ReadHolds at before bytes outcome → (turns : ℕ) → length bytes ≤ turns → read turns at before bytes ≡ outcome

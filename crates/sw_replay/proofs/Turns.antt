@@ -45,7 +45,7 @@ turn_on target items bytes at number so_far e =
     let count : length (items ++ number.value ∷ []) ≡ length items + 1 = length-append items (number.value ∷ []) in
     let fewer : length (drop number.end bytes) ≤ turn.0 = omega (arith, length-drop number.end bytes, length-drop at bytes, turn.1, ahead.1) in
     let same : read (length (drop number.end bytes)) number.end (length items + 1) (drop number.end bytes) ≡ read turn.0 number.end (length items + 1) (drop number.end bytes) =
-        read_settled number.end (length items + 1) (drop number.end bytes) (omega (arith, ahead.3)) (length (drop number.end bytes)) turn.0 (omega arith) fewer in
+    read_settled number.end (length items + 1) (drop number.end bytes) (omega (arith, ahead.3)) (length (drop number.end bytes)) turn.0 (omega arith) fewer in
     ap (λ m. with_front (items ++ number.value ∷ []) (read (length (drop number.end bytes)) number.end m (drop number.end bytes))) count
     ∙ (ap (with_front (items ++ number.value ∷ [])) (same ∙ ap (read turn.0 number.end (length items + 1)) (sym left))
     ∙ (sym (with_fronts items number.value (read turn.0 number.end (length items + 1) (drop (number.end - at) (drop at bytes))))

@@ -15,10 +15,10 @@ only_whole _ _ _ none (watched.runs graph items free) = refl
 same_stop : (graph : Graph) (items : List ℕ) (n m : ℕ) → IsRacingAt graph items n → ((k : ℕ) → k < n → IsRacingAt graph items k → ⊥)
     → IsRacingAt graph items m → ((k : ℕ) → k < m → IsRacingAt graph items k → ⊥) → n ≡ m
 same_stop graph items n m race first other least = elim (cases_order n m) [
-    inl e ↦ e
+  | inl e ↦ e
   | inr (inl less) ↦ absurd (least n less race)
   | inr (inr more) ↦ absurd (first m more other)
-  ]
+]
 
 stops_once : (graph : Graph) (items run : List ℕ) (n : ℕ) → IsRacingAt graph items n → ((k : ℕ) → k < n → IsRacingAt graph items k → ⊥) → IsWatched graph items run → take n items ≡ run
 stops_once _ _ _ n race first (watched.stops graph items m within other least) = ap (λ k. take k items) (same_stop graph items n m race first other least)

@@ -41,12 +41,7 @@ fn play(alloc: Global, graph: &Graph, items: &[u32]) -> Result<Replay, AllocErro
 }
 
 /// Takes items one after the other, and gives the lines that they print.
-fn run(
-    alloc: Global,
-    graph: &Graph,
-    state: &mut State,
-    items: &[u32],
-) -> Result<Line, AllocError>
+fn run(alloc: Global, graph: &Graph, state: &mut State, items: &[u32]) -> Result<Line, AllocError>
     requires small { IsSmall graph.now }
     requires reached { Reached graph.now state.old }
     ensures lines { IfOk result (λ lines. lines ≡ lines_from graph.now state.old items.now) }

@@ -11,7 +11,8 @@ pub loop-item-preserved : goal.loop-item-preserved
 loop-item-preserved c =
     let line = event_line-event_of c.args.graph.now c.loop-item.state (get_or c.args.items.now c.loop-item.item-index 0) in
     let added : c.add_line.new.lines.items ≡ c.loop-item.lines.items ++ line_of (happening c.args.graph.now c.loop-item.state (get_or c.args.items.now c.loop-item.item-index 0)) =
-        c.in_ok-add_line.ensures ∙ ap (λ xs. c.loop-item.lines.items ++ xs) (ap event_line c.in_ok-event.ensures.event ∙ line) in
-    (rw (added, c.in_ok-event.ensures.steps) (lines_go_on c.args.graph.now c.loop-item.state c.args.items.now c.loop-item.item-index c.loop-item.lines.items c.loop-item-test.true ∙ c.loop-item.invariant.0),
-     rw c.in_ok-event.ensures.steps (steps_go_on c.args.graph.now c.loop-item.state c.args.items.now c.loop-item.item-index c.loop-item-test.true ∙ c.loop-item.invariant.1),
-     c.in_ok-event.ensures.reached c.loop-item.invariant.2)
+    c.in_ok-add_line.ensures ∙ ap (λ xs. c.loop-item.lines.items ++ xs) (ap event_line c.in_ok-event.ensures.event ∙ line) in (
+      rw (added, c.in_ok-event.ensures.steps) (lines_go_on c.args.graph.now c.loop-item.state c.args.items.now c.loop-item.item-index c.loop-item.lines.items c.loop-item-test.true ∙ c.loop-item.invariant.0),
+      rw c.in_ok-event.ensures.steps (steps_go_on c.args.graph.now c.loop-item.state c.args.items.now c.loop-item.item-index c.loop-item-test.true ∙ c.loop-item.invariant.1),
+      c.in_ok-event.ensures.reached c.loop-item.invariant.2,
+    )
