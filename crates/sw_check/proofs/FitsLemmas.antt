@@ -119,24 +119,31 @@ body_fits functions key is_async plans number each enough =
 
 show_instrs : (functions : List Function) (function : Function) (show : Show) (number registers : ℕ) → registers + 1 < length function.regs → slice_get function.regs registers ≡ Some (Plain Int) → slice_get function.regs (registers + 1) ≡ Some (Plain Void) → All (InstrFits [] [] functions function) (show_plan show number registers).instrs
 show_instrs functions function show number registers room literal shown =
-    All-from_recursion (InstrFits [] [] functions function) (show_plan show number registers).instrs
-    (record {
-      registers = All-from_recursion (λ n. n < length function.regs) (registers ∷ []) (omega arith, tt);
-      functions_in = All-nil (λ n. n < length functions);
-      globals_in = All-nil (λ n. n < 0);
-      shapes_in = All-nil (λ n. n < 0);
-      case_in = tt;
-      kinds = literal;
-    },
-    (record {
-      registers = All-from_recursion (λ n. n < length function.regs) ((registers + 1) ∷ registers ∷ []) (room, (omega arith, tt));
-      functions_in = All-nil (λ n. n < length functions);
-      globals_in = All-nil (λ n. n < 0);
-      shapes_in = All-nil (λ n. n < 0);
-      case_in = tt;
-      kinds = (All-from_recursion (λ (s : Operand). (kind : RegKind) → slice_get function.regs s.reg ≡ Some kind → IsTrue (is_printable kind)) (record { reg = registers; at = show.value_at } ∷ [])
-          ((λ kind here. int_is_printable kind (same_inside kind (Plain Int) (sym here ∙ literal))), tt), shown);
-    }, tt))
+    All-from_recursion (InstrFits [] [] functions function) (show_plan show number registers).instrs (
+      record {
+        registers = All-from_recursion (λ n. n < length function.regs) (registers ∷ []) (omega arith, tt);
+        functions_in = All-nil (λ n. n < length functions);
+        globals_in = All-nil (λ n. n < 0);
+        shapes_in = All-nil (λ n. n < 0);
+        case_in = tt;
+        kinds = literal;
+      },
+      (
+        record {
+          registers = All-from_recursion (λ n. n < length function.regs) ((registers + 1) ∷ registers ∷ []) (room, (omega arith, tt));
+          functions_in = All-nil (λ n. n < length functions);
+          globals_in = All-nil (λ n. n < 0);
+          shapes_in = All-nil (λ n. n < 0);
+          case_in = tt;
+          kinds = (
+            All-from_recursion (λ (s : Operand). (kind : RegKind) → slice_get function.regs s.reg ≡ Some kind → IsTrue (is_printable kind)) (record { reg = registers; at = show.value_at } ∷ [])
+                ((λ kind here. int_is_printable kind (same_inside kind (Plain Int) (sym here ∙ literal))), tt),
+            shown,
+          );
+        },
+        tt,
+      ),
+    )
 
 show_fits : (functions : List Function) (show : Show) → PlanFits functions (show_plan show)
 show_fits functions show = record {
@@ -153,20 +160,22 @@ show_fits functions show = record {
 
 task_instrs : (functions : List Function) (function : Function) (at number registers : ℕ) → IsSmall functions → number < length functions → registers < length function.regs → slice_get function.regs registers ≡ Some (Plain (TaskOf Void)) → All (InstrFits [] [] functions function) (NewTask at registers number [] ∷ [])
 task_instrs functions function at number registers small inside room task =
-    All-from_recursion (InstrFits [] [] functions function) (NewTask at registers number [] ∷ [])
-    (record {
-      registers = All-from_recursion (λ n. n < length function.regs) (registers ∷ []) (room, tt);
-      functions_in = All-from_recursion (λ n. n < length functions) (number ∷ []) (inside, tt);
-      globals_in = All-nil (λ n. n < 0);
-      shapes_in = All-nil (λ n. n < 0);
-      case_in = tt;
-      kinds = λ body here.
-          let plain = at_place IsSmallFunction functions number body small here in
-          record {
-            takes = record { count = sym plain.takes; each = λ k operand from to given read expected. cc };
-            gives = task ∙ ap (λ ty. Some (Plain (TaskOf ty))) (sym plain.result);
-          };
-    }, tt)
+    All-from_recursion (InstrFits [] [] functions function) (NewTask at registers number [] ∷ []) (
+      record {
+        registers = All-from_recursion (λ n. n < length function.regs) (registers ∷ []) (room, tt);
+        functions_in = All-from_recursion (λ n. n < length functions) (number ∷ []) (inside, tt);
+        globals_in = All-nil (λ n. n < 0);
+        shapes_in = All-nil (λ n. n < 0);
+        case_in = tt;
+        kinds = λ body here.
+            let plain = at_place IsSmallFunction functions number body small here in
+            record {
+              takes = record { count = sym plain.takes; each = λ k operand from to given read expected. cc };
+              gives = task ∙ ap (λ ty. Some (Plain (TaskOf ty))) (sym plain.result);
+            };
+      },
+      tt,
+    )
 
 item_fits : (functions : List Function) (item : Item) → IsSmall functions → PlanFits functions (item_plan item)
 item_fits functions (Shows show) small = show_fits functions show

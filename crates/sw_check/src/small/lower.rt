@@ -135,7 +135,7 @@ fn function(
 }
 
 /// Lowers the prints of a task.
-fn all_shows(alloc: Global, shows: &ShowList) -> Result<Piece, AllocError>
+fn lower_shows(alloc: Global, shows: &ShowList) -> Result<Piece, AllocError>
     requires size { length shows.now < 2 ^ 31 }
     ensures { IfOk result (λ piece. piece ≡ in_order (map show_plan shows.now) 0 0) }
 {
@@ -151,12 +151,12 @@ fn task_body(alloc: Global, key: u32, shows: &ShowList) -> Result<Function, Allo
     requires size { length shows.now < 2 ^ 31 }
     ensures { IfOk result (λ function. (number : ℕ) → body_of key true (map show_plan shows.now) number ≡ function ∷ []) }
 {
-    let Piece { instrs, regs, .. } = all_shows(alloc, shows)?;
+    let Piece { instrs, regs, .. } = lower_shows(alloc, shows)?;
     function(alloc, key, true, instrs, regs)
 }
 
 /// Lowers the items of `main`.
-fn all_items(alloc: Global, items: &ItemList) -> Result<Piece, AllocError>
+fn lower_items(alloc: Global, items: &ItemList) -> Result<Piece, AllocError>
     requires size { sum_by item_size items.now < 2 ^ 31 }
     ensures { IfOk result (λ piece. piece ≡ in_order (map item_plan items.now) 1 0) }
 {
@@ -176,7 +176,7 @@ fn functions(alloc: Global, program: &Small) -> Result<FunctionList, AllocError>
         instrs,
         regs,
         bodies,
-    } = all_items(alloc, &program.items)?;
+    } = lower_items(alloc, &program.items)?;
     let mut functions = bodies.into_vec();
     functions.insert(0, function(alloc, program.main, false, instrs, regs)?)?;
     Ok(ListOf::from_vec(functions))
@@ -198,3 +198,6 @@ pub(crate) fn lower(alloc: Global, program: &Small) -> Result<Graph, AllocError>
     };
     Ok(Graph::new(shapes, ListOf::new(alloc), functions, 0, ListOf::new(alloc)))
 }
+
+#[cfg(test)]
+mod tests;
