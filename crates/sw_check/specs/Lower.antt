@@ -1,6 +1,6 @@
 -- The control-flow graph of a small program. Functions are numbered by key: the entry, then the tasks' bodies. A function's
 -- registers are numbered in the order of making, a result's after those of its operands.
-use Rattle.std.specs.Prelude.{◌≡◌, ℕ, ◌+◌, Bool, true, false, IsTrue, List, [], ◌∷◌, ◌++◌, map, length, sum_by, Option, None}
+use Rattle.std.specs.Prelude.{◌≡◌, ℕ, ◌+◌, Bool, true, false, IsTrue, List, [], ◌∷◌, ◌++◌, map, length, sum_by, None}
 use Rattle.std.specs.List.{All}
 use Rattle.sw_types.specs.declared.ty.Ty.TheVariants.{Int, Unit as Void, Task as TaskOf}
 use Rattle.sw_types.specs.declared.isolation.Iso.TheVariants.{Free}
