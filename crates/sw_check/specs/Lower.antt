@@ -41,6 +41,10 @@ in_order (plan ∷ plans) functions registers =
     let piece = plan functions registers in
     joined piece (in_order plans (functions + length piece.bodies) (registers + length piece.regs))
 
+-- what was made, and a form's piece behind it, where the first closure's function has the number `first`
+abbrev pub extended : ℕ → Piece → Plan → Piece
+extended first made plan = joined made (plan (first + length made.bodies) (length made.regs))
+
 -- A function that takes nothing and returns nothing, isolated to no actor, with one block.
 abbrev pub function_of : ℕ → Bool → List Instr → List RegKind → Function
 function_of key is_async instrs regs = record {
