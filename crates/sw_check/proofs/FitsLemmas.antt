@@ -1,9 +1,9 @@
 -- The graph of a small program is well formed.
-use Rattle.std.proofs.Common.{◌≡◌, ℕ, ◌+◌, ◌<◌, ◌≤◌, Bool, true, false, IsTrue, List, get_or, [], ◌∷◌, ◌++◌, map, length, refl, ap, sym, subst, ◌∙◌, append_assoc, append-nil, arith, length-append}
-use Rattle.std.specs.Prelude.{Option, Some, None, slice_get}
+use Rattle.std.proofs.Common.{◌≡◌, ℕ, ◌+◌, ◌<◌, ◌≤◌, Bool, true, false, IsTrue, List, get_or, [], ◌∷◌, ◌++◌, map, length, refl, ap, sym, ◌∙◌, append_assoc, append-nil, arith, length-append}
+use Rattle.std.specs.Prelude.{Some, None, slice_get}
 use Rattle.std.specs.List.{All}
 use Rattle.std.proofs.lemmas.List.Elements.{All-from_recursion, All-nil, All-cons, All-head, All-tail, All-append, All-map}
-use Rattle.sw_types.specs.declared.ty.Ty.{Ty, out-Ty, fold_out-Ty, roll-Ty, fold-roll-Ty}
+use Rattle.sw_types.specs.declared.ty.Ty.{fold-roll-Ty}
 use Rattle.sw_types.specs.declared.ty.Ty.TheOpen as layer
 use Rattle.sw_types.specs.declared.ty.Ty.TheVariants.{Int, Unit as Void, Task as TaskOf, outs-Int, rolls-Int, rolls-Unit, rolls-Task}
 use Rattle.sw_types.specs.Named.{is_within, layer_is_within}
@@ -11,7 +11,7 @@ use Rattle.sw_graph.specs.declared.function.Function.{Function}
 use Rattle.sw_graph.specs.declared.function.RegKind.{RegKind}
 use Rattle.sw_graph.specs.declared.function.RegKind.TheVariants.{Plain}
 use Rattle.sw_graph.specs.declared.instr.Instr.{Instr}
-use Rattle.sw_graph.specs.declared.instr.Instr.TheVariants.{Const, Print, NewTask}
+use Rattle.sw_graph.specs.declared.instr.Instr.TheVariants.{NewTask}
 use Rattle.sw_graph.specs.declared.instr.Last.TheVariants.{Return}
 use Rattle.sw_graph.specs.declared.function.GlobalKind.{GlobalKind}
 use Rattle.sw_graph.specs.declared.instr.Operand.{Operand}
@@ -24,7 +24,7 @@ use Rattle.sw_check.specs.declared.small.tree.Show.{Show}
 use Rattle.sw_check.specs.declared.small.tree.Small.{Small}
 use Rattle.sw_check.specs.Lower.{Plan, in_order, function_of, body_of, functions_of, show_plan, item_plan, IsSmall, IsSmallFunction}
 use Rattle.sw_check.proofs.SmallLemmas.{program_small}
-use Rattle.sw_graph.specs.WellFormed.{AllBelow, type_in, InstrFits, BlockFits, FunctionFits, IsWellFormed}
+use Rattle.sw_graph.specs.WellFormed.{type_in, InstrFits, BlockFits, FunctionFits, IsWellFormed}
 
 -- the element behind a front
 at_seam : {X : Type 0} (front : List X) (x : X) (back : List X) → slice_get (front ++ (x ∷ back)) (length front) ≡ Some x

@@ -1,18 +1,13 @@
 -- Plans that are run one after another by a loop.
-use Rattle.std.proofs.Common.{◌≡◌, ℕ, ◌+◌, ◌*◌, ◌<◌, ◌≤◌, Bool, true, List, [], ◌∷◌, ◌++◌, map, length, get_or, drop, refl, ap, sym, ◌∙◌, append_assoc, append-nil, add_assoc, add-one, arith, length-append, drop-cons}
+use Rattle.std.proofs.Common.{◌≡◌, ℕ, ◌+◌, ◌*◌, ◌<◌, ◌≤◌, Bool, true, List, [], ◌∷◌, ◌++◌, map, length, get_or, drop, refl, ap, sym, ◌∙◌, append_assoc, add-one, arith, length-append, drop-cons}
 use Rattle.std.specs.Prelude.{Result, IfOk}
 use Rattle.std.proofs.lemmas.Result.{IfOk-weaker}
 use Rattle.sw_graph.specs.declared.function.Function.{Function}
-use Rattle.sw_graph.specs.declared.function.RegKind.{RegKind}
-use Rattle.sw_graph.specs.declared.instr.Instr.{Instr}
 use Rattle.sw_check.specs.declared.small.lower.Piece.{Piece}
 use Rattle.sw_check.specs.declared.small.tree.Show.{Show}
 use Rattle.sw_check.specs.declared.small.tree.Item.{Item}
 use Rattle.sw_check.specs.declared.small.tree.Item.TheVariants.{Show as Shows, Task}
-use Rattle.sw_graph.specs.declared.function.RegKind.TheVariants.{Plain}
-use Rattle.sw_graph.specs.declared.instr.Instr.TheVariants.{NewTask}
-use Rattle.sw_types.specs.declared.ty.Ty.TheVariants.{Unit as Void, Task as TaskOf}
-use Rattle.sw_check.specs.Lower.{Plan, nothing, joined, in_order, function_of, body_of, show_plan, item_plan, item_size}
+use Rattle.sw_check.specs.Lower.{Plan, joined, in_order, function_of, body_of, show_plan, item_plan, item_size}
 
 -- What was made, and behind it what the rest makes with the numbers that follow.
 abbrev pub completed : Piece → ℕ → List Plan → Piece

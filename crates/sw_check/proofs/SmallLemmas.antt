@@ -1,8 +1,7 @@
 -- The functions of a small program are small.
-use Rattle.std.proofs.Common.{◌≡◌, ℕ, ◌+◌, Bool, true, false, List, get_or, [], ◌∷◌, ◌++◌, map, length, refl, IsTrue}
+use Rattle.std.proofs.Common.{ℕ, ◌+◌, Bool, true, false, List, get_or, [], ◌∷◌, map, length, refl, IsTrue}
 use Rattle.std.specs.List.{All}
 use Rattle.std.proofs.lemmas.List.Elements.{All-from_recursion, All-nil, All-cons, All-head, All-tail, All-append, All-map}
-use Rattle.sw_graph.specs.declared.function.Function.{Function}
 use Rattle.sw_graph.specs.declared.instr.Instr.{Instr}
 use Rattle.sw_graph.specs.declared.instr.Last.TheVariants.{Return}
 use Rattle.std.specs.Prelude.{None}

@@ -1,6 +1,6 @@
 -- The control-flow graph of a small program. Functions are numbered by key: the entry, then the tasks' bodies. A function's
 -- registers are numbered in the order of making, a result's after those of its operands.
-use Rattle.std.specs.Prelude.{◌≡◌, ℕ, ◌+◌, Bool, true, false, IsTrue, List, [], ◌∷◌, ◌++◌, map, length, sum_by, Option, None}
+use Rattle.std.specs.Prelude.{◌≡◌, ℕ, ◌+◌, Bool, true, false, IsTrue, List, [], ◌∷◌, ◌++◌, map, length, sum_by, None}
 use Rattle.std.specs.List.{All}
 use Rattle.sw_types.specs.declared.ty.Ty.TheVariants.{Int, Unit as Void, Task as TaskOf}
 use Rattle.sw_types.specs.declared.isolation.Iso.TheVariants.{Free}
@@ -41,6 +41,10 @@ in_order [] functions registers = nothing
 in_order (plan ∷ plans) functions registers =
     let piece = plan functions registers in
     joined piece (in_order plans (functions + length piece.bodies) (registers + length piece.regs))
+
+-- what was made, and a form's piece behind it, where the first closure's function has the number `first`
+abbrev pub extended : ℕ → Piece → Plan → Piece
+extended first made plan = joined made (plan (first + length made.bodies) (length made.regs))
 
 -- A function that takes nothing and returns nothing, isolated to no actor, with one block.
 abbrev pub function_of : ℕ → Bool → List Instr → List RegKind → Function

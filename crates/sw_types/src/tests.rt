@@ -46,6 +46,16 @@ fn no_shapes(rt: HostRuntime) -> Result<(), Fail> {
             && shapes.is_sendable(&Ty::Bool)
             && shapes.is_sendable(&Ty::Unit)
     );
+    let task = Ty::Task(Boxed::new(alloc, Ty::Unit)?);
+    assert!(rt; shapes.is_sendable(&task));
+    assert_eq!(rt; shapes.parts(&task), 1);
+    let plain = Ty::Func {
+        sendable: false,
+        params: ListOf::new(alloc),
+        result: Boxed::new(alloc, Ty::Unit)?,
+    };
+    assert!(rt; !shapes.is_sendable(&plain));
+    assert_eq!(rt; shapes.parts(&plain), 1);
     assert_eq!(rt; shapes.parts(&Ty::Int), 1);
     assert_eq!(rt; shapes.parts(&Ty::Bool), 1);
     assert_eq!(rt; shapes.parts(&Ty::Unit), 0);

@@ -20,7 +20,7 @@ struct Piece {
 }
 
 impl Piece {
-    ghost use Rattle.sw_check.specs.Lower.{nothing, joined, show_plan, item_plan, item_size};
+    ghost use Rattle.sw_check.specs.Lower.{nothing, extended, show_plan, item_plan, item_size};
 
     fn new(alloc: Global) -> Piece
         ensures { result ≡ nothing }
@@ -43,10 +43,10 @@ impl Piece {
         Ok(number)
     }
 
-    /// Lowers a print, which makes no function.
+    /// Lowers a print.
     fn show(&mut self, alloc: Global, show: &Show) -> Result<(), AllocError>
         requires room { length self.old.regs + 2 ≤ 2 ^ 32 }
-        ensures ok { OnOk result (self.new ≡ joined self.old (show_plan show.now 0 (length self.old.regs))) }
+        ensures ok { OnOk result (self.new ≡ extended 1 self.old (show_plan show.now)) }
     {
         let literal = self.reg(RegKind::Plain(Ty::Int))?;
         self.instrs.push(Instr::Const {
@@ -78,7 +78,7 @@ impl Piece {
         requires registers { length self.old.regs < 2 ^ 32 }
         requires functions { 1 + length self.old.bodies < 2 ^ 32 }
         requires size { length shows.now < 2 ^ 31 }
-        ensures ok { OnOk result (self.new ≡ joined self.old (item_plan (Item.Task at body shows.now) (1 + length self.old.bodies) (length self.old.regs))) }
+        ensures ok { OnOk result (self.new ≡ extended 1 self.old (item_plan (Item.Task at body shows.now))) }
     {
         let number = 1 + self.bodies.len() as u32;
         self.bodies.push(task_body(alloc, body, shows)?)?;
@@ -97,7 +97,7 @@ impl Piece {
         requires registers { length self.old.regs + 2 ≤ 2 ^ 32 }
         requires functions { 1 + length self.old.bodies < 2 ^ 32 }
         requires size { item_size item.now < 2 ^ 31 }
-        ensures ok { OnOk result (self.new ≡ joined self.old (item_plan item.now (1 + length self.old.bodies) (length self.old.regs))) }
+        ensures ok { OnOk result (self.new ≡ extended 1 self.old (item_plan item.now)) }
     {
         match item {
             Item::Show(show) => self.show(alloc, show),
@@ -135,7 +135,7 @@ fn function(
 }
 
 /// Lowers the prints of a task.
-fn all_shows(alloc: Global, shows: &ShowList) -> Result<Piece, AllocError>
+fn lower_shows(alloc: Global, shows: &ShowList) -> Result<Piece, AllocError>
     requires size { length shows.now < 2 ^ 31 }
     ensures { IfOk result (λ piece. piece ≡ in_order (map show_plan shows.now) 0 0) }
 {
@@ -149,14 +149,15 @@ fn all_shows(alloc: Global, shows: &ShowList) -> Result<Piece, AllocError>
 /// The function of a task's body.
 fn task_body(alloc: Global, key: u32, shows: &ShowList) -> Result<Function, AllocError>
     requires size { length shows.now < 2 ^ 31 }
-    ensures { IfOk result (λ function. (number : ℕ) → body_of key true (map show_plan shows.now) number ≡ function ∷ []) }
+    ensures { IfOk result
+        (λ function. (number : ℕ) → body_of key true (map show_plan shows.now) number ≡ function ∷ []) }
 {
-    let Piece { instrs, regs, .. } = all_shows(alloc, shows)?;
+    let Piece { instrs, regs, .. } = lower_shows(alloc, shows)?;
     function(alloc, key, true, instrs, regs)
 }
 
 /// Lowers the items of `main`.
-fn all_items(alloc: Global, items: &ItemList) -> Result<Piece, AllocError>
+fn lower_items(alloc: Global, items: &ItemList) -> Result<Piece, AllocError>
     requires size { sum_by item_size items.now < 2 ^ 31 }
     ensures { IfOk result (λ piece. piece ≡ in_order (map item_plan items.now) 1 0) }
 {
@@ -176,7 +177,7 @@ fn functions(alloc: Global, program: &Small) -> Result<FunctionList, AllocError>
         instrs,
         regs,
         bodies,
-    } = all_items(alloc, &program.items)?;
+    } = lower_items(alloc, &program.items)?;
     let mut functions = bodies.into_vec();
     functions.insert(0, function(alloc, program.main, false, instrs, regs)?)?;
     Ok(ListOf::from_vec(functions))
@@ -194,3 +195,6 @@ pub(crate) fn lower(alloc: Global, program: &Small) -> Result<Graph, AllocError>
     };
     Ok(Graph::new(shapes, ListOf::new(alloc), functions, 0, ListOf::new(alloc)))
 }
+
+#[cfg(test)]
+mod tests;
