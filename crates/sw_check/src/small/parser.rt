@@ -144,12 +144,13 @@ fn whole(alloc: Global, tokens: &mut Cursor<'_>) -> Result<Small, Stop>
     Ok(program)
 }
 
-/// The small program that the tokens of a text spell, or the first token that none has there.
+/// The small program that the tokens of a text spell, or the first token with which no small program's spelling goes on.
 pub(crate) fn parse(alloc: Global, source: &Source, tokens: &[Token]) -> Result<Small, ParseFault>
     requires { IsTokens source.now tokens.now }
     ensures found { IfOk result (λ program. Spells program (spelling_of source.now tokens.now)) }
     ensures fault { IfErr result (λ fault. Explains fault (spelling_of source.now tokens.now)) }
 {
+    // No text has more tokens than bytes, so each place in the list fits.
     let bytes = source.len() as usize;
     prove!(tokens.len() <= bytes);
     match whole(alloc, &mut Cursor::new(source, tokens)) {
