@@ -6,5 +6,6 @@ use crate::order::Lattice;
 
 /// No chain of values of one size that rises strictly has more steps than the height of the size.
 pub fn chains_are_short<T: Lattice>()
-    ensures { (first : T) (rest : List T) → IsRising T.size T.le T.alike first rest → length rest ≤ T.height (T.size first) }
+    ensures { (first : T) (rest : List T)
+        → IsRising T.size T.le T.alike first rest → length rest ≤ T.height (T.size first) }
 {}

@@ -37,7 +37,8 @@ pub trait Lattice: Sized + Drop {
         ensures size { size self.new ≡ size self.old }
         ensures upper_self { le self.old self.new }
         ensures upper_other { le other.now self.new }
-        ensures least { (z : Self) → size z ≡ size self.old → le self.old z → le other.now z → le self.new z }
+        ensures least { (z : Self) → size z ≡ size self.old
+            → le self.old z → le other.now z → le self.new z }
 
         // A value that means the same as before is the value that was there before.
         ensures changed { IsTrue result ↔ (¬ (alike self.old self.new)) }

@@ -59,5 +59,7 @@ pub trait Flow {
     ghost one_entry: { (f : Self) (a b : Self.Fact) → enters f a → enters f b → Self.Fact.le a b };
 
     /// A greater value before a step is a greater one after it.
-    ghost monotone: { (f : Self) (p : ℕ) (a b c d : Self.Fact) → Self.Fact.size a ≡ fact_size f → Self.Fact.size b ≡ fact_size f → Self.Fact.le a b → leads f p a c → leads f p b d → Self.Fact.le c d };
+    ghost monotone: { (f : Self) (p : ℕ) (a b c d : Self.Fact)
+        → Self.Fact.size a ≡ fact_size f → Self.Fact.size b ≡ fact_size f
+        → Self.Fact.le a b → leads f p a c → leads f p b d → Self.Fact.le c d };
 }

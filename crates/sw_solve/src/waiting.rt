@@ -41,7 +41,8 @@ impl Worklist {
         requires { point < self.old.room }
         ensures there { OnOk result (Contains self.new.points point) }
         ensures kept { (q : ℕ) → Contains self.old.points q → Contains self.new.points q }
-        ensures weight { (weight : ℕ → ℕ) → sum_by weight self.new.points ≤ sum_by weight self.old.points + weight point }
+        ensures weight { (weight : ℕ → ℕ)
+            → sum_by weight self.new.points ≤ sum_by weight self.old.points + weight point }
         ensures room { self.new.room ≡ self.old.room }
     {
         if !self.listed[point as usize] {
@@ -53,7 +54,8 @@ impl Worklist {
 
     /// Takes the first point off the list.
     pub(crate) fn pop(&mut self) -> Option<u32>
-        ensures points { MatchOption result (self.old.points ≡ []) (λ p. self.old.points ≡ p ∷ self.new.points) }
+        ensures points { MatchOption result (self.old.points ≡ [])
+            (λ p. self.old.points ≡ p ∷ self.new.points) }
         ensures in_range { MatchOption result (self.old.points ≡ []) (λ p. p < self.old.room) }
         ensures room { self.new.room ≡ self.old.room }
     {

@@ -44,7 +44,8 @@ fn offer<T: Lattice, L: Ledger>(
     requires place { point < vec_len places.old }
     requires room { point < list.old.room }
     requires sized { (p : ℕ) → IfSome (value_at places.old.items p) (λ x. T.size x ≡ T.size value.now) }
-    ensures spread { OnOk result (IsSpread T.le T.size T.rank (point ∷ []) value.now places.old.items places.new.items list.old list.new) }
+    ensures spread { OnOk result
+        (IsSpread T.le T.size T.rank (point ∷ []) value.now places.old.items places.new.items list.old list.new) }
     ensures counted { steps.new ≤ steps.old + 1 }
 {
     if merge(alloc, &mut places[point as usize], value, steps)? {
@@ -65,7 +66,8 @@ fn spread<T: Lattice, L: Ledger>(
     requires targets { All (λ q. q < vec_len places.old) targets.now }
     requires room { list.old.room ≡ vec_len places.old }
     requires sized { (p : ℕ) → IfSome (value_at places.old.items p) (λ x. T.size x ≡ T.size value.now) }
-    ensures spread { OnOk result (IsSpread T.le T.size T.rank targets.now value.now places.old.items places.new.items list.old list.new) }
+    ensures spread { OnOk result
+        (IsSpread T.le T.size T.rank targets.now value.now places.old.items places.new.items list.old list.new) }
     ensures counted { steps.new ≤ steps.old + length targets.now }
 {
     for target in targets {
@@ -86,8 +88,11 @@ fn visit<F: Flow, L: Ledger>(
     requires point { point < F.count flow.now }
     requires places { vec_len places.old ≡ F.count flow.now }
     requires room { list.old.room ≡ vec_len places.old }
-    requires sized { (p : ℕ) → IfSome (value_at places.old.items p) (λ x. F.Fact.size x ≡ F.fact_size flow.now) }
-    ensures visited { OnOk result (IsVisited F.Fact.le F.Fact.size F.Fact.rank (F.leads flow.now) (F.successors flow.now) point (value_at places.old.items point) places.old.items places.new.items list.old list.new) }
+    requires sized { (p : ℕ)
+        → IfSome (value_at places.old.items p) (λ x. F.Fact.size x ≡ F.fact_size flow.now) }
+    ensures visited { OnOk result
+        (IsVisited F.Fact.le F.Fact.size F.Fact.rank (F.leads flow.now) (F.successors flow.now)
+        point (value_at places.old.items point) places.old.items places.new.items list.old list.new) }
     ensures counted { steps.new ≤ steps.old + length (F.successors flow.now point) }
 {
     let Some(before) = &places[point as usize] else {
@@ -120,12 +125,16 @@ pub fn solve<F: Flow, L: Ledger>(
 ) -> Result<Solution<F::Fact>, AllocError>
     requires { 0 < F.count flow.now }
     ensures points { IfOk result (λ s. length s ≡ F.count flow.now) }
-    ensures closed { IfOk result (λ s. IsClosed F.Fact.le F.Fact.size (F.fact_size flow.now) (F.enters flow.now) (F.leads flow.now) (F.successors flow.now) s) }
+    ensures closed { IfOk result (IsClosed F.Fact.le F.Fact.size
+        (F.fact_size flow.now) (F.enters flow.now) (F.leads flow.now) (F.successors flow.now)) }
     ensures least { IfOk result (λ s. (a : List (Option F.Fact))
-        → IsClosed F.Fact.le F.Fact.size (F.fact_size flow.now) (F.enters flow.now) (F.leads flow.now) (F.successors flow.now) a
+        → IsClosed F.Fact.le F.Fact.size
+        (F.fact_size flow.now) (F.enters flow.now) (F.leads flow.now) (F.successors flow.now) a
         → IsAtMostEverywhere F.Fact.le s a) }
-    ensures reached { IfOk result (λ s. (p : ℕ) → IsSome (value_at s p) ↔ HasWay (F.successors flow.now) p) }
-    ensures joins { steps.new ≤ steps.old + edge_count (F.successors flow.now) (F.count flow.now) * (F.Fact.height (F.fact_size flow.now) + 1) }
+    ensures reached { IfOk result (λ s. (p : ℕ)
+        → IsSome (value_at s p) ↔ HasWay (F.successors flow.now) p) }
+    ensures joins { steps.new ≤ steps.old
+        + edge_count (F.successors flow.now) (F.count flow.now) * (F.Fact.height (F.fact_size flow.now) + 1) }
 {
     let count = flow.points();
     let mut places = no_values(alloc, count)?;
