@@ -1,5 +1,5 @@
 -- What the tests and the making of a state answer, from the tables.
-use Rattle.std.proofs.Common.{◌≡◌, ◌≢◌, ℕ, zero, suc, ◌+◌, ◌*◌, ◌/◌, ◌%◌, ◌^◌, ◌<◌, ◌≤◌, ◌⊎◌, inl, inr, ◌↔◌, Result, Ok, Err, IsOk, MatchResult, List, ◌∷◌, length, get_or, slice_index, replicate, Contains, refl, sym, subst, ap, ◌∙◌, arith, ◌-◌}
+use Rattle.std.proofs.Common.{◌≡◌, ◌≢◌, ℕ, zero, suc, ◌+◌, ◌*◌, ◌/◌, ◌%◌, ◌^◌, ◌<◌, ◌≤◌, ◌⊎◌, inl, inr, Result, Ok, Err, IsOk, MatchResult, List, length, get_or, slice_index, replicate, Contains, refl, sym, subst, ap, ◌∙◌, arith, ◌-◌}
 use Rattle.std.specs.List.Sorted.{IsStrictlyIncreasing, IsBinarySearchResult}
 use Rattle.std.specs.Ordering.{nat_cmp}
 use Rattle.std.specs.Int.{bit_at}
@@ -10,7 +10,7 @@ use Rattle.std.proofs.lemmas.Nat.Bits.{bit_at-zero}
 use Rattle.std.proofs.Math.ListN.{length-replicate}
 use Rattle.sw_partition.specs.Regions.{Regions, words_for, bit_of, Together, HasPair, HasSomePair}
 use Rattle.sw_partition.specs.Effects.{IsBlank, IsGiven, IsLeastSite}
-use Rattle.sw_partition.specs.Tables.{AreNumbers, AreLabels, AreTables, IsClassMarked, IsFirstBit, IsClearRow}
+use Rattle.sw_partition.specs.Tables.{AreNumbers, AreTables, IsClassMarked, IsFirstBit, IsClearRow}
 use Rattle.sw_partition.proofs.Effecting.{place_in_row, written, refilled, zero_not_one}
 
 -- ---- sites in rising order

@@ -1,16 +1,16 @@
 -- The effects of the operations, from what they do to the tables.
-use Rattle.std.proofs.Common.{◌≡◌, ◌≢◌, ℕ, ◌+◌, ◌*◌, ◌/◌, ◌%◌, ◌<◌, ◌≤◌, ◌⊎◌, inl, inr, ◌↔◌, List, ◌∷◌, length, get_or, set, slice_index, refl, sym, subst, ap, ◌∙◌, arith, take, drop, ◌++◌}
+use Rattle.std.proofs.Common.{◌≡◌, ◌≢◌, ℕ, ◌+◌, ◌*◌, ◌/◌, ◌%◌, ◌<◌, ◌≤◌, ◌⊎◌, inl, inr, List, length, get_or, set, slice_index, refl, sym, subst, ap, ◌∙◌, arith, take, drop, ◌++◌}
 use Rattle.std.specs.Int.{bit_at}
-use Rattle.std.proofs.lemmas.Bool.{cases_eq, cases_order, cond-true, cond-false, eq-eqb, ne_eqb}
+use Rattle.std.proofs.lemmas.Bool.{cases_eq, cases_order}
 use Rattle.std.proofs.lemmas.List.{get_or-set_same, get_or-set_other, get_or_read}
 use Rattle.std.proofs.lemmas.Nat.{mul-add-lt}
 use Rattle.std.proofs.lemmas.Nat.Bits.{bit_at-zero}
 use Rattle.std.proofs.Math.ListN.{length-set}
 use Rattle.std.proofs.Math.Seq.{take-append_seam}
 use Rattle.std.proofs.Math.Nat.{mul-le-mul_left}
-use Rattle.sw_partition.specs.Regions.{Regions, words_for, bit_of, mark_of, Together, HasPair}
-use Rattle.sw_partition.specs.Effects.{stand_in, IsFreshened, IsPut, IsJoined, IsGiven}
-use Rattle.sw_partition.specs.Tables.{AreLabels, AreTables, IsRelabeled, IsReleased, IsCleared, IsCopied, IsClassMarked}
+use Rattle.sw_partition.specs.Regions.{Regions, words_for, bit_of, Together, HasPair}
+use Rattle.sw_partition.specs.Effects.{stand_in, IsFreshened, IsPut, IsJoined}
+use Rattle.sw_partition.specs.Tables.{AreLabels, AreTables, IsRelabeled, IsReleased, IsCleared, IsCopied}
 use Rattle.sw_partition.proofs.Labeling.{replaced, replaced-same, replaced-other, replaced-to, replaced_cases, relabeled_labels}
 use Rattle.sw_partition.proofs.Bits.{bit_of-word, row_bit}
 

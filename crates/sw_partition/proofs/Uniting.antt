@@ -1,17 +1,16 @@
 -- The least upper bound of two states, from what is done to the tables.
-use Rattle.std.proofs.Common.{◌≡◌, ◌≢◌, ℕ, zero, suc, ◌+◌, ◌*◌, ◌/◌, ◌%◌, ◌^◌, ◌<◌, ◌≤◌, ◌⊎◌, inl, inr, ◌↔◌, Bool, true, false, ◌||◌, IsTrue, max, List, ◌∷◌, length, get_or, slice_index, refl, sym, subst, ap, ◌∙◌, arith}
+use Rattle.std.proofs.Common.{◌≡◌, ℕ, zero, suc, ◌+◌, ◌*◌, ◌/◌, ◌%◌, ◌<◌, ◌≤◌, ◌⊎◌, inl, inr, ◌↔◌, Bool, ◌||◌, IsTrue, max, List, length, slice_index, refl, sym, subst, ap, ◌∙◌, arith}
 use Rattle.std.specs.Int.{bit_at}
 use Rattle.std.specs.List.Sorted.{IsStrictlyIncreasing}
-use Rattle.std.proofs.lemmas.Bool.{cases_eq, cases_lt, cases_order, cases_Bool, or_cases, or_parts, true_from_ne_false}
+use Rattle.std.proofs.lemmas.Bool.{cases_eq, cases_lt, cases_order, or_cases, or_parts, true_from_ne_false}
 use Rattle.std.proofs.lemmas.List.{get_or_past}
 use Rattle.std.proofs.lemmas.Nat.{div-add-mod', div_below}
 use Rattle.std.proofs.lemmas.Nat.Bits.{bit_at-lt}
 use Rattle.sw_partition.specs.Regions.{Regions, size_of, words_for, bit_of, mark_of, Together, HasPair, IsWithin, IsSameState}
-use Rattle.sw_partition.specs.Tables.{AreLabels, AreTables, IsCoarser, IsUnited, IsFilled}
+use Rattle.sw_partition.specs.Tables.{AreTables, IsCoarser, IsUnited, IsFilled}
 use Rattle.sw_partition.specs.Laws.{same_refl}
-use Rattle.sw_partition.proofs.Effecting.{place_in_row, written, refilled}
+use Rattle.sw_partition.proofs.Effecting.{written, refilled}
 use Rattle.sw_partition.proofs.Answering.{rising_lt}
-use Rattle.sw_partition.proofs.Bits.{bit_of-word}
 
 -- a table that is coarser puts together what was together
 coarser_within : (a b : Regions) → length b.labels ≡ length a.labels → IsCoarser a.labels b.labels → (x y : ℕ) → Together a x y → Together b x y

@@ -1,9 +1,9 @@
 -- The laws of the order of region states, and of the rank.
-use Rattle.std.specs.Prelude.{◌≡◌, ℕ, zero, suc, ◌+◌, ◌*◌, ◌<◌, ◌≤◌, ◌≢◌, ◌⊎◌, ◌↔◌, Bool, true, false, cond, ◌==◌, ◌&&◌, ◌||◌, List, [], ◌∷◌, length, slice_index, refl}
+use Rattle.std.specs.Prelude.{◌≡◌, ℕ, zero, suc, ◌+◌, ◌*◌, ◌<◌, ◌≤◌, Bool, true, false, cond, ◌==◌, ◌&&◌, List, length, slice_index, refl}
 use Rattle.std.proofs.Common.{sym, subst, ap, ◌∙◌, inl, inr, arith}
-use Rattle.std.proofs.lemmas.Bool.{cases_eq, cases_lt, cases_order, cases_Bool, eqb-true, eq-eqb, and_parts, and_from, or_cases, or_left, or_right, both_ways, true_from_ne_false}
+use Rattle.std.proofs.lemmas.Bool.{cases_eq, cases_lt, cases_order, cases_Bool, eqb-true, eq-eqb, and_parts, and_from, or_cases, or_left, or_right, both_ways}
 use Rattle.sw_partition.specs.Regions.{Regions, size_of, mark_of, Together, HasPair, IsWithin, IsSameState}
-use Rattle.sw_partition.specs.Rank.{any_below, sum_below, count_below, is_later, has_pair, rank_of, height_of}
+use Rattle.sw_partition.specs.Rank.{any_below, sum_below, is_later, has_pair, rank_of, height_of}
 
 pub within_refl : (a : Regions) → IsWithin a a
 within_refl a = record { together = λ x y t. t; pairs = λ x site h. h }

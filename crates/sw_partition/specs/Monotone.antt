@@ -1,7 +1,7 @@
 -- The effects of the operations are monotone.
-use Rattle.std.proofs.Common.{◌≡◌, ◌≢◌, ℕ, ◌<◌, ◌⊎◌, inl, inr, List, ◌∷◌, length, subst}
-use Rattle.sw_partition.specs.Regions.{Regions, size_of, Together, HasPair, HasSomePair, IsWithin}
-use Rattle.sw_partition.specs.Effects.{IsFreshened, IsPut, IsJoined, IsGiven, IsFree}
+use Rattle.std.proofs.Common.{◌≡◌, ◌≢◌, ℕ, ◌<◌, ◌⊎◌, inl, inr, length, subst}
+use Rattle.sw_partition.specs.Regions.{Regions, size_of, Together, HasPair, IsWithin}
+use Rattle.sw_partition.specs.Effects.{IsFreshened, IsPut, IsJoined, IsGiven}
 
 pub fresh_monotone : (x : ℕ) (a b c d : Regions) → size_of a ≡ size_of b → IsWithin a b → IsFreshened x a c → IsFreshened x b d → IsWithin c d
 fresh_monotone x a b c d size within first second = record {

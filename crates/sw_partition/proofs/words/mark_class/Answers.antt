@@ -1,5 +1,5 @@
 use Rattle.std.proofs.Common.{◌+◌, List, ℕ, sym, subst, arith}
-use Rattle.sw_partition.proofs.Marking.{IsMarking, marking_starts, marking_skips, marking_sets, marking_ends}
+use Rattle.sw_partition.proofs.Marking.{IsMarking, marking_skips, marking_sets, marking_ends}
 use Rattle.sw_partition.proofs.words.mark_class.Goals.{then-labels-p, else-labels-p}
 use Rattle.sw_partition.proofs.words.mark_class.Goals as goal
 

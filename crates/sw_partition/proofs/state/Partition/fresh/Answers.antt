@@ -1,6 +1,5 @@
-use Rattle.std.proofs.Common.{◌≡◌, length, subst, ap, ◌∙◌, arith}
-use Rattle.sw_partition.specs.Regions.{Regions, words_for}
-use Rattle.sw_partition.specs.Effects.{IsFreshened}
+use Rattle.std.proofs.Common.{◌≡◌, length, ap, ◌∙◌, arith}
+use Rattle.sw_partition.specs.Regions.{words_for}
 use Rattle.sw_partition.proofs.Effecting.{fresh_done}
 use Rattle.sw_partition.proofs.state.Partition.fresh.Goals as goal
 

@@ -1,6 +1,4 @@
-use Rattle.std.proofs.Common.{length, subst, ap, arith}
-use Rattle.sw_partition.specs.Regions.{Regions}
-use Rattle.sw_partition.specs.Effects.{IsJoined}
+use Rattle.std.proofs.Common.{arith}
 use Rattle.sw_partition.proofs.Effecting.{join_done}
 use Rattle.sw_partition.proofs.state.Partition.join.Goals as goal
 

@@ -1,6 +1,5 @@
-use Rattle.std.proofs.Common.{◌≡◌, length, subst, ap, ◌∙◌, arith}
-use Rattle.sw_partition.specs.Regions.{Regions, words_for}
-use Rattle.sw_partition.specs.Effects.{IsPut}
+use Rattle.std.proofs.Common.{◌≡◌, length, ap, ◌∙◌, arith}
+use Rattle.sw_partition.specs.Regions.{words_for}
 use Rattle.sw_partition.proofs.Effecting.{put_done, rows_apart}
 use Rattle.sw_partition.proofs.state.Partition.put.Goals as goal
 

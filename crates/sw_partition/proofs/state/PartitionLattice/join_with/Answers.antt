@@ -1,4 +1,4 @@
-use Rattle.std.proofs.Common.{◌≡◌, ◌||◌, Bool, sym, subst, ap, ◌∙◌, arith}
+use Rattle.std.proofs.Common.{◌||◌, Bool, sym, subst, ap, ◌∙◌, arith}
 use Rattle.sw_partition.specs.Regions.{Regions}
 use Rattle.sw_partition.specs.Tables.{AreTables}
 use Rattle.sw_partition.proofs.Uniting.{union_made, union_least, union_changed}
