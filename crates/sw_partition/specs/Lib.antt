@@ -1,0 +1,6 @@
+pub mod Regions
+pub mod Effects
+pub mod Rank
+pub mod Tables
+pub mod Laws
+pub mod Monotone

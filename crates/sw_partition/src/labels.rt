@@ -1,0 +1,63 @@
+//! Tables of classes: each element has a label, which is an element of its class.
+ghost use Rattle.std.specs.Prelude.{◌≡◌, ◌^◌, ◌<◌, length, IfOk};
+ghost use Rattle.sw_partition.specs.Tables.{AreNumbers, AreLabels, IsRelabeled, IsReleased, IsUnited};
+
+use std::alloc::{AllocError, Global};
+
+/// The numbers below `count`, in order: each element labels itself.
+pub(crate) fn numbers(alloc: Global, count: u32) -> Result<Vec<u32>, AllocError>
+    ensures { IfOk result (λ v. AreNumbers count v.items) }
+{
+    let mut labels = Vec::with_capacity(alloc, count as usize)?;
+    for x in 0..count {
+        labels.push(x)?;
+    }
+    Ok(labels)
+}
+
+/// Gives the elements with the label `from` the label `to`.
+pub(crate) fn relabel(labels: &mut [u32], from: u32, to: u32)
+    ensures { IsRelabeled from to labels.old labels.new }
+{
+    for label in labels.iter_mut() {
+        if *label == from {
+            *label = to;
+        }
+    }
+}
+
+/// Makes the element its own label; another element of its class takes its place as a label.
+pub(crate) fn release(labels: &mut [u32], x: usize)
+    requires x { x < length labels.old }
+    requires few { length labels.old < 2 ^ 32 }
+    ensures { IsReleased x labels.old labels.new }
+{
+    let mut heir = None;
+    for p in 0..labels.len() {
+        if labels[p] as usize == x && p != x {
+            let label = heir.unwrap_or(p as u32);
+            labels[p] = label;
+            heir = Some(label);
+        }
+    }
+    labels[x] = x as u32;
+}
+
+/// Unites the classes with those of the other table, and answers whether that changed them.
+pub(crate) fn unite(labels: &mut [u32], other: &[u32]) -> bool
+    requires length { length other.now ≡ length labels.old }
+    requires labels { AreLabels labels.old }
+    requires other { AreLabels other.now }
+    ensures { IsUnited labels.old other.now labels.new result }
+{
+    let mut rose = false;
+    for x in 0..labels.len() {
+        let from = labels[other[x] as usize];
+        let to = labels[x];
+        if from != to {
+            relabel(labels, from, to);
+            rose = true;
+        }
+    }
+    rose
+}

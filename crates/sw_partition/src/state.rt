@@ -1,0 +1,174 @@
+//! The region state and its operations.
+ghost use Rattle.std.specs.Prelude.{◌≡◌, ◌≢◌, ℕ, ◌<◌, length, Contains, ◌↔◌, IsTrue, IsSome, IfSome, IfOk};
+ghost use Rattle.std.specs.List.Sorted.{IsStrictlyIncreasing};
+ghost use Rattle.sw_partition.specs.Regions.{Together, HasSomePair};
+ghost use Rattle.sw_partition.specs.Effects.{IsBlank, IsFree, IsLeastSite, IsFreshened, IsPut, IsJoined, IsGiven};
+
+use crate::labels::{numbers, relabel, release, unite};
+use crate::words::{clear, copy, fill, first_bit, mark_class, words_for, zeros};
+use std::alloc::{AllocError, Global};
+use std::marker::Model;
+use std::sync::ledger::Ledger;
+use sw_solve::{Lattice, Steps};
+
+/// A region state over elements from 0 on, of which element 0 is `Here`, and over sites: an
+/// equivalence of the elements, and pairs of an element and a site that gave it away.
+///
+/// A change passes over a table of the elements or a row of bits for each, and takes no memory. In
+/// contracts a state is seen by `Together` and `HasPair` alone.
+#[derive(Drop)]
+pub struct Partition {
+    labels: Vec<u32>,
+    sites: Vec<u32>,
+    words: Vec<u64>,
+}
+
+impl Model for Partition {
+    ghost use Rattle.sw_partition.specs.Regions.{Regions};
+    ghost use Rattle.sw_partition.specs.Tables.{AreTables};
+
+    ghost Value = { Regions };
+
+    ghost view = { λ p. record { labels = p.labels.items; sites = p.sites.items; words = p.words.items } };
+
+    ghost invariant = { λ p. AreTables p.labels.items p.sites.items p.words.items };
+}
+
+impl Partition {
+    /// So many elements, each alone, and no pairs; pairs may come to be with these sites.
+    pub fn new(alloc: Global, elements: u32, sites: &[u32]) -> Result<Partition, AllocError>
+        requires elements { 0 < elements }
+        requires sites { IsStrictlyIncreasing sites.now }
+        ensures { IfOk result (λ p. IsBlank elements sites.now p) }
+    {
+        let width = words_for(sites.len());
+        Ok(Partition {
+            labels: numbers(alloc, elements)?,
+            sites: Vec::from_slice(alloc, sites)?,
+            words: zeros(alloc, elements as usize, width)?,
+        })
+    }
+
+    /// The least site that gave the element away; none where nothing did.
+    pub fn need(&self, x: u32) -> Option<u32>
+        requires { x < length self.now.labels }
+        ensures given { IsSome result ↔ HasSomePair self.now x }
+        ensures least { IfSome result (λ site. IsLeastSite self.now x site) }
+    {
+        let width = words_for(self.sites.len());
+        let place = first_bit(&self.words, x as usize * width, width)?;
+        Some(self.sites[place])
+    }
+
+    /// Whether the element may be given away: it has no pair, and isn't with `Here`.
+    pub fn is_free(&self, x: u32) -> bool
+        requires { x < length self.now.labels }
+        ensures { IsTrue result ↔ IsFree self.now x }
+    {
+        self.need(x).is_none() && self.labels[x as usize] != self.labels[0]
+    }
+
+    /// The element leaves its class and loses its pairs.
+    pub fn fresh(&mut self, x: u32)
+        requires element { x < length self.old.labels }
+        requires not_here { x ≢ 0 }
+        ensures { IsFreshened x self.old self.new }
+    {
+        let width = words_for(self.sites.len());
+        release(&mut self.labels, x as usize);
+        clear(&mut self.words, x as usize * width, width);
+    }
+
+    /// The element leaves its class, loses its pairs, and becomes as `y` is: with it, and with its
+    /// pairs. Nothing changes where `x` is `y`.
+    pub fn put(&mut self, x: u32, y: u32)
+        requires element { x < length self.old.labels }
+        requires not_here { x ≢ 0 }
+        requires other { y < length self.old.labels }
+        ensures { IsPut x y self.old self.new }
+    {
+        if x == y {
+            return;
+        }
+        let width = words_for(self.sites.len());
+        release(&mut self.labels, x as usize);
+        self.labels[x as usize] = self.labels[y as usize];
+        copy(
+            &mut self.words,
+            y as usize * width,
+            x as usize * width,
+            width,
+        );
+    }
+
+    /// The classes of the two elements unite.
+    pub fn join(&mut self, x: u32, y: u32)
+        requires element { x < length self.old.labels }
+        requires other { y < length self.old.labels }
+        ensures { IsJoined x y self.old self.new }
+    {
+        let from = self.labels[y as usize];
+        let to = self.labels[x as usize];
+        if from != to {
+            relabel(&mut self.labels, from, to);
+        }
+    }
+
+    /// Every element of the class but `Here` gets a pair with the site.
+    pub fn give(&mut self, x: u32, site: u32)
+        requires element { x < length self.old.labels }
+        requires not_here { x ≢ 0 }
+        requires site { Contains self.old.sites site }
+        ensures { IsGiven x site self.old self.new }
+    {
+        let width = words_for(self.sites.len());
+        let place = self.sites.binary_search(&site).unwrap();
+        let label = self.labels[x as usize];
+        mark_class(&mut self.words, &self.labels, label, width, place);
+    }
+}
+
+impl Lattice for Partition {
+    ghost use Rattle.sw_partition.specs.Regions.{size_of, IsWithin, IsSameState};
+    ghost use Rattle.sw_partition.specs.Rank.{rank_of, height_of};
+    ghost use Rattle.sw_partition.specs.Laws.{within_refl, within_trans, within_both, same_within, rank_rises, rank_bound};
+
+    ghost size = { size_of };
+
+    ghost le = { IsWithin };
+
+    ghost alike = { IsSameState };
+
+    ghost rank = { rank_of };
+
+    ghost height = { height_of };
+
+    fn copy(&self, alloc: Global) -> Result<Partition, AllocError> {
+        Ok(Partition {
+            labels: Vec::from_slice(alloc, &self.labels)?,
+            sites: Vec::from_slice(alloc, &self.sites)?,
+            words: Vec::from_slice(alloc, &self.words)?,
+        })
+    }
+
+    /// Unites the classes, with one pass over the elements and one more for each two classes that
+    /// unite, and then the pairs, word by word.
+    fn join_with<L: Ledger>(&mut self, other: &Partition, steps: &mut Steps<L>) -> bool {
+        steps.tick();
+        let united = unite(&mut self.labels, &other.labels);
+        let filled = fill(&mut self.words, &other.words);
+        united || filled
+    }
+
+    ghost reflexive = { within_refl };
+
+    ghost transitive = { within_trans };
+
+    ghost antisymmetric = { within_both };
+
+    ghost alike_le = { same_within };
+
+    ghost rises = { rank_rises };
+
+    ghost bounded = { rank_bound };
+}

@@ -1,0 +1,4 @@
+pub mod Members
+pub mod Spreading
+pub mod Solving
+pub mod Rising

@@ -1,0 +1,5 @@
+pub mod Annotation
+pub mod Ways
+pub mod Work
+pub mod Marks
+pub mod Chain
