@@ -9,3 +9,5 @@ mod check_rows;
 mod check_tests;
 #[cfg(test)]
 mod outside_tests;
+#[cfg(test)]
+mod run_tests;

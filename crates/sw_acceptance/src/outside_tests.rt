@@ -8,7 +8,7 @@ const LIMIT: usize = 262_144;
 
 #[test]
 fn words_of_no_form_are_told(rt: HostRuntime) -> Result<(), Fail> {
-    let forms: [&[&str]; 7] = [
+    let forms: [&[&str]; 12] = [
         &[],
         &["check"],
         &["check", ""],
@@ -16,6 +16,11 @@ fn words_of_no_form_are_told(rt: HostRuntime) -> Result<(), Fail> {
         &["check", "seven.swift", "more"],
         &["Check", "seven.swift"],
         &["seven.swift"],
+        &["run", "seven.swift"],
+        &["run", "seven.swift", ""],
+        &["run", "seven.swift", "-s"],
+        &["run", "seven.swift", "schedule.txt", "more"],
+        &["trace", "seven.swift", "schedule.txt"],
     ];
     for words in &forms {
         let mut shelf = MemShelf::new(rt.alloc(), &[])?;

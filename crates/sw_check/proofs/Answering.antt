@@ -1,20 +1,11 @@
 -- From what fetches answer to what is answered to the words.
-use Rattle.std.proofs.Common.{◌≡◌, false, ℕ, zero, suc, ◌+◌, ◌<◌, ◌≤◌, List, [], ◌∷◌, ◌++◌, length, Option, Some, None, option_map, IfSome, ◌⊎◌, inl, inr, refl, sym, ap, subst, ◌∙◌, arith, append-nil, append_assoc}
+use Rattle.std.proofs.Common.{◌≡◌, ℕ, zero, suc, ◌<◌, ◌≤◌, List, [], ◌∷◌, length, Option, Some, None, option_map, IfSome, refl, sym, ap, subst, ◌∙◌, arith, append-nil, append_assoc}
 use Rattle.sw_outside.specs.Shelf.{Told, file_of, asked_too}
-use Rattle.sw_replay.specs.declared.text.TheConstants.{SCHEDULE_LIMIT}
-use Rattle.sw_check.specs.declared.breach.Breach.{Breach}
 use Rattle.sw_check.specs.declared.outcome.Outcome.{Outcome}
 use Rattle.sw_check.specs.declared.exit.Exit.TheVariants as exits
 use Rattle.sw_check.specs.declared.TheConstants.{PROGRAM_LIMIT}
-use Rattle.sw_check.specs.declared.small.tree.Small.{Small}
-use Rattle.sw_check.specs.declared.verdict.Verdict.{Verdict}
-use Rattle.sw_check.specs.declared.verdict.Verdict.TheVariants.{Accepted, Refused}
-use Rattle.sw_check.specs.Exit.{is_failure}
-use Rattle.sw_check.specs.Reply.{usage, too_long_file, refusal, check_outcome, ended_outcome, IsCheckReply, IsRunReply, bad_schedule, ran, Reply, no_form, program_too_long, checked, run_refused, schedule_too_long, run, Stops, Asked, no_file, to_check, not_run, to_run, Agrees, asked_these, Answered, Unanswered}
-use Rattle.sw_check.specs.Running.{RunAnswered, RunUnanswered}
-use Rattle.sw_check.specs.Verdict.{IsProgram, IsFirstBreach, Accepts, Refuses}
-use Rattle.sw_check.specs.Words.{Command, Check, Run}
-use Rattle.sw_check.proofs.Verdicts.{some_verdict}
+use Rattle.sw_check.specs.Reply.{usage, too_long_file, IsCheckReply, no_form, program_too_long, checked, no_file, to_check, Agrees, asked_these, Answered, Unanswered}
+use Rattle.sw_check.specs.Words.{Command, Check}
 
 longer : (n : ℕ) → (xs : List ℕ) × (n < length xs)
 longer zero = (0 ∷ [], omega arith)

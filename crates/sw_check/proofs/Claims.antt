@@ -1,12 +1,12 @@
 -- What the exit of a reply says.
-use Rattle.std.proofs.Common.{◌≡◌, ◌≢◌, false, ℕ, ◌+◌, ◌^◌, ◌<◌, ◌≤◌, List, [], length, Option, Some, None, IfSome, ◌⊎◌, inl, inr, refl, sym, ap, subst, ◌∙◌, arith}
+use Rattle.std.proofs.Common.{◌≡◌, ◌≢◌, ℕ, ◌≤◌, List, length, Option, Some, None, IfSome, inl, inr, refl, sym, ap, subst, ◌∙◌, arith}
 use Rattle.sw_outside.specs.Shelf.{Told, file_of}
 use Rattle.sw_value.proofs.NeverRaces.{never_races}
 use Rattle.sw_value.specs.Reach.{reach}
 use Rattle.sw_replay.specs.declared.output.End.{End}
 use Rattle.sw_replay.specs.declared.output.End.TheVariants as ends
 use Rattle.sw_replay.specs.Items.{IsItems}
-use Rattle.sw_replay.specs.Output.{lines_of, end_of, ended_in, jobs_in}
+use Rattle.sw_replay.specs.Output.{end_of}
 use Rattle.sw_graph.specs.declared.graph.Graph.{Graph}
 use Rattle.sw_check.specs.declared.exit.Exit.{Exit}
 use Rattle.sw_check.specs.declared.exit.Exit.TheVariants.{Done, Breached, Usage, NotRead, TooLong, NotWritten, Memory, Trapped, BadSchedule, Raced}
@@ -15,7 +15,7 @@ use Rattle.sw_check.specs.declared.TheConstants.{PROGRAM_LIMIT}
 use Rattle.sw_check.specs.declared.small.tree.Small.{Small}
 use Rattle.sw_check.specs.declared.verdict.Verdict.{Verdict}
 use Rattle.sw_check.specs.declared.verdict.Verdict.TheVariants.{Accepted, Refused}
-use Rattle.sw_check.specs.Claims.{NeverRaces, EndsSo, Says}
+use Rattle.sw_check.specs.Claims.{NeverRaces, Says}
 use Rattle.sw_check.specs.Lower.{IsLowered}
 use Rattle.sw_check.specs.Reply.{check_outcome, ended_outcome, IsRunReply, bad_schedule, ran, Reply, no_form, program_too_long, checked, run_refused, schedule_too_long, run, program_text, schedule_text, Agrees, Answered}
 use Rattle.sw_check.specs.Verdict.{IsVerdict, IsProgram, Accepts, Refuses}
@@ -41,24 +41,31 @@ says_verdict file text schedule (Accepted program) short is = (never text progra
 says_verdict file text schedule (Refused breach) short is = (breach, is)
 
 says_end : (file schedule_file text schedule : List ℕ) (program : Small) (graph : Graph) (items lines : List ℕ) (ended jobs : ℕ) (end : End) → length text ≤ PROGRAM_LIMIT → IsProgram text program → IsLowered program graph → IsItems schedule items → end_of (reach graph items) ≡ end → Says (Some (Run file schedule_file)) text schedule (ended_outcome text lines ended jobs end).exit
-says_end file schedule_file text schedule program graph items lines ended jobs ends.Ran short is lowered are ends = (never text program short is, record {
-  program = program;
-  spelled = is;
-  graph = graph;
-  lowered = lowered;
-  items = items;
-  are_items = are;
-  ends = ends;
-})
-says_end file schedule_file text schedule program graph items lines ended jobs (ends.Trapped kind at) short is lowered are ends = (kind, at, record {
-  program = program;
-  spelled = is;
-  graph = graph;
-  lowered = lowered;
-  items = items;
-  are_items = are;
-  ends = ends;
-})
+says_end file schedule_file text schedule program graph items lines ended jobs ends.Ran short is lowered are ends = (
+  never text program short is,
+  record {
+    program = program;
+    spelled = is;
+    graph = graph;
+    lowered = lowered;
+    items = items;
+    are_items = are;
+    ends = ends;
+  },
+)
+says_end file schedule_file text schedule program graph items lines ended jobs (ends.Trapped kind at) short is lowered are ends = (
+  kind,
+  at,
+  record {
+    program = program;
+    spelled = is;
+    graph = graph;
+    lowered = lowered;
+    items = items;
+    are_items = are;
+    ends = ends;
+  },
+)
 
 says_run : (file schedule_file text schedule : List ℕ) (program : Small) (outcome : Outcome) → length text ≤ PROGRAM_LIMIT → IsProgram text program → IsRunReply text program schedule outcome → Says (Some (Run file schedule_file)) text schedule outcome.exit
 says_run file schedule_file text schedule program outcome short is (bad_schedule fault place) = ((program, is), fault, place)
@@ -83,7 +90,7 @@ answer_says {command} {before} {after} {outcome} answered = by before answered.a
   by (Some told) agrees =
       subst (λ program. Says command program (schedule_text told command) outcome.exit) agrees.0
       (subst (λ schedule. Says command answered.program schedule outcome.exit) agrees.1
-        (reply_says command answered.program answered.schedule outcome answered.reply))
+      (reply_says command answered.program answered.schedule outcome answered.reply))
 
 -- no reply says that a race came
 pub never_raced : {command : Option Command} {before after : Option Told} {outcome : Outcome} → Answered command before outcome after → outcome.exit ≢ Raced
@@ -138,4 +145,4 @@ refused_told {command} {before} {after} {outcome} answered told asked tells is s
     let agrees = subst (λ before. Agrees before command answered.program answered.schedule) tells answered.agrees in
     let same : answered.program ≡ program_text told (Some asked) = agrees.0 ∙ ap (program_text told) is in
     refused_exit asked answered.program answered.schedule outcome.exit (subst (λ text. length text ≤ PROGRAM_LIMIT) (sym same) short) (subst Refuses (sym same) refuses)
-      (subst (λ command. Says command answered.program answered.schedule outcome.exit) is (reply_says command answered.program answered.schedule outcome answered.reply))
+    (subst (λ command. Says command answered.program answered.schedule outcome.exit) is (reply_says command answered.program answered.schedule outcome answered.reply))

@@ -1,5 +1,5 @@
 -- From what fetches answer to what is answered to `run`.
-use Rattle.std.proofs.Common.{◌≡◌, ℕ, ◌+◌, ◌<◌, ◌≤◌, List, [], ◌∷◌, ◌++◌, length, Option, Some, None, option_map, IfSome, ◌⊎◌, inl, inr, Result, Ok, Err, IfOk, OnOk, ◌≢◌, false, refl, sym, ap, subst, ◌∙◌, arith}
+use Rattle.std.proofs.Common.{◌≡◌, ℕ, ◌<◌, ◌≤◌, List, [], ◌∷◌, length, Option, Some, None, option_map, IfSome, ◌⊎◌, inl, inr, Result, Ok, Err, IfOk, OnOk, ◌≢◌, false, sym, subst, ◌∙◌, arith}
 use Rattle.std.proofs.lemmas.Bool.{cases_lt}
 use Rattle.sw_outside.specs.Shelf.{Told, file_of, asked_too}
 use Rattle.std.specs.declared.alloc.AllocError.{AllocError}
@@ -23,7 +23,7 @@ use Rattle.sw_check.specs.declared.TheConstants.{PROGRAM_LIMIT}
 use Rattle.sw_check.specs.declared.small.tree.Small.{Small}
 use Rattle.sw_check.specs.declared.verdict.Verdict.{Verdict}
 use Rattle.sw_check.specs.declared.verdict.Verdict.TheVariants.{Accepted, Refused}
-use Rattle.sw_check.specs.Reply.{too_long_file, refusal, ended_outcome, run_outcome, IsRunReply, bad_schedule, ran, Reply, program_too_long, run_refused, schedule_too_long, run, Stops, Asked, not_run, to_run, Agrees, asked_these, Answered, Unanswered}
+use Rattle.sw_check.specs.Reply.{too_long_file, refusal, ended_outcome, run_outcome, IsRunReply, bad_schedule, ran, program_too_long, run_refused, schedule_too_long, run, Stops, Asked, not_run, to_run, Agrees, Answered, Unanswered}
 use Rattle.sw_check.specs.Running.{RunAnswered, RunUnanswered}
 use Rattle.sw_check.specs.Verdict.{IsVerdict, IsProgram, IsFirstBreach, Accepts}
 use Rattle.sw_check.specs.Words.{Run}

@@ -1,5 +1,5 @@
 -- The graph of a small program is one that the machine runs today.
-use Rattle.std.proofs.Common.{◌≡◌, ℕ, ◌+◌, ◌*◌, ◌^◌, ◌<◌, ◌≤◌, Bool, true, false, List, [], ◌∷◌, ◌++◌, map, length, get_or, IsTrue, Some, None, refl, sym, ap, ◌∙◌, subst, arith, append-nil, length-append}
+use Rattle.std.proofs.Common.{◌≡◌, ℕ, ◌+◌, ◌*◌, ◌^◌, ◌<◌, ◌≤◌, Bool, true, false, List, [], ◌∷◌, ◌++◌, map, length, get_or, IsTrue, Some, None, refl, sym, ap, subst, arith, append-nil, length-append}
 use Rattle.std.specs.List.{All}
 use Rattle.std.proofs.lemmas.List.{length-map}
 use Rattle.std.proofs.lemmas.List.Elements.{All-nil, All-cons, All-head, All-tail, All-append, All-map}
@@ -13,14 +13,14 @@ use Rattle.sw_graph.specs.declared.instr.Last.{Last}
 use Rattle.sw_graph.specs.declared.instr.Last.TheVariants as last
 use Rattle.sw_graph.specs.declared.instr.Block.{Block}
 use Rattle.sw_graph.specs.declared.graph.Graph.{Graph}
-use Rattle.sw_value.specs.Point.{Point, Middle, End, points_of_block, points_of}
+use Rattle.sw_value.specs.Point.{Middle, End, points_of_block, points_of}
 use Rattle.sw_value.specs.Small.{IsSmallPoint, IsSmallFunction as Runs, IsSmall as IsRunnable}
 use Rattle.sw_check.specs.declared.small.lower.Piece.{Piece}
 use Rattle.sw_check.specs.declared.small.tree.Item.{Item}
 use Rattle.sw_check.specs.declared.small.tree.Item.TheVariants.{Show as Shows, Task}
 use Rattle.sw_check.specs.declared.small.tree.Show.{Show}
 use Rattle.sw_check.specs.declared.small.tree.Small.{Small}
-use Rattle.sw_check.specs.Lower.{in_order, function_of, body_of, functions_of, show_plan, item_plan, item_size, size_of, is_small_instr, is_small_last, IsSmallBlock, IsSmallFunction, IsSmall}
+use Rattle.sw_check.specs.Lower.{in_order, function_of, functions_of, show_plan, item_plan, item_size, size_of, is_small_instr, is_small_last, IsSmallBlock}
 use Rattle.sw_check.proofs.PlanLemmas.{shows_bodies}
 use Rattle.sw_check.proofs.SmallLemmas.{program_small}
 

@@ -1,5 +1,5 @@
 -- Which exits replies have, and which of them write nothing.
-use Rattle.std.proofs.Common.{◌≡◌, true, false, ℕ, List, [], ◌∷◌, ◌++◌, Option, Some, None, option_map, refl, sym, ap, ◌∙◌, append-nil}
+use Rattle.std.proofs.Common.{◌≡◌, true, false, ℕ, List, [], ◌++◌, Option, Some, None, option_map, refl, sym, ap, ◌∙◌, append-nil}
 use Rattle.sw_outside.specs.Shelf.{Told}
 use Rattle.sw_replay.specs.declared.output.End.{End}
 use Rattle.sw_replay.specs.declared.output.End.TheVariants.{Ran, Trapped}
@@ -57,6 +57,6 @@ reply_silent command program schedule outcome (run _ _ _ _ small _ within is sho
 pub silent_written : {command : Option Command} {before after : Option Told} {outcome : Outcome} {taken taken_after : Option (List ℕ)} → Answered command before outcome after → Appended outcome.bytes taken taken_after → is_silent outcome.exit ≡ true → taken_after ≡ taken
 silent_written {command} {outcome = outcome} {taken = taken} answered written silent =
     written ∙ ap (λ bytes. option_map (λ front. front ++ bytes) taken) (reply_silent command answered.program answered.schedule outcome answered.reply silent) ∙ nothing taken where
-  nothing : (taken : Option (List ℕ)) → option_map (λ front. front ++ []) taken ≡ taken
-  nothing None = refl
-  nothing (Some front) = ap Some (append-nil front)
+      nothing : (taken : Option (List ℕ)) → option_map (λ front. front ++ []) taken ≡ taken
+      nothing None = refl
+      nothing (Some front) = ap Some (append-nil front)

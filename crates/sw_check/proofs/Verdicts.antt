@@ -1,12 +1,12 @@
 -- Every text has one verdict.
-use Rattle.std.proofs.Common.{◌≡◌, ◌≢◌, ℕ, ◌-◌, ◌<◌, ◌≤◌, Bool, true, false, cond, List, [], ◌∷◌, length, map, Result, Ok, Err, ◌⊎◌, inl, inr, ⊎_elim, refl, sym, ap, ◌∙◌, subst, arith}
+use Rattle.std.proofs.Common.{◌≡◌, ◌≢◌, ℕ, ◌-◌, ◌<◌, Bool, true, false, cond, List, [], ◌∷◌, length, Result, Ok, Err, refl, sym, ap, ◌∙◌, arith}
 use Rattle.std.proofs.lemmas.List.{length-map}
 use Rattle.std.specs.Str.{IsUtf8, is_utf8}
 use Rattle.std.specs.Str.Lossy.{utf8_valid_len}
 use Rattle.std.proofs.lemmas.Str.{IsUtf8-from_is_utf8, is_utf8-from_IsUtf8}
 use Rattle.sw_token.specs.declared.Token.{Token}
 use Rattle.sw_token.specs.declared.LexFault.{LexFault}
-use Rattle.sw_token.specs.Tokens.{IsTokens, IsLexicalPlace, IsReading}
+use Rattle.sw_token.specs.Tokens.{IsTokens, IsReading}
 use Rattle.sw_token.specs.Reading.{reading}
 use Rattle.sw_token.proofs.Readings.{reading-IsTokens, reading-IsLexicalPlace, reading-IsReading}
 use Rattle.sw_check.specs.declared.breach.Breach.{Breach}

@@ -1,5 +1,5 @@
 -- What `run` leaves behind the fetch of the program's file.
-use Rattle.std.specs.Prelude.{◌≡◌, ℕ, ◌≤◌, List, ◌∷◌, ◌++◌, length, Option, Some, option_map, IfSome}
+use Rattle.std.specs.Prelude.{◌≡◌, ℕ, List, ◌∷◌, ◌++◌, Option, Some, option_map, IfSome}
 use Rattle.sw_outside.specs.Shelf.{Told, file_of}
 use Rattle.sw_check.specs.declared.outcome.Outcome.{Outcome}
 use Rattle.sw_check.specs.Reply.{Reply, Asked, asked_these}

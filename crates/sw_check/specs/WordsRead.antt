@@ -1,5 +1,4 @@
 -- The command as the program reads it: its names are lent from the words.
-use Rattle.std.specs.Prelude.{ℕ, List}
 use Rattle.sw_check.specs.declared.words.Command as code
 use Rattle.sw_check.specs.declared.words.Command.TheVariants as variants
 use Rattle.sw_check.specs.Words.{Command, Check, Run}

@@ -48,7 +48,7 @@ pub fn run_words<S: Shelf, K: Sink>(
     // What such an exit says of the files, where the shelf tells them: acceptance and the absence of races among it.
     ensures says { IsFalse (is_failure result) → IfSome (S.told shelf.old) (λ told.
         Says (command_of (map string_bytes words.now.items)) (program_text told (command_of (map string_bytes words.now.items)))
-            (schedule_text told (command_of (map string_bytes words.now.items))) result) }
+        (schedule_text told (command_of (map string_bytes words.now.items))) result) }
     // Where nothing failed, words of no form, a refused program and an accepted one have these exits.
     ensures usage { command_of (map string_bytes words.now.items) ≡ None → IsFalse (is_failure result) → result ≡ Exit.Usage }
     ensures breached { (told : Told) (command : Command) → S.told shelf.old ≡ Some told

@@ -1,6 +1,5 @@
-use Rattle.std.proofs.Common.{Some, IfSome, map, string_bytes, subst}
-use Rattle.sw_check.specs.Claims.{Says}
-use Rattle.sw_check.specs.Reply.{Answered, program_text, schedule_text}
+use Rattle.std.proofs.Common.{map, string_bytes, subst}
+use Rattle.sw_check.specs.Reply.{Answered}
 use Rattle.sw_check.specs.Words.{command_of}
 use Rattle.sw_check.specs.Written.{Appended}
 use Rattle.sw_check.proofs.Claims.{answer_says, never_raced, usage_told, accepted_told, refused_told}
@@ -10,7 +9,7 @@ use Rattle.sw_check.proofs.run_words.Goals as goal
 pub returns-in-Ok-put_all-clause-silent : goal.returns-in-Ok-put_all-clause-silent
 returns-in-Ok-put_all-clause-silent g c silent =
     silent_written c.in-Ok.ensures.answered
-      (subst (λ bytes. Appended bytes (g.K.Sink.taken c.args.out.now) (g.K.Sink.taken c.put_all.new.out)) c.as_slice.ensures c.in-Ok-put_all.ensures.whole) silent
+    (subst (λ bytes. Appended bytes (g.K.Sink.taken c.args.out.now) (g.K.Sink.taken c.put_all.new.out)) c.as_slice.ensures c.in-Ok-put_all.ensures.whole) silent
 
 pub returns-in-Ok-put_all-clause-says : goal.returns-in-Ok-put_all-clause-says
 returns-in-Ok-put_all-clause-says g c _ =

@@ -11,7 +11,7 @@ pub returns-in_ok-check_text-in-Ok-clause-answered :
     goal.returns-in_ok-check_text-in-Ok-clause-answered
 returns-in_ok-check_text-in-Ok-clause-answered g c =
     check_answered c.args.file.now c.in-Ok.text.items _ c.in-Ok.ensures.found c.in-Ok.ensures.within
-      (subst (λ text. IsCheckReply text c.in_ok-check_text-in-Ok.field-0) c.deref.ensures.value c.in_ok-check_text-in-Ok.ensures) c.in-Ok.ensures.asked_ok
+    (subst (λ text. IsCheckReply text c.in_ok-check_text-in-Ok.field-0) c.deref.ensures.value c.in_ok-check_text-in-Ok.ensures) c.in-Ok.ensures.asked_ok
 
 pub returns-in-Err-TooLong-clause-answered : goal.returns-in-Err-TooLong-clause-answered
 returns-in-Err-TooLong-clause-answered g c =

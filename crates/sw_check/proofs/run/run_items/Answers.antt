@@ -9,9 +9,9 @@ lower-requires c = record { size = size_of-program c.args.text.now c.args.progra
 pub replay-requires : goal.replay-requires
 replay-requires c =
     lowered_runnable c.args.program.now c.in_ok-graph.graph c.in_ok-graph.ensures.lowered.functions
-      (size_of-program c.args.text.now c.args.program.now c.requires.program c.requires.short)
+    (size_of-program c.args.text.now c.args.program.now c.requires.program c.requires.short)
 
 pub returns : goal.returns
 returns c =
     replay_told c.args.text.now c.args.program.now c.args.schedule_text.now c.in_ok-graph.graph c.args.schedule.now _ _ _ _ _ c.in_ok-graph.ensures.lowered
-      c.requires.items c.in_ok-replay.ensures.lines c.in_ok-replay.ensures.end c.in_ok-replay.ensures.ended c.in_ok-replay.ensures.jobs c.ended.ensures
+    c.requires.items c.in_ok-replay.ensures.lines c.in_ok-replay.ensures.end c.in_ok-replay.ensures.ended c.in_ok-replay.ensures.jobs c.ended.ensures

@@ -12,4 +12,4 @@ returns-in_err-refused-in-Refused-clause-no_memory g c _ = schedule_not_fetched 
 pub returns-in_ok-refused-in-Refused-clause-answered : goal.returns-in_ok-refused-in-Refused-clause-answered
 returns-in_ok-refused-in-Refused-clause-answered g c =
     refused_answered c.args.text.now c.args.schedule_file.now c.in-Refused.breach _ c.requires
-      (subst (IsVerdict c.args.text.now) c.in-Refused.is c.in_ok-program.ensures) c.in_ok-refused-in-Refused.ensures
+    (subst (IsVerdict c.args.text.now) c.in-Refused.is c.in_ok-program.ensures) c.in_ok-refused-in-Refused.ensures
