@@ -8,9 +8,9 @@ use Rattle.std.proofs.lemmas.List.{get_or-replicate, get_or_past, get_or_read}
 use Rattle.std.proofs.lemmas.List.Sorted.{searched}
 use Rattle.std.proofs.lemmas.Nat.Bits.{bit_at-zero}
 use Rattle.std.proofs.Math.ListN.{length-replicate}
-use Rattle.sw_partition.specs.Regions.{Regions, words_for, bit_of, Together, HasPair, HasSomePair}
+use Rattle.sw_partition.specs.Regions.{Regions, words_for, bit_of, Together, HasPair}
 use Rattle.sw_partition.specs.Effects.{IsBlank, IsGiven, IsLeastSite}
-use Rattle.sw_partition.specs.Tables.{AreNumbers, AreTables, IsClassMarked, IsFirstBit, IsClearRow}
+use Rattle.sw_partition.specs.Tables.{AreNumbers, AreTables, IsClassMarked, IsFirstBit}
 use Rattle.sw_partition.proofs.Effecting.{place_in_row, written, refilled, zero_not_one}
 
 -- ---- sites in rising order
@@ -132,10 +132,6 @@ least_site x bit labels sites words tables x_lt first = record {
     | inr ge ↦ subst (λ v. slice_index sites bit ≤ v) has.is_site (rising_le sites tables.rising bit has.place ge has.in_range)
   ];
 }
-
-pub none_given : (x : ℕ) (labels sites words : List ℕ) → IsClearRow words (x * words_for (length sites)) (words_for (length sites)) → HasSomePair (record { labels = labels; sites = sites; words = words }) x → ⊥
-none_given x labels sites words clear (site, has) =
-    zero_not_one _ (ap (bit_of words) (sym (row_place x (words_for (length sites)) has.place)) ∙ clear.each has.place (place_in_row sites has.place has.in_range)) has.marked
 
 -- ---- new
 bit_of-zeros : (count n : ℕ) → bit_of (replicate count 0) n ≡ 0

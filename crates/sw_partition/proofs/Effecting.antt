@@ -58,9 +58,6 @@ pub place_in_row : (sites : List ℕ) (k : ℕ) → k < length sites → k < wor
 place_in_row sites k lt = omega arith
 
 -- ---- a released element
-pub released-at : (x : ℕ) (old new : List ℕ) → (r : IsReleased x old new) → (p : ℕ) → p < length old → p ≢ x → slice_index new p ≡ replaced x r.heir (slice_index old p)
-released-at x old new r p lt ne = r.others p lt ne
-
 -- no other element has the released one's label
 released_apart : (x : ℕ) (old new : List ℕ) → IsReleased x old new → (p : ℕ) → p < length old → p ≢ x → slice_index new p ≢ x
 released_apart x old new r p lt ne e = elim (cases_eq (slice_index old p) x) [
@@ -187,9 +184,6 @@ freshened_tables x labels labels' sites words words' x_lt tables r cleared = rec
 }
 
 -- ---- put
-stand_in-same : (x y : ℕ) → stand_in x y x ≡ y
-stand_in-same x y = replaced-same x y x refl
-
 stand_in-other : (x y a : ℕ) → a ≢ x → stand_in x y a ≡ a
 stand_in-other x y a ne = replaced-other x y a ne
 
@@ -289,26 +283,6 @@ put_tables x y old labels sites words words' x_lt y_lt apart tables r copied =
       rising = tables.rising;
       full = copied.length_same ∙ (tables.full ∙ ap (λ n. n * words_for (length sites)) (sym same));
       clear = λ a k a_lt past k_lt. copied_bits x y (words_for (length sites)) words words' copied a k k_lt ∙ tables.clear (stand_in x y a) k (stand_in-lt x y a (length old) y_lt (subst (λ n. a < n) same a_lt)) past k_lt;
-    }
-
--- nothing is put where x is y
-pub put_same : (x : ℕ) (r : Regions) → IsPut x x r r
-put_same x r =
-    let same : (a : ℕ) → stand_in x x a ≡ a = λ a. elim (cases_eq a x) [
-      | inl is ↦ replaced-same x x a is ∙ sym is
-      | inr ne ↦ replaced-other x x a ne
-    ] in
-    record {
-      elements_same = refl;
-      sites_same = refl;
-      together = λ a b. (
-        (λ t. subst (λ v. Together r v (stand_in x x b)) (sym (same a)) (subst (λ v. Together r a v) (sym (same b)) t)),
-        (λ t. subst (λ v. Together r v b) (same a) (subst (λ v. Together r (stand_in x x a) v) (same b) t)),
-      );
-      pairs = λ a site. (
-        (λ h. subst (λ v. HasPair r v site) (sym (same a)) h),
-        (λ h. subst (λ v. HasPair r v site) (same a) h),
-      );
     }
 
 -- ---- join

@@ -72,17 +72,6 @@ pub record IsUniting (old other now : List ℕ) (x : ℕ) (rose : Bool) : Type 0
   pub unchanged : rose ≡ false → now ≡ old
   pub changed : rose ≡ true → IsCoarser now old → ⊥
 
-pub uniting_starts : (old other : List ℕ) → AreLabels old → IsUniting old other old 0 false
-uniting_starts old other labels = record {
-  length_same = refl;
-  labels = labels;
-  keeps = record { each = λ p q p_lt q_lt e. e };
-  taken = λ p lt. absurd (omega arith);
-  least = λ z above_old above_other. above_old;
-  unchanged = λ _. refl;
-  changed = λ is _. absurd (cc);
-}
-
 below_next : (P : ℕ → Type 0) (x : ℕ) → ((p : ℕ) → p < x → P p) → P x → (p : ℕ) → p < x + 1 → P p
 below_next P x below here p lt = elim (cases_eq p x) [
   | inl e ↦ subst (λ v. P v) (sym e) here

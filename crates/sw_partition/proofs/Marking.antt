@@ -1,5 +1,5 @@
 -- The marks of a class, element by element.
-use Rattle.std.proofs.Common.{◌≡◌, ◌≢◌, ℕ, ◌+◌, ◌*◌, ◌/◌, ◌%◌, ◌<◌, ◌≤◌, inl, inr, List, length, slice_index, refl, sym, subst, ap, ◌∙◌, arith}
+use Rattle.std.proofs.Common.{◌≡◌, ◌≢◌, ℕ, ◌+◌, ◌*◌, ◌/◌, ◌%◌, ◌<◌, ◌≤◌, inl, inr, List, length, slice_index, sym, subst, ap, ◌∙◌, arith}
 use Rattle.std.proofs.lemmas.Bool.{cases_eq}
 use Rattle.std.proofs.lemmas.Nat.{same_from_place}
 use Rattle.sw_partition.specs.Regions.{bit_of}
@@ -11,13 +11,6 @@ pub record IsMarking (labels : List ℕ) (label width place : ℕ) (old now : Li
   pub length_same : length now ≡ length old
   pub set : (q : ℕ) → 0 < q → q < p → slice_index labels q ≡ label → bit_of now (q * (width * 64) + place) ≡ 1
   pub others : (q k : ℕ) → k < width * 64 → ((k ≡ place) × (q ≢ 0) × (slice_index labels q ≡ label) → ⊥) → bit_of now (q * (width * 64) + k) ≡ bit_of old (q * (width * 64) + k)
-
-pub marking_starts : (labels : List ℕ) (label width place : ℕ) (old : List ℕ) → IsMarking labels label width place old old 1
-marking_starts labels label width place old = record {
-  length_same = refl;
-  set = λ q some lt is. absurd (omega arith);
-  others = λ q k lt other. refl;
-}
 
 -- element p has another label
 pub marking_skips : (labels : List ℕ) (label width place : ℕ) (old now : List ℕ) (p : ℕ) → slice_index labels p ≢ label → IsMarking labels label width place old now p → IsMarking labels label width place old now (p + 1)

@@ -26,9 +26,6 @@ pub below_down : {X : Type 0} (le : X → X → Type 0) → ((x y z : X) → le 
 below_down le transitive x y None l b = absurd b
 below_down le transitive x y (Some z) l b = transitive x y z l b
 
-pub everywhere_refl : {X : Type 0} (le : X → X → Type 0) → ((x : X) → le x x) → (a : List (Option X)) → IsAtMostEverywhere le a a
-everywhere_refl le reflexive a = record { each = λ p. at_most_refl le reflexive (value_at a p) }
-
 pub everywhere_trans : {X : Type 0} (le : X → X → Type 0) → ((x y z : X) → le x y → le y z → le x z) → (a b c : List (Option X)) → IsAtMostEverywhere le a b → IsAtMostEverywhere le b c → IsAtMostEverywhere le a c
 everywhere_trans le transitive a b c m n = record { each = λ p. at_most_trans le transitive (value_at a p) (value_at b p) (value_at c p) (m.each p) (n.each p) }
 
@@ -36,10 +33,6 @@ everywhere_trans le transitive a b c m n = record { each = λ p. at_most_trans l
 pub some_from_below : {X : Type 0} (le : X → X → Type 0) (x : X) (o : Option X) → IsBelow le x o → IsSome o
 some_from_below le x None b = absurd b
 some_from_below le x (Some y) b = refl
-
-pub some_from_at_most : {X : Type 0} (le : X → X → Type 0) (o n : Option X) → IsAtMost le o n → IsSome o → IsSome n
-some_from_at_most le None n m h = absurd (cc)
-some_from_at_most le (Some x) n m h = some_from_below le x n m
 
 -- what a write to one place changes of the weighed levels
 pub weighed-set : {X : Type 0} (rank : X → ℕ) (weight : ℕ → ℕ) (n : ℕ) (a : List (Option X)) (i : ℕ) (s : Option X) → i < length a → weighed rank weight n (set a i s) + weight (n + i) * level_of rank (value_at a i) ≡ weighed rank weight n a + weight (n + i) * level_of rank s
@@ -153,12 +146,3 @@ pushed_rose q true before after is room there kept weights = record {
   weights = weights;
 }
 pushed_rose q false before after is room there kept weights = absurd (cc)
-
-pub pushed_flat : (q : ℕ) (rose : Bool) (list : Listed) → rose ≡ false → IsPushed q rose list list
-pushed_flat q true list is = absurd (cc)
-pushed_flat q false list is = record {
-  room_same = refl;
-  there = λ is. absurd (cc);
-  kept = λ p has. has;
-  weights = λ weight. omega arith;
-}
