@@ -1,0 +1,6 @@
+@main struct App {
+  static func main() {
+    Task.detached { print(1) }
+    print(2)
+  }
+}
