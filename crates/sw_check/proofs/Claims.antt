@@ -22,11 +22,7 @@ use Rattle.sw_check.specs.Verdict.{IsVerdict, IsProgram, Accepts, Refuses}
 use Rattle.sw_check.specs.Words.{Command, Check, Run}
 use Rattle.sw_check.proofs.Runnable.{lowered_runnable}
 use Rattle.sw_check.proofs.SmallSize.{size_of-program}
-use Rattle.sw_check.proofs.Verdicts.{one_verdict}
-
--- no text is accepted and refused
-both : (text : List ℕ) → Accepts text → Refuses text → ⊥
-both text accepts refuses = cc (one_verdict text (Accepted accepts.0) (Refused refuses.0) accepts.1 refuses.1)
+use Rattle.sw_check.proofs.Verdicts.{one_verdict, never_both}
 
 -- no run of a small program races
 never : (text : List ℕ) (program : Small) → length text ≤ PROGRAM_LIMIT → IsProgram text program → NeverRaces text
@@ -111,16 +107,16 @@ usage_told {command} {outcome = outcome} answered none = no_form_exit command an
 
 -- A program that is refused is answered by its breaches, and no other.
 pub refused_exit : (command : Command) (program schedule : List ℕ) (exit : Exit) → length program ≤ PROGRAM_LIMIT → Refuses program → Says (Some command) program schedule exit → exit ≡ Breached
-refused_exit command program schedule Done short refuses says = absurd (both program (says.0.program, says.0.spelled) refuses)
+refused_exit command program schedule Done short refuses says = absurd (never_both program (says.0.program, says.0.spelled) refuses)
 refused_exit command program schedule Breached short refuses says = refl
 refused_exit command program schedule Usage short refuses says = cc
 refused_exit command program schedule NotRead short refuses says = absurd says
 refused_exit command program schedule TooLong short refuses (inl more) = absurd (omega arith)
-refused_exit command program schedule TooLong short refuses (inr says) = absurd (both program says.0 refuses)
+refused_exit command program schedule TooLong short refuses (inr says) = absurd (never_both program says.0 refuses)
 refused_exit command program schedule NotWritten short refuses says = absurd says
 refused_exit command program schedule Memory short refuses says = absurd says
-refused_exit command program schedule Trapped short refuses says = absurd (both program (says.2.program, says.2.spelled) refuses)
-refused_exit command program schedule BadSchedule short refuses says = absurd (both program says.0 refuses)
+refused_exit command program schedule Trapped short refuses says = absurd (never_both program (says.2.program, says.2.spelled) refuses)
+refused_exit command program schedule BadSchedule short refuses says = absurd (never_both program says.0 refuses)
 refused_exit command program schedule Raced short refuses says = absurd says
 
 -- A program that may be built is accepted by `check`.

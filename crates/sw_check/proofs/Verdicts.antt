@@ -1,5 +1,5 @@
 -- Every text has one verdict.
-use Rattle.std.proofs.Common.{◌≡◌, ◌≢◌, ℕ, ◌-◌, ◌<◌, Bool, true, false, cond, List, [], ◌∷◌, length, Result, Ok, Err, refl, sym, ap, ◌∙◌, arith}
+use Rattle.std.proofs.Common.{◌≡◌, ◌≢◌, ℕ, ◌-◌, ◌<◌, Bool, true, false, cond, List, [], ◌∷◌, length, Result, Ok, Err, ◌⊎◌, inl, inr, refl, sym, ap, ◌∙◌, arith}
 use Rattle.std.proofs.lemmas.List.{length-map}
 use Rattle.std.specs.Str.{IsUtf8, is_utf8}
 use Rattle.std.specs.Str.Lossy.{utf8_valid_len}
@@ -17,7 +17,7 @@ use Rattle.sw_check.specs.declared.verdict.Verdict.TheVariants.{Accepted, Refuse
 use Rattle.sw_check.specs.Spelling.{Spelled, spelled, spelling_of}
 use Rattle.sw_check.specs.Small.{SpellsSmall, small, Spells, IsSmallPlace}
 use Rattle.sw_check.specs.SmallReading.{whole}
-use Rattle.sw_check.specs.Verdict.{IsProgram, IsFirstBreach, not_utf8, no_token, not_spelled, no_entry, IsVerdict, lexical_place, token_place}
+use Rattle.sw_check.specs.Verdict.{Accepts, Refuses, IsProgram, IsFirstBreach, not_utf8, no_token, not_spelled, no_entry, IsVerdict, lexical_place, token_place}
 use Rattle.sw_check.proofs.SmallLaws.{only_small, read_small, read_place, one_place, no_place}
 use Rattle.sw_check.proofs.TokensSpelled.{tokens_spelled}
 
@@ -112,3 +112,20 @@ some_verdict text = by_test (is_utf8 text) refl where
   by_test : (test : Bool) → is_utf8 text ≡ test → (verdict : Verdict) × IsVerdict text verdict
   by_test false is = (Refused _, not_utf8 (λ utf8. cc (is_utf8-from_IsUtf8 text utf8, is)))
   by_test true is = by_tokens (IsUtf8-from_is_utf8 text is) (reading text) (reading-IsReading text)
+
+-- every text is accepted or refused
+pub decided : (text : List ℕ) → Accepts text ⊎ Refuses text
+decided text = let (verdict, is) = some_verdict text in by verdict is where
+  by : (verdict : Verdict) → IsVerdict text verdict → Accepts text ⊎ Refuses text
+  by (Accepted program) is = inl (program, is)
+  by (Refused breach) is = inr (breach, is)
+
+-- and not both
+pub never_both : (text : List ℕ) → Accepts text → Refuses text → ⊥
+never_both text accepts refuses = cc (one_verdict text (Accepted accepts.0) (Refused refuses.0) accepts.1 refuses.1)
+
+pub one_small : (text : List ℕ) (a b : Small) → IsProgram text a → IsProgram text b → a ≡ b
+one_small text a b is_a is_b = cc (one_verdict text (Accepted a) (Accepted b) is_a is_b)
+
+pub one_breach : (text : List ℕ) (a b : Breach) → IsFirstBreach text a → IsFirstBreach text b → a ≡ b
+one_breach text a b is_a is_b = cc (one_verdict text (Refused a) (Refused b) is_a is_b)

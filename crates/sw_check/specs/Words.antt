@@ -1,5 +1,7 @@
 -- The words of the command line, behind the program's name.
 use Rattle.std.specs.Prelude.{ℕ, ◌==◌, Bool, false, ◌&&◌, not, List, [], ◌∷◌, Option, Some, None, if◌then◌else◌, codes}
+use Rattle.std.specs.Prelude.{String, string_bytes, map}
+use Rattle.std.specs.declared.alloc.Global.{Global}
 use Rattle.std.specs.Str.{bytes_eq}
 
 -- A file is named by a word that isn't empty and doesn't begin with `-`, the byte 45.
@@ -22,3 +24,7 @@ command_of (verb ∷ file ∷ schedule_file ∷ []) =
     if bytes_eq verb (codes "run") && (is_file_name file && is_file_name schedule_file)
     then Some (Run file schedule_file) else None
 command_of words = None
+
+-- the command of the words as the program has them
+abbrev pub command_in : List (String Global) → Option Command
+command_in words = command_of (map string_bytes words)

@@ -1,7 +1,7 @@
 //! The verdict on a program's text, and the call that the program's `main` makes.
 #![tactic(auto)]
 
-ghost use Rattle.std.specs.Prelude.{◌≡◌, ◌≢◌, ◌<◌, ◌≤◌, ℕ, List, Some, None, IfSome, IfNone, IsTrue, IsFalse, length, map, string_bytes};
+ghost use Rattle.std.specs.Prelude.{◌≡◌, ◌≢◌, ◌<◌, ◌≤◌, ℕ, List, Some, None, IfSome, IfNone, IsTrue, IsFalse, length};
 ghost use Rattle.sw_outside.specs.Rise.{Rose};
 ghost use Rattle.sw_outside.specs.Shelf.{Told, file_of};
 ghost use Rattle.sw_check.specs.Exit.{is_failure, is_silent};
@@ -9,10 +9,11 @@ ghost use Rattle.sw_check.specs.Claims.{Says};
 ghost use Rattle.sw_check.specs.Reply.{Answered, Unanswered, program_text, schedule_text};
 ghost use Rattle.sw_check.specs.Call.{Replied, Interrupted};
 ghost use Rattle.sw_check.specs.Verdict.{Accepts, Refuses};
-ghost use Rattle.sw_check.specs.Words.{Check, Command, command_of};
+ghost use Rattle.sw_check.specs.Words.{Check, Command, command_in};
 
 mod breach;
 mod exit;
+mod laws;
 mod lines;
 mod no_reply;
 mod outcome;
@@ -24,6 +25,7 @@ mod words;
 mod write;
 
 pub use exit::Exit;
+pub use laws::texts_have_one_verdict;
 use no_reply::NoReply;
 use reply::answer;
 use std::alloc::Global;
@@ -41,29 +43,34 @@ pub fn run_words<S: Shelf, K: Sink>(
     out: &mut K,
 ) -> Exit
     // An exit that tells no failure is that of the reply, and the whole reply was written.
-    ensures replied { IsFalse (is_failure result) → Replied (command_of (map string_bytes words.now.items)) result (S.told shelf.old) (S.told shelf.new) (K.taken out.old) (K.taken out.new) }
+    ensures replied { IsFalse (is_failure result) → Replied (command_in words.now.items) result
+        (S.told shelf.old) (S.told shelf.new) (K.taken out.old) (K.taken out.new) }
     // Where neither the outside nor memory failed, the exit is that of the reply.
-    ensures complete { ¬ (Rose (S.faults shelf.old) (S.faults shelf.new)) → ¬ (Rose (K.faults out.old) (K.faults out.new)) → result ≢ Exit.Memory → IsFalse (is_failure result) }
+    ensures complete { ¬ (Rose (S.faults shelf.old) (S.faults shelf.new))
+        → ¬ (Rose (K.faults out.old) (K.faults out.new)) → result ≢ Exit.Memory → IsFalse (is_failure result) }
 
     // What such an exit says of the files, where the shelf tells them: acceptance and the absence of races among it.
     ensures says { IsFalse (is_failure result) → IfSome (S.told shelf.old) (λ told.
-        Says (command_of (map string_bytes words.now.items)) (program_text told (command_of (map string_bytes words.now.items)))
-        (schedule_text told (command_of (map string_bytes words.now.items))) result) }
+        let command = command_in words.now.items in
+        Says command (program_text told command) (schedule_text told command) result) }
     // Where nothing failed, words of no form, a refused program and an accepted one have these exits.
-    ensures usage { command_of (map string_bytes words.now.items) ≡ None → IsFalse (is_failure result) → result ≡ Exit.Usage }
+    ensures usage { command_in words.now.items ≡ None → IsFalse (is_failure result) → result ≡ Exit.Usage }
     ensures breached { (told : Told) (command : Command) → S.told shelf.old ≡ Some told
-        → command_of (map string_bytes words.now.items) ≡ Some command → length (program_text told (Some command)) ≤ PROGRAM_LIMIT
-        → Refuses (program_text told (Some command)) → IsFalse (is_failure result) → result ≡ Exit.Breached }
+        → command_in words.now.items ≡ Some command
+        → length (program_text told (Some command)) ≤ PROGRAM_LIMIT → Refuses (program_text told (Some command))
+        → IsFalse (is_failure result) → result ≡ Exit.Breached }
     ensures accepted { (told : Told) (file : List ℕ) → S.told shelf.old ≡ Some told
-        → command_of (map string_bytes words.now.items) ≡ Some (Check file) → length (file_of told.files file) ≤ PROGRAM_LIMIT
-        → Accepts (file_of told.files file) → IsFalse (is_failure result) → result ≡ Exit.Done }
+        → command_in words.now.items ≡ Some (Check file)
+        → length (file_of told.files file) ≤ PROGRAM_LIMIT → Accepts (file_of told.files file)
+        → IsFalse (is_failure result) → result ≡ Exit.Done }
     // No exit says that a race came.
     ensures never_raced { result ≢ Exit.Raced }
 
     // After a failure of the outside or of memory.
-    ensures not_read { result ≡ Exit.NotRead → Unanswered (command_of (map string_bytes words.now.items)) 1 (S.told shelf.old) (S.told shelf.new) }
-    ensures no_memory { result ≡ Exit.Memory → Unanswered (command_of (map string_bytes words.now.items)) 0 (S.told shelf.old) (S.told shelf.new) }
-    ensures not_written { result ≡ Exit.NotWritten → Interrupted (command_of (map string_bytes words.now.items)) (S.told shelf.old) (S.told shelf.new) (K.taken out.old) (K.taken out.new) }
+    ensures not_read { result ≡ Exit.NotRead → Unanswered (command_in words.now.items) 1 (S.told shelf.old) (S.told shelf.new) }
+    ensures no_memory { result ≡ Exit.Memory → Unanswered (command_in words.now.items) 0 (S.told shelf.old) (S.told shelf.new) }
+    ensures not_written { result ≡ Exit.NotWritten → Interrupted (command_in words.now.items)
+        (S.told shelf.old) (S.told shelf.new) (K.taken out.old) (K.taken out.new) }
     ensures silent { IsTrue (is_silent result) → K.taken out.new ≡ K.taken out.old }
 
     // Each failure has its cause, and its cause has no other exit.
