@@ -1,6 +1,6 @@
 use crate::calls::{SEVEN, call};
 use std::test::Fail;
-use sw_check::Exit;
+use sw_check::{Exit, texts_have_one_verdict};
 use sw_outside::{MemShelf, MemSink};
 
 /// The most bytes that a program's file may have.
@@ -147,4 +147,24 @@ fn a_sink_that_fails(rt: HostRuntime) -> Result<(), Fail> {
         assert_eq!(rt; answer.bytes.as_slice(), writing.taken, "sink {i}");
     }
     Ok(())
+}
+
+#[test]
+fn each_exit_has_its_status(rt: HostRuntime) {
+    let statuses = [
+        (Exit::Done, 0),
+        (Exit::Breached, 1),
+        (Exit::Usage, 2),
+        (Exit::NotRead, 3),
+        (Exit::TooLong, 4),
+        (Exit::NotWritten, 5),
+        (Exit::Memory, 6),
+        (Exit::Trapped, 7),
+        (Exit::BadSchedule, 8),
+        (Exit::Raced, 9),
+    ];
+    for (exit, status) in &statuses {
+        assert_eq!(rt; exit.status(), *status);
+    }
+    texts_have_one_verdict();
 }
