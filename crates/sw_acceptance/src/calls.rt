@@ -1,4 +1,6 @@
-//! A call with ample memory, and what came of it.
+//! A call over memory, and what came of it: its exit, and the bytes that the sink then holds.
+
+ghost use Rattle.std.specs.Prelude.{◌≡◌, ◌≢◌, IfOk};
 
 use std::alloc::{AllocError, Global};
 use sw_check::{Exit, run_words};
@@ -15,7 +17,7 @@ pub struct Answer {
 }
 
 /// The words as the program takes them.
-pub fn words_of(alloc: Global, words: &[&str]) -> Result<Vec<String>, AllocError> {
+fn words_of(alloc: Global, words: &[&str]) -> Result<Vec<String>, AllocError> {
     let mut all = Vec::new(alloc);
     for word in words {
         all.push(String::from_str(alloc, word)?)?;
@@ -29,7 +31,10 @@ pub fn call(
     words: &[&str],
     shelf: &mut MemShelf,
     sink: &mut MemSink,
-) -> Result<Answer, AllocError> {
+) -> Result<Answer, AllocError>
+    ensures never_raced { IfOk result (λ answer. answer.exit ≢ Exit.Raced) }
+    ensures bytes { IfOk result (λ answer. answer.bytes.items ≡ sink.new.bytes) }
+{
     let words = words_of(alloc, words)?;
     let exit = run_words(alloc, &words, shelf, sink);
     let bytes = Vec::from_slice(alloc, sink.bytes())?;
@@ -37,7 +42,9 @@ pub fn call(
 }
 
 /// Calls `check` on a text, with room for the whole reply.
-pub fn check(alloc: Global, text: &[u8]) -> Result<Answer, AllocError> {
+pub fn check(alloc: Global, text: &[u8]) -> Result<Answer, AllocError>
+    ensures never_raced { IfOk result (λ answer. answer.exit ≢ Exit.Raced) }
+{
     let mut shelf = MemShelf::new(alloc, &[])?;
     shelf.add("main.swift", text)?;
     let mut sink = MemSink::new(alloc, 1000, &[], 1000)?;

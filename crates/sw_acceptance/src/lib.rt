@@ -1,8 +1,7 @@
 //! Whole calls of the tool over files and a sink in memory, against replies that were worked out by hand.
 #![tactic(auto)]
 
-#[cfg(test)]
-mod calls;
+pub mod calls;
 #[cfg(test)]
 mod check_rows;
 #[cfg(test)]
