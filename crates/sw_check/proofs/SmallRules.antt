@@ -3,7 +3,8 @@ use Rattle.std.proofs.Common.{◌≡◌, ℕ, suc, ◌<◌, Bool, true, false, i
 use Rattle.std.proofs.lemmas.List.{append-nil}
 use Rattle.std.specs.Prelude.{Option, Some, None, Ok, codes, bytes_eq}
 use Rattle.sw_token.specs.declared.Kind.TheVariants as kinds
-use Rattle.sw_token.specs.Bytes.{is_digit, is_word_start}
+use Rattle.sw_bytes.specs.Classes.{is_digit}
+use Rattle.sw_token.specs.Bytes.{is_word_start}
 use Rattle.sw_token.specs.Kinds.{kind_of, word_kind, ruled_words, reserved_words, mark_number}
 use Rattle.sw_check.specs.declared.small.tree.Show.{Show}
 use Rattle.sw_check.specs.declared.small.tree.Item.{Item}

@@ -8,7 +8,8 @@ use Rattle.std.specs.Str.{IsUtf8}
 use Rattle.sw_token.specs.declared.Kind.{Kind}
 use Rattle.sw_token.specs.declared.Kind.TheVariants as kinds
 use Rattle.sw_token.specs.declared.Token.{Token}
-use Rattle.sw_token.specs.Bytes.{is_word_start, is_digit}
+use Rattle.sw_bytes.specs.Classes.{is_digit}
+use Rattle.sw_token.specs.Bytes.{is_word_start}
 use Rattle.sw_token.specs.Kinds.{kind_of, word_kind, named_kind}
 use Rattle.sw_token.specs.Tokens.{IsToken, Splits, IsTokens, IsTokenIn}
 use Rattle.sw_token.proofs.Laws.{IsTokens-each, IsTokenIn-borders}

@@ -6,7 +6,7 @@ use Rattle.std.specs.Str.{IsCharBoundary}
 use Rattle.sw_token.specs.declared.Kind.{Kind}
 use Rattle.sw_token.specs.declared.Kind.TheVariants as kinds
 use Rattle.sw_token.specs.declared.Token.{Token}
-use Rattle.sw_token.specs.Bytes.{is_digit}
+use Rattle.sw_bytes.specs.Classes.{is_digit}
 use Rattle.sw_token.specs.Kinds.{kind_of}
 
 -- a token and its text

@@ -1,4 +1,4 @@
-pub mod Fronts
+pub mod Apart
 pub mod Numbers
 pub mod Readings
 pub mod Turns

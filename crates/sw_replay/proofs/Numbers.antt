@@ -1,17 +1,10 @@
 -- The number that digits spell, one digit further.
 use Rattle.std.proofs.Common.{◌≡◌, ℕ, suc, ◌+◌, ◌-◌, ◌*◌, ◌^◌, ◌<◌, ◌≤◌, true, false, List, [], ◌∷◌, length, get_or, drop, Some, None, ltb, arith, refl, sym, ap, ◌∙◌, add-one, drop-cons}
 use Rattle.std.proofs.lemmas.List.{drop_all}
-use Rattle.std.specs.List.{list_all, fold}
+use Rattle.std.specs.List.{fold}
 use Rattle.std.proofs.lemmas.Bool.Decides.{nat_tests}
-use Rattle.std.proofs.lemmas.List.Sums.{AllPass-from_list_all}
-use Rattle.sw_replay.specs.Items.{is_digit, number_of}
+use Rattle.sw_bytes.specs.Decimal.{number_of}
 use Rattle.sw_replay.specs.Reading.{fitting}
-
-pub digit_at : (digits : List ℕ) (n : ℕ) → list_all is_digit digits ≡ true → n < length digits → (48 ≤ get_or digits n 0) × (get_or digits n 0 ≤ 57)
-unfolding is_digit
-digit_at digits n passes inside =
-    let this = AllPass-from_list_all is_digit digits passes n 0 inside in
-    (grind (arith, nat_tests), grind (arith, nat_tests))
 
 -- the number of digits that follow digits with that number
 pub number_from : ℕ → List ℕ → ℕ

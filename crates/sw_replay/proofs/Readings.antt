@@ -10,21 +10,25 @@ use Rattle.sw_replay.specs.declared.items.TheConstants.{MAX_ITEMS}
 use Rattle.sw_replay.specs.declared.text.Number.{Number}
 use Rattle.sw_replay.specs.declared.text.SchedFault.{SchedFault}
 use Rattle.sw_replay.specs.declared.text.SchedFault.TheVariants.{BadItem, TooBig, TooMany, Memory}
-use Rattle.sw_replay.specs.Items.{is_separator, is_digit, AreSeparators, BeginsWithout, EndsWithoutDigit, IsNumber, number_of, Splits, IsItems, IsBadPlace, IsReading, place_of}
+use Rattle.sw_bytes.specs.Classes.{is_blank, is_digit}
+use Rattle.sw_bytes.specs.Fronts.{BeginsWithout}
+use Rattle.sw_bytes.specs.Decimal.{number_of}
+use Rattle.sw_replay.specs.Items.{AreSeparators, EndsWithoutDigit, IsNumber, Splits, IsItems, IsBadPlace, IsReading, place_of}
 use Rattle.sw_replay.specs.Items as items
 use Rattle.sw_replay.specs.Reading.{fitting, item_or_fault, item_of, item_at, next_of, with_front, go_on, read, reading, Gives}
 use Rattle.sw_replay.proofs.Numbers.{fits_some, fits_none}
-use Rattle.sw_replay.proofs.Fronts.{cases_of, and_parts, front_passes, rest_fails, prefix_len-append, prefix_len-yes, number_begins, Apart, gap_apart, apart_behind, apart_before}
+use Rattle.sw_bytes.proofs.Fronts.{cases_of, and_parts, front_passes, rest_fails, prefix_len-append, prefix_len-yes}
+use Rattle.sw_replay.proofs.Apart.{number_begins, Apart, gap_apart, apart_behind, apart_before}
 
 -- what stands at the bad place of a text, behind so many items
 pub data Stop : ℕ → ℕ → List ℕ → SchedFault → Type 0 where
-  bad_byte : (start before byte : ℕ) (after : List ℕ) → is_separator byte ≡ false → is_digit byte ≡ false → Stop start before (byte ∷ after) (BadItem start)
+  bad_byte : (start before byte : ℕ) (after : List ℕ) → is_blank byte ≡ false → is_digit byte ≡ false → Stop start before (byte ∷ after) (BadItem start)
   big : (start before : ℕ) (digits after : List ℕ) → IsNumber digits after → 2 ^ 32 ≤ number_of digits → Stop start before (digits ++ after) (TooBig start)
   many : (start before : ℕ) (digits after : List ℕ) → IsNumber digits after → number_of digits < 2 ^ 32 → MAX_ITEMS ≤ before → Stop start before (digits ++ after) (TooMany start)
 
 -- what stands at a place begins with no separator
 
-pub stop_begins : (start before : ℕ) (rest : List ℕ) (fault : SchedFault) → Stop start before rest fault → (0 < length rest) × BeginsWithout is_separator rest
+pub stop_begins : (start before : ℕ) (rest : List ℕ) (fault : SchedFault) → Stop start before rest fault → (0 < length rest) × BeginsWithout is_blank rest
 stop_begins _ _ _ _ (bad_byte start before byte after s d) = (omega arith, s)
 stop_begins _ _ _ _ (big start before digits after n more) =
     let b = number_begins digits after n in (omega (arith, n.some, length-append digits after), rw b.2 b.4)
@@ -56,30 +60,30 @@ stop_item _ _ _ _ (many start before digits after n fits late) =
 
 -- the next item, where the definitions have one
 
-next_gap : (at before : ℕ) (gap rest : List ℕ) → list_all is_separator gap ≡ true → BeginsWithout is_separator rest
+next_gap : (at before : ℕ) (gap rest : List ℕ) → list_all is_blank gap ≡ true → BeginsWithout is_blank rest
     → next_of at before (gap ++ rest) ≡ item_at (at + length gap) before rest
 unfolding next_of
 next_gap at before gap rest passes fails =
-    rw (prefix_len-append is_separator gap rest passes fails, drop_at gap rest (length gap) refl) refl
+    rw (prefix_len-append is_blank gap rest passes fails, drop_at gap rest (length gap) refl) refl
 
-next_end : (at before : ℕ) (gap : List ℕ) → list_all is_separator gap ≡ true → next_of at before gap ≡ Ok None
+next_end : (at before : ℕ) (gap : List ℕ) → list_all is_blank gap ≡ true → next_of at before gap ≡ Ok None
 unfolding item_at
 next_end at before gap passes = ap (next_of at before) (sym (append-nil gap)) ∙ next_gap at before gap [] passes tt
 
 abbrev number_ends : ℕ → List ℕ → List ℕ → Number
 number_ends at gap digits = record { value = number_of digits; end = at + length gap + length digits }
 
-next_item : (at before : ℕ) (gap digits after : List ℕ) → list_all is_separator gap ≡ true → IsNumber digits after → number_of digits < 2 ^ 32 → before < MAX_ITEMS
+next_item : (at before : ℕ) (gap digits after : List ℕ) → list_all is_blank gap ≡ true → IsNumber digits after → number_of digits < 2 ^ 32 → before < MAX_ITEMS
     → next_of at before (gap ++ (digits ++ after)) ≡ Ok (Some (number_ends at gap digits))
 next_item at before gap digits after passes n fits room =
     let b = number_begins digits after n in
-    let fails : BeginsWithout is_separator (digits ++ after) = rw b.2 b.4 in
+    let fails : BeginsWithout is_blank (digits ++ after) = rw b.2 b.4 in
     let t : leb MAX_ITEMS before ≡ false = grind (arith, nat_tests) in
     next_gap at before gap (digits ++ after) passes fails
     ∙ (number_item (at + length gap) before digits after n
     ∙ (ap (item_or_fault (at + length gap) before (length digits)) (fits_some (number_of digits) fits) ∙ rw t refl))
 
-next_stop : (at before : ℕ) (gap rest : List ℕ) (fault : SchedFault) → list_all is_separator gap ≡ true → Stop (at + length gap) before rest fault
+next_stop : (at before : ℕ) (gap rest : List ℕ) (fault : SchedFault) → list_all is_blank gap ≡ true → Stop (at + length gap) before rest fault
     → next_of at before (gap ++ rest) ≡ Err fault
 next_stop at before gap rest fault passes stop =
     next_gap at before gap rest passes (stop_begins (at + length gap) before rest fault stop).1 ∙ stop_item (at + length gap) before rest fault stop
@@ -91,7 +95,7 @@ past_number at gap digits after =
     ap (drop ((at + length gap + length digits) - at)) (sym (append_assoc gap digits after)) ∙ drop_at (gap ++ digits) after _ long
 
 -- one turn of the reading
-one_turn : (turns at before : ℕ) (gap digits after : List ℕ) → list_all is_separator gap ≡ true → IsNumber digits after → number_of digits < 2 ^ 32 → before < MAX_ITEMS
+one_turn : (turns at before : ℕ) (gap digits after : List ℕ) → list_all is_blank gap ≡ true → IsNumber digits after → number_of digits < 2 ^ 32 → before < MAX_ITEMS
     → read (suc turns) at before (gap ++ (digits ++ after)) ≡ with_front (number_of digits ∷ []) (read turns (at + length gap + length digits) (before + 1) after)
 unfolding read
 one_turn turns at before gap digits after passes n fits room =
@@ -163,7 +167,7 @@ record NextItem (at before : ℕ) (bytes : List ℕ) (number : Number) : Type 0 
   digits : List ℕ
   after : List ℕ
   whole : bytes ≡ gap ++ (digits ++ after)
-  passes : list_all is_separator gap ≡ true
+  passes : list_all is_blank gap ≡ true
   number_there : IsNumber digits after
   fits : number_of digits < 2 ^ 32
   room : before < MAX_ITEMS
@@ -173,11 +177,11 @@ record NextStops (at before : ℕ) (bytes : List ℕ) (fault : SchedFault) : Typ
   gap : List ℕ
   rest : List ℕ
   whole : bytes ≡ gap ++ rest
-  passes : list_all is_separator gap ≡ true
+  passes : list_all is_blank gap ≡ true
   stop : Stop (at + length gap) before rest fault
 
 abbrev NextHolds : ℕ → ℕ → List ℕ → Result (Option Number) SchedFault → Type 0
-NextHolds at before bytes (Ok None) = list_all is_separator bytes ≡ true
+NextHolds at before bytes (Ok None) = list_all is_blank bytes ≡ true
 NextHolds at before bytes (Ok (Some number)) = NextItem at before bytes number
 NextHolds at before bytes (Err fault) = NextStops at before bytes fault
 
@@ -193,7 +197,7 @@ number_there bytes e =
     let some : 0 < prefix_len is_digit bytes = grind (arith, nat_tests) in
     record { digits_alone = front_passes is_digit bytes; some = omega (arith, long, some); whole = rest_fails is_digit bytes }
 
-next_number : (at before : ℕ) (gap bytes : List ℕ) → list_all is_separator gap ≡ true → eqb (prefix_len is_digit bytes) 0 ≡ false
+next_number : (at before : ℕ) (gap bytes : List ℕ) → list_all is_blank gap ≡ true → eqb (prefix_len is_digit bytes) 0 ≡ false
     → NextHolds at before (gap ++ bytes) (item_or_fault (at + length gap) before (prefix_len is_digit bytes) (fitting (number_of (take (prefix_len is_digit bytes) bytes))))
 next_number at before gap bytes passes some = by_size (ltb (number_of digits) (2 ^ 32)) refl where
   len : ℕ
@@ -233,7 +237,7 @@ next_number at before gap bytes passes some = by_size (ltb (number_of digits) (2
   by_size false e = stops (TooBig (at + length gap)) (big (at + length gap) before digits after (number_there bytes some) (grind (arith, nat_tests)))
   by_size true e = by_room (leb MAX_ITEMS before) refl (grind (arith, nat_tests))
 
-next_behind : (at before : ℕ) (gap rest : List ℕ) → list_all is_separator gap ≡ true → BeginsWithout is_separator rest → NextHolds at before (gap ++ rest) (item_at (at + length gap) before rest)
+next_behind : (at before : ℕ) (gap rest : List ℕ) → list_all is_blank gap ≡ true → BeginsWithout is_blank rest → NextHolds at before (gap ++ rest) (item_at (at + length gap) before rest)
 unfolding item_at
 next_behind at before gap [] passes fails = rw append-nil passes
 next_behind at before gap (b ∷ more) passes fails = by_len (eqb (prefix_len is_digit (b ∷ more)) 0) refl where
@@ -245,13 +249,13 @@ next_behind at before gap (b ∷ more) passes fails = by_len (eqb (prefix_len is
 next_holds : (at before : ℕ) (bytes : List ℕ) → NextHolds at before bytes (next_of at before bytes)
 unfolding next_of
 next_holds at before bytes =
-    let n = prefix_len is_separator bytes in
-    let long : length (take n bytes) ≡ n = length-take-le n bytes (prefix_len-le-length is_separator bytes) in
-    let held = next_behind at before (take n bytes) (drop n bytes) (front_passes is_separator bytes) (rest_fails is_separator bytes) in
+    let n = prefix_len is_blank bytes in
+    let long : length (take n bytes) ≡ n = length-take-le n bytes (prefix_len-le-length is_blank bytes) in
+    let held = next_behind at before (take n bytes) (drop n bytes) (front_passes is_blank bytes) (rest_fails is_blank bytes) in
     let whole : take n bytes ++ drop n bytes ≡ bytes = take-append-drop n bytes in
     rw (whole, long) at held
 
-behind_number : (at before : ℕ) (gap digits after : List ℕ) → list_all is_separator gap ≡ true → IsNumber digits after → number_of digits < 2 ^ 32 → before < MAX_ITEMS
+behind_number : (at before : ℕ) (gap digits after : List ℕ) → list_all is_blank gap ≡ true → IsNumber digits after → number_of digits < 2 ^ 32 → before < MAX_ITEMS
     → (outcome : Result (List ℕ) SchedFault) → ReadHolds (at + length gap + length digits) (before + 1) after outcome
     → ReadHolds at before (gap ++ (digits ++ after)) (with_front (number_of digits ∷ []) outcome)
 behind_number at before gap digits after passes n fits room (Ok numbers) h =

@@ -1,29 +1,19 @@
 -- The items of a schedule text. The text is separators, a number, separators, a number and so on to the last separators.
 -- A text that is not so, or that goes past a limit, has a bad place: the first byte, or the first digit of the first
 -- number, that can't stand where it does.
-use Rattle.std.specs.Prelude.{◌≡◌, ℕ, ◌+◌, ◌-◌, ◌*◌, ◌^◌, ◌<◌, ◌≤◌, ◌==◌, ◌||◌, Bool, IsTrue, List, [], ◌∷◌, ◌++◌, length, fold, All, Result, Ok, Err}
+use Rattle.std.specs.Prelude.{◌≡◌, ℕ, ◌^◌, ◌<◌, ◌≤◌, IsTrue, List, [], ◌∷◌, ◌++◌, length, All, Result, Ok, Err}
 use Rattle.std.specs.Bool.{IsFalse}
-use Rattle.std.specs.Char.{is_ascii_digit}
 use Rattle.std.specs.List.{list_all}
+use Rattle.sw_bytes.specs.Classes.{is_blank, is_digit}
+use Rattle.sw_bytes.specs.Decimal.{number_of}
+use Rattle.sw_bytes.specs.Fronts.{BeginsWithout}
 use Rattle.sw_replay.specs.declared.items.TheConstants.{MAX_ITEMS}
 use Rattle.sw_replay.specs.declared.text.SchedFault.{SchedFault}
 use Rattle.sw_replay.specs.declared.text.SchedFault.TheVariants.{BadItem, TooBig, TooMany, Memory}
 
--- a space, a tab, a carriage return or a line feed
-unfoldable pub is_separator : ℕ → Bool
-is_separator byte = byte == 32 || byte == 9 || byte == 13 || byte == 10
-
-unfoldable pub is_digit : ℕ → Bool
-is_digit byte = is_ascii_digit byte
-
--- bytes that are separators, maybe none
+-- Separators are spaces, tabs, carriage returns and line feeds; there may be none.
 abbrev pub AreSeparators : List ℕ → Type 0
-AreSeparators bytes = IsTrue (list_all is_separator bytes)
-
--- the bytes begin with none that passes the test
-abbrev pub BeginsWithout : (ℕ → Bool) → List ℕ → Type 0
-BeginsWithout test [] = Unit {0}
-BeginsWithout test (byte ∷ _) = IsFalse (test byte)
+AreSeparators bytes = IsTrue (list_all is_blank bytes)
 
 abbrev pub EndsWithoutDigit : List ℕ → Type 0
 EndsWithoutDigit [] = Unit {0}
@@ -35,10 +25,6 @@ pub record IsNumber (digits after : List ℕ) : Type 0 where
   pub digits_alone : IsTrue (list_all is_digit digits)
   pub some : 0 < length digits
   pub whole : BeginsWithout is_digit after
-
--- the number that digits spell in decimal
-unfoldable pub number_of : List ℕ → ℕ
-number_of digits = fold (λ number digit. number * 10 + (digit - 48)) 0 digits
 
 -- separators and numbers in turn
 pub data Splits : List ℕ → List ℕ → Type 0 where
@@ -56,7 +42,7 @@ pub record IsItems (bytes items : List ℕ) : Type 0 where
 pub data IsBadPlace : List ℕ → SchedFault → Type 0 where
   -- a byte that is neither a separator nor a digit
   bad_item : (front items after : List ℕ) (byte : ℕ) → IsItems front items
-      → IsFalse (is_separator byte) → IsFalse (is_digit byte) → IsBadPlace (front ++ byte ∷ after) (BadItem (length front))
+      → IsFalse (is_blank byte) → IsFalse (is_digit byte) → IsBadPlace (front ++ byte ∷ after) (BadItem (length front))
   -- a number that has more than 32 bits
   too_big : (front items digits after : List ℕ) → IsItems front items → EndsWithoutDigit front → IsNumber digits after
       → 2 ^ 32 ≤ number_of digits → IsBadPlace (front ++ (digits ++ after)) (TooBig (length front))

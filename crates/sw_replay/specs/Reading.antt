@@ -6,7 +6,8 @@ use Rattle.sw_replay.specs.declared.items.TheConstants.{MAX_ITEMS}
 use Rattle.sw_replay.specs.declared.text.Number.{Number}
 use Rattle.sw_replay.specs.declared.text.SchedFault.{SchedFault}
 use Rattle.sw_replay.specs.declared.text.SchedFault.TheVariants.{BadItem, TooBig, TooMany, Memory}
-use Rattle.sw_replay.specs.Items.{is_separator, is_digit, number_of}
+use Rattle.sw_bytes.specs.Classes.{is_blank, is_digit}
+use Rattle.sw_bytes.specs.Decimal.{number_of}
 
 -- a number, if it has 32 bits
 abbrev pub fitting : ℕ → Option ℕ
@@ -30,7 +31,7 @@ item_at start before (byte ∷ more) = item_of start before (byte ∷ more) (pre
 
 -- the next item of bytes that stand at the place `at`
 unfoldable pub next_of : ℕ → ℕ → List ℕ → Result (Option Number) SchedFault
-next_of at before bytes = let gap = prefix_len is_separator bytes in item_at (at + gap) before (drop gap bytes)
+next_of at before bytes = let gap = prefix_len is_blank bytes in item_at (at + gap) before (drop gap bytes)
 
 abbrev pub with_front : List ℕ → Result (List ℕ) SchedFault → Result (List ℕ) SchedFault
 with_front front (Ok items) = Ok (front ++ items)

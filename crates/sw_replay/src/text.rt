@@ -1,10 +1,13 @@
 ghost use Rattle.std.specs.Prelude.{ℕ, ◌≡◌, ◌≢◌, ◌+◌, ◌<◌, ◌≤◌, ◌^◌, ◌↔◌, length, IfOk, IfErr, IsErrOf, IsTrue};
 ghost use Rattle.std.specs.List.{prefix_len, list_all};
-ghost use Rattle.sw_replay.specs.Items.{is_separator, is_digit, number_of, IsItems, IsBadPlace};
+ghost use Rattle.sw_bytes.specs.Classes.{is_blank, is_digit};
+ghost use Rattle.sw_bytes.specs.Decimal.{number_of};
+ghost use Rattle.sw_replay.specs.Items.{IsItems, IsBadPlace};
 ghost use Rattle.sw_replay.specs.Reading.{fitting, item_of, item_at, next_of, reading, Gives};
 
 use crate::items::{MAX_ITEMS, Schedule};
 use std::alloc::{AllocError, Global};
+use sw_bytes::{blanks_len, digits_len};
 use thiserror::Error;
 
 /// The most bytes of a schedule text.
@@ -74,7 +77,7 @@ fn next_number(bytes: &[u8], at: u32, before: usize) -> Result<Option<Number>, S
     requires { at + length bytes.now < 2 ^ 32 }
     ensures { result ≡ next_of at before bytes.now }
 {
-    let gap = gap_len(bytes);
+    let gap = blanks_len(bytes);
     number_at(&bytes[gap..], at + gap as u32, before)
 }
 
@@ -99,36 +102,6 @@ fn number_at(bytes: &[u8], start: u32, before: usize) -> Result<Option<Number>, 
             end: start + len as u32,
         })),
     }
-}
-
-/// How many separators stand at the front.
-fn gap_len(bytes: &[u8]) -> usize
-    ensures value { result ≡ prefix_len is_separator bytes.now }
-    ensures within { result ≤ length bytes.now }
-{
-    bytes.iter().take_while(|byte| is_separator(**byte)).count()
-}
-
-/// How many digits stand at the front.
-fn digits_len(bytes: &[u8]) -> usize
-    ensures value { result ≡ prefix_len is_digit bytes.now }
-    ensures within { result ≤ length bytes.now }
-{
-    bytes.iter().take_while(|byte| is_digit(**byte)).count()
-}
-
-#[tactic(auto, unfolding(crate::specs::Items::is_separator))]
-fn is_separator(byte: u8) -> bool
-    ensures { result ≡ is_separator byte }
-{
-    byte == b' ' || byte == b'\t' || byte == b'\r' || byte == b'\n'
-}
-
-#[tactic(auto, unfolding(crate::specs::Items::is_digit))]
-fn is_digit(byte: u8) -> bool
-    ensures { result ≡ is_digit byte }
-{
-    byte.is_ascii_digit()
 }
 
 /// The number that digits spell, if it is one of 32 bits.

@@ -6,12 +6,14 @@ use Rattle.std.proofs.lemmas.Bool.Decides.{nat_tests}
 use Rattle.std.proofs.lemmas.List.{length-take-le, take-append-drop}
 use Rattle.std.proofs.lemmas.List.Sums.{prefix_len-le-length}
 use Rattle.std.proofs.lemmas.Slice.Eq.{bytes_eq-Decides}
-use Rattle.sw_token.specs.Bytes.{is_gap_byte, is_word_start, is_digit, is_word_byte, is_mark}
-use Rattle.sw_token.specs.Tokens.{BeginsWithout, IsToken, IsRefused}
+use Rattle.sw_bytes.specs.Classes.{is_blank, is_digit}
+use Rattle.sw_token.specs.Bytes.{is_word_start, is_word_byte, is_mark}
+use Rattle.sw_bytes.specs.Fronts.{BeginsWithout}
+use Rattle.sw_token.specs.Tokens.{IsToken, IsRefused}
 use Rattle.sw_token.specs.Tokens as tokens
 use Rattle.sw_token.specs.Kinds.{NumberFits}
 use Rattle.sw_token.specs.Reading.{number_len, at_len, token_len}
-use Rattle.sw_token.proofs.Fronts.{cases_of, chosen, or_parts, prefix_len-yes, front_passes, rest_fails, prefix_len-append, prefix_len-through, list_all-wider}
+use Rattle.sw_bytes.proofs.Fronts.{cases_of, chosen, or_parts, prefix_len-yes, front_passes, rest_fails, prefix_len-append, prefix_len-through, list_all-wider}
 
 -- the classes of bytes are apart
 
@@ -27,20 +29,20 @@ digit_is_no_start : (b : ℕ) → is_digit b ≡ true → is_word_start b ≡ fa
 unfolding is_digit is_word_start
 digit_is_no_start b h = grind (arith, nat_tests)
 
-start_is_no_gap : (b : ℕ) → is_word_start b ≡ true → is_gap_byte b ≡ false
-unfolding is_word_start is_gap_byte
+start_is_no_gap : (b : ℕ) → is_word_start b ≡ true → is_blank b ≡ false
+unfolding is_word_start is_blank
 start_is_no_gap b h = grind (arith, nat_tests)
 
-digit_is_no_gap : (b : ℕ) → is_digit b ≡ true → is_gap_byte b ≡ false
-unfolding is_digit is_gap_byte
+digit_is_no_gap : (b : ℕ) → is_digit b ≡ true → is_blank b ≡ false
+unfolding is_digit is_blank
 digit_is_no_gap b h = grind (arith, nat_tests)
 
 no_word_byte : (b : ℕ) → is_word_start b ≡ false → is_digit b ≡ false → is_word_byte b ≡ false
 unfolding is_word_byte
 no_word_byte b s d = rw (s, d) refl
 
-mark_is_apart : (b : ℕ) → is_mark b ≡ true → (is_word_start b ≡ false) × (is_digit b ≡ false) × (eqb b 64 ≡ false) × (is_gap_byte b ≡ false)
-unfolding is_digit is_word_start is_gap_byte is_mark
+mark_is_apart : (b : ℕ) → is_mark b ≡ true → (is_word_start b ≡ false) × (is_digit b ≡ false) × (eqb b 64 ≡ false) × (is_blank b ≡ false)
+unfolding is_digit is_word_start is_blank is_mark
 mark_is_apart b h = (grind (arith, nat_tests), grind (arith, nat_tests), grind (arith, nat_tests), grind (arith, nat_tests))
 
 -- `IsToken` and `IsRefused` by the first byte, from what the reading finds
@@ -176,7 +178,7 @@ refuses_at more n e =
     ]
 
 -- what the reading refuses is refused
-pub token_len-refuses : (b : ℕ) (more : List ℕ) (n : ℕ) → is_gap_byte b ≡ false → token_len (b ∷ more) ≡ Err n → IsRefused (b ∷ more) n
+pub token_len-refuses : (b : ℕ) (more : List ℕ) (n : ℕ) → is_blank b ≡ false → token_len (b ∷ more) ≡ Err n → IsRefused (b ∷ more) n
 unfolding token_len
 token_len-refuses b more n gap e =
     elim (chosen (is_word_start b) _ _ _ e) [
@@ -306,15 +308,15 @@ token_len-refuses_again _ _ (tokens.other b after gap word off m) = refuses_agai
 
 -- what stands where a token should is no gap
 
-pub refused_begins : (bytes : List ℕ) (n : ℕ) → IsRefused bytes n → (b : ℕ) × (more : List ℕ) × (bytes ≡ b ∷ more) × (is_gap_byte b ≡ false) × (n < length bytes)
-unfolding is_gap_byte
+pub refused_begins : (bytes : List ℕ) (n : ℕ) → IsRefused bytes n → (b : ℕ) × (more : List ℕ) × (bytes ≡ b ∷ more) × (is_blank b ≡ false) × (n < length bytes)
+unfolding is_blank
 refused_begins _ _ (tokens.behind_number b more y after h passes few s) = (b, more ++ (y ∷ after), refl, digit_is_no_gap b h, omega (arith, length-append more (y ∷ after)))
 refused_begins _ _ (tokens.long_number b more after h passes many) = (b, more ++ after, refl, digit_is_no_gap b h, omega arith)
 refused_begins _ _ (tokens.lone_at after none) = (64, after, refl, refl, omega arith)
 refused_begins _ _ (tokens.other b after gap word off m) = (b, after, refl, gap, omega arith)
 
-pub token_begins : (text after : List ℕ) → IsToken text after → (b : ℕ) × (more : List ℕ) × (text ≡ b ∷ more) × (is_gap_byte b ≡ false)
-unfolding is_gap_byte
+pub token_begins : (text after : List ℕ) → IsToken text after → (b : ℕ) × (more : List ℕ) × (text ≡ b ∷ more) × (is_blank b ≡ false)
+unfolding is_blank
 token_begins _ _ (tokens.word b more after h passes ends) = (b, more, refl, start_is_no_gap b h)
 token_begins _ _ (tokens.number b more after h passes few ends) = (b, more, refl, digit_is_no_gap b h)
 token_begins _ _ (tokens.at_main after ends) = (64, codes "main", refl, refl)

@@ -1,4 +1,3 @@
-pub mod Fronts
 pub mod Lengths
 pub mod Readings
 pub mod Numbers

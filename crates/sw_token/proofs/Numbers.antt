@@ -1,17 +1,8 @@
 -- The number that digits spell, one digit further.
-use Rattle.std.proofs.Common.{◌≡◌, ℕ, ◌+◌, ◌-◌, ◌*◌, ◌^◌, ◌<◌, ◌≤◌, true, List, [], length, get_or, take, arith, refl, lit<, add-one}
-use Rattle.std.specs.List.{list_all}
+use Rattle.std.proofs.Common.{◌≡◌, ℕ, ◌+◌, ◌-◌, ◌*◌, ◌^◌, ◌<◌, ◌≤◌, List, [], length, get_or, take, arith, refl, lit<, add-one}
 use Rattle.std.proofs.Math.Nat.{pow-le-pow_right, pow-suc}
-use Rattle.std.proofs.lemmas.Bool.Decides.{nat_tests}
-use Rattle.std.proofs.lemmas.List.Sums.{fold_more, AllPass-from_list_all}
-use Rattle.sw_token.specs.Bytes.{is_digit}
-use Rattle.sw_token.specs.Kinds.{number_of}
-
-pub digit_at : (digits : List ℕ) (n : ℕ) → list_all is_digit digits ≡ true → n < length digits → (48 ≤ get_or digits n 0) × (get_or digits n 0 ≤ 57)
-unfolding is_digit
-digit_at digits n passes inside =
-    let this = AllPass-from_list_all is_digit digits passes n 0 inside in
-    (grind (arith, nat_tests), grind (arith, nat_tests))
+use Rattle.std.proofs.lemmas.List.Sums.{fold_more}
+use Rattle.sw_bytes.specs.Decimal.{number_of}
 
 pub number_of-nil : number_of [] ≡ 0
 unfolding number_of

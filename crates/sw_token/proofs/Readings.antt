@@ -10,11 +10,13 @@ use Rattle.sw_token.specs.declared.LexFault.TheVariants.{BadChar}
 use Rattle.sw_token.specs.declared.Kind.{Kind}
 use Rattle.sw_token.specs.declared.Fixity.TheVariants as fixities
 use Rattle.sw_token.specs.Kinds.{kind_of}
-use Rattle.sw_token.specs.Bytes.{is_gap_byte, has_line_feed}
-use Rattle.sw_token.specs.Tokens.{IsGap, BeginsWithout, IsToken, IsRefused, Splits, Fails, IsTokens, IsLexicalPlace, IsReading, token_of}
+use Rattle.sw_bytes.specs.Classes.{is_blank}
+use Rattle.sw_token.specs.Bytes.{has_line_feed}
+use Rattle.sw_bytes.specs.Fronts.{BeginsWithout}
+use Rattle.sw_token.specs.Tokens.{IsGap, IsToken, IsRefused, Splits, Fails, IsTokens, IsLexicalPlace, IsReading, token_of}
 use Rattle.sw_token.specs.Tokens as tokens
 use Rattle.sw_token.specs.Reading.{token_len, token_or_fault, token_at, next_of, with_front, go_on, read, reading}
-use Rattle.sw_token.proofs.Fronts.{front_passes, rest_fails, prefix_len-append}
+use Rattle.sw_bytes.proofs.Fronts.{front_passes, rest_fails, prefix_len-append}
 use Rattle.sw_token.proofs.Lengths.{token_len-within, token_len-takes, token_len-refuses, token_len-takes_again, token_len-refuses_again, token_begins, refused_begins}
 
 -- what the next token is said to be
@@ -24,7 +26,7 @@ NextHolds at leads bytes (Ok (Some token)) = (gap : List ℕ) × (text : List �
 NextHolds at leads bytes (Err fault) = (gap : List ℕ) × (rest : List ℕ) × (n : ℕ) × (bytes ≡ gap ++ rest) × IsGap gap × IsRefused rest n × (fault ≡ BadChar (at + length gap + n))
 
 -- behind a gap stands the end, a token or a byte that is refused
-next_behind : (at : ℕ) (leads : Bool) (gap rest : List ℕ) → IsGap gap → BeginsWithout is_gap_byte rest
+next_behind : (at : ℕ) (leads : Bool) (gap rest : List ℕ) → IsGap gap → BeginsWithout is_blank rest
     → NextHolds at leads (gap ++ rest) (token_at (at + length gap) (leads || has_line_feed gap) rest)
 unfolding NextHolds token_at
 next_behind at leads gap [] passes fails = rw append-nil passes
@@ -37,18 +39,18 @@ next_behind at leads gap (b ∷ more) passes fails = go (token_len (b ∷ more))
 pub next_holds : (at : ℕ) (leads : Bool) (bytes : List ℕ) → NextHolds at leads bytes (next_of at leads bytes)
 unfolding next_of
 next_holds at leads bytes =
-    let n = prefix_len is_gap_byte bytes in
-    let long : length (take n bytes) ≡ n = length-take-le n bytes (prefix_len-le-length is_gap_byte bytes) in
-    let held = next_behind at leads (take n bytes) (drop n bytes) (front_passes is_gap_byte bytes) (rest_fails is_gap_byte bytes) in
+    let n = prefix_len is_blank bytes in
+    let long : length (take n bytes) ≡ n = length-take-le n bytes (prefix_len-le-length is_blank bytes) in
+    let held = next_behind at leads (take n bytes) (drop n bytes) (front_passes is_blank bytes) (rest_fails is_blank bytes) in
     let whole : take n bytes ++ drop n bytes ≡ bytes = take-append-drop n bytes in
     rw (whole, long) at held
 
 -- the next token, where the definitions have one
-next_gap : (at : ℕ) (leads : Bool) (gap rest : List ℕ) → IsGap gap → BeginsWithout is_gap_byte rest
+next_gap : (at : ℕ) (leads : Bool) (gap rest : List ℕ) → IsGap gap → BeginsWithout is_blank rest
     → next_of at leads (gap ++ rest) ≡ token_at (at + length gap) (leads || has_line_feed gap) rest
 unfolding next_of
 next_gap at leads gap rest passes fails =
-    rw (prefix_len-append is_gap_byte gap rest passes fails, take_at gap rest (length gap) refl, drop_at gap rest (length gap) refl) refl
+    rw (prefix_len-append is_blank gap rest passes fails, take_at gap rest (length gap) refl, drop_at gap rest (length gap) refl) refl
 
 pub next_end : (at : ℕ) (leads : Bool) (gap : List ℕ) → IsGap gap → next_of at leads gap ≡ Ok None
 unfolding token_at
@@ -72,7 +74,7 @@ next_token : (at : ℕ) (leads : Bool) (gap text after : List ℕ) → IsGap gap
     → next_of at leads (gap ++ (text ++ after)) ≡ Ok (Some (token_of (at + length gap) (leads || has_line_feed gap) text))
 next_token at leads gap text after passes t =
     let begins = token_begins text after t in
-    let fails : BeginsWithout is_gap_byte (text ++ after) = rw begins.2 begins.3 in
+    let fails : BeginsWithout is_blank (text ++ after) = rw begins.2 begins.3 in
     let start = at + length gap in
     let first = leads || has_line_feed gap in
     next_gap at leads gap (text ++ after) passes fails
@@ -84,7 +86,7 @@ next_refused : (at : ℕ) (leads : Bool) (gap rest : List ℕ) (n : ℕ) → IsG
     → next_of at leads (gap ++ rest) ≡ Err (BadChar (at + length gap + n))
 next_refused at leads gap rest n passes r =
     let begins = refused_begins rest n r in
-    let fails : BeginsWithout is_gap_byte rest = rw begins.2 begins.3 in
+    let fails : BeginsWithout is_blank rest = rw begins.2 begins.3 in
     let start = at + length gap in
     let first = leads || has_line_feed gap in
     next_gap at leads gap rest passes fails

@@ -8,11 +8,12 @@ use Rattle.std.proofs.lemmas.Str.Ascii.{IsAscii-nil, IsAscii-cons}
 use Rattle.sw_token.specs.declared.Token.{Token}
 use Rattle.sw_token.specs.declared.LexFault.{LexFault}
 use Rattle.sw_token.specs.declared.LexFault.TheVariants.{BadChar}
-use Rattle.sw_token.specs.Bytes.{is_word_start, is_digit, is_word_byte, is_mark, has_line_feed}
+use Rattle.sw_bytes.specs.Classes.{is_digit}
+use Rattle.sw_token.specs.Bytes.{is_word_start, is_word_byte, is_mark, has_line_feed}
 use Rattle.sw_token.specs.Kinds.{kind_of}
 use Rattle.sw_token.specs.Tokens.{IsGap, IsToken, Splits, Fails, IsTokenIn, StandInOrder, token_of}
 use Rattle.sw_token.specs.Tokens as tokens
-use Rattle.sw_token.proofs.Fronts.{and_parts}
+use Rattle.sw_bytes.proofs.Fronts.{and_parts}
 use Rattle.sw_token.proofs.Lengths.{token_begins, refused_begins}
 
 word_ascii : (b : ℕ) → is_word_byte b ≡ true → b < 128

@@ -1,19 +1,12 @@
 -- The classes of bytes that the forms of tokens are made of.
 use Rattle.std.specs.Prelude.{ℕ, ◌==◌, Bool, ◌||◌, List, codes}
-use Rattle.std.specs.Char.{is_ascii_alphabetic, is_ascii_digit}
+use Rattle.std.specs.Char.{is_ascii_alphabetic}
 use Rattle.std.specs.List.{list_any}
-
--- a space, a tab, a carriage return or a line feed: what may stand between tokens
-unfoldable pub is_gap_byte : ℕ → Bool
-is_gap_byte byte = byte == 32 || byte == 9 || byte == 13 || byte == 10
+use Rattle.sw_bytes.specs.Classes.{is_digit}
 
 -- a letter of ASCII or `_`: what a word begins with
 unfoldable pub is_word_start : ℕ → Bool
 is_word_start byte = is_ascii_alphabetic byte || byte == 95
-
--- a digit
-unfoldable pub is_digit : ℕ → Bool
-is_digit byte = is_ascii_digit byte
 
 -- a letter, a digit or `_`: what a word goes on with
 unfoldable pub is_word_byte : ℕ → Bool

@@ -1,9 +1,11 @@
 -- The kind of a token, which its text alone decides.
 use Rattle.std.specs.List.{list_all}
-use Rattle.std.specs.Prelude.{ℕ, ◌+◌, ◌-◌, ◌*◌, ◌<◌, ◌==◌, length, IsTrue, if◌then◌else◌, List, [], ◌∷◌, ◌++◌, Option, Some, None, pos, codes, fold, position, bytes_eq, unwrap_or}
+use Rattle.std.specs.Prelude.{ℕ, ◌<◌, ◌==◌, length, IsTrue, if◌then◌else◌, List, [], ◌∷◌, ◌++◌, Option, Some, None, pos, codes, position, bytes_eq, unwrap_or}
 use Rattle.sw_token.specs.declared.Kind.{Kind}
 use Rattle.sw_token.specs.declared.Kind.TheVariants as kinds
-use Rattle.sw_token.specs.Bytes.{is_word_start, is_digit}
+use Rattle.sw_bytes.specs.Classes.{is_digit}
+use Rattle.sw_bytes.specs.Decimal.{number_of}
+use Rattle.sw_token.specs.Bytes.{is_word_start}
 
 -- the words that some rule of the grammar uses
 unfoldable pub ruled_words : List (List ℕ)
@@ -43,10 +45,6 @@ unfoldable pub word_kind : List ℕ → Kind
 word_kind text =
     if bytes_eq text (codes "_") then kinds.Underscore
     else named_kind (position (λ word. bytes_eq word text) key_words)
-
--- the number that decimal digits spell
-unfoldable pub number_of : List ℕ → ℕ
-number_of digits = fold (λ number digit. number * 10 + (digit - 48)) 0 digits
 
 -- a mark's number
 unfoldable pub mark_number : ℕ → ℕ

@@ -6,7 +6,8 @@ use Rattle.std.specs.Global.{Vec}
 use Rattle.sw_token.specs.declared.Token.{Token}
 use Rattle.sw_token.specs.declared.LexFault.{LexFault}
 use Rattle.sw_token.specs.declared.LexFault.TheVariants.{BadChar, Memory}
-use Rattle.sw_token.specs.Bytes.{is_gap_byte, is_word_start, is_digit, is_word_byte, is_mark, has_line_feed}
+use Rattle.sw_bytes.specs.Classes.{is_blank, is_digit}
+use Rattle.sw_token.specs.Bytes.{is_word_start, is_word_byte, is_mark, has_line_feed}
 use Rattle.sw_token.specs.Tokens.{token_of}
 
 -- The length of the number with so many digits at the front, of so many word bytes there; or how
@@ -40,7 +41,7 @@ token_at start first (byte ∷ more) = token_or_fault start first (byte ∷ more
 -- the next token of the bytes, which stand at the place `at`: behind the gap
 unfoldable pub next_of : ℕ → Bool → List ℕ → Result (Option Token) LexFault
 next_of at leads bytes =
-    let gap = prefix_len is_gap_byte bytes in
+    let gap = prefix_len is_blank bytes in
     token_at (at + gap) (leads || has_line_feed (take gap bytes)) (drop gap bytes)
 
 -- the tokens with these before them

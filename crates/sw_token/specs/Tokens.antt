@@ -7,17 +7,14 @@ use Rattle.sw_token.specs.declared.Token.{Token}
 use Rattle.sw_token.specs.declared.Fixity.TheVariants as fixities
 use Rattle.sw_token.specs.declared.LexFault.{LexFault}
 use Rattle.sw_token.specs.declared.LexFault.TheVariants.{BadChar}
-use Rattle.sw_token.specs.Bytes.{is_gap_byte, is_word_start, is_digit, is_word_byte, is_mark, has_line_feed}
+use Rattle.sw_bytes.specs.Classes.{is_blank, is_digit}
+use Rattle.sw_bytes.specs.Fronts.{BeginsWithout}
+use Rattle.sw_token.specs.Bytes.{is_word_start, is_word_byte, is_mark, has_line_feed}
 use Rattle.sw_token.specs.Kinds.{kind_of}
 
 -- what may stand between two tokens, before the first and behind the last; it may be empty
 abbrev pub IsGap : List ℕ → Type 0
-IsGap bytes = IsTrue (list_all is_gap_byte bytes)
-
--- the bytes don't begin with one that passes the test
-abbrev pub BeginsWithout : (ℕ → Bool) → List ℕ → Type 0
-BeginsWithout test [] = Unit {0}
-BeginsWithout test (byte ∷ _) = IsFalse (test byte)
+IsGap bytes = IsTrue (list_all is_blank bytes)
 
 -- `IsToken text after`: `text` is a token where `after` follows it, and the longest one at its place.
 pub data IsToken : List ℕ → List ℕ → Type 0 where
@@ -46,7 +43,7 @@ pub data IsRefused : List ℕ → ℕ → Type 0 where
   lone_at : (after : List ℕ) → ((rest : List ℕ) → BeginsWithout is_word_byte rest → after ≢ codes "main" ++ rest)
       → IsRefused (64 ∷ after) 0
   -- a byte that no token begins with
-  other : (byte : ℕ) (after : List ℕ) → IsFalse (is_gap_byte byte) → IsFalse (is_word_byte byte)
+  other : (byte : ℕ) (after : List ℕ) → IsFalse (is_blank byte) → IsFalse (is_word_byte byte)
       → byte ≢ 64 → IsFalse (is_mark byte) → IsRefused (byte ∷ after) 0
 
 -- the token with this text, which begins at the place `start`

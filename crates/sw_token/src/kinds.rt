@@ -1,11 +1,13 @@
 //! The kind of a token, from its text.
 ghost use Rattle.std.specs.Prelude.{ℕ, ◌≡◌, ◌==◌, IsTrue, IfSome, length, ◌≤◌, ◌<◌, pos, position, map, bytes_eq};
 ghost use Rattle.std.specs.List.{list_all};
-ghost use Rattle.sw_token.specs.Bytes.{is_digit};
-ghost use Rattle.sw_token.specs.Kinds.{kind_of, word_kind, key_words, marks, mark_number, number_of, NumberFits};
+ghost use Rattle.sw_bytes.specs.Classes.{is_digit};
+ghost use Rattle.sw_bytes.specs.Decimal.{number_of};
+ghost use Rattle.sw_token.specs.Kinds.{kind_of, word_kind, key_words, marks, mark_number, NumberFits};
 
 use super::Kind;
-use super::bytes::{is_digit, is_word_start};
+use super::bytes::is_word_start;
+use sw_bytes::is_digit;
 
 /// The words with a rule, and then those that are reserved without one.
 const KEY_WORDS: [&str; 59] = [

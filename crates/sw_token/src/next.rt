@@ -1,12 +1,14 @@
 //! The next token of a text.
 ghost use Rattle.std.specs.Prelude.{ℕ, ◌≡◌, ◌+◌, ◌<◌, ◌^◌, length};
 ghost use Rattle.std.specs.List.{prefix_len};
-ghost use Rattle.sw_token.specs.Bytes.{is_digit, is_word_byte};
+ghost use Rattle.sw_bytes.specs.Classes.{is_digit};
+ghost use Rattle.sw_token.specs.Bytes.{is_word_byte};
 ghost use Rattle.sw_token.specs.Reading.{number_len, at_len, token_len, token_at, next_of};
 
-use super::bytes::{digits_len, gap_len, is_digit, is_mark, is_word_start, word_len};
+use super::bytes::{is_mark, is_word_start, word_len};
 use super::kinds::kind_of;
 use super::{Fixity, LexFault, Token};
+use sw_bytes::{blanks_len, digits_len, is_digit};
 use sw_text::Span;
 
 /// The most digits of a number.
@@ -18,7 +20,7 @@ pub fn next_token(bytes: &[u8], at: u32, leads: bool) -> Result<Option<Token>, L
     requires { at + length bytes.now < 2 ^ 32 }
     ensures { result ≡ next_of at leads bytes.now }
 {
-    let gap = gap_len(bytes);
+    let gap = blanks_len(bytes);
     let first = leads || bytes[..gap].contains(&b'\n');
     token_at(&bytes[gap..], at + gap as u32, first)
 }

@@ -1,5 +1,5 @@
-use Rattle.sw_replay.specs.Items.{is_digit}
-use Rattle.sw_replay.proofs.Fronts.{front_passes}
+use Rattle.sw_bytes.specs.Classes.{is_digit}
+use Rattle.sw_bytes.proofs.Fronts.{front_passes}
 use Rattle.sw_replay.proofs.text.number_at.Goals as goal
 
 pub number_of-requires : goal.number_of-requires

@@ -1,8 +1,9 @@
 use Rattle.std.proofs.Common.{arith, sym, ap, ◌∙◌, pos, w64}
 use Rattle.std.proofs.lemmas.Int.{ints, to_z_pos}
 use Rattle.std.proofs.lemmas.List.{take_all}
-use Rattle.sw_token.specs.Kinds.{number_of}
-use Rattle.sw_token.proofs.Numbers.{digit_at, number_of-nil, number_of-more, below_limit, below_tenth, below_more}
+use Rattle.sw_bytes.specs.Decimal.{number_of}
+use Rattle.sw_bytes.proofs.Digits.{digit_at}
+use Rattle.sw_token.proofs.Numbers.{number_of-nil, number_of-more, below_limit, below_tenth, below_more}
 use Rattle.sw_token.proofs.kinds.number_of.Goals as goal
 
 pub loop-digit-init : goal.loop-digit-init

@@ -1,5 +1,5 @@
 use Rattle.std.proofs.Common.{◌≡◌, ◌<◌, ◌^◌, take}
-use Rattle.sw_token.specs.Kinds.{number_of}
+use Rattle.sw_bytes.specs.Decimal.{number_of}
 use Rattle.sw_token.proofs.kinds.number_of.Given as goal
 
 abbrev pub invariant-loop-digit : goal.invariant-loop-digit

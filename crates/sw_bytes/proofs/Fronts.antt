@@ -2,7 +2,7 @@
 use Rattle.std.proofs.Common.{◌≡◌, ℕ, suc, ◌+◌, Bool, true, false, cond, ◌&&◌, ◌||◌, List, [], ◌∷◌, ◌++◌, length, take, drop, refl, ap, ◌∙◌, ◌⊎◌, inl, inr, arith}
 use Rattle.std.proofs.Math.Numerals.{one-add}
 use Rattle.std.specs.List.{list_all, prefix_len}
-use Rattle.sw_token.specs.Tokens.{BeginsWithout}
+use Rattle.sw_bytes.specs.Fronts.{BeginsWithout}
 
 pub cases_of : (b : Bool) → (b ≡ true) ⊎ (b ≡ false)
 cases_of true = inl refl

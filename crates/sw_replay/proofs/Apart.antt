@@ -1,61 +1,25 @@
--- The front of a list that passes a test, and what stands behind it.
-use Rattle.std.proofs.Common.{◌≡◌, ℕ, suc, Bool, true, false, ◌&&◌, List, [], ◌∷◌, ◌++◌, length, take, drop, refl, subst, ap, ◌∙◌, ◌⊎◌, inl, inr, arith}
-use Rattle.std.proofs.Math.Numerals.{one-add}
+-- Digits and separators are apart, and so are a number and what stands before it and behind it.
+use Rattle.std.proofs.Common.{◌≡◌, ℕ, true, false, List, [], ◌∷◌, ◌++◌, refl, subst, ◌⊎◌, inl, inr, arith}
 use Rattle.std.proofs.lemmas.Bool.Decides.{nat_tests}
 use Rattle.std.proofs.lemmas.List.{append-nil, append_assoc}
-use Rattle.std.specs.List.{list_all, prefix_len}
-use Rattle.sw_replay.specs.Items.{is_separator, is_digit, BeginsWithout, EndsWithoutDigit, IsNumber}
+use Rattle.std.specs.List.{list_all}
+use Rattle.sw_bytes.specs.Classes.{is_blank, is_digit}
+use Rattle.sw_bytes.specs.Fronts.{BeginsWithout}
+use Rattle.sw_bytes.proofs.Fronts.{cases_of, and_parts}
+use Rattle.sw_replay.specs.Items.{EndsWithoutDigit, IsNumber}
 
-pub cases_of : (b : Bool) → (b ≡ true) ⊎ (b ≡ false)
-cases_of true = inl refl
-cases_of false = inr refl
-
-pub and_parts : (a b : Bool) → (a && b) ≡ true → (a ≡ true) × (b ≡ true)
-and_parts true b e = (refl, e)
-and_parts false b e = cc
-
-pub prefix_len-yes : (p : ℕ → Bool) (x : ℕ) (xs : List ℕ) → p x ≡ true → prefix_len p (x ∷ xs) ≡ suc (prefix_len p xs)
-prefix_len-yes p x xs h = rw (h, one-add) refl
-
-pub prefix_len-no : (p : ℕ → Bool) (x : ℕ) (xs : List ℕ) → p x ≡ false → prefix_len p (x ∷ xs) ≡ 0
-prefix_len-no p x xs h = rw h refl
-
-pub front_passes : (p : ℕ → Bool) (xs : List ℕ) → list_all p (take (prefix_len p xs) xs) ≡ true
-front_passes p [] = refl
-front_passes p (x ∷ xs) = elim (cases_of (p x)) [
-  | inl h ↦ rw (prefix_len-yes p x xs h) (rw h (front_passes p xs))
-  | inr h ↦ rw (prefix_len-no p x xs h) refl
-]
-
-pub rest_fails : (p : ℕ → Bool) (xs : List ℕ) → BeginsWithout p (drop (prefix_len p xs) xs)
-rest_fails p [] = tt
-rest_fails p (x ∷ xs) = elim (cases_of (p x)) [
-  | inl h ↦ rw (prefix_len-yes p x xs h) (rest_fails p xs)
-  | inr h ↦ rw (prefix_len-no p x xs h) h
-]
-
--- a front that passes, with nothing behind it that does, is the whole front
-pub prefix_len-append : (p : ℕ → Bool) (front rest : List ℕ) → list_all p front ≡ true → BeginsWithout p rest → prefix_len p (front ++ rest) ≡ length front
-prefix_len-append p [] [] passes fails = refl
-prefix_len-append p [] (y ∷ ys) passes fails = prefix_len-no p y ys fails
-prefix_len-append p (x ∷ xs) rest passes fails =
-    let parts = and_parts (p x) (list_all p xs) passes in
-    prefix_len-yes p x (xs ++ rest) parts.0 ∙ ap suc (prefix_len-append p xs rest parts.1 fails)
-
--- digits and separators are apart
-
-pub digit_is_no_separator : (b : ℕ) → is_digit b ≡ true → is_separator b ≡ false
-unfolding is_digit is_separator
+pub digit_is_no_separator : (b : ℕ) → is_digit b ≡ true → is_blank b ≡ false
+unfolding is_digit is_blank
 digit_is_no_separator b h = grind (arith, nat_tests)
 
-pub separator_is_no_digit : (b : ℕ) → is_separator b ≡ true → is_digit b ≡ false
+pub separator_is_no_digit : (b : ℕ) → is_blank b ≡ true → is_digit b ≡ false
 separator_is_no_digit b h = elim (cases_of (is_digit b)) [
   | inl d ↦ (let s = digit_is_no_separator b d in cc)
   | inr d ↦ d
 ]
 
 -- a number begins with a digit, and so with no separator
-pub number_begins : (digits after : List ℕ) → IsNumber digits after → (b : ℕ) × (more : List ℕ) × (digits ≡ b ∷ more) × (is_digit b ≡ true) × (is_separator b ≡ false)
+pub number_begins : (digits after : List ℕ) → IsNumber digits after → (b : ℕ) × (more : List ℕ) × (digits ≡ b ∷ more) × (is_digit b ≡ true) × (is_blank b ≡ false)
 number_begins [] after n = absurd (omega (arith, n.some))
 number_begins (b ∷ more) after n =
     let digit = (and_parts (is_digit b) (list_all is_digit more) n.digits_alone).0 in
@@ -63,10 +27,10 @@ number_begins (b ∷ more) after n =
 
 -- how lists end
 
-pub separators_end : (gap : List ℕ) → list_all is_separator gap ≡ true → EndsWithoutDigit gap
+pub separators_end : (gap : List ℕ) → list_all is_blank gap ≡ true → EndsWithoutDigit gap
 separators_end [] s = tt
-separators_end (b ∷ []) s = separator_is_no_digit b (and_parts (is_separator b) true s).0
-separators_end (b ∷ c ∷ bs) s = separators_end (c ∷ bs) (and_parts (is_separator b) (list_all is_separator (c ∷ bs)) s).1
+separators_end (b ∷ []) s = separator_is_no_digit b (and_parts (is_blank b) true s).0
+separators_end (b ∷ c ∷ bs) s = separators_end (c ∷ bs) (and_parts (is_blank b) (list_all is_blank (c ∷ bs)) s).1
 
 digits_end : (b : ℕ) (bs : List ℕ) → list_all is_digit (b ∷ bs) ≡ true → EndsWithoutDigit (b ∷ bs) → ⊥
 digits_end b [] d e = (let h = (and_parts (is_digit b) true d).0 in cc)
@@ -87,7 +51,7 @@ behind_ends (x ∷ y ∷ xs) b bs e = behind_ends (y ∷ xs) b bs e
 unfoldable pub Apart : List ℕ → List ℕ → Type 0
 Apart front rest = EndsWithoutDigit front ⊎ BeginsWithout is_digit rest
 
-pub gap_apart : (gap rest : List ℕ) → list_all is_separator gap ≡ true → Apart gap rest
+pub gap_apart : (gap rest : List ℕ) → list_all is_blank gap ≡ true → Apart gap rest
 unfolding Apart
 gap_apart gap rest s = inl (separators_end gap s)
 
