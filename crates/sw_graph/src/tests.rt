@@ -1,26 +1,7 @@
-ghost use Rattle.std.specs.Prelude.{◌≡◌, [], ◌∷◌, IfOk};
-
 use super::*;
-use std::alloc::{AllocError, Global};
 use std::test::Fail;
 use sw_list::ListOf;
 use sw_types::{Iso, Shapes, Ty};
-
-fn one<T: Drop>(alloc: Global, item: T) -> Result<ListOf<T>, AllocError>
-    ensures { IfOk result (λ list. list ≡ item ∷ []) }
-{
-    let mut list = ListOf::new(alloc);
-    list.push(item)?;
-    Ok(list)
-}
-
-fn two<T: Drop>(alloc: Global, first: T, second: T) -> Result<ListOf<T>, AllocError>
-    ensures { IfOk result (λ list. list ≡ first ∷ second ∷ []) }
-{
-    let mut list = one(alloc, first)?;
-    list.push(second)?;
-    Ok(list)
-}
 
 /// The graph of a `main` at byte 33 that prints the 7 at byte 52 by the `print` at byte 46.
 #[test]
@@ -34,10 +15,10 @@ fn a_graph_by_hand(rt: HostRuntime) -> Result<(), Fail> {
     let print = Instr::Print {
         at: 46,
         r: 1,
-        ss: one(alloc, Operand { reg: 0, at: 52 })?,
+        ss: ListOf::one(alloc, Operand { reg: 0, at: 52 })?,
     };
     let block = Block {
-        instrs: two(alloc, literal, print)?,
+        instrs: ListOf::two(alloc, literal, print)?,
         last: Last::Return { s: None },
     };
     let main = Function {
@@ -48,14 +29,14 @@ fn a_graph_by_hand(rt: HostRuntime) -> Result<(), Fail> {
         sending: ListOf::new(alloc),
         sends: false,
         result: Ty::Unit,
-        regs: two(alloc, RegKind::Plain(Ty::Int), RegKind::Plain(Ty::Unit))?,
-        blocks: one(alloc, block)?,
+        regs: ListOf::two(alloc, RegKind::Plain(Ty::Int), RegKind::Plain(Ty::Unit))?,
+        blocks: ListOf::one(alloc, block)?,
     };
     let shapes = Shapes::new(alloc, ListOf::new(alloc))?;
     let graph = Graph::new(
         shapes,
         ListOf::new(alloc),
-        one(alloc, main)?,
+        ListOf::one(alloc, main)?,
         0,
         ListOf::new(alloc),
     );

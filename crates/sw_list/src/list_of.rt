@@ -100,6 +100,24 @@ impl<T> ListOf<T> {
 }
 
 impl<T: Drop> ListOf<T> {
+    /// The list of one item.
+    pub fn one(alloc: Global, item: T) -> Result<ListOf<T>, AllocError>
+        ensures { IfOk result (λ list. list ≡ item ∷ []) }
+    {
+        let mut list = ListOf::new(alloc);
+        list.push(item)?;
+        Ok(list)
+    }
+
+    /// The list of two items.
+    pub fn two(alloc: Global, first: T, second: T) -> Result<ListOf<T>, AllocError>
+        ensures { IfOk result (λ list. list ≡ first ∷ second ∷ []) }
+    {
+        let mut list = ListOf::one(alloc, first)?;
+        list.push(second)?;
+        Ok(list)
+    }
+
     /// Replaces the item at a place that is there.
     pub fn set(&mut self, at: usize, item: T)
         requires { at < length self.old }

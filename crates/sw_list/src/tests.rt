@@ -29,6 +29,10 @@ fn a_list_is_made_of_items(rt: HostRuntime) -> Result<(), Fail> {
     assert_eq!(rt; copied.as_slice(), [7, 9].as_slice());
     let moved = ListOf::from_vec([1u8, 6].to_vec(alloc)?);
     assert_eq!(rt; moved.as_slice(), [1, 6].as_slice());
+    let single = ListOf::one(alloc, 9u8)?;
+    assert_eq!(rt; single.as_slice(), [9].as_slice());
+    let pair = ListOf::two(alloc, 9u8, 4)?;
+    assert_eq!(rt; pair.as_slice(), [9, 4].as_slice());
     Ok(())
 }
 
