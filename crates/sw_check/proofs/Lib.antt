@@ -1,8 +1,12 @@
 pub mod Answering
+pub mod BlockItems
 pub mod Claims
 pub mod CursorSteps
 pub mod EachSteps
 pub mod FitsLemmas
+pub mod GrammarWords
+pub mod OneGraph
+pub mod OneReply
 pub mod PlanLemmas
 pub mod ReaderLaws
 pub mod ReaderLoops
