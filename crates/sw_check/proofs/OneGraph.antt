@@ -6,7 +6,7 @@ use Rattle.sw_graph.specs.OneProof.{IsWellFormed-prop}
 use Rattle.sw_graph.specs.WellFormed.{IsWellFormed}
 use Rattle.sw_check.specs.declared.small.tree.Small.{Small}
 use Rattle.sw_check.specs.Lower.{functions_of, IsLowered}
-use Rattle.sw_check.proofs.FitsLemmas.{program_fits}
+use Rattle.sw_check.proofs.GraphFits.{program_fits}
 
 -- Graphs are equal where their fields are: what they keep has one proof.
 same_graph : (a b : Graph) → a.shapes ≡ b.shapes → a.globals ≡ b.globals → a.functions ≡ b.functions → a.entry ≡ b.entry → a.starts ≡ b.starts → a ≡ b

@@ -21,8 +21,8 @@ use Rattle.sw_check.specs.declared.small.tree.Item.TheVariants.{Show as Shows, T
 use Rattle.sw_check.specs.declared.small.tree.Show.{Show}
 use Rattle.sw_check.specs.declared.small.tree.Small.{Small}
 use Rattle.sw_check.specs.Lower.{in_order, function_of, functions_of, show_plan, item_plan, item_size, size_of}
-use Rattle.sw_check.proofs.PlanLemmas.{shows_bodies}
-use Rattle.sw_check.proofs.SmallLemmas.{program_small}
+use Rattle.sw_check.proofs.PlanLoops.{shows_bodies}
+use Rattle.sw_check.proofs.SmallFunctions.{program_small}
 
 -- the points of a function have numbers of 32 bits
 abbrev IsNumbered : Function → Type 0

@@ -1,5 +1,5 @@
 use Rattle.std.proofs.Common.{◌∙◌}
-use Rattle.sw_check.proofs.FitsLemmas.{lowered_fits}
+use Rattle.sw_check.proofs.GraphFits.{lowered_fits}
 use Rattle.sw_check.proofs.small.lower.lower.Goals as goal
 
 pub new-requires-5 : goal.new-requires-5

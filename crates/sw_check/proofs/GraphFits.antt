@@ -23,7 +23,7 @@ use Rattle.sw_check.specs.declared.small.tree.Item.TheVariants.{Show as Shows, T
 use Rattle.sw_check.specs.declared.small.tree.Show.{Show}
 use Rattle.sw_check.specs.declared.small.tree.Small.{Small}
 use Rattle.sw_check.specs.Lower.{Plan, in_order, function_of, body_of, functions_of, show_plan, item_plan}
-use Rattle.sw_check.proofs.SmallLemmas.{IsSmallFunction, AreSmall, program_small}
+use Rattle.sw_check.proofs.SmallFunctions.{IsSmallFunction, AreSmall, program_small}
 use Rattle.sw_graph.specs.WellFormed.{type_in, InstrFits, BlockFits, FunctionFits, IsWellFormed}
 
 -- the element behind a front
