@@ -8,7 +8,7 @@ use Rattle.sw_check.specs.Outcome.{Gives}
 use Rattle.sw_check.specs.declared.small.fault.Stop.{Stop}
 use Rattle.sw_check.specs.declared.small.fault.Stop.TheVariants as stops
 use Rattle.sw_check.proofs.ReaderLaws.{Relation, bind_step, bind_stop}
-use Rattle.sw_check.proofs.SmallRules.{IsItem, each_ends, each_turns, turn_takes}
+use Rattle.sw_check.proofs.BlockItems.{IsItem, each_ends, each_turns, turn_takes}
 
 -- the outcome of a block, of which some items are read
 abbrev pub Rest : {X : Type 0} → Reader X → List X → Bool → Reader (List X × Bool)

@@ -152,10 +152,6 @@ pub finish_ok : (ts rest : List Spelled) (a : Unit {0}) → finish ts ≡ Ok (a,
 finish_ok [] rest a e = (refl, sym (ok_parts e).1)
 finish_ok (t ∷ ts) rest a e = absurd (cc)
 
-no_head : (ts : List Spelled) → head ts ≡ None → ts ≡ []
-no_head [] e = refl
-no_head (t ∷ ts) e = absurd (cc)
-
 finish_stable : (other : List Spelled) (a : Unit {0}) → head other ≡ None → finish other ≡ Ok (a, other)
 finish_stable [] a e = refl
 finish_stable (t ∷ ts) a e = absurd (cc)

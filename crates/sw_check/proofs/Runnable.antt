@@ -20,34 +20,9 @@ use Rattle.sw_check.specs.declared.small.tree.Item.{Item}
 use Rattle.sw_check.specs.declared.small.tree.Item.TheVariants.{Show as Shows, Task}
 use Rattle.sw_check.specs.declared.small.tree.Show.{Show}
 use Rattle.sw_check.specs.declared.small.tree.Small.{Small}
-use Rattle.sw_check.specs.Lower.{in_order, function_of, functions_of, show_plan, item_plan, item_size, size_of, is_small_instr, is_small_last, IsSmallBlock}
-use Rattle.sw_check.proofs.PlanLemmas.{shows_bodies}
-use Rattle.sw_check.proofs.SmallLemmas.{program_small}
-
--- an instruction of small graphs is one at its point
-middle_small : (i : Instr) → IsTrue (is_small_instr i) → IsSmallPoint (Middle i)
-middle_small (instr.Const at r literal) small = tt
-middle_small (instr.Print at r operands) small = tt
-middle_small (instr.NewTask at r f captures) small = tt
-middle_small _ small = cc
-
-end_small : (l : Last) → IsTrue (is_small_last l) → IsSmallPoint (End l)
-end_small (last.Return None) small = tt
-end_small (last.Return (Some operand)) small = tt
-end_small _ small = cc
-
-block_small : (block : Block) → IsSmallBlock block → All IsSmallPoint (points_of_block block)
-block_small block small =
-    All-append IsSmallPoint (map Middle block.instrs) (End block.last ∷ [])
-    (All-map IsSmallPoint Middle block.instrs (λ k d inside. middle_small (get_or block.instrs k d) (small.instrs k d inside)))
-    (All-cons IsSmallPoint (End block.last) [] (end_small block.last small.last) (All-nil IsSmallPoint))
-
-blocks_small : (blocks : List Block) → All IsSmallBlock blocks → All IsSmallPoint (points_of blocks)
-unfolding points_of
-blocks_small [] each = All-nil IsSmallPoint
-blocks_small (block ∷ blocks) each =
-    All-append IsSmallPoint (points_of_block block) (points_of blocks) (block_small block (All-head IsSmallBlock block blocks each))
-    (blocks_small blocks (All-tail IsSmallBlock block blocks each))
+use Rattle.sw_check.specs.Lower.{in_order, function_of, functions_of, show_plan, item_plan, item_size, size_of}
+use Rattle.sw_check.proofs.PlanLoops.{shows_bodies}
+use Rattle.sw_check.proofs.SmallFunctions.{program_small}
 
 -- the points of a function have numbers of 32 bits
 abbrev IsNumbered : Function → Type 0
@@ -111,4 +86,4 @@ lowered_runnable program graph functions few = record { functions = subst (All R
   each : All Runs (functions_of program)
   each k d inside =
       let small = program_small program k d inside in
-      record { free = small.iso; small = blocks_small _ small.blocks; numbered = program_numbered program few k d inside }
+      record { free = small.iso; small = small.points; numbered = program_numbered program few k d inside }

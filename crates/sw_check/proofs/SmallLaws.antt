@@ -31,8 +31,8 @@ read_small ts is program rest e =
     record { spelling = is; form = subst (λ us. SpellsSmall program us) (sym text) found.spelled }
 
 -- Some tokens have one meaning.
-pub one_program : (p q : Small) (ts : List Spelled) → Spells p ts → Spells q ts → p ≡ q
-one_program p q ts h k = (ok_parts (sym (only_small p ts h) ∙ only_small q ts k)).0
+pub one_program : (ts : List Spelled) (p q : Small) → Spells p ts → Spells q ts → p ≡ q
+one_program ts p q h k = (ok_parts (sym (only_small p ts h) ∙ only_small q ts k)).0
 
 -- tokens with places before and behind
 some_bad : (ts before bad : List Spelled) → ts ≡ before ++ bad → length before < length ts → (t : Spelled) × (others : List Spelled) × (bad ≡ t ∷ others)

@@ -13,6 +13,7 @@ use Rattle.sw_check.specs.Small.{Is, IsWord, IsInt, SpellsEnd}
 use Rattle.sw_check.specs.Small.SpellsEnd.{unmarked, semicolon}
 use Rattle.sw_check.specs.Reader.{head}
 use Rattle.sw_check.specs.SmallReading.{has_text, sees, quoted, quoted_within_line, named, valued, expect, expect_within_line, word, integer, skip}
+use Rattle.sw_check.proofs.GrammarWords.{is_int, IsPlain, plain_semicolon}
 use Rattle.sw_check.proofs.ReaderLaws.{Relation, Follow, Anything, Reads, One, Filler, Then, Either, Nothing, Shows, restate, narrow, reads_next, reads_pure, reads_choose, then}
 
 -- a token to go on with, of any text
@@ -48,18 +49,18 @@ pub record Literal (value : ℕ × ℤ) (tokens : List Spelled) : Type 0 where
   pub place : value.0 ≡ position token
   pub alone : tokens ≡ token ∷ []
 
-abbrev pub is_int : Kind → Bool
-is_int (kinds.Int _) = true
-is_int _ = false
+-- a token has the kind of its text where that is no integer literal, or the text is a numeral
+pub kind_or_numeral : (kind : Kind) (text : List ℕ) → kind_of text ≡ kind → (is_int kind ≡ true → IsNumeral text) → HasKind kind text
+kind_or_numeral kinds.Word text same int = same
+kind_or_numeral kinds.Underscore text same int = same
+kind_or_numeral (kinds.Key _) text same int = same
+kind_or_numeral kinds.At text same int = same
+kind_or_numeral (kinds.Int _) text same int = int refl
+kind_or_numeral (kinds.Op _) text same int = same
+kind_or_numeral (kinds.Mark _) text same int = same
 
-pub HasKind-of : (kind : Kind) (text : List ℕ) → kind_of text ≡ kind → is_int kind ≡ false → HasKind kind text
-HasKind-of kinds.Word text same plain = same
-HasKind-of kinds.Underscore text same plain = same
-HasKind-of (kinds.Key _) text same plain = same
-HasKind-of kinds.At text same plain = same
-HasKind-of (kinds.Int _) text same plain = absurd (cc)
-HasKind-of (kinds.Op _) text same plain = same
-HasKind-of (kinds.Mark _) text same plain = same
+pub HasKind-of : (text : List ℕ) → IsPlain text → HasKind (kind_of text) text
+HasKind-of text plain = kind_or_numeral (kind_of text) text refl (λ int. absurd (let clash : true ≡ false = sym int ∙ plain in cc))
 
 pub has_text-true : (text : List ℕ) (token : Spelled) → has_text text token ≡ true → Is text token
 has_text-true text token h = (bytes_eq-Decides token.text text).0 h
@@ -75,14 +76,14 @@ some_if : (b : Bool) (at a : ℕ) → cond b (Some at) None ≡ Some a → (b �
 some_if true at a e = (refl, cc)
 some_if false at a e = absurd (cc)
 
-module _ (text : List ℕ) (plain : is_int (kind_of text) ≡ false) where
-  quoted_filler : (first : Bool) (from : ℕ) → Filler (quoted text) from
-  quoted_filler first from = record {
+module _ (text : List ℕ) (plain : IsPlain text) where
+  quoted_filler : (from : ℕ) → Filler (quoted text) from
+  quoted_filler from = record {
     value = from;
-    token = made (kind_of text) first from text;
-    taken = ap (λ b. cond b (Some from) None) (Is-has_text text (made (kind_of text) first from text) refl);
+    token = made (kind_of text) true from text;
+    taken = ap (λ b. cond b (Some from) None) (Is-has_text text (made (kind_of text) true from text) refl);
     at = refl;
-    kind = HasKind-of (kind_of text) text refl plain;
+    kind = HasKind-of text plain;
   }
 
   quoted_there : (at : ℕ) (ts : List Spelled) → One (quoted text) at ts → Quoted text at ts
@@ -94,7 +95,7 @@ module _ (text : List ℕ) (plain : is_int (kind_of text) ≡ false) where
 
   pub reads_expect : Reads (Quoted text) Anything (expect text)
   unfolding expect
-  reads_expect = restate (reads_next (quoted text) (quoted_filler true)) quoted_there quoted_back
+  reads_expect = restate (reads_next (quoted text) quoted_filler) quoted_there quoted_back
 
   within_filler : (from : ℕ) → Filler (quoted_within_line text) from
   within_filler from = record {
@@ -102,7 +103,7 @@ module _ (text : List ℕ) (plain : is_int (kind_of text) ≡ false) where
     token = made (kind_of text) false from text;
     taken = ap (λ b. cond (b && true) (Some from) None) (Is-has_text text (made (kind_of text) false from text) refl);
     at = refl;
-    kind = HasKind-of (kind_of text) text refl plain;
+    kind = HasKind-of text plain;
   }
 
   both : (a b : Bool) → (a && not b) ≡ true → (a ≡ true) × (b ≡ false)
@@ -191,7 +192,7 @@ Isnt text token = sees text token ≡ false
 abbrev pub Skipped : List ℕ → Relation Bool
 Skipped text = Either (Then (Quoted text) (λ _. Nothing true)) (Nothing false)
 
-module _ (text : List ℕ) (plain : is_int (kind_of text) ≡ false) where
+module _ (text : List ℕ) (plain : IsPlain text) where
   shows_quoted : Shows (sees text) true (Then (Quoted text) (λ _. Nothing true)) (Isnt text)
   shows_quoted marked front rest h f =
       let whole : front ≡ h.first.token ∷ h.back = h.whole ∙ ap (λ us. us ++ h.back) h.first.alone in
@@ -204,11 +205,6 @@ module _ (text : List ℕ) (plain : is_int (kind_of text) ≡ false) where
       (narrow (reads_pure false) (λ token f. tt))
       shows_quoted
       (λ marked front rest h f. ap (λ us. sees text (head (us ++ rest))) h.1 ∙ f)
-
--- The marks and words of the grammar are no integers.
-pub semicolon_plain : is_int (kind_of (codes ";")) ≡ false
-unfolding kind_of is_word_start is_digit mark_number
-semicolon_plain = refl
 
 end_there : (marked : Bool) (ts : List Spelled) → Skipped (codes ";") marked ts → SpellsEnd marked ts
 end_there marked ts (inl h) =
@@ -229,4 +225,4 @@ end_back marked ts (semicolon mark is) = inl (record {
 
 -- what may end an item
 pub reads_end : Reads SpellsEnd (Isnt (codes ";")) (skip (codes ";"))
-reads_end = restate (reads_skip (codes ";") semicolon_plain) end_there end_back
+reads_end = restate (reads_skip (codes ";") plain_semicolon) end_there end_back

@@ -17,7 +17,8 @@ use Rattle.sw_token.specs.Tokens.IsToken.{word, number, at_main, mark}
 use Rattle.sw_token.specs.Tokens.Splits.{last_gap, then_token}
 use Rattle.sw_check.specs.Spelling.{Spelled, spelling_of, HasKind, IsNumeral, IsSpelling, IsWithin}
 use Rattle.sw_check.proofs.Rising.{Rises, IsKind, is_spelling}
-use Rattle.sw_check.proofs.TokenReaders.{is_int, HasKind-of}
+use Rattle.sw_check.proofs.GrammarWords.{is_int, IsPlain, plain_entry}
+use Rattle.sw_check.proofs.TokenReaders.{kind_or_numeral, HasKind-of}
 
 token_takes : (text after : List ℕ) → IsToken text after → 0 < length text
 token_takes _ _ (word byte more after _ _ _) = omega arith
@@ -36,7 +37,7 @@ word_plain : (text : List ℕ) → is_int (word_kind text) ≡ false
 unfolding word_kind
 word_plain text = not_int _ _
 
-starts_word : (byte : ℕ) (more : List ℕ) → is_word_start byte ≡ true → is_int (kind_of (byte ∷ more)) ≡ false
+starts_word : (byte : ℕ) (more : List ℕ) → is_word_start byte ≡ true → IsPlain (byte ∷ more)
 unfolding kind_of
 starts_word byte more starts = rw starts (word_plain (byte ∷ more))
 
@@ -54,23 +55,10 @@ int_digit byte more h = only_digits _ _ _ _ _ _ (word_plain (byte ∷ more)) h
 numeral : (byte : ℕ) (more : List ℕ) → is_digit byte ≡ true → list_all is_digit more ≡ true → IsNumeral (byte ∷ more)
 numeral byte more h k = (λ e. cc, ap (λ b. b && list_all is_digit more) h ∙ k)
 
-kind_or_numeral : (kind : Kind) (text : List ℕ) → kind_of text ≡ kind → (is_int kind ≡ true → IsNumeral text) → HasKind kind text
-kind_or_numeral kinds.Word text same int = same
-kind_or_numeral kinds.Underscore text same int = same
-kind_or_numeral (kinds.Key _) text same int = same
-kind_or_numeral kinds.At text same int = same
-kind_or_numeral (kinds.Int _) text same int = int refl
-kind_or_numeral (kinds.Op _) text same int = same
-kind_or_numeral (kinds.Mark _) text same int = same
-
-main_plain : is_int (kind_of (codes "@main")) ≡ false
-unfolding kind_of is_word_start is_digit
-main_plain = refl
-
 token_kind : (text after : List ℕ) → IsToken text after → HasKind (kind_of text) text
-token_kind _ _ (word byte more after starts all ends) = HasKind-of (kind_of (byte ∷ more)) (byte ∷ more) refl (starts_word byte more starts)
+token_kind _ _ (word byte more after starts all ends) = HasKind-of (byte ∷ more) (starts_word byte more starts)
 token_kind _ _ (number byte more after first all short ends) = kind_or_numeral (kind_of (byte ∷ more)) (byte ∷ more) refl (λ _. numeral byte more first all)
-token_kind _ _ (at_main after ends) = HasKind-of (kind_of (codes "@main")) (codes "@main") refl main_plain
+token_kind _ _ (at_main after ends) = HasKind-of (codes "@main") plain_entry
 token_kind _ _ (mark byte after is) = kind_or_numeral (kind_of (byte ∷ [])) (byte ∷ []) refl (λ int. numeral byte [] (int_digit byte [] int) refl)
 
 -- the text that a token's span cuts out

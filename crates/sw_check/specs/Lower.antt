@@ -96,34 +96,6 @@ item_size (Task at body shows) = 1 + length shows
 abbrev pub size_of : Small → ℕ
 size_of program = sum_by item_size program.items
 
--- whether the instruction makes a literal, prints or starts a task
-abbrev pub is_small_instr : Instr → Bool
-is_small_instr (Const at r v) = true
-is_small_instr (Print at r ss) = true
-is_small_instr (NewTask at r f cs) = true
-is_small_instr _ = false
-
--- whether it returns nothing
-abbrev pub is_small_last : Last → Bool
-is_small_last (Return None) = true
-is_small_last _ = false
-
-pub record IsSmallBlock (block : Block) : Type 0 where
-  pub instrs : All (λ instr. IsTrue (is_small_instr instr)) block.instrs
-  pub last : IsTrue (is_small_last block.last)
-
--- A function that takes and gives nothing, isolated to no actor, with one block.
-pub record IsSmallFunction (function : Function) : Type 0 where
-  pub iso : function.iso ≡ Free
-  pub takes : function.takes ≡ 0
-  pub result : function.result ≡ Void
-  pub one_block : length function.blocks ≡ 1
-  pub blocks : All IsSmallBlock function.blocks
-
--- The functions of a small program's graph print literals and start tasks, and do nothing else.
-abbrev pub IsSmall : List Function → Type 0
-IsSmall functions = All IsSmallFunction functions
-
 -- the graph of a small program: its functions, and no shapes and no globals
 pub record IsLowered (program : Small) (graph : Graph) : Type 0 where
   pub functions : graph.functions ≡ functions_of program

@@ -25,7 +25,10 @@ mod words;
 mod write;
 
 pub use exit::Exit;
-pub use laws::texts_have_one_verdict;
+pub use laws::{
+    programs_have_one_graph, spellings_have_one_meaning, texts_have_one_verdict,
+    words_have_one_reply,
+};
 use no_reply::NoReply;
 use reply::answer;
 use std::alloc::Global;

@@ -1,5 +1,5 @@
 ghost use Rattle.std.specs.Prelude.{◌≡◌, ℕ, ◌+◌, ◌^◌, ◌<◌, ◌≤◌, true, [], ◌∷◌, ◌++◌, length, map, sum_by, IfOk, OnOk};
-ghost use Rattle.sw_check.specs.Lower.{in_order, function_of, body_of, functions_of, show_plan, item_plan, item_size, size_of, IsLowered, IsSmall};
+ghost use Rattle.sw_check.specs.Lower.{in_order, function_of, body_of, functions_of, show_plan, item_plan, item_size, size_of, IsLowered};
 
 use super::tree::{Item, ItemList, Show, ShowList, Small};
 use std::alloc::{AllocError, Global};
@@ -187,7 +187,6 @@ fn functions(alloc: Global, program: &Small) -> Result<FunctionList, AllocError>
 pub(crate) fn lower(alloc: Global, program: &Small) -> Result<Graph, AllocError>
     requires size { size_of program.now < 2 ^ 31 }
     ensures lowered { IfOk result (IsLowered program.now) }
-    ensures small { IfOk result (λ graph. IsSmall graph.functions) }
 {
     let functions = functions(alloc, program)?;
     let Ok(shapes) = Shapes::new(alloc, ListOf::new(alloc)) else {

@@ -1,7 +1,7 @@
 use Rattle.std.proofs.Common.{◌+◌, ap, length, arith, length-append}
 use Rattle.std.proofs.lemmas.List.Sums.{sum_by_more}
 use Rattle.sw_check.specs.Lower.{item_plan, item_size}
-use Rattle.sw_check.proofs.PlanLemmas.{completed_item, item_registers, item_bodies}
+use Rattle.sw_check.proofs.PlanLoops.{completed_item, item_registers, item_bodies}
 use Rattle.sw_check.proofs.small.lower.lower_items.Goals as goal
 
 pub loop-item-preserved : goal.loop-item-preserved

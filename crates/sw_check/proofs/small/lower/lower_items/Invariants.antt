@@ -1,6 +1,6 @@
 use Rattle.std.proofs.Common.{◌≡◌, ◌≤◌, ◌*◌, length, map, take, drop, sum_by}
 use Rattle.sw_check.specs.Lower.{in_order, item_plan, item_size}
-use Rattle.sw_check.proofs.PlanLemmas.{completed}
+use Rattle.sw_check.proofs.PlanLoops.{completed}
 use Rattle.sw_check.proofs.small.lower.lower_items.Given as goal
 
 abbrev pub invariant-loop-item : goal.invariant-loop-item

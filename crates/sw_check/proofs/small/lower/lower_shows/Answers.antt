@@ -1,6 +1,6 @@
 use Rattle.std.proofs.Common.{ap, length, arith, length-append}
 use Rattle.sw_check.specs.Lower.{show_plan}
-use Rattle.sw_check.proofs.PlanLemmas.{completed_more}
+use Rattle.sw_check.proofs.PlanLoops.{completed_more}
 use Rattle.sw_check.proofs.small.lower.lower_shows.Goals as goal
 
 pub loop-show-preserved : goal.loop-show-preserved

@@ -1,6 +1,6 @@
 use Rattle.std.proofs.Common.{◌≡◌, ◌*◌, length, map, drop}
 use Rattle.sw_check.specs.Lower.{in_order, show_plan}
-use Rattle.sw_check.proofs.PlanLemmas.{completed}
+use Rattle.sw_check.proofs.PlanLoops.{completed}
 use Rattle.sw_check.proofs.small.lower.lower_shows.Given as goal
 
 abbrev pub invariant-loop-show : goal.invariant-loop-show

@@ -1,4 +1,4 @@
-use Rattle.sw_check.proofs.PlanLemmas.{task_body_made}
+use Rattle.sw_check.proofs.PlanLoops.{task_body_made}
 use Rattle.sw_check.proofs.small.lower.task_body.Goals as goal
 
 pub returns : goal.returns

@@ -22,8 +22,8 @@ use Rattle.sw_check.specs.declared.small.tree.Item.{Item}
 use Rattle.sw_check.specs.declared.small.tree.Item.TheVariants.{Show as Shows, Task}
 use Rattle.sw_check.specs.declared.small.tree.Show.{Show}
 use Rattle.sw_check.specs.declared.small.tree.Small.{Small}
-use Rattle.sw_check.specs.Lower.{Plan, in_order, function_of, body_of, functions_of, show_plan, item_plan, IsSmall, IsSmallFunction}
-use Rattle.sw_check.proofs.SmallLemmas.{program_small}
+use Rattle.sw_check.specs.Lower.{Plan, in_order, function_of, body_of, functions_of, show_plan, item_plan}
+use Rattle.sw_check.proofs.SmallFunctions.{IsSmallFunction, AreSmall, program_small}
 use Rattle.sw_graph.specs.WellFormed.{type_in, InstrFits, BlockFits, FunctionFits, IsWellFormed}
 
 -- the element behind a front
@@ -158,7 +158,7 @@ show_fits functions show = record {
   bodies = λ number registers enough. All-nil (FunctionFits [] [] functions);
 }
 
-task_instrs : (functions : List Function) (function : Function) (at number registers : ℕ) → IsSmall functions → number < length functions → registers < length function.regs → slice_get function.regs registers ≡ Some (Plain (TaskOf Void)) → All (InstrFits [] [] functions function) (NewTask at registers number [] ∷ [])
+task_instrs : (functions : List Function) (function : Function) (at number registers : ℕ) → AreSmall functions → number < length functions → registers < length function.regs → slice_get function.regs registers ≡ Some (Plain (TaskOf Void)) → All (InstrFits [] [] functions function) (NewTask at registers number [] ∷ [])
 task_instrs functions function at number registers small inside room task =
     All-from_recursion (InstrFits [] [] functions function) (NewTask at registers number [] ∷ []) (
       record {
@@ -177,7 +177,7 @@ task_instrs functions function at number registers small inside room task =
       tt,
     )
 
-item_fits : (functions : List Function) (item : Item) → IsSmall functions → PlanFits functions (item_plan item)
+item_fits : (functions : List Function) (item : Item) → AreSmall functions → PlanFits functions (item_plan item)
 item_fits functions (Shows show) small = show_fits functions show
 item_fits functions (Task at body shows) small = record {
   instrs = λ function front back number registers start enough regs.
@@ -190,7 +190,7 @@ item_fits functions (Task at body shows) small = record {
       body_fits functions body true (map show_plan shows) number (All-map (PlanFits functions) show_plan shows (λ k d inside. show_fits functions (get_or shows k d))) enough;
 }
 
-program_fits : (program : Small) → IsWellFormed [] [] (functions_of program) 0 []
+pub program_fits : (program : Small) → IsWellFormed [] [] (functions_of program) 0 []
 program_fits program =
     let functions = functions_of program in
     record {
