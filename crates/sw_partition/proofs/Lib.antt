@@ -1,4 +1,5 @@
 pub mod Labeling
+pub mod Linking
 pub mod Bits
 pub mod Marking
 pub mod Effecting

@@ -1,5 +1,5 @@
 -- The tables of a partition.
-use Rattle.std.specs.Prelude.{◌≡◌, ◌≢◌, ℕ, ◌+◌, ◌*◌, ◌^◌, ◌<◌, ◌≤◌, max, Bool, true, false, List, length, slice_index, ◌==◌, if◌then◌else◌}
+use Rattle.std.specs.Prelude.{◌≡◌, ◌≢◌, ℕ, ◌+◌, ◌*◌, ◌^◌, ◌<◌, ◌≤◌, ◌↔◌, max, Bool, true, false, List, length, slice_index, ◌==◌, if◌then◌else◌}
 use Rattle.std.specs.List.Sorted.{IsStrictlyIncreasing}
 use Rattle.sw_partition.specs.Regions.{words_for, bit_of}
 
@@ -39,6 +39,33 @@ pub record IsUnited (old other new : List ℕ) (rose : Bool) : Type 0 where
   pub least : (z : List ℕ) → IsCoarser old z → IsCoarser other z → IsCoarser new z
   pub unchanged : rose ≡ false → new ≡ old
   pub changed : rose ≡ true → IsCoarser new old → ⊥
+
+-- links: each element is linked to itself or to one below it
+pub record AreLinks (links : List ℕ) : Type 0 where
+  pub down : (p : ℕ) → p < length links → slice_index links p ≤ p
+
+-- the table z puts each element together with the one that it is linked to, or labelled by
+pub record KeepsLinks (links z : List ℕ) : Type 0 where
+  pub each : (p : ℕ) → p < length links → slice_index z p ≡ slice_index z (slice_index links p)
+
+-- links that are kept by the same tables as the old labels
+pub record IsSunk (old new : List ℕ) : Type 0 where
+  pub length_same : length new ≡ length old
+  pub links : AreLinks new
+  pub same : (z : List ℕ) → KeepsLinks new z ↔ KeepsLinks old z
+
+-- links that are kept by the tables that keep the old ones and put x and y together
+pub record IsLinked (x y : ℕ) (old new : List ℕ) : Type 0 where
+  pub length_same : length new ≡ length old
+  pub links : AreLinks new
+  pub same : (z : List ℕ) → KeepsLinks new z ↔ (KeepsLinks old z × (slice_index z x ≡ slice_index z y))
+
+-- the finest table of labels that keeps the links
+pub record IsFlattened (old new : List ℕ) : Type 0 where
+  pub length_same : length new ≡ length old
+  pub labels : AreLabels new
+  pub keeps : KeepsLinks old new
+  pub least : (z : List ℕ) → KeepsLinks old z → KeepsLinks new z
 
 -- the tables of a partition: element 0 is there, the sites rise, and no bit is set beyond the sites
 pub record AreTables (labels sites words : List ℕ) : Type 0 where

@@ -1,7 +1,8 @@
 //! Tables of classes: each element has a label, which is an element of its class.
-ghost use Rattle.std.specs.Prelude.{◌≡◌, ◌^◌, ◌<◌, length, IfOk};
-ghost use Rattle.sw_partition.specs.Tables.{AreNumbers, AreLabels, IsRelabeled, IsReleased, IsUnited};
+ghost use Rattle.std.specs.Prelude.{◌≡◌, ◌^◌, ◌<◌, ◌↔◌, length, IsTrue, IfOk};
+ghost use Rattle.sw_partition.specs.Tables.{AreNumbers, AreLabels, IsRelabeled, IsReleased, KeepsLinks, IsUnited};
 
+use crate::links::{flatten, link, sink};
 use std::alloc::{AllocError, Global};
 
 /// The numbers below `count`, in order: each element labels itself.
@@ -43,6 +44,20 @@ pub(crate) fn release(labels: &mut [u32], x: usize)
     labels[x] = x as u32;
 }
 
+/// Whether the table puts together what the other table does.
+fn is_coarser(labels: &[u32], other: &[u32]) -> bool
+    requires length { length other.now ≡ length labels.now }
+    requires other { AreLabels other.now }
+    ensures { IsTrue result ↔ KeepsLinks other.now labels.now }
+{
+    for x in 0..labels.len() {
+        if labels[x] != labels[other[x] as usize] {
+            return false;
+        }
+    }
+    true
+}
+
 /// Unites the classes with those of the other table, and answers whether that changed them.
 pub(crate) fn unite(labels: &mut [u32], other: &[u32]) -> bool
     requires length { length other.now ≡ length labels.old }
@@ -50,14 +65,13 @@ pub(crate) fn unite(labels: &mut [u32], other: &[u32]) -> bool
     requires other { AreLabels other.now }
     ensures { IsUnited labels.old other.now labels.new result }
 {
-    let mut rose = false;
-    for x in 0..labels.len() {
-        let from = labels[other[x] as usize];
-        let to = labels[x];
-        if from != to {
-            relabel(labels, from, to);
-            rose = true;
-        }
+    if is_coarser(labels, other) {
+        return false;
     }
-    rose
+    sink(labels);
+    for x in 0..labels.len() {
+        link(labels, x, other[x] as usize);
+    }
+    flatten(labels);
+    true
 }

@@ -7,6 +7,7 @@
 
 mod labels;
 mod laws;
+mod links;
 mod state;
 mod words;
 

@@ -1,3 +1,5 @@
+ghost use Rattle.std.specs.Prelude.{◌<◌};
+
 use crate::*;
 use std::alloc::{AllocError, Global};
 use std::test::Fail;
@@ -41,6 +43,8 @@ fn short_texts(rt: HostRuntime) -> Result<(), Fail> {
             "[4294967295]",
         ),
         ("4294967296", "TooBig 0"),
+        ("0 \t4294967295 4294967296 x", "TooBig 14"),
+        ("0 42949672950", "TooBig 2"),
         ("1 99999999999999999999999999 x", "TooBig 2"),
         ("99999999999x", "TooBig 0"),
         ("1 x", "BadItem 2"),
@@ -73,11 +77,14 @@ fn zeros(alloc: Global, count: usize, last: &[u8]) -> Result<Vec<u8>, AllocError
 #[test]
 fn many_items(rt: HostRuntime) -> Result<(), Fail> {
     let alloc = rt.alloc();
-    let texts: [(usize, &[u8], &str); 9] = [
+    let texts: [(usize, &[u8], &str); 12] = [
         (19_999, b"0", "20000 items"),
         (20_000, b"", "20000 items"),
         (20_000, b" \n", "20000 items"),
         (20_000, b"0", "TooMany 40000"),
+        (19_999, b"0 0", "TooMany 40000"),
+        (20_000, b"4294967295", "TooMany 40000"),
+        (20_000, b"4294967296", "TooBig 40000"),
         (20_000, b"7x", "TooMany 40000"),
         (20_000, b"99999999999", "TooBig 40000"),
         (20_000, b"x", "BadItem 40000"),
@@ -103,4 +110,30 @@ fn summed(alloc: Global, text: &[u8]) -> Result<String, AllocError> {
         }
         Err(_) => read_as(alloc, text),
     }
+}
+
+/// A text of so many bytes: blanks and a last byte.
+fn long(alloc: Global, len: usize, last: u8) -> Result<Vec<u8>, AllocError>
+    requires { 0 < len }
+{
+    let mut text = vec![in alloc; b' '; len - 1]?;
+    text.push(last)?;
+    Ok(text)
+}
+
+/// A text may have 4,194,304 bytes.
+#[test]
+fn the_longest_text(rt: HostRuntime) -> Result<(), Fail> {
+    let alloc = rt.alloc();
+    for (len, last, want) in [
+        (4_194_304, b'7', "[7]"),
+        (4_194_304, b'\n', ""),
+        (4_194_304, b'x', "BadItem 4194303"),
+        (4_194_305, b'7', "too long"),
+    ] {
+        let text = long(alloc, len, last)?;
+        let got = read_as(alloc, text.as_slice())?;
+        assert_eq!(rt; got.as_str(), want);
+    }
+    Ok(())
 }
