@@ -17,22 +17,6 @@ use sw_list::{Boxed, ListOf};
 use sw_types::{Iso, Shapes, Ty};
 use sw_value::{HeapCell, State, Status, TrapKind, Value, start};
 
-fn one<T: Drop>(alloc: Global, item: T) -> Result<ListOf<T>, AllocError>
-    ensures { IfOk result (λ list. list ≡ item ∷ []) }
-{
-    let mut list = ListOf::new(alloc);
-    list.push(item)?;
-    Ok(list)
-}
-
-fn two<T: Drop>(alloc: Global, first: T, second: T) -> Result<ListOf<T>, AllocError>
-    ensures { IfOk result (λ list. list ≡ first ∷ second ∷ []) }
-{
-    let mut list = one(alloc, first)?;
-    list.push(second)?;
-    Ok(list)
-}
-
 fn body(alloc: Global, instrs: InstrList, regs: RegList) -> Result<Function, AllocError>
     ensures { IfOk result (λ function. function ≡ record {
       key = 0;
@@ -55,7 +39,7 @@ fn body(alloc: Global, instrs: InstrList, regs: RegList) -> Result<Function, All
         sends: false,
         result: Ty::Unit,
         regs,
-        blocks: one(
+        blocks: ListOf::one(
             alloc,
             Block {
                 instrs,
@@ -86,14 +70,14 @@ fn seven(alloc: Global) -> Result<Graph, Fail>
     let print = Instr::Print {
         at: 46,
         r: 1,
-        ss: one(alloc, Operand { reg: 0, at: 52 })?,
+        ss: ListOf::one(alloc, Operand { reg: 0, at: 52 })?,
     };
     let main = body(
         alloc,
-        two(alloc, literal, print)?,
-        two(alloc, RegKind::Plain(Ty::Int), RegKind::Plain(Ty::Unit))?,
+        ListOf::two(alloc, literal, print)?,
+        ListOf::two(alloc, RegKind::Plain(Ty::Int), RegKind::Plain(Ty::Unit))?,
     )?;
-    graph_of(alloc, one(alloc, main)?)
+    graph_of(alloc, ListOf::one(alloc, main)?)
 }
 
 /// The graph of a `main` that makes a task of itself.
@@ -108,8 +92,8 @@ fn endless(alloc: Global) -> Result<Graph, Fail>
         cs: ListOf::new(alloc),
     };
     let kind = RegKind::Plain(Ty::Task(Boxed::new(alloc, Ty::Unit)?));
-    let main = body(alloc, one(alloc, task)?, one(alloc, kind)?)?;
-    graph_of(alloc, one(alloc, main)?)
+    let main = body(alloc, ListOf::one(alloc, task)?, ListOf::one(alloc, kind)?)?;
+    graph_of(alloc, ListOf::one(alloc, main)?)
 }
 
 fn next(

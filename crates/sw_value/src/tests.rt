@@ -11,22 +11,6 @@ use sw_graph::{Block, Function, FunctionList, Graph, Last, Literal, RegKind, Reg
 use sw_list::ListOf;
 use sw_types::{Iso, Shapes, Ty};
 
-fn one<T: Drop>(alloc: Global, item: T) -> Result<ListOf<T>, AllocError>
-    ensures { IfOk result (λ list. list ≡ item ∷ []) }
-{
-    let mut list = ListOf::new(alloc);
-    list.push(item)?;
-    Ok(list)
-}
-
-fn two<T: Drop>(alloc: Global, first: T, second: T) -> Result<ListOf<T>, AllocError>
-    ensures { IfOk result (λ list. list ≡ first ∷ second ∷ []) }
-{
-    let mut list = one(alloc, first)?;
-    list.push(second)?;
-    Ok(list)
-}
-
 fn body(alloc: Global, regs: RegList) -> Result<Function, AllocError>
     ensures { IfOk result (λ function. function ≡ record {
       key = 0;
@@ -49,7 +33,7 @@ fn body(alloc: Global, regs: RegList) -> Result<Function, AllocError>
         sends: false,
         result: Ty::Unit,
         regs,
-        blocks: one(
+        blocks: ListOf::one(
             alloc,
             Block {
                 instrs: ListOf::new(alloc),
@@ -70,8 +54,8 @@ fn graph_of(alloc: Global, functions: FunctionList) -> Result<Graph, Fail>
 #[test]
 fn starts_at_the_entry(rt: HostRuntime) -> Result<(), Fail> {
     let alloc = rt.alloc();
-    let regs = two(alloc, RegKind::Plain(Ty::Int), RegKind::Plain(Ty::Unit))?;
-    let graph = graph_of(alloc, one(alloc, body(alloc, regs)?)?)?;
+    let regs = ListOf::two(alloc, RegKind::Plain(Ty::Int), RegKind::Plain(Ty::Unit))?;
+    let graph = graph_of(alloc, ListOf::one(alloc, body(alloc, regs)?)?)?;
     let state = start(alloc, &graph)?;
     assert!(rt; state.cells.is_empty() && state.globals.is_empty() && state.halted.is_none());
     assert_eq!(rt; state.jobs.len(), 1);
@@ -95,7 +79,7 @@ fn frame(
     Ok(Frame {
         function: 0,
         point: 0,
-        regs: two(alloc, None, None)?,
+        regs: ListOf::two(alloc, None, None)?,
         executor,
         crossing,
         result: into,
@@ -111,7 +95,7 @@ fn returns_and_wakes(rt: HostRuntime) -> Result<(), Fail> {
     let bottom = frame(alloc, actor, true, NO_REGISTER)?;
     let top = frame(alloc, actor, false, 1)?;
     let runs = Job {
-        frames: two(alloc, bottom, top)?,
+        frames: ListOf::two(alloc, bottom, top)?,
         status: Status::Running,
     };
     let mut waits = Job::new(alloc, frame(alloc, Executor::Generic, true, NO_REGISTER)?)?;
@@ -119,7 +103,7 @@ fn returns_and_wakes(rt: HostRuntime) -> Result<(), Fail> {
     let mut state = State {
         cells: ListOf::new(alloc),
         globals: ListOf::new(alloc),
-        jobs: two(alloc, runs, waits)?,
+        jobs: ListOf::two(alloc, runs, waits)?,
         halted: None,
     };
     assert!(rt; !state.is_free(actor));
@@ -168,10 +152,10 @@ fn copies_values(rt: HostRuntime) -> Result<(), Fail> {
     let alloc = rt.alloc();
     let value = Value::Case {
         tag: 4,
-        payload: two(
+        payload: ListOf::two(
             alloc,
             Value::Cell(1),
-            Value::Group(one(alloc, Value::Int(-2))?),
+            Value::Group(ListOf::one(alloc, Value::Int(-2))?),
         )?,
     };
     let Value::Case { tag: 4, payload } = value.copied(alloc)? else {

@@ -19,22 +19,6 @@ use sw_graph::{
 use sw_list::{Boxed, ListOf};
 use sw_types::{Iso, Shapes, Ty};
 
-fn one<T: Drop>(alloc: Global, item: T) -> Result<ListOf<T>, AllocError>
-    ensures { IfOk result (λ list. list ≡ item ∷ []) }
-{
-    let mut list = ListOf::new(alloc);
-    list.push(item)?;
-    Ok(list)
-}
-
-fn two<T: Drop>(alloc: Global, first: T, second: T) -> Result<ListOf<T>, AllocError>
-    ensures { IfOk result (λ list. list ≡ first ∷ second ∷ []) }
-{
-    let mut list = one(alloc, first)?;
-    list.push(second)?;
-    Ok(list)
-}
-
 /// The items of a text on a graph: the lines, how it ended, and how many of how many jobs have ended.
 fn replay_as(alloc: Global, graph: &Graph, items: &str) -> Result<String, Fail>
     requires { IsSmall graph.now }
@@ -56,7 +40,7 @@ fn replay_as(alloc: Global, graph: &Graph, items: &str) -> Result<String, Fail>
 fn three<T: Drop>(alloc: Global, first: T, second: T, third: T) -> Result<ListOf<T>, AllocError>
     ensures { IfOk result (λ list. list ≡ first ∷ second ∷ third ∷ []) }
 {
-    let mut list = two(alloc, first, second)?;
+    let mut list = ListOf::two(alloc, first, second)?;
     list.push(third)?;
     Ok(list)
 }
@@ -78,7 +62,7 @@ fn print(alloc: Global, r: u32, reg: u32) -> Result<Instr, AllocError>
     Ok(Instr::Print {
         at: 46,
         r,
-        ss: one(alloc, Operand { reg, at: 52 })?,
+        ss: ListOf::one(alloc, Operand { reg, at: 52 })?,
     })
 }
 
@@ -123,7 +107,7 @@ fn body(alloc: Global, instrs: InstrList, regs: RegList) -> Result<Function, All
         sends: false,
         result: Ty::Unit,
         regs,
-        blocks: one(
+        blocks: ListOf::one(
             alloc,
             Block {
                 instrs,
@@ -155,8 +139,8 @@ fn printing(alloc: Global, value: i64) -> Result<Function, AllocError>
       blocks = record { instrs = Const 52 0 (Number value) ∷ Print 46 1 (record { reg = 0; at = 52 } ∷ []) ∷ []; last = Return None } ∷ [];
     }) }
 {
-    let instrs = two(alloc, literal(0, value), print(alloc, 1, 0)?)?;
-    let regs = two(alloc, RegKind::Plain(Ty::Int), RegKind::Plain(Ty::Unit))?;
+    let instrs = ListOf::two(alloc, literal(0, value), print(alloc, 1, 0)?)?;
+    let regs = ListOf::two(alloc, RegKind::Plain(Ty::Int), RegKind::Plain(Ty::Unit))?;
     body(alloc, instrs, regs)
 }
 
@@ -165,7 +149,7 @@ fn printing(alloc: Global, value: i64) -> Result<Function, AllocError>
 fn seven(alloc: Global) -> Result<Graph, Fail>
     ensures { IfOk result IsSmall }
 {
-    graph_of(alloc, one(alloc, printing(alloc, 7)?)?)
+    graph_of(alloc, ListOf::one(alloc, printing(alloc, 7)?)?)
 }
 
 /// The graph of a `main` that starts a task which prints 10, and then prints 30.
@@ -187,7 +171,7 @@ fn with_a_task(alloc: Global) -> Result<Graph, Fail>
     )?;
     graph_of(
         alloc,
-        two(alloc, body(alloc, instrs, regs)?, printing(alloc, 10)?)?,
+        ListOf::two(alloc, body(alloc, instrs, regs)?, printing(alloc, 10)?)?,
     )
 }
 
