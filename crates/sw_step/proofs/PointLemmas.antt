@@ -12,12 +12,8 @@ use Rattle.sw_value.specs.Small.{IsSmall, IsSmallFunction}
 use Rattle.sw_value.specs.declared.frame.Frame.{Frame}
 use Rattle.sw_graph.specs.declared.function.Function.{Function}
 use Rattle.sw_graph.specs.declared.graph.Graph.{Graph}
-use Rattle.sw_value.proofs.ListLemmas.{All-at}
-
-slice_get_before : {A : Type 0} (xs ys : List A) (i : ℕ) (x : A) → slice_get xs i ≡ Some x → slice_get (xs ++ ys) i ≡ Some x
-slice_get_before [] ys i x e = cc
-slice_get_before (y ∷ xs) ys zero x e = e
-slice_get_before (y ∷ xs) ys (suc i) x e = slice_get_before xs ys i x e
+use Rattle.sw_graph.proofs.Facts.{at_place}
+use Rattle.sw_value.proofs.ListLemmas.{slice_get_before}
 
 slice_get_behind : {A : Type 0} (xs ys : List A) (i : ℕ) → slice_get (xs ++ ys) (length xs + i) ≡ slice_get ys i
 slice_get_behind [] ys i = rw zero-add refl
@@ -76,5 +72,5 @@ next_point_fits graph frame p small = by (slice_get graph.functions frame.functi
   by : (o : Option Function) → slice_get graph.functions frame.function ≡ o → option_and_then (λ f. point_in f frame.point) o ≡ Some p → frame.point + 1 < 2 ^ 32
   by None _ e = cc
   by (Some f) there e =
-      let few = (All-at IsSmallFunction graph.functions frame.function f small.functions there).numbered in
+      let few = (at_place IsSmallFunction graph.functions frame.function f small.functions there).numbered in
       omega (arith, few, slice_get_within (points_of f.blocks) frame.point p e)

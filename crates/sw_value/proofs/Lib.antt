@@ -1,5 +1,6 @@
 pub mod JobLemmas
 pub mod ListLemmas
 pub mod NeverRaces
+pub mod OccurrenceLemmas
 pub mod ReachLemmas
 pub mod StaysInBounds

@@ -1,15 +1,15 @@
 -- Lemmas on the words of specs/Lists.antt.
-use Rattle.std.proofs.Common.{get_or, ◌<◌, sym, ◌≡◌, ℕ, ◌+◌, ◌≤◌, Option, Some, None, List, [], ◌∷◌, ◌++◌, zero, suc, length, take, drop, reverse, refl, ap, subst, ◌∙◌, arith, add-one}
-use Rattle.std.specs.List.{slice_get, slice_set, filter_map, cons_option, All}
+use Rattle.std.proofs.Common.{get_or, ◌<◌, sym, ◌≡◌, ℕ, ◌+◌, ◌≤◌, Option, Some, None, List, [], ◌∷◌, ◌++◌, zero, suc, length, take, drop, reverse, refl, ap, ◌∙◌, arith, add-one}
+use Rattle.std.specs.List.{slice_get, slice_set, filter_map, cons_option}
 use Rattle.std.specs.Option.{option_to_list}
 use Rattle.std.proofs.lemmas.List.{length-set, take_all}
 use mathlib.Core.List.{reverse-cons}
-use Rattle.std.proofs.lemmas.List.Elements.{filter_map-append, All-get_or}
-use Rattle.std.proofs.lemmas.Option.{slice_get_past, slice_get_within, slice_get-get_or, get_or_from_slice_get}
+use Rattle.std.proofs.lemmas.List.Elements.{filter_map-append}
+use Rattle.std.proofs.lemmas.Option.{slice_get_past, slice_get-get_or}
 use Rattle.sw_value.specs.Lists.{changed_by, changed_at, each_of}
 use Rattle.std.specs.Option.{option_map, option_and_then}
 
-some_injective : {A : Type 0} {x y : A} → Some x ≡ Some y → x ≡ y
+pub some_injective : {A : Type 0} {x y : A} → Some x ≡ Some y → x ≡ y
 some_injective e = cc
 
 pub changed_at_there : {A : Type 0} (g : A → A) (i : ℕ) (xs : List A) (x : A) → slice_get xs i ≡ Some x → changed_at g i xs ≡ slice_set xs i (g x)
@@ -19,6 +19,21 @@ changed_at_there g i xs x e = ap (λ o. changed_by o g i xs) e
 pub changed_at_past : {A : Type 0} (g : A → A) (i : ℕ) (xs : List A) → length xs ≤ i → changed_at g i xs ≡ xs
 unfolding changed_at
 changed_at_past g i xs past = ap (λ o. changed_by o g i xs) (slice_get_past xs i past)
+
+-- an item that is put at a place, or changed there, is found there
+set_there : {A : Type 0} (xs : List A) (i : ℕ) (x y : A) → slice_get xs i ≡ Some x → slice_get (slice_set xs i y) i ≡ Some y
+set_there [] i x y e = cc
+set_there (z ∷ zs) zero x y e = refl
+set_there (z ∷ zs) (suc i) x y e = set_there zs i x y e
+
+pub changed_at_found : {A : Type 0} (g : A → A) (i : ℕ) (xs : List A) (x : A) → slice_get xs i ≡ Some x → slice_get (changed_at g i xs) i ≡ Some (g x)
+changed_at_found g i xs x e = ap (λ l. slice_get l i) (changed_at_there g i xs x e) ∙ set_there xs i x (g x) e
+
+-- an item of a list's front
+pub slice_get_before : {A : Type 0} (xs ys : List A) (i : ℕ) (x : A) → slice_get xs i ≡ Some x → slice_get (xs ++ ys) i ≡ Some x
+slice_get_before [] ys i x e = cc
+slice_get_before (y ∷ xs) ys zero x e = e
+slice_get_before (y ∷ xs) ys (suc i) x e = slice_get_before xs ys i x e
 
 -- the last item of a list, and what stands before it
 pub slice_get_end : {A : Type 0} (xs : List A) (x : A) → slice_get (xs ++ x ∷ []) (length xs) ≡ Some x
@@ -56,10 +71,6 @@ filter_map_reverse_drop h first xs i j x next e =
     ∙ filter_map-append h (first ∷ reverse (drop (suc i) xs)) (x ∷ [])
     ∙ ap (λ l. filter_map h (first ∷ reverse (drop (suc i) xs)) ++ l) (filter_map-single h x)
     ∙ ap (λ k. filter_map h (first ∷ reverse (drop k xs)) ++ option_to_list (h x)) after
-
--- what holds of each item holds of the one at a place
-pub All-at : {A : Type 0} (P : A → Type 0) (xs : List A) (i : ℕ) (x : A) → All P xs → slice_get xs i ≡ Some x → P x
-All-at P xs i x all e = subst P (get_or_from_slice_get xs i x x e) (All-get_or P xs i x (slice_get_within xs i x e) all)
 
 pub take_next : {A : Type 0} (xs : List A) (i : ℕ) (x : A) → slice_get xs i ≡ Some x → take (i + 1) xs ≡ take i xs ++ x ∷ []
 take_next {A = A} xs i x e = rw add-one (by xs i e) where

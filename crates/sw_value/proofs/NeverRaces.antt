@@ -12,7 +12,7 @@ use Rattle.sw_value.specs.Job.{top_frame, is_running}
 use Rattle.sw_value.specs.Point.{Point, Middle, End, points_of, point_in, point_at}
 use Rattle.sw_value.specs.Small.{IsSmallPoint, IsSmallFunction, IsSmall}
 use Rattle.sw_value.specs.Racing.{point_access, frame_access, next_access, Racing}
-use Rattle.sw_value.proofs.ListLemmas.{All-at}
+use Rattle.sw_graph.proofs.Facts.{at_place}
 
 -- what stands at a point of a small graph
 pub small_point : (graph : Graph) → IsSmall graph → (frame : Frame) (p : Point) → point_at graph frame ≡ Some p → IsSmallPoint p
@@ -21,7 +21,7 @@ small_point graph small frame p = by (slice_get graph.functions frame.function) 
   by : (o : Option Function) → slice_get graph.functions frame.function ≡ o → option_and_then (λ f. point_in f frame.point) o ≡ Some p → IsSmallPoint p
   by None _ e = cc
   by (Some f) there e =
-      All-at IsSmallPoint (points_of f.blocks) frame.point p (All-at IsSmallFunction graph.functions frame.function f small.functions there).small e
+      at_place IsSmallPoint (points_of f.blocks) frame.point p (at_place IsSmallFunction graph.functions frame.function f small.functions there).small e
 
 small_point_access : (graph : Graph) (state : State) (frame : Frame) (p : Point) → IsSmallPoint p → point_access graph state frame p ≡ None
 small_point_access graph state frame (Middle (instr.Const at r v)) s = refl

@@ -38,9 +38,9 @@ pub record IsInBounds (state : State) : Type 0 where
   pub jobs : length state.jobs ≤ MAX_JOBS
   pub cells : length state.cells < length state.jobs
 
--- a task is made only where one more job may be
-HasRoom : State → Effect → Type 0
-HasRoom state (effect.Spawn r frame job cell next) = length state.jobs < MAX_JOBS
+-- a task is made only where one more job may be, and that job has the next number
+unfoldable pub HasRoom : State → Effect → Type 0
+HasRoom state (effect.Spawn r frame job cell next) = (length state.jobs < MAX_JOBS) × (job ≡ length state.jobs)
 HasRoom state _ = Unit {0}
 
 needs_has : {A : Type 0} (P : Effect → Type 0) (f : A → Effect) → P effect.Stuck → ((x : A) → P (f x)) → (o : Option A) → P (needs o f)
@@ -52,9 +52,9 @@ unfolding HasRoom
 spawn_has_room state next at r frame = by (leb MAX_JOBS (length state.jobs)) refl where
   by : (b : Bool) → leb MAX_JOBS (length state.jobs) ≡ b → HasRoom state (cond b (effect.Halt Jobs at) (effect.Spawn r frame (length state.jobs) (length state.cells) next))
   by true e = tt
-  by false e = grind (arith, nat_tests)
+  by false e = (grind (arith, nat_tests), refl)
 
-effect_has_room : (graph : Graph) (state : State) (frame : Frame) → HasRoom state (effect_of graph state frame)
+pub effect_has_room : (graph : Graph) (state : State) (frame : Frame) → HasRoom state (effect_of graph state frame)
 unfolding effect_of HasRoom
 effect_has_room graph state frame = needs_has (HasRoom state) (point_effect graph state frame) tt by (point_at graph frame) where
   by : (p : Point) → HasRoom state (point_effect graph state frame p)
@@ -93,7 +93,7 @@ unfolding Keeps HasRoom
 execution_keeps state j b effect.Stuck room = b
 execution_keeps state j b (effect.Set r v next) room = in_job_in_bounds _ j state b
 execution_keeps state j b (effect.Print r line next) room = in_job_in_bounds _ j state b
-execution_keeps state j b (effect.Spawn r f made cell next) room = in_job_in_bounds _ j _ (task_in_bounds state f made b room)
+execution_keeps state j b (effect.Spawn r f made cell next) room = in_job_in_bounds _ j _ (task_in_bounds state f made b room.0)
 execution_keeps state j b (effect.Leave v) room = in_job_in_bounds _ j state b
 execution_keeps state j b (effect.Halt kind at) room = halt_in_bounds kind at state b
 

@@ -72,11 +72,6 @@ abbrev pub ends_by : Act → Job → Bool
 ends_by (Execute (effect.Leave v)) job = is_last_frame job
 ends_by _ job = false
 
--- an instruction that is executed makes the access that its job was about to make
-abbrev pub accessed_by : Act → Option Access → Option Access
-accessed_by (Execute e) access = access
-accessed_by _ access = None
-
 abbrev pub occurrence_of : Graph → State → ℕ → Act → Occurrence
 occurrence_of graph state j act =
     let job = slice_get state.jobs j in
@@ -87,7 +82,7 @@ occurrence_of graph state j act =
       leaves = option_and_then (left_by act) job;
       makes = made_by act;
       ends = option_map_or (ends_by act) job false;
-      accesses = accessed_by act (next_access graph state j);
+      accesses = next_access graph state j;
     }
 
 -- What the item j is, or None where nothing happens.

@@ -4,6 +4,7 @@ pub mod Frame
 pub mod Happening
 pub mod Job
 pub mod Lists
+pub mod Occurrence
 pub mod Point
 pub mod Printed
 pub mod Racing

@@ -40,7 +40,7 @@ abbrev pub is_free : Executor → List Job → Bool
 is_free Generic jobs = true
 is_free executor jobs = not (list_any (runs_on executor) jobs)
 
-abbrev ended_with : Status → Option Value
+abbrev pub ended_with : Status → Option Value
 ended_with (Ended v) = Some v
 ended_with _ = None
 

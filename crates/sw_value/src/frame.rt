@@ -25,7 +25,7 @@ pub struct Frame {
     pub result: u32,
 }
 
-/// The result number of a frame that no other frame waits for; no register has it.
+/// The result number of a frame that no other frame waits for. It stands for no register.
 pub const NO_REGISTER: u32 = 512;
 
 impl Frame {

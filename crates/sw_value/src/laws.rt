@@ -1,7 +1,9 @@
-ghost use Rattle.std.specs.Prelude.{ℕ, ◌+◌, ◌^◌, ◌<◌, ◌≤◌, List, length};
+ghost use Rattle.std.specs.Prelude.{◌≡◌, ℕ, ◌<◌, ◌≤◌, Some, List, length};
 ghost use Rattle.sw_graph.specs.declared.graph.Graph.{Graph};
 ghost use Rattle.sw_value.specs.declared.state.State.{State};
 ghost use Rattle.sw_value.specs.Small.{IsSmall};
+ghost use Rattle.sw_value.specs.Happening.{Occurrence, happening};
+ghost use Rattle.sw_value.specs.Occurrence.{Tells};
 ghost use Rattle.sw_value.specs.Racing.{Racing};
 ghost use Rattle.sw_value.specs.Start.{start_of};
 ghost use Rattle.sw_value.specs.Reach.{step_of, reach, Reached};
@@ -21,6 +23,12 @@ pub fn small_graphs_stay_in_bounds()
         length state.jobs ≤ MAX_JOBS }
     ensures cells { (graph : Graph) (state : State) → IsSmall graph → Reached graph state →
         length state.cells < length state.jobs }
+{}
+
+/// What the occurrence of an item tells is what its step changes.
+pub fn occurrences_tell()
+    ensures tells { (graph : Graph) (state : State) (item : ℕ) (o : Occurrence) →
+        happening graph state item ≡ Some o → Tells graph state (step_of graph state item) item o }
 {}
 
 /// The start is reached, and so is what a step leads to from a state that is reached.

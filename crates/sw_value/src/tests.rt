@@ -1,5 +1,4 @@
 ghost use Rattle.std.specs.Prelude.{◌≡◌, false, [], ◌∷◌, IfOk};
-ghost use Rattle.sw_types.specs.declared.isolation.Iso.TheVariants.{Free};
 ghost use Rattle.sw_types.specs.declared.ty.Ty.TheVariants.{Unit as Void};
 ghost use Rattle.sw_graph.specs.declared.instr.Last.TheVariants.{Return};
 ghost use Rattle.sw_graph.specs.WellFormed.{IsWellFormed};
@@ -7,14 +6,14 @@ ghost use Rattle.sw_graph.specs.WellFormed.{IsWellFormed};
 use super::*;
 use std::alloc::{AllocError, Global};
 use std::test::Fail;
-use sw_graph::{Block, Function, FunctionList, Graph, Last, Literal, RegKind, RegList};
+use sw_graph::{Block, Function, FunctionList, GlobalKind, Graph, Last, Literal, RegKind, RegList};
 use sw_list::ListOf;
 use sw_types::{Iso, Shapes, Ty};
 
-fn body(alloc: Global, regs: RegList) -> Result<Function, AllocError>
+fn body(alloc: Global, iso: Iso, regs: RegList) -> Result<Function, AllocError>
     ensures { IfOk result (λ function. function ≡ record {
       key = 0;
-      iso = Free;
+      iso = iso;
       is_async = false;
       takes = 0;
       sending = [];
@@ -26,7 +25,7 @@ fn body(alloc: Global, regs: RegList) -> Result<Function, AllocError>
 {
     Ok(Function {
         key: 0,
-        iso: Iso::Free,
+        iso,
         is_async: false,
         takes: 0,
         sending: ListOf::new(alloc),
@@ -55,7 +54,7 @@ fn graph_of(alloc: Global, functions: FunctionList) -> Result<Graph, Fail>
 fn starts_at_the_entry(rt: HostRuntime) -> Result<(), Fail> {
     let alloc = rt.alloc();
     let regs = ListOf::two(alloc, RegKind::Plain(Ty::Int), RegKind::Plain(Ty::Unit))?;
-    let graph = graph_of(alloc, ListOf::one(alloc, body(alloc, regs)?)?)?;
+    let graph = graph_of(alloc, ListOf::one(alloc, body(alloc, Iso::Free, regs)?)?)?;
     let state = start(alloc, &graph)?;
     assert!(rt; state.cells.is_empty() && state.globals.is_empty() && state.halted.is_none());
     assert_eq!(rt; state.jobs.len(), 1);
@@ -67,6 +66,62 @@ fn starts_at_the_entry(rt: HostRuntime) -> Result<(), Fail> {
     assert!(rt; frame.executor.is_same(Executor::Generic));
     assert_eq!(rt; frame.regs.len(), 2);
     assert!(rt; matches!(frame.regs.get(1), Some(None)));
+    Ok(())
+}
+
+/// A global `var` of the global actor 3 and one of no actor, whose first values functions 1 and 2 give.
+fn two_globals(alloc: Global) -> Result<Graph, Fail> {
+    let annotated = GlobalKind {
+        ty: Ty::Int,
+        mutable: true,
+        actor: Some(3),
+    };
+    let plain = GlobalKind {
+        ty: Ty::Bool,
+        mutable: false,
+        actor: None,
+    };
+    let entry = body(alloc, Iso::Free, ListOf::new(alloc))?;
+    let first = body(alloc, Iso::Global(3), ListOf::one(alloc, RegKind::Plain(Ty::Int))?)?;
+    let bools = ListOf::two(alloc, RegKind::Plain(Ty::Bool), RegKind::Plain(Ty::Bool))?;
+    let second = body(alloc, Iso::Free, bools)?;
+    let mut functions = ListOf::two(alloc, entry, first)?;
+    functions.push(second)?;
+    Ok(Graph::new(
+        Shapes::new(alloc, ListOf::new(alloc))?,
+        ListOf::two(alloc, annotated, plain)?,
+        functions,
+        0,
+        ListOf::two(alloc, 1, 2)?,
+    ))
+}
+
+/// The entry is at the bottom, and the first global's function on top: it runs first.
+#[test]
+fn starts_with_the_first_global_on_top(rt: HostRuntime) -> Result<(), Fail> {
+    let alloc = rt.alloc();
+    let state = start(alloc, &two_globals(alloc)?)?;
+    assert!(rt; state.cells.is_empty() && state.halted.is_none());
+    assert_eq!(rt; state.globals.len(), 2);
+    assert!(rt;
+        matches!(state.globals.get(0), Some(None)) && matches!(state.globals.get(1), Some(None))
+    );
+    assert_eq!(rt; state.jobs.len(), 1);
+    let job = state.jobs.get(0).ok_or("no job")?;
+    assert!(rt; matches!(job.status, Status::Ready));
+    assert_eq!(rt; job.frames.len(), 3);
+    let wanted = [
+        (0u32, 0usize, Executor::Generic),
+        (2, 2, Executor::Generic),
+        (1, 1, Executor::Global(3)),
+    ];
+    for (place, (function, registers, executor)) in wanted.iter().enumerate() {
+        let frame = job.frames.get(place).ok_or("no frame")?;
+        assert_eq!(rt; frame.function, *function, "frame {place} from the bottom");
+        assert_eq!(rt; frame.regs.len(), *registers);
+        assert_eq!(rt; frame.executor, *executor);
+        assert!(rt; frame.point == 0 && frame.crossing && frame.result == 512);
+    }
     Ok(())
 }
 
