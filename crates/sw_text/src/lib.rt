@@ -23,7 +23,7 @@ pub struct Span {
 /// Why bytes make no [`Source`].
 #[derive(Clone, Copy, Debug, PartialEq, Eq, Error)]
 pub enum TextFault {
-    /// The bytes aren't UTF-8; `at` is the offset at which the first character that isn't whole begins.
+    /// The bytes aren't UTF-8; `at` is the length of their longest front that is.
     #[error("not UTF-8 from byte {at} on")]
     NotUtf8 { at: u32 },
     /// Memory for the copy ran out.
@@ -157,13 +157,12 @@ mod tests {
             (mixed, 13, 4, 1),
             (mixed, 17, 4, 5),
         ] {
-            if at as usize <= bytes.len() && bytes.len() < 100 {
-                assert_eq!(rt;
-                    line_col_of(bytes.as_bytes(), at),
-                    (line, column),
-                    "at {at}"
-                );
-            }
+            assert!(rt; at as usize <= bytes.len() && bytes.len() < 100);
+            assert_eq!(rt;
+                line_col_of(bytes.as_bytes(), at),
+                (line, column),
+                "at {at}"
+            );
         }
         assert_eq!(rt; line_col_of(b"\xff\n\n", 3), (3, 1));
     }
@@ -177,6 +176,15 @@ mod tests {
     }
 
     #[test]
+    fn the_longest_text(rt: HostRuntime) -> Result<(), Fail> {
+        let bytes = vec![in rt.alloc(); b'\n'; MAX_LENGTH]?;
+        let source = Source::new(rt.alloc(), bytes.as_slice())?;
+        assert_eq!(rt; source.len(), 262_144);
+        assert_eq!(rt; source.line_col(262_144), (262_145, 1));
+        Ok(())
+    }
+
+    #[test]
     fn not_utf8(rt: HostRuntime) {
         for (bytes, at) in [
             (b"\xff".as_slice(), 0),
@@ -184,10 +192,9 @@ mod tests {
             (b"a\xe2\x82\xacb\xe2\x82".as_slice(), 5),
             (b"ok\n\x80\n".as_slice(), 3),
         ] {
-            if bytes.len() < 100 {
-                let answer = Source::new(rt.alloc(), bytes).map(|_| ());
-                assert_eq!(rt; answer, Err(TextFault::NotUtf8 { at }), "at {at}");
-            }
+            assert!(rt; bytes.len() < 100);
+            let answer = Source::new(rt.alloc(), bytes).map(|_| ());
+            assert_eq!(rt; answer, Err(TextFault::NotUtf8 { at }), "at {at}");
         }
     }
 
