@@ -1,4 +1,4 @@
-ghost use Rattle.std.specs.Prelude.{◌≡◌, ℕ, List, Option, [], ◌+◌, ◌<◌, ◌≤◌, length, take, vec_len, IfOk, OnOk, OnErr, IfSome, IsErrOf, option_map, ⊤};
+ghost use Rattle.std.specs.Prelude.{◌≡◌, ℕ, List, Option, [], ◌+◌, ◌<◌, ◌≤◌, length, take, vec_len, ◌↔◌, IsTrue, IfOk, OnOk, OnErr, IfSome, IsErrOf, option_map, ⊤};
 ghost use Rattle.std.specs.Io.KnownBytes.{Consumes, IsAtEnd};
 ghost use Rattle.sw_outside.specs.Counts.{Counts};
 ghost use Rattle.sw_outside.specs.Rise.{Rose, raised};
@@ -66,7 +66,7 @@ impl<R: Files> Shelf for FileShelf<'_, R> {
         ensures one_fault { IsErrOf result FetchFault.Failed
             → self.new.faults ≡ raised self.old.faults }
 
-        // Nothing is told, before and after.
+        // Of the trait's clauses on what is told, the two that have to be repeated; they say nothing here.
         ensures asked_ok { OnOk result (untold ≡ option_map (asked_too name.now) untold) }
         ensures found { OnOk result ⊤ }
 
@@ -85,13 +85,14 @@ impl<R: Files> Shelf for FileShelf<'_, R> {
             return Err(self.fail(0));
         };
         let mut bytes = Vec::new(alloc);
-        match read_front(&mut file, limit.saturating_add(1), &mut bytes) {
-            Ok(()) => {
+        match read_whole(&mut file, limit, &mut bytes) {
+            Ok(whole) => {
                 self.came = bytes.len();
-                if bytes.len() > limit {
-                    return Err(FetchFault::TooLong);
+                if whole {
+                    Ok(bytes)
+                } else {
+                    Err(FetchFault::TooLong)
                 }
-                Ok(bytes)
             }
             Err(ReadFault::Failed) => Err(self.fail(bytes.len())),
             Err(ReadFault::Memory) => Err(FetchFault::Memory),
@@ -104,6 +105,20 @@ impl<R: Files> Shelf for FileShelf<'_, R> {
 enum ReadFault {
     Failed,
     Memory,
+}
+
+/// Reads a file up to its end, or up to one byte above the limit. It answers whether all of it came.
+fn read_whole<F: Read>(file: &mut F, limit: usize, bytes: &mut Vec<u8>) -> Result<bool, ReadFault>
+    requires { bytes.old.items ≡ [] }
+    ensures bound { vec_len bytes.new ≤ limit + 1 }
+    ensures within { IfOk result (λ whole. IsTrue whole ↔ (vec_len bytes.new ≤ limit)) }
+    ensures exact { IfOk result
+        (λ whole. IfSome (F.remaining file.old) (λ all. IsTrue whole ↔ (length all ≤ limit))) }
+    ensures same { IfOk result
+        (λ whole. IsTrue whole → IfSome (F.remaining file.old) (λ all. bytes.new.items ≡ all)) }
+{
+    read_front(file, limit.saturating_add(1), bytes)?;
+    Ok(bytes.len() <= limit)
 }
 
 /// Reads until `most` bytes came or no more come.
@@ -148,7 +163,7 @@ fn read_once<F: Read>(file: &mut F, want: usize, bytes: &mut Vec<u8>) -> Result<
 
 #[cfg(test)]
 mod tests {
-    use super::{ReadFault, read_front};
+    use super::{ReadFault, read_front, read_whole};
     use std::io;
     use std::io::{ErrorKind, Read};
     use std::test::Fail;
@@ -168,6 +183,17 @@ mod tests {
             buffer[0] = self.left;
             Ok(1)
         }
+    }
+
+    #[test]
+    fn reads_to_the_end(rt: HostRuntime) -> Result<(), Fail> {
+        for (limit, whole, came) in [(2, false, 3), (3, false, 4), (4, true, 4), (5, true, 4)] {
+            let mut bytes = Vec::new(rt.alloc());
+            let answer = read_whole(&mut b"four".as_slice(), limit, &mut bytes);
+            assert!(rt; matches!(answer, Ok(found) if found == whole));
+            assert_eq!(rt; bytes.len(), came);
+        }
+        Ok(())
     }
 
     #[test]

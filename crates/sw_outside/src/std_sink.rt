@@ -39,7 +39,7 @@ impl<R: Print> Sink for StdSink<'_, R> {
         requires { 0 < length piece.now }
         ensures one_fault { OnErr result (self.new ≡ raised self.old) }
 
-        // Nothing is told, before and after.
+        // Of the trait's clauses those on what is told; they say nothing here.
         ensures taken { IfOk result
             (λ n. untold ≡ option_map (λ bytes. bytes ++ take n piece.now) untold) }
         ensures nothing { OnErr result (untold ≡ untold) }
@@ -57,5 +57,60 @@ impl<R: Print> Sink for StdSink<'_, R> {
                 Err(SinkFault::Failed)
             }
         }
+    }
+}
+
+#[cfg(test)]
+mod tests {
+    use super::StdSink;
+    use crate::sink::{Sink, SinkFault};
+    use std::cell::Cell;
+    use std::fmt::Display;
+    use std::io;
+    use std::io::ErrorKind;
+
+    /// An output that takes one byte a write, and none once it is full.
+    #[derive(Drop)]
+    struct Narrow {
+        room: Cell<u8>,
+        last: Cell<u8>,
+    }
+
+    impl Print for Narrow {
+        fn print<D: Display + Drop>(&self, _value: D) -> io::Result<()> {
+            Err(io::Error::from(ErrorKind::Unsupported))
+        }
+
+        fn println<D: Display + Drop>(&self, _value: D) -> io::Result<()> {
+            Err(io::Error::from(ErrorKind::Unsupported))
+        }
+
+        fn write_all(&self, _bytes: &[u8]) -> io::Result<()> {
+            Err(io::Error::from(ErrorKind::Unsupported))
+        }
+
+        fn write_some(&self, bytes: &[u8]) -> io::Result<usize> {
+            if self.room.get() == 0 || bytes.is_empty() {
+                return Ok(0);
+            }
+            self.room.set(self.room.get().saturating_sub(1));
+            self.last.set(bytes[0]);
+            Ok(1)
+        }
+    }
+
+    #[test]
+    fn takes_what_the_output_took(rt: HostRuntime) {
+        let output = Narrow {
+            room: Cell::new(2),
+            last: Cell::new(b'-'),
+        };
+        let mut sink = StdSink::new(&output);
+        assert_eq!(rt; sink.put(b"abc"), Ok(1));
+        assert_eq!(rt; output.last.get(), b'a');
+        assert_eq!(rt; sink.put(b"bc"), Ok(1));
+        assert_eq!(rt; output.last.get(), b'b');
+        assert_eq!(rt; sink.put(b"c"), Err(SinkFault::Failed));
+        assert_eq!(rt; output.last.get(), b'b');
     }
 }
