@@ -1,5 +1,5 @@
 -- Tables of links, and the classes of two tables united by links.
-use Rattle.std.proofs.Common.{◌≡◌, ◌≢◌, ℕ, ◌+◌, ◌<◌, ◌≤◌, ◌⊎◌, inl, inr, ◌↔◌, true, false, min, List, length, set, slice_index, refl, sym, subst, ap, ◌∙◌, arith}
+use Rattle.std.proofs.Common.{◌≡◌, ◌≢◌, ℕ, ◌+◌, ◌<◌, ◌≤◌, ◌⊎◌, inl, inr, ◌↔◌, true, min, List, length, set, slice_index, refl, sym, subst, ap, ◌∙◌, arith}
 use Rattle.std.proofs.lemmas.Bool.{cases_eq}
 use Rattle.std.proofs.lemmas.List.{get_or-set_same, get_or-set_other}
 use Rattle.std.proofs.Math.ListN.{length-set}
@@ -72,11 +72,13 @@ label_link : (old now : List ℕ) (x : ℕ) → x < length old → AreLabels old
 label_link old now x x_lt labels up s = elim (s.above x (omega arith) x_lt) [
   | inr below ↦ absurd (omega (arith, below, up))
   | inl e ↦ (
-      let label_lt : slice_index now x < length old = subst (λ v. v < length old) (sym e) (labels.within x x_lt) in
-      (label_lt, elim (s.above (slice_index now x) (omega (arith, up)) label_lt) [
-        | inl kept ↦ inl (kept ∙ (ap (slice_index old) e ∙ (labels.own x x_lt ∙ sym e)))
-        | inr below ↦ inr below
-      ])
+      let label_lt : slice_index now x < length old = subst (λ v. v < length old) (sym e) (labels.within x x_lt) in (
+        label_lt,
+        elim (s.above (slice_index now x) (omega (arith, up)) label_lt) [
+          | inl kept ↦ inl (kept ∙ (ap (slice_index old) e ∙ (labels.own x x_lt ∙ sym e)))
+          | inr below ↦ inr below
+        ],
+      )
       )
 ]
 
@@ -168,10 +170,12 @@ linking_goes x y old now u v lt l =
     let same_length : length (set now u t) ≡ length now = length-set now u t in
     record {
       length_same = same_length ∙ l.length_same;
-      links = record { down = λ p p_lt. elim (cases_eq p u) [
-        | inl e ↦ omega (arith, ap (slice_index (set now u t)) e ∙ set_same now u t l.u_in, lt, l.links.down u l.u_in, e)
-        | inr ne ↦ omega (arith, set_other now u t p ne, l.links.down p (subst (λ n. p < n) same_length p_lt))
-      ] };
+      links = record {
+        down = λ p p_lt. elim (cases_eq p u) [
+          | inl e ↦ omega (arith, ap (slice_index (set now u t)) e ∙ set_same now u t l.u_in, lt, l.links.down u l.u_in, e)
+          | inr ne ↦ omega (arith, set_other now u t p ne, l.links.down p (subst (λ n. p < n) same_length p_lt))
+        ];
+      };
       u_in = omega (arith, same_length, l.links.down u l.u_in, l.u_in);
       v_in = omega (arith, same_length, l.v_in);
       same = λ z. (
@@ -332,14 +336,3 @@ uniting_ends old other now new x x_is other_length old_labels other_labels apart
       unchanged = λ is. absurd (cc);
       changed = λ is back. apart (record { each = λ p lt. back.each p (slice_index other p) (omega (arith, lt, new_length, other_length)) (omega (arith, other_labels.within p lt, new_length, other_length)) (takes.each p lt) });
     }
-
-pub united_before : (old other : List ℕ) → AreLabels old → KeepsLinks other old → IsUnited old other old false
-united_before old other labels keeps = record {
-  length_same = refl;
-  labels = labels;
-  keeps = record { each = λ p q p_lt q_lt e. e };
-  takes = keeps_coarser other old keeps;
-  least = λ z above_old above_other. above_old;
-  unchanged = λ is. refl;
-  changed = λ is. absurd (cc);
-}
