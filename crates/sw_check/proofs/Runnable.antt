@@ -1,20 +1,17 @@
 -- The graph of a small program is one that the machine runs today.
-use Rattle.std.proofs.Common.{◌≡◌, ℕ, ◌+◌, ◌*◌, ◌^◌, ◌<◌, ◌≤◌, Bool, true, false, List, [], ◌∷◌, ◌++◌, map, length, get_or, IsTrue, Some, None, refl, sym, ap, subst, arith, append-nil, length-append}
+use Rattle.std.proofs.Common.{◌≡◌, ℕ, ◌+◌, ◌*◌, ◌^◌, ◌<◌, ◌≤◌, Bool, true, false, List, [], ◌∷◌, ◌++◌, map, length, None, refl, sym, ap, subst, arith, append-nil, length-append}
 use Rattle.std.specs.List.{All}
 use Rattle.std.proofs.lemmas.List.{length-map}
-use Rattle.std.proofs.lemmas.List.Elements.{All-nil, All-cons, All-head, All-tail, All-append, All-map}
+use Rattle.std.proofs.lemmas.List.Elements.{All-nil, All-cons, All-append}
 use Rattle.std.proofs.lemmas.List.Sums.{sum_by-cons}
 use Rattle.std.specs.List.{sum_by}
 use Rattle.sw_graph.specs.declared.function.Function.{Function}
 use Rattle.sw_graph.specs.declared.function.RegKind.{RegKind}
 use Rattle.sw_graph.specs.declared.instr.Instr.{Instr}
-use Rattle.sw_graph.specs.declared.instr.Instr.TheVariants as instr
-use Rattle.sw_graph.specs.declared.instr.Last.{Last}
 use Rattle.sw_graph.specs.declared.instr.Last.TheVariants as last
-use Rattle.sw_graph.specs.declared.instr.Block.{Block}
 use Rattle.sw_graph.specs.declared.graph.Graph.{Graph}
-use Rattle.sw_value.specs.Point.{Middle, End, points_of_block, points_of}
-use Rattle.sw_value.specs.Small.{IsSmallPoint, IsSmallFunction as Runs, IsSmall as IsRunnable}
+use Rattle.sw_value.specs.Point.{Middle, End, points_of}
+use Rattle.sw_value.specs.Small.{IsSmallFunction as Runs, IsSmall as IsRunnable}
 use Rattle.sw_check.specs.declared.small.lower.Piece.{Piece}
 use Rattle.sw_check.specs.declared.small.tree.Item.{Item}
 use Rattle.sw_check.specs.declared.small.tree.Item.TheVariants.{Show as Shows, Task}

@@ -7,7 +7,7 @@ use Rattle.sw_token.specs.declared.Kind.TheVariants as kinds
 use Rattle.sw_token.specs.declared.Fixity.TheVariants as fixities
 use Rattle.sw_bytes.specs.Classes.{is_digit}
 use Rattle.sw_token.specs.Bytes.{is_word_start}
-use Rattle.sw_token.specs.Kinds.{kind_of, word_kind, ruled_words, reserved_words, mark_number}
+use Rattle.sw_token.specs.Kinds.{kind_of, word_kind, ruled_words, reserved_words}
 use Rattle.sw_check.specs.Spelling.{Spelled, position, HasKind, IsNumeral}
 use Rattle.sw_check.specs.Small.{Is, IsWord, IsInt, SpellsEnd}
 use Rattle.sw_check.specs.Small.SpellsEnd.{unmarked, semicolon}

@@ -1,7 +1,6 @@
 -- The control-flow graph of a small program. Functions are numbered by key: the entry, then the tasks' bodies. A function's
 -- registers are numbered in the order of making, a result's after those of its operands.
-use Rattle.std.specs.Prelude.{◌≡◌, ℕ, ◌+◌, Bool, true, false, IsTrue, List, [], ◌∷◌, ◌++◌, map, length, sum_by, None}
-use Rattle.std.specs.List.{All}
+use Rattle.std.specs.Prelude.{◌≡◌, ℕ, ◌+◌, Bool, true, false, List, [], ◌∷◌, ◌++◌, map, length, sum_by, None}
 use Rattle.sw_types.specs.declared.ty.Ty.TheVariants.{Int, Unit as Void, Task as TaskOf}
 use Rattle.sw_types.specs.declared.isolation.Iso.TheVariants.{Free}
 use Rattle.sw_graph.specs.declared.graph.Graph.{Graph}
@@ -10,8 +9,6 @@ use Rattle.sw_graph.specs.declared.function.RegKind.{RegKind}
 use Rattle.sw_graph.specs.declared.function.RegKind.TheVariants.{Plain}
 use Rattle.sw_graph.specs.declared.instr.Instr.{Instr}
 use Rattle.sw_graph.specs.declared.instr.Instr.TheVariants.{Const, Print, NewTask}
-use Rattle.sw_graph.specs.declared.instr.Block.{Block}
-use Rattle.sw_graph.specs.declared.instr.Last.{Last}
 use Rattle.sw_graph.specs.declared.instr.Last.TheVariants.{Return}
 use Rattle.sw_graph.specs.declared.instr.Literal.TheVariants.{Int as IntOf}
 use Rattle.sw_check.specs.declared.small.tree.Item.{Item}
