@@ -3,6 +3,8 @@ pub mod Claims
 pub mod CursorSteps
 pub mod EachSteps
 pub mod FitsLemmas
+pub mod Lowered
+pub mod OneReply
 pub mod PlanLemmas
 pub mod ReaderLaws
 pub mod ReaderLoops
