@@ -1,6 +1,6 @@
 use crate::calls::{SEVEN, call};
 use std::test::Fail;
-use sw_check::{Exit, texts_have_one_verdict};
+use sw_check::{Exit, texts_have_one_verdict, words_have_one_reply};
 use sw_outside::{MemShelf, MemSink};
 
 /// The most bytes that a program's file may have.
@@ -49,26 +49,56 @@ fn a_file_that_cannot_be_read(rt: HostRuntime) -> Result<(), Fail> {
     Ok(())
 }
 
+/// A call on the example with blanks behind it, `length` bytes in all, and its answer.
+struct Long {
+    words: &'static [&'static str],
+    length: usize,
+    exit: Exit,
+    reply: &'static [u8],
+}
+
+const LONG: [Long; 4] = [
+    Long {
+        words: &["check", "long.swift"],
+        length: LIMIT,
+        exit: Exit::Done,
+        reply: b"accepted\n",
+    },
+    Long {
+        words: &["check", "long.swift"],
+        length: LIMIT + 1,
+        exit: Exit::TooLong,
+        reply: b"",
+    },
+    Long {
+        words: &["run", "long.swift", "schedule.txt"],
+        length: LIMIT,
+        exit: Exit::Done,
+        reply: b"7\ndone 1 of 1 jobs\n",
+    },
+    // The schedule of a program that is too long isn't fetched, so it doesn't matter that there is none.
+    Long {
+        words: &["run", "long.swift", "none.txt"],
+        length: LIMIT + 1,
+        exit: Exit::TooLong,
+        reply: b"",
+    },
+];
+
 #[test]
-fn a_file_at_the_limit_and_above(rt: HostRuntime) -> Result<(), Fail> {
-    let empty: &[u8] = b"1:1: error E304: not exactly one entry\nrefused: 1\n";
-    let cases: [(usize, Exit, &[u8]); 2] = [
-        (LIMIT, Exit::Breached, empty),
-        (LIMIT + 1, Exit::TooLong, b""),
-    ];
-    for (length, exit, reply) in &cases {
-        let spaces = vec![in rt.alloc(); b' '; *length]?;
+fn a_program_at_the_limit_and_above(rt: HostRuntime) -> Result<(), Fail> {
+    for (i, case) in LONG.iter().enumerate() {
+        let mut program = Vec::from_slice(rt.alloc(), SEVEN)?;
+        let blanks = vec![in rt.alloc(); b' '; case.length.saturating_sub(SEVEN.len())]?;
+        program.extend_from_slice(blanks.as_slice())?;
+        assert_eq!(rt; program.len(), case.length, "case {i}");
         let mut shelf = MemShelf::new(rt.alloc(), &[])?;
-        shelf.add("spaces.swift", spaces.as_slice())?;
+        shelf.add("long.swift", program.as_slice())?;
+        shelf.add("schedule.txt", b"0 0 0 0")?;
         let mut sink = MemSink::new(rt.alloc(), 1000, &[], 1000)?;
-        let answer = call(
-            rt.alloc(),
-            &["check", "spaces.swift"],
-            &mut shelf,
-            &mut sink,
-        )?;
-        assert_eq!(rt; answer.exit, *exit);
-        assert_eq!(rt; answer.bytes.as_slice(), *reply);
+        let answer = call(rt.alloc(), case.words, &mut shelf, &mut sink)?;
+        assert_eq!(rt; answer.exit, case.exit, "case {i}");
+        assert_eq!(rt; answer.bytes.as_slice(), case.reply, "case {i}");
     }
     Ok(())
 }
@@ -167,4 +197,5 @@ fn each_exit_has_its_status(rt: HostRuntime) {
         assert_eq!(rt; exit.status(), *status);
     }
     texts_have_one_verdict();
+    words_have_one_reply();
 }

@@ -11,6 +11,10 @@ const TWO: &[u8] =
 /// A program that is refused.
 const REFUSED: &[u8] = b"@main struct App {\n  static func main() {\n    let x = 1\n  }\n}\n";
 
+/// A program that prints the longest literal, and one with zeros in front.
+const LITERALS: &[u8] =
+    b"@main struct App {\n  static func main() {\n    print(999999999999999999); print(0007)\n  }\n}\n";
+
 /// Calls `run` on a program and a schedule, with room for the whole reply.
 fn run(alloc: Global, program: &[u8], schedule: &[u8]) -> Result<Answer, AllocError> {
     let mut shelf = MemShelf::new(alloc, &[])?;
@@ -33,7 +37,7 @@ struct Row {
     reply: &'static [u8],
 }
 
-const ROWS: [Row; 20] = [
+const ROWS: [Row; 21] = [
     Row {
         program: SEVEN,
         schedule: b"0 0 0",
@@ -111,6 +115,12 @@ const ROWS: [Row; 20] = [
         schedule: b"99999999999x",
         exit: Exit::BadSchedule,
         reply: b"1:1: schedule: number too big\n",
+    },
+    Row {
+        program: LITERALS,
+        schedule: b"0 0 0 0 0 0",
+        exit: Exit::Done,
+        reply: b"999999999999999999\n7\ndone 1 of 1 jobs\n",
     },
     Row {
         program: TWO,

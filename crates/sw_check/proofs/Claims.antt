@@ -1,5 +1,5 @@
 -- What the exit of a reply says.
-use Rattle.std.proofs.Common.{◌≡◌, ◌≢◌, ℕ, ◌≤◌, List, length, Option, Some, None, IfSome, inl, inr, refl, sym, ap, subst, ◌∙◌, arith}
+use Rattle.std.proofs.Common.{◌≡◌, ◌≢◌, ℕ, ◌≤◌, List, [], length, Option, Some, None, IfSome, inl, inr, refl, sym, ap, subst}
 use Rattle.sw_outside.specs.Shelf.{Told, file_of}
 use Rattle.sw_value.proofs.NeverRaces.{never_races}
 use Rattle.sw_value.specs.Reach.{reach}
@@ -8,29 +8,34 @@ use Rattle.sw_replay.specs.declared.output.End.TheVariants as ends
 use Rattle.sw_replay.specs.Items.{IsItems}
 use Rattle.sw_replay.specs.Output.{end_of}
 use Rattle.sw_graph.specs.declared.graph.Graph.{Graph}
-use Rattle.sw_check.specs.declared.exit.Exit.{Exit}
-use Rattle.sw_check.specs.declared.exit.Exit.TheVariants.{Done, Breached, Usage, NotRead, TooLong, NotWritten, Memory, Trapped, BadSchedule, Raced}
+use Rattle.sw_check.specs.declared.exit.Exit.TheVariants.{Done, Breached, Usage, Raced}
 use Rattle.sw_check.specs.declared.outcome.Outcome.{Outcome}
 use Rattle.sw_check.specs.declared.TheConstants.{PROGRAM_LIMIT}
+use Rattle.sw_check.specs.declared.breach.Breach.{Breach}
 use Rattle.sw_check.specs.declared.small.tree.Small.{Small}
 use Rattle.sw_check.specs.declared.verdict.Verdict.{Verdict}
 use Rattle.sw_check.specs.declared.verdict.Verdict.TheVariants.{Accepted, Refused}
 use Rattle.sw_check.specs.Claims.{NeverRaces, Says}
 use Rattle.sw_check.specs.Lower.{IsLowered}
-use Rattle.sw_check.specs.Reply.{check_outcome, ended_outcome, IsRunReply, bad_schedule, ran, Reply, no_form, program_too_long, checked, run_refused, schedule_too_long, run, program_text, schedule_text, Agrees, Answered}
-use Rattle.sw_check.specs.Verdict.{IsVerdict, IsProgram, Accepts, Refuses}
+use Rattle.sw_check.specs.Reply.{usage, check_outcome, refusal, ended_outcome, IsRunReply, bad_schedule, ran, Reply, no_form, program_too_long, checked, run_refused, schedule_too_long, run, program_text, schedule_text, ReplyOver, Agrees, Answered}
+use Rattle.sw_check.specs.Verdict.{IsVerdict, IsProgram, IsFirstBreach, Accepts, Refuses}
 use Rattle.sw_check.specs.Words.{Command, Check, Run}
+use Rattle.sw_check.proofs.OneGraph.{some_graph}
 use Rattle.sw_check.proofs.Runnable.{lowered_runnable}
 use Rattle.sw_check.proofs.SmallSize.{size_of-program}
-use Rattle.sw_check.proofs.Verdicts.{one_verdict, never_both}
+use Rattle.sw_check.proofs.OneReply.{one_reply}
 
 -- no run of a small program races
 never : (text : List ℕ) (program : Small) → length text ≤ PROGRAM_LIMIT → IsProgram text program → NeverRaces text
-never text program short is = record {
-  program = program;
-  spelled = is;
-  no_race = λ graph lowered items race. never_races graph (lowered_runnable program graph lowered.functions (size_of-program text program is short)) (reach graph items) race;
-}
+never text program short is =
+    let (graph, lowered) = some_graph program in
+    record {
+      program = program;
+      spelled = is;
+      graph = graph;
+      lowered = lowered;
+      no_race = λ items race. never_races graph (lowered_runnable program graph lowered.functions (size_of-program text program is short)) (reach graph items) race;
+    }
 
 says_verdict : (file text schedule : List ℕ) (verdict : Verdict) → length text ≤ PROGRAM_LIMIT → IsVerdict text verdict → Says (Some (Check file)) text schedule (check_outcome text verdict).exit
 says_verdict file text schedule (Accepted program) short is = (never text program short is, tt)
@@ -94,51 +99,36 @@ never_raced {command} {outcome = outcome} answered raced =
     subst (Says command answered.program answered.schedule) raced (reply_says command answered.program answered.schedule outcome answered.reply)
 
 -- words of no form are answered by the usage line
-no_form_exit : (command : Option Command) (program schedule : List ℕ) (outcome : Outcome) → Reply command program schedule outcome → command ≡ None → outcome.exit ≡ Usage
-no_form_exit command program schedule outcome (no_form _ _) none = refl
-no_form_exit command program schedule outcome (program_too_long _ _ _ more) none = cc
-no_form_exit command program schedule outcome (checked file _ _ _ short reply) none = cc
-no_form_exit command program schedule outcome (run_refused _ _ _ _ breach short is) none = cc
-no_form_exit command program schedule outcome (schedule_too_long _ _ _ _ short accepts more) none = cc
-no_form_exit command program schedule outcome (run file schedule_file _ _ small _ short is within reply) none = cc
-
 pub usage_told : {command : Option Command} {before after : Option Told} {outcome : Outcome} → Answered command before outcome after → command ≡ None → outcome.exit ≡ Usage
-usage_told {command} {outcome = outcome} answered none = no_form_exit command answered.program answered.schedule outcome answered.reply none
+usage_told {command} {outcome = outcome} answered none =
+    let reply = subst (λ command. Reply command answered.program answered.schedule outcome) none answered.reply in
+    ap (λ o. o.exit) (one_reply None answered.program answered.schedule outcome (record { exit = Usage; bytes = usage }) reply (no_form answered.program answered.schedule))
 
--- A program that is refused is answered by its breaches, and no other.
-pub refused_exit : (command : Command) (program schedule : List ℕ) (exit : Exit) → length program ≤ PROGRAM_LIMIT → Refuses program → Says (Some command) program schedule exit → exit ≡ Breached
-refused_exit command program schedule Done short refuses says = absurd (never_both program (says.0.program, says.0.spelled) refuses)
-refused_exit command program schedule Breached short refuses says = refl
-refused_exit command program schedule Usage short refuses says = cc
-refused_exit command program schedule NotRead short refuses says = absurd says
-refused_exit command program schedule TooLong short refuses (inl more) = absurd (omega arith)
-refused_exit command program schedule TooLong short refuses (inr says) = absurd (never_both program says.0 refuses)
-refused_exit command program schedule NotWritten short refuses says = absurd says
-refused_exit command program schedule Memory short refuses says = absurd says
-refused_exit command program schedule Trapped short refuses says = absurd (never_both program (says.2.program, says.2.spelled) refuses)
-refused_exit command program schedule BadSchedule short refuses says = absurd (never_both program says.0 refuses)
-refused_exit command program schedule Raced short refuses says = absurd says
+-- every reply to the words over the files that the shelf tells has the exit of the answer
+pub exact_told : {command : Option Command} {before after : Option Told} {outcome : Outcome} → Answered command before outcome after → (told : Told) (other : Outcome) → before ≡ Some told → ReplyOver told command other → outcome.exit ≡ other.exit
+exact_told {command} {before} {after} {outcome} answered told other tells reply =
+    let agrees = subst (λ before. Agrees before command answered.program answered.schedule) tells answered.agrees in
+    let same : ReplyOver told command outcome =
+    subst (λ program. Reply command program (schedule_text told command) outcome) agrees.0
+    (subst (λ schedule. Reply command answered.program schedule outcome) agrees.1 answered.reply) in
+    ap (λ o. o.exit) (one_reply command (program_text told command) (schedule_text told command) outcome other same reply)
 
--- A program that may be built is accepted by `check`.
-accepted_exit : (command : Option Command) (program schedule : List ℕ) (outcome : Outcome) → Reply command program schedule outcome → (file : List ℕ) → command ≡ Some (Check file) → length program ≤ PROGRAM_LIMIT → Accepts program → outcome.exit ≡ Done
-accepted_exit command program schedule outcome (no_form _ _) file is short accepts = cc
-accepted_exit command program schedule outcome (program_too_long _ _ _ more) file is short accepts = absurd (omega arith)
-accepted_exit command program schedule outcome (checked _ _ _ _ within reply) file is short accepts =
-    ap (λ o. o.exit) reply.told ∙ ap (λ v. (check_outcome program v).exit) (one_verdict program reply.verdict (Accepted accepts.0) reply.decided accepts.1)
-accepted_exit command program schedule outcome (run_refused _ _ _ _ breach _ _) file is short accepts = cc
-accepted_exit command program schedule outcome (schedule_too_long _ _ _ _ _ _ more) file is short accepts = cc
-accepted_exit command program schedule outcome (run _ _ _ _ small _ _ _ within reply) file is short accepts = cc
-
--- the same over the files that a shelf tells
+-- a program that may be built
 pub accepted_told : {command : Option Command} {before after : Option Told} {outcome : Outcome} → Answered command before outcome after → (told : Told) (file : List ℕ) → before ≡ Some told → command ≡ Some (Check file) → length (file_of told.files file) ≤ PROGRAM_LIMIT → Accepts (file_of told.files file) → outcome.exit ≡ Done
 accepted_told {command} {before} {after} {outcome} answered told file tells is short accepts =
-    let agrees = subst (λ before. Agrees before command answered.program answered.schedule) tells answered.agrees in
-    let same : answered.program ≡ file_of told.files file = agrees.0 ∙ ap (program_text told) is in
-    accepted_exit command answered.program answered.schedule outcome answered.reply file is (subst (λ text. length text ≤ PROGRAM_LIMIT) (sym same) short) (subst Accepts (sym same) accepts)
+    let text = file_of told.files file in
+    let accepted = check_outcome text (Accepted accepts.0) in
+    let reply : ReplyOver told (Some (Check file)) accepted = checked file text [] accepted short (record { verdict = Accepted accepts.0; decided = accepts.1; told = refl }) in
+    exact_told answered told accepted tells (subst (λ command. ReplyOver told command accepted) (sym is) reply)
+
+-- a program that is refused
+refused_reply : (told : Told) (command : Command) (breach : Breach) → length (program_text told (Some command)) ≤ PROGRAM_LIMIT → IsFirstBreach (program_text told (Some command)) breach → ReplyOver told (Some command) (refusal (program_text told (Some command)) breach)
+refused_reply told (Check file) breach short is =
+    let text = file_of told.files file in
+    checked file text [] (refusal text breach) short (record { verdict = Refused breach; decided = is; told = refl })
+refused_reply told (Run file schedule_file) breach short is = run_refused file schedule_file (file_of told.files file) (file_of told.files schedule_file) breach short is
 
 pub refused_told : {command : Option Command} {before after : Option Told} {outcome : Outcome} → Answered command before outcome after → (told : Told) (asked : Command) → before ≡ Some told → command ≡ Some asked → length (program_text told (Some asked)) ≤ PROGRAM_LIMIT → Refuses (program_text told (Some asked)) → outcome.exit ≡ Breached
 refused_told {command} {before} {after} {outcome} answered told asked tells is short refuses =
-    let agrees = subst (λ before. Agrees before command answered.program answered.schedule) tells answered.agrees in
-    let same : answered.program ≡ program_text told (Some asked) = agrees.0 ∙ ap (program_text told) is in
-    refused_exit asked answered.program answered.schedule outcome.exit (subst (λ text. length text ≤ PROGRAM_LIMIT) (sym same) short) (subst Refuses (sym same) refuses)
-    (subst (λ command. Says command answered.program answered.schedule outcome.exit) is (reply_says command answered.program answered.schedule outcome answered.reply))
+    let refused = refusal (program_text told (Some asked)) refuses.0 in
+    exact_told answered told refused tells (subst (λ command. ReplyOver told command refused) (sym is) (refused_reply told asked refuses.0 short refuses.1))

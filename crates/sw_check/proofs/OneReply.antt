@@ -1,4 +1,4 @@
--- The words and the texts of their files have one reply.
+-- The words and the texts of their files have one reply, and one list of files is fetched for them.
 use Rattle.std.proofs.Common.{◌≡◌, ℕ, ◌<◌, ◌≤◌, ◌⊎◌, inl, inr, List, length, Option, Some, None, Result, Ok, Err, refl, sym, ap, ap₂, subst, ◌∙◌, arith}
 use Rattle.std.proofs.lemmas.Bool.{cases_lt}
 use Rattle.sw_value.specs.Reach.{reach}
@@ -18,8 +18,8 @@ use Rattle.sw_check.specs.declared.verdict.Verdict.TheVariants.{Accepted, Refuse
 use Rattle.sw_check.specs.Claims.{EndsSo}
 use Rattle.sw_check.specs.Lines.{schedule_line}
 use Rattle.sw_check.specs.Lower.{IsLowered}
-use Rattle.sw_check.specs.Reply.{check_outcome, refusal, run_outcome, IsRunReply, bad_schedule, ran, Reply, no_form, program_too_long, checked, run_refused, schedule_too_long, run}
-use Rattle.sw_check.specs.Verdict.{IsProgram, IsVerdict}
+use Rattle.sw_check.specs.Reply.{check_outcome, refusal, run_outcome, IsRunReply, bad_schedule, ran, Reply, no_form, program_too_long, checked, run_refused, schedule_too_long, run, Stops, Asked, no_file, to_check, not_run, to_run}
+use Rattle.sw_check.specs.Verdict.{IsProgram, IsVerdict, Accepts}
 use Rattle.sw_check.specs.Words.{Command, Check, Run}
 use Rattle.sw_check.proofs.OneGraph.{some_graph, one_graph}
 use Rattle.sw_check.proofs.Verdicts.{some_verdict, one_verdict, one_small, one_breach, never_both}
@@ -89,3 +89,16 @@ one_reply _ text _ _ _ (run _ _ _ _ program _ _ spells _ _) (run_refused _ _ _ _
 one_reply _ _ _ _ _ (run _ _ _ _ _ _ _ _ short _) (schedule_too_long _ _ _ _ _ _ long) = absurd (omega arith)
 one_reply _ text schedule _ _ (run _ _ _ _ a outcome _ is_a _ reply_a) (run _ _ _ _ b outcome' _ is_b _ reply_b) =
     one_run_reply text b schedule outcome outcome' (subst (λ program. IsRunReply text program schedule outcome) (one_small text a b is_a is_b) reply_a) reply_b
+
+-- no program is both run and not run
+stops_or_runs : (program : List ℕ) → Stops program → length program ≤ PROGRAM_LIMIT → Accepts program → ⊥
+stops_or_runs program (inl long) short accepts = omega (arith, long, short)
+stops_or_runs program (inr refuses) short accepts = never_both program accepts refuses
+
+pub one_asking : (command : Option Command) (program : List ℕ) (a b : List (List ℕ)) → Asked command program a → Asked command program b → a ≡ b
+one_asking command program a b (no_file _) (no_file _) = refl
+one_asking command program a b (to_check _ _) (to_check _ _) = refl
+one_asking command program a b (not_run _ _ _ _) (not_run _ _ _ _) = refl
+one_asking command program a b (not_run _ _ _ stops) (to_run _ _ _ short accepts) = absurd (stops_or_runs program stops short accepts)
+one_asking command program a b (to_run _ _ _ short accepts) (not_run _ _ _ stops) = absurd (stops_or_runs program stops short accepts)
+one_asking command program a b (to_run _ _ _ _ _) (to_run _ _ _ _ _) = refl

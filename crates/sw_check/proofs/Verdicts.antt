@@ -10,7 +10,7 @@ use Rattle.sw_token.specs.Tokens.{IsTokens, IsReading}
 use Rattle.sw_token.specs.Reading.{reading}
 use Rattle.sw_token.proofs.Readings.{reading-IsTokens, reading-IsLexicalPlace, reading-IsReading}
 use Rattle.sw_check.specs.declared.breach.Breach.{Breach}
-use Rattle.sw_check.specs.declared.breach.TheConstants.{UNEXPECTED_TOKEN, NOT_ONE_ENTRY}
+use Rattle.sw_check.specs.Breach.{unexpected_token, not_one_entry}
 use Rattle.sw_check.specs.declared.small.tree.Small.{Small}
 use Rattle.sw_check.specs.declared.verdict.Verdict.{Verdict}
 use Rattle.sw_check.specs.declared.verdict.Verdict.TheVariants.{Accepted, Refused}
@@ -23,7 +23,7 @@ use Rattle.sw_check.proofs.TokensSpelled.{tokens_spelled}
 
 -- the refusal for an unexpected token
 abbrev unexpected : ℕ → Verdict
-unexpected at = Refused (record { code = UNEXPECTED_TOKEN; at = at })
+unexpected at = Refused (record { code = unexpected_token; at = at })
 
 -- the verdict by what the parser made of the tokens
 abbrev verdict_of_parse : List ℕ → List Token → Result (Small × List Spelled) ℕ → Verdict
@@ -33,7 +33,7 @@ verdict_of_parse text tokens (Err left) = unexpected (token_place text tokens (l
 -- the verdict by the tokens
 abbrev verdict_of_tokens : List ℕ → Result (List Token) LexFault → Verdict
 verdict_of_tokens text (Err fault) = unexpected (lexical_place fault)
-verdict_of_tokens text (Ok []) = Refused (record { code = NOT_ONE_ENTRY; at = 0 })
+verdict_of_tokens text (Ok []) = Refused (record { code = not_one_entry; at = 0 })
 verdict_of_tokens text (Ok (token ∷ tokens)) = verdict_of_parse text (token ∷ tokens) (whole (spelling_of text (token ∷ tokens)))
 
 -- the verdict as a function of the text

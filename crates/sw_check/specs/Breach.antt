@@ -4,9 +4,17 @@ use Rattle.std.specs.Fmt.{decimal}
 use Rattle.sw_text.specs.Text.{line_of, column_of}
 use Rattle.sw_check.specs.declared.breach.Breach.{Breach}
 
+-- the code of a token that no program has in its place
+abbrev pub unexpected_token : ℕ
+unexpected_token = 201
+
+-- the code of a program without an entry, or with several
+abbrev pub not_one_entry : ℕ
+not_one_entry = 304
+
 -- what a code means
 abbrev pub text_of : ℕ → List ℕ
-text_of code = if code == 304 then codes "not exactly one entry" else codes "unexpected token"
+text_of code = if code == not_one_entry then codes "not exactly one entry" else codes "unexpected token"
 
 -- the line feed that ends a line
 abbrev pub line_feed : List ℕ

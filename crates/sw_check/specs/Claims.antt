@@ -18,11 +18,13 @@ use Rattle.sw_check.specs.Lower.{IsLowered}
 use Rattle.sw_check.specs.Verdict.{IsProgram, Accepts, Refuses}
 use Rattle.sw_check.specs.Words.{Command, Check, Run}
 
--- The text is that of a program whose machine isn't racing after any list of items, of any length.
+-- The text is that of a program, and the machine of its graph isn't racing after any list of items, of any length.
 pub record NeverRaces (text : List ℕ) : Type 0 where
   pub program : Small
   pub spelled : IsProgram text program
-  pub no_race : (graph : Graph) → IsLowered program graph → (items : List ℕ) → ¬ Racing graph (reach graph items)
+  pub graph : Graph
+  pub lowered : IsLowered program graph
+  pub no_race : (items : List ℕ) → ¬ Racing graph (reach graph items)
 
 -- the replay of the program by the schedule ends so
 pub record EndsSo (end : End) (text schedule : List ℕ) : Type 0 where

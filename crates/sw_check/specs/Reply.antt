@@ -110,6 +110,10 @@ schedule_text told (Some (Run file schedule_file)) = file_of told.files schedule
 schedule_text told (Some (Check file)) = []
 schedule_text told None = []
 
+-- the outcome is the reply to the words over these files
+abbrev pub ReplyOver : Told → Option Command → Outcome → Type 0
+ReplyOver told command outcome = Reply command (program_text told command) (schedule_text told command) outcome
+
 -- Where the shelf tells its files, the texts are those of the program's file and of the schedule's.
 abbrev pub Agrees : Option Told → Option Command → List ℕ → List ℕ → Type 0
 Agrees (Some told) command program schedule = (program ≡ program_text told command) × (schedule ≡ schedule_text told command)

@@ -8,10 +8,10 @@ use Rattle.sw_token.specs.declared.LexFault.{LexFault}
 use Rattle.sw_token.specs.declared.LexFault.TheVariants.{Unclosed, TooBig, BadChar, TooMany, Memory}
 use Rattle.sw_token.specs.Tokens.{IsTokens, IsLexicalPlace}
 use Rattle.sw_check.specs.declared.breach.Breach.{Breach}
-use Rattle.sw_check.specs.declared.breach.TheConstants.{UNEXPECTED_TOKEN, NOT_ONE_ENTRY}
 use Rattle.sw_check.specs.declared.small.tree.Small.{Small}
 use Rattle.sw_check.specs.declared.verdict.Verdict.{Verdict}
 use Rattle.sw_check.specs.declared.verdict.Verdict.TheVariants.{Accepted, Refused}
+use Rattle.sw_check.specs.Breach.{unexpected_token, not_one_entry}
 use Rattle.sw_check.specs.Spelling.{spelling_of}
 use Rattle.sw_check.specs.Small.{Spells, IsSmallPlace}
 
@@ -38,15 +38,15 @@ token_place text tokens before = option_map_or (λ token. token.span.start) (sli
 -- then the grammar.
 pub data IsFirstBreach (text : List ℕ) : Breach → Type 0 where
   not_utf8 : ¬ (IsUtf8 text)
-      → IsFirstBreach text (record { code = UNEXPECTED_TOKEN; at = utf8_valid_len text })
+      → IsFirstBreach text (record { code = unexpected_token; at = utf8_valid_len text })
   no_token : (fault : LexFault) → IsUtf8 text → IsLexicalPlace text fault
-      → IsFirstBreach text (record { code = UNEXPECTED_TOKEN; at = lexical_place fault })
+      → IsFirstBreach text (record { code = unexpected_token; at = lexical_place fault })
   not_spelled : (tokens : List Token) (before : ℕ) → IsUtf8 text → IsTokens text tokens → tokens ≢ []
       → IsSmallPlace (spelling_of text tokens) before
-      → IsFirstBreach text (record { code = UNEXPECTED_TOKEN; at = token_place text tokens before })
+      → IsFirstBreach text (record { code = unexpected_token; at = token_place text tokens before })
   -- a text of gaps alone
   no_entry : IsUtf8 text → IsTokens text []
-      → IsFirstBreach text (record { code = NOT_ONE_ENTRY; at = 0 })
+      → IsFirstBreach text (record { code = not_one_entry; at = 0 })
 
 -- what the rules say of a text
 abbrev pub IsVerdict : List ℕ → Verdict → Type 0

@@ -6,7 +6,7 @@ ghost use Rattle.sw_check.specs.declared.outcome.Outcome.{Outcome};
 ghost use Rattle.sw_check.specs.declared.small.tree.Small.{Small};
 ghost use Rattle.sw_check.specs.Claims.{EndsSo};
 ghost use Rattle.sw_check.specs.Lower.{IsLowered};
-ghost use Rattle.sw_check.specs.Reply.{Reply};
+ghost use Rattle.sw_check.specs.Reply.{Asked, Reply};
 ghost use Rattle.sw_check.specs.Small.{IsSmall, IsSmallPlace, Spells};
 ghost use Rattle.sw_check.specs.Spelling.{IsSpelling, Spelled};
 ghost use Rattle.sw_check.specs.Verdict.{Accepts, IsFirstBreach, IsProgram, Refuses};
@@ -34,10 +34,13 @@ pub fn programs_have_one_graph()
     ensures one_graph { (program : Small) (a b : Graph) → IsLowered program a → IsLowered program b → a ≡ b }
 {}
 
-/// The words and the texts of their files have one reply, and a run of a program by a schedule ends in one way.
+/// The words and the texts of their files have one reply, one list of files is fetched for them, and a run of a program by a
+/// schedule ends in one way.
 pub fn words_have_one_reply()
     ensures some_reply { (command : Option Command) (program schedule : List ℕ) → (outcome : Outcome) × Reply command program schedule outcome }
     ensures one_reply { (command : Option Command) (program schedule : List ℕ) (a b : Outcome) → Reply command program schedule a
         → Reply command program schedule b → a ≡ b }
+    ensures one_asking { (command : Option Command) (program : List ℕ) (a b : List (List ℕ)) → Asked command program a
+        → Asked command program b → a ≡ b }
     ensures one_end { (text schedule : List ℕ) (a b : End) → EndsSo a text schedule → EndsSo b text schedule → a ≡ b }
 {}

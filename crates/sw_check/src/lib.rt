@@ -4,9 +4,10 @@
 ghost use Rattle.std.specs.Prelude.{◌≡◌, ◌≢◌, ◌<◌, ◌≤◌, ℕ, List, Some, None, IfSome, IfNone, IsTrue, IsFalse, length};
 ghost use Rattle.sw_outside.specs.Rise.{Rose};
 ghost use Rattle.sw_outside.specs.Shelf.{Told, file_of};
+ghost use Rattle.sw_check.specs.declared.outcome.Outcome.{Outcome};
 ghost use Rattle.sw_check.specs.Exit.{is_failure, is_silent};
 ghost use Rattle.sw_check.specs.Claims.{Says};
-ghost use Rattle.sw_check.specs.Reply.{Answered, Unanswered, program_text, schedule_text};
+ghost use Rattle.sw_check.specs.Reply.{ReplyOver, Unanswered, program_text, schedule_text};
 ghost use Rattle.sw_check.specs.Call.{Replied, Interrupted};
 ghost use Rattle.sw_check.specs.Verdict.{Accepts, Refuses};
 ghost use Rattle.sw_check.specs.Words.{Check, Command, command_in};
@@ -56,7 +57,10 @@ pub fn run_words<S: Shelf, K: Sink>(
     ensures says { IsFalse (is_failure result) → IfSome (S.told shelf.old) (λ told.
         let command = command_in words.now.items in
         Says command (program_text told command) (schedule_text told command) result) }
-    // Where nothing failed, words of no form, a refused program and an accepted one have these exits.
+    // Where nothing failed, every reply over the files that the shelf tells has this exit.
+    ensures exact { (told : Told) (outcome : Outcome) → S.told shelf.old ≡ Some told
+        → ReplyOver told (command_in words.now.items) outcome → IsFalse (is_failure result) → result ≡ outcome.exit }
+    // So words of no form, a refused program and an accepted one have these exits.
     ensures usage { command_in words.now.items ≡ None → IsFalse (is_failure result) → result ≡ Exit.Usage }
     ensures breached { (told : Told) (command : Command) → S.told shelf.old ≡ Some told
         → command_in words.now.items ≡ Some command

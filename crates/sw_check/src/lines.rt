@@ -1,6 +1,6 @@
 //! The lines about a replay.
 
-ghost use Rattle.std.specs.Prelude.{◌≡◌, ◌<◌, ◌≤◌, IfOk, length, string_bytes};
+ghost use Rattle.std.specs.Prelude.{◌≡◌, ◌<◌, IfOk, length, string_bytes};
 ghost use Rattle.sw_replay.specs.Items.{place_of};
 ghost use Rattle.sw_check.specs.Lines.{schedule_line, schedule_text, summary, trap_line, trap_text};
 

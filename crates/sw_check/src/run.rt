@@ -1,8 +1,8 @@
 //! `run`: the program's verdict, the schedule and the replay.
 
-ghost use Rattle.std.specs.Prelude.{◌≡◌, ◌≢◌, ◌<◌, ◌≤◌, ◌^◌, IfOk, IfNone, OnOk, IsErrOf, IsFalse, length, Some, string_bytes};
+ghost use Rattle.std.specs.Prelude.{◌≡◌, ◌≢◌, ◌<◌, ◌≤◌, IfOk, IfNone, OnOk, IsErrOf, IsFalse, length, Some};
 ghost use Rattle.sw_outside.specs.Rise.{Rose};
-ghost use Rattle.sw_replay.specs.Items.{IsBadPlace, IsItems};
+ghost use Rattle.sw_replay.specs.Items.{IsItems};
 ghost use Rattle.sw_check.specs.Exit.{is_failure};
 ghost use Rattle.sw_check.specs.Lines.{schedule_line};
 ghost use Rattle.sw_check.specs.Reply.{Answered, IsRunReply, Unanswered, ended_outcome};

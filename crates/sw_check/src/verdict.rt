@@ -1,6 +1,7 @@
 ghost use Rattle.std.specs.Prelude.{◌≡◌, ◌≢◌, ◌≤◌, IfOk, OnOk, length};
 ghost use Rattle.std.specs.Str.{IsUtf8};
 ghost use Rattle.sw_token.specs.Tokens.{IsTokens};
+ghost use Rattle.sw_check.specs.Breach.{unexpected_token};
 ghost use Rattle.sw_check.specs.declared.TheConstants.{PROGRAM_LIMIT};
 ghost use Rattle.sw_check.specs.Verdict.{IsVerdict, lexical_place, token_place};
 
@@ -42,7 +43,7 @@ pub fn verdict_on(alloc: Global, text: &[u8]) -> Result<Verdict, AllocError>
 
 /// The verdict on a text that has no tokens for that reason.
 fn on_fault(fault: LexFault) -> Result<Verdict, AllocError>
-    ensures place { IfOk result (λ verdict. verdict ≡ Verdict.Refused (record { code = UNEXPECTED_TOKEN; at = lexical_place fault })) }
+    ensures place { IfOk result (λ verdict. verdict ≡ Verdict.Refused (record { code = unexpected_token; at = lexical_place fault })) }
     ensures lexical { OnOk result (fault ≢ LexFault.Memory) }
 {
     match fault {

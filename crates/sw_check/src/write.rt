@@ -1,4 +1,4 @@
-ghost use Rattle.std.specs.Prelude.{◌≡◌, ◌≤◌, ℕ, OnOk, OnErr, length, take};
+ghost use Rattle.std.specs.Prelude.{◌≡◌, OnOk, OnErr};
 ghost use Rattle.sw_outside.specs.Rise.{Rose};
 ghost use Rattle.sw_check.specs.Written.{Appended, IsFrontWritten};
 

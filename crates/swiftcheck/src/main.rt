@@ -36,3 +36,15 @@ fn main(rt: HostRuntime) -> ExitCode {
     };
     ExitCode::from(status)
 }
+
+#[cfg(test)]
+mod tests {
+    use super::status_of;
+    use std::io::{Error, ErrorKind};
+
+    #[test]
+    fn arguments_that_cannot_be_taken(rt: HostRuntime) {
+        assert_eq!(rt; status_of(&Error::from(ErrorKind::OutOfMemory)), 6);
+        assert_eq!(rt; status_of(&Error::from(ErrorKind::InvalidData)), 14);
+    }
+}

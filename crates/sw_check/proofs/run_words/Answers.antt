@@ -2,7 +2,7 @@ use Rattle.std.proofs.Common.{map, string_bytes, subst}
 use Rattle.sw_check.specs.Reply.{Answered}
 use Rattle.sw_check.specs.Words.{command_of}
 use Rattle.sw_check.specs.Written.{Appended}
-use Rattle.sw_check.proofs.Claims.{answer_says, never_raced, usage_told, accepted_told, refused_told}
+use Rattle.sw_check.proofs.Claims.{answer_says, never_raced, exact_told, usage_told, accepted_told, refused_told}
 use Rattle.sw_check.proofs.Tells.{silent_written}
 use Rattle.sw_check.proofs.run_words.Goals as goal
 
@@ -17,6 +17,10 @@ returns-in-Ok-put_all-clause-says g c _ =
 
 pub returns-in-Ok-put_all-clause-never_raced : goal.returns-in-Ok-put_all-clause-never_raced
 returns-in-Ok-put_all-clause-never_raced g c raced = never_raced c.in-Ok.ensures.answered raced
+
+pub returns-in-Ok-put_all-clause-exact : goal.returns-in-Ok-put_all-clause-exact
+returns-in-Ok-put_all-clause-exact g c told outcome tells reply _ =
+    exact_told (subst (λ words. Answered (command_of (map string_bytes words)) (g.S.Shelf.told c.args.shelf.now) c.in-Ok.outcome (g.S.Shelf.told c.answer.new.shelf)) c.deref.ensures.value c.in-Ok.ensures.answered) told outcome tells reply
 
 pub returns-in-Ok-put_all-clause-usage : goal.returns-in-Ok-put_all-clause-usage
 returns-in-Ok-put_all-clause-usage g c none _ =

@@ -9,3 +9,6 @@ returns-clause-one_end c = replies.one_end
 
 pub returns-clause-one_reply : goal.returns-clause-one_reply
 returns-clause-one_reply c = replies.one_reply
+
+pub returns-clause-one_asking : goal.returns-clause-one_asking
+returns-clause-one_asking c = replies.one_asking
