@@ -82,7 +82,11 @@ fn two_globals(alloc: Global) -> Result<Graph, Fail> {
         actor: None,
     };
     let entry = body(alloc, Iso::Free, ListOf::new(alloc))?;
-    let first = body(alloc, Iso::Global(3), ListOf::one(alloc, RegKind::Plain(Ty::Int))?)?;
+    let first = body(
+        alloc,
+        Iso::Global(3),
+        ListOf::one(alloc, RegKind::Plain(Ty::Int))?,
+    )?;
     let bools = ListOf::two(alloc, RegKind::Plain(Ty::Bool), RegKind::Plain(Ty::Bool))?;
     let second = body(alloc, Iso::Free, bools)?;
     let mut functions = ListOf::two(alloc, entry, first)?;
