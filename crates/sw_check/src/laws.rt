@@ -12,6 +12,8 @@ ghost use Rattle.sw_check.specs.Spelling.{IsSpelling, Spelled};
 ghost use Rattle.sw_check.specs.Verdict.{Accepts, IsFirstBreach, IsProgram, Refuses};
 ghost use Rattle.sw_check.specs.Words.{Command};
 
+use crate::PROGRAM_LIMIT;
+
 /// Every text is that of a program or has a first breach, never both, and there is one program and one first breach.
 pub fn texts_have_one_verdict()
     ensures decided { (text : List ℕ) → Accepts text ⊎ Refuses text }
@@ -43,4 +45,9 @@ pub fn words_have_one_reply()
     ensures one_asking { (command : Option Command) (program : List ℕ) (a b : List (List ℕ)) → Asked command program a
         → Asked command program b → a ≡ b }
     ensures one_end { (text schedule : List ℕ) (a b : End) → EndsSo a text schedule → EndsSo b text schedule → a ≡ b }
+{}
+
+/// The limit that the definitions of replies take from here.
+pub fn program_limit()
+    ensures bytes { PROGRAM_LIMIT ≡ 262144 }
 {}

@@ -27,7 +27,7 @@ mod write;
 
 pub use exit::Exit;
 pub use laws::{
-    programs_have_one_graph, spellings_have_one_meaning, texts_have_one_verdict,
+    program_limit, programs_have_one_graph, spellings_have_one_meaning, texts_have_one_verdict,
     words_have_one_reply,
 };
 use no_reply::NoReply;

@@ -4,6 +4,9 @@ ghost use Rattle.sw_replay.specs.declared.text.SchedFault.{SchedFault};
 ghost use Rattle.sw_replay.specs.Items.{IsItems, IsBadPlace, IsReading, place_of};
 ghost use Rattle.sw_replay.specs.Watched.{IsRacingAt, IsWatched};
 
+use crate::items::MAX_ITEMS;
+use crate::text::SCHEDULE_LIMIT;
+
 /// Every text is the text of one list of items or has one bad place, and never both. A bad place is inside the text.
 pub fn schedule_texts_have_one_reading()
     ensures some_reading { (bytes : List ℕ) → (outcome : Result (List ℕ) SchedFault) × IsReading bytes outcome }
@@ -19,4 +22,10 @@ pub fn watched_replays_are_one()
     ensures whole { (graph : Graph) (items : List ℕ) → ((k : ℕ) → ¬ IsRacingAt graph items k) → IsWatched graph items items }
     ensures only_whole { (graph : Graph) (items run : List ℕ) → ((k : ℕ) → ¬ IsRacingAt graph items k) → IsWatched graph items run → run ≡ items }
     ensures one_run { (graph : Graph) (items a b : List ℕ) → IsWatched graph items a → IsWatched graph items b → a ≡ b }
+{}
+
+/// The limits that the definitions of schedules take from here.
+pub fn schedule_limits()
+    ensures items { MAX_ITEMS ≡ 20000 }
+    ensures bytes { SCHEDULE_LIMIT ≡ 4194304 }
 {}

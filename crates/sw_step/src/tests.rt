@@ -10,8 +10,8 @@ use std::alloc::{AllocError, Global};
 use std::process::Abort;
 use std::test::Fail;
 use sw_graph::{
-    Block, Function, FunctionList, Graph, Instr, InstrList, Last, Literal, Operand, RegKind,
-    RegList,
+    Block, Function, FunctionList, GlobalKind, Graph, Instr, InstrList, Last, Literal, Operand,
+    RegKind, RegList,
 };
 use sw_list::{Boxed, ListOf};
 use sw_types::{Iso, Shapes, Ty};
@@ -125,6 +125,58 @@ fn prints_seven(rt: HostRuntime) -> Result<(), Fail> {
     let job = state.jobs.get(0).ok_or("no job")?;
     assert!(rt; matches!(job.status, Status::Ended { value: Value::Unit }));
     assert!(rt; matches!(next(&rt, alloc, &graph, &mut state, 0)?, Event::Nothing));
+    Ok(())
+}
+
+/// The graph of two global `var`s whose first values functions 1 and 2 give.
+#[tactic(auto, unfolding(sw_value::specs::Point::points_of))]
+fn two_globals(alloc: Global) -> Result<Graph, Fail>
+    ensures { IfOk result IsSmall }
+{
+    let entry = body(alloc, ListOf::new(alloc), ListOf::new(alloc))?;
+    let first = body(alloc, ListOf::new(alloc), ListOf::new(alloc))?;
+    let second = body(alloc, ListOf::new(alloc), ListOf::new(alloc))?;
+    let mut functions = ListOf::two(alloc, entry, first)?;
+    functions.push(second)?;
+    let one_kind = GlobalKind {
+        ty: Ty::Int,
+        mutable: true,
+        actor: None,
+    };
+    let other_kind = GlobalKind {
+        ty: Ty::Bool,
+        mutable: true,
+        actor: None,
+    };
+    Ok(Graph::new(
+        Shapes::new(alloc, ListOf::new(alloc))?,
+        ListOf::two(alloc, one_kind, other_kind)?,
+        functions,
+        0,
+        ListOf::two(alloc, 1, 2)?,
+    ))
+}
+
+/// The functions of the first values run before the entry, the first global's first, and each gives its executor up when it
+/// returns.
+#[test]
+fn gives_globals_their_first_values_first(rt: HostRuntime) -> Result<(), Fail> {
+    let alloc = rt.alloc();
+    let graph = two_globals(alloc)?;
+    let mut state = start(alloc, &graph)?;
+    for function in [1u32, 2, 0] {
+        let job = state.jobs.get(0).ok_or("no job")?;
+        let frame = job.top_frame().ok_or("no frame")?;
+        assert_eq!(rt; frame.function, function);
+        assert!(rt; matches!(job.status, Status::Ready));
+        assert!(rt; matches!(next(&rt, alloc, &graph, &mut state, 0)?, Event::Dispatched));
+        assert!(rt; matches!(next(&rt, alloc, &graph, &mut state, 0)?, Event::Ran));
+    }
+    let job = state.jobs.get(0).ok_or("no job")?;
+    assert!(rt;
+        matches!(job.status, Status::Ended { value: Value::Unit }) && job.frames.is_empty()
+    );
+    assert!(rt; state.halted.is_none() && state.jobs.len() == 1 && state.cells.is_empty());
     Ok(())
 }
 

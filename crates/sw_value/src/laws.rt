@@ -8,6 +8,7 @@ ghost use Rattle.sw_value.specs.Racing.{Racing};
 ghost use Rattle.sw_value.specs.Start.{start_of};
 ghost use Rattle.sw_value.specs.Reach.{step_of, reach, Reached};
 
+use crate::frame::NO_REGISTER;
 use crate::job::MAX_JOBS;
 
 /// No list of items, of any length, leads a small graph to a state that is racing.
@@ -36,4 +37,10 @@ pub fn steps_reach()
     ensures starts { (graph : Graph) → Reached graph (start_of graph) }
     ensures goes_on { (graph : Graph) (state : State) (item : ℕ) → Reached graph state →
         Reached graph (step_of graph state item) }
+{}
+
+/// The numbers that the definitions of the machine take from here.
+pub fn machine_numbers()
+    ensures jobs { MAX_JOBS ≡ 65536 }
+    ensures no_register { NO_REGISTER ≡ 512 }
 {}

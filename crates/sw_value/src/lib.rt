@@ -18,7 +18,8 @@ pub use executor::Executor;
 pub use frame::{Frame, FrameList, NO_REGISTER};
 pub use job::{Job, JobList, MAX_JOBS, Status};
 pub use laws::{
-    occurrences_tell, small_graphs_never_race, small_graphs_stay_in_bounds, steps_reach,
+    machine_numbers, occurrences_tell, small_graphs_never_race, small_graphs_stay_in_bounds,
+    steps_reach,
 };
 pub use state::{State, TrapKind};
 pub use value::{Line, Value, ValueList, ValueSlots};
