@@ -1,25 +1,14 @@
 -- The front of a list that passes a test, and what stands behind it.
-use Rattle.std.proofs.Common.{◌≡◌, ℕ, suc, ◌+◌, Bool, true, false, cond, ◌&&◌, ◌||◌, List, [], ◌∷◌, ◌++◌, length, take, drop, refl, ap, ◌∙◌, ◌⊎◌, inl, inr, arith}
+use Rattle.std.proofs.Common.{◌≡◌, ℕ, suc, ◌+◌, Bool, true, false, cond, List, [], ◌∷◌, ◌++◌, length, take, drop, refl, ap, ◌∙◌, ◌⊎◌, inl, inr, arith}
+use Rattle.std.proofs.lemmas.Bool.{cases_Bool, and_parts}
 use Rattle.std.proofs.Math.Numerals.{one-add}
 use Rattle.std.specs.List.{list_all, prefix_len}
 use Rattle.sw_bytes.specs.Fronts.{BeginsWithout}
-
-pub cases_of : (b : Bool) → (b ≡ true) ⊎ (b ≡ false)
-cases_of true = inl refl
-cases_of false = inr refl
 
 -- which way a test went
 pub chosen : {A : Type 0} (b : Bool) (x y z : A) → cond b x y ≡ z → ((b ≡ true) × (x ≡ z)) ⊎ ((b ≡ false) × (y ≡ z))
 chosen true x y z e = inl (refl, e)
 chosen false x y z e = inr (refl, e)
-
-pub and_parts : (a b : Bool) → (a && b) ≡ true → (a ≡ true) × (b ≡ true)
-and_parts true b e = (refl, e)
-and_parts false b e = cc
-
-pub or_parts : (a b : Bool) → (a || b) ≡ false → (a ≡ false) × (b ≡ false)
-or_parts true b e = cc
-or_parts false b e = (refl, e)
 
 pub prefix_len-yes : (p : ℕ → Bool) (x : ℕ) (xs : List ℕ) → p x ≡ true → prefix_len p (x ∷ xs) ≡ suc (prefix_len p xs)
 prefix_len-yes p x xs h = rw (h, one-add) refl
@@ -29,14 +18,14 @@ prefix_len-no p x xs h = rw h refl
 
 pub front_passes : (p : ℕ → Bool) (xs : List ℕ) → list_all p (take (prefix_len p xs) xs) ≡ true
 front_passes p [] = refl
-front_passes p (x ∷ xs) = elim (cases_of (p x)) [
+front_passes p (x ∷ xs) = elim (cases_Bool (p x)) [
   | inl h ↦ rw (prefix_len-yes p x xs h) (rw h (front_passes p xs))
   | inr h ↦ rw (prefix_len-no p x xs h) refl
 ]
 
 pub rest_fails : (p : ℕ → Bool) (xs : List ℕ) → BeginsWithout p (drop (prefix_len p xs) xs)
 rest_fails p [] = tt
-rest_fails p (x ∷ xs) = elim (cases_of (p x)) [
+rest_fails p (x ∷ xs) = elim (cases_Bool (p x)) [
   | inl h ↦ rw (prefix_len-yes p x xs h) (rest_fails p xs)
   | inr h ↦ rw (prefix_len-no p x xs h) h
 ]

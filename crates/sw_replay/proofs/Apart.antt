@@ -5,7 +5,7 @@ use Rattle.std.proofs.lemmas.List.{append-nil, append_assoc}
 use Rattle.std.specs.List.{list_all}
 use Rattle.sw_bytes.specs.Classes.{is_blank, is_digit}
 use Rattle.sw_bytes.specs.Fronts.{BeginsWithout}
-use Rattle.sw_bytes.proofs.Fronts.{cases_of, and_parts}
+use Rattle.std.proofs.lemmas.Bool.{cases_Bool, and_parts}
 use Rattle.sw_replay.specs.Items.{EndsWithoutDigit, IsNumber}
 
 pub digit_is_no_separator : (b : ℕ) → is_digit b ≡ true → is_blank b ≡ false
@@ -13,7 +13,7 @@ unfolding is_digit is_blank
 digit_is_no_separator b h = grind (arith, nat_tests)
 
 pub separator_is_no_digit : (b : ℕ) → is_blank b ≡ true → is_digit b ≡ false
-separator_is_no_digit b h = elim (cases_of (is_digit b)) [
+separator_is_no_digit b h = elim (cases_Bool (is_digit b)) [
   | inl d ↦ (let s = digit_is_no_separator b d in cc)
   | inr d ↦ d
 ]

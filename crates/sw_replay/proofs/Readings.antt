@@ -17,7 +17,8 @@ use Rattle.sw_replay.specs.Items.{AreSeparators, EndsWithoutDigit, IsNumber, Spl
 use Rattle.sw_replay.specs.Items as items
 use Rattle.sw_replay.specs.Reading.{fitting, item_or_fault, item_of, item_at, next_of, with_front, go_on, read, reading, Gives}
 use Rattle.sw_replay.proofs.Numbers.{fits_some, fits_none}
-use Rattle.sw_bytes.proofs.Fronts.{cases_of, and_parts, front_passes, rest_fails, prefix_len-append, prefix_len-yes}
+use Rattle.std.proofs.lemmas.Bool.{cases_Bool, and_parts}
+use Rattle.sw_bytes.proofs.Fronts.{front_passes, rest_fails, prefix_len-append, prefix_len-yes}
 use Rattle.sw_replay.proofs.Apart.{number_begins, Apart, gap_apart, apart_behind, apart_before}
 
 -- what stands at the bad place of a text, behind so many items
@@ -186,7 +187,7 @@ NextHolds at before bytes (Ok (Some number)) = NextItem at before bytes number
 NextHolds at before bytes (Err fault) = NextStops at before bytes fault
 
 no_digits : (b : ℕ) (more : List ℕ) → eqb (prefix_len is_digit (b ∷ more)) 0 ≡ true → is_digit b ≡ false
-no_digits b more e = elim (cases_of (is_digit b)) [
+no_digits b more e = elim (cases_Bool (is_digit b)) [
   | inl d ↦ (let len = prefix_len-yes is_digit b more d in absurd (grind (arith, nat_tests)))
   | inr d ↦ d
 ]

@@ -13,7 +13,8 @@ use Rattle.sw_token.specs.Tokens.{IsToken, IsRefused}
 use Rattle.sw_token.specs.Tokens as tokens
 use Rattle.sw_token.specs.Kinds.{NumberFits}
 use Rattle.sw_token.specs.Reading.{number_len, at_len, token_len}
-use Rattle.sw_bytes.proofs.Fronts.{cases_of, chosen, or_parts, prefix_len-yes, front_passes, rest_fails, prefix_len-append, prefix_len-through, list_all-wider}
+use Rattle.std.proofs.lemmas.Bool.{cases_Bool, or_parts}
+use Rattle.sw_bytes.proofs.Fronts.{chosen, prefix_len-yes, front_passes, rest_fails, prefix_len-append, prefix_len-through, list_all-wider}
 
 -- the classes of bytes are apart
 
@@ -23,7 +24,7 @@ start_is_word b h = rw h refl
 
 digit_is_word : (b : ℕ) → is_digit b ≡ true → is_word_byte b ≡ true
 unfolding is_word_byte
-digit_is_word b h = elim (cases_of (is_word_start b)) [ inl s ↦ rw s refl | inr s ↦ rw (s, h) refl ]
+digit_is_word b h = elim (cases_Bool (is_word_start b)) [ inl s ↦ rw s refl | inr s ↦ rw (s, h) refl ]
 
 digit_is_no_start : (b : ℕ) → is_digit b ≡ true → is_word_start b ≡ false
 unfolding is_digit is_word_start
@@ -125,7 +126,7 @@ start_behind : (front rest : List ℕ) → list_all is_digit front ≡ true → 
 start_behind front [] passes fails differ =
     absurd (differ (prefix_len-append is_word_byte front [] (list_all-wider is_digit is_word_byte digit_is_word front passes) tt))
 start_behind front (y ∷ ys) passes fails differ =
-    elim (cases_of (is_word_start y)) [
+    elim (cases_Bool (is_word_start y)) [
       | inl s ↦ (y, ys, refl, s)
       | inr s ↦ absurd (differ (prefix_len-append is_word_byte front (y ∷ ys) (list_all-wider is_digit is_word_byte digit_is_word front passes) (no_word_byte y s fails)))
     ]
@@ -221,13 +222,13 @@ number_len-behind d r few differ = grind (arith, nat_tests)
 
 without_digit : (rest : List ℕ) → BeginsWithout is_word_byte rest → BeginsWithout is_digit rest
 without_digit [] ends = tt
-without_digit (b ∷ bs) ends = elim (cases_of (is_digit b)) [
+without_digit (b ∷ bs) ends = elim (cases_Bool (is_digit b)) [
   | inl h ↦ (let word = digit_is_word b h in cc)
   | inr h ↦ h
 ]
 
 start_is_no_digit : (b : ℕ) → is_word_start b ≡ true → is_digit b ≡ false
-start_is_no_digit b s = elim (cases_of (is_digit b)) [
+start_is_no_digit b s = elim (cases_Bool (is_digit b)) [
   | inl h ↦ (let other = digit_is_no_start b h in cc)
   | inr h ↦ h
 ]
@@ -284,7 +285,7 @@ refuses_again_long b more after h passes many =
 refuses_again_at : (after : List ℕ) → ((rest : List ℕ) → BeginsWithout is_word_byte rest → after ≢ codes "main" ++ rest) → token_len (64 ∷ after) ≡ Err 0
 unfolding token_len is_word_start is_digit
 refuses_again_at after none =
-    elim (cases_of (bytes_eq (take_while is_word_byte after) (codes "main"))) [
+    elim (cases_Bool (bytes_eq (take_while is_word_byte after) (codes "main"))) [
       | inl w ↦
           let main : take (prefix_len is_word_byte after) after ≡ codes "main" = (bytes_eq-Decides (take_while is_word_byte after) (codes "main")).0 w in
           let whole : after ≡ codes "main" ++ drop (prefix_len is_word_byte after) after =

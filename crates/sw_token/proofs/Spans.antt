@@ -13,7 +13,7 @@ use Rattle.sw_token.specs.Bytes.{is_word_start, is_word_byte, is_mark, has_line_
 use Rattle.sw_token.specs.Kinds.{kind_of}
 use Rattle.sw_token.specs.Tokens.{IsGap, IsToken, Splits, Fails, IsTokenIn, StandInOrder, token_of}
 use Rattle.sw_token.specs.Tokens as tokens
-use Rattle.sw_bytes.proofs.Fronts.{and_parts}
+use Rattle.std.proofs.lemmas.Bool.{and_parts}
 use Rattle.sw_token.proofs.Lengths.{token_begins, refused_begins}
 
 word_ascii : (b : ℕ) → is_word_byte b ≡ true → b < 128
