@@ -12,17 +12,17 @@ use Rattle.sw_check.specs.declared.exit.Exit.TheVariants.{Done, Breached, Usage,
 use Rattle.sw_check.specs.declared.outcome.Outcome.{Outcome}
 use Rattle.sw_check.specs.declared.TheConstants.{PROGRAM_LIMIT}
 use Rattle.sw_check.specs.declared.breach.Breach.{Breach}
-use Rattle.sw_check.specs.declared.small.tree.Small.{Small}
+use Rattle.sw_small.specs.declared.tree.Small.{Small}
 use Rattle.sw_check.specs.declared.verdict.Verdict.{Verdict}
 use Rattle.sw_check.specs.declared.verdict.Verdict.TheVariants.{Accepted, Refused}
 use Rattle.sw_check.specs.Claims.{NeverRaces, Says}
-use Rattle.sw_check.specs.Lower.{IsLowered}
+use Rattle.sw_small.specs.Lower.{IsLowered}
 use Rattle.sw_check.specs.Reply.{usage, check_outcome, refusal, ended_outcome, IsRunReply, bad_schedule, ran, Reply, no_form, program_too_long, checked, run_refused, schedule_too_long, run, program_text, schedule_text, ReplyOver, Agrees, Answered}
 use Rattle.sw_check.specs.Verdict.{IsVerdict, IsProgram, IsFirstBreach, Accepts, Refuses}
 use Rattle.sw_check.specs.Words.{Command, Check, Run}
-use Rattle.sw_check.proofs.OneGraph.{some_graph}
-use Rattle.sw_check.proofs.Runnable.{lowered_runnable}
-use Rattle.sw_check.proofs.SmallSize.{size_of-program}
+use Rattle.sw_small.proofs.OneGraph.{some_graph}
+use Rattle.sw_small.proofs.Runnable.{lowered_runnable}
+use Rattle.sw_check.proofs.ProgramSize.{size_of-program}
 use Rattle.sw_check.proofs.OneReply.{one_reply}
 
 -- no run of a small program races

@@ -12,16 +12,16 @@ use Rattle.sw_replay.proofs.Readings.{reading-IsReading, one_list, one_place, ne
 use Rattle.sw_check.specs.declared.exit.Exit.TheVariants as exits
 use Rattle.sw_check.specs.declared.outcome.Outcome.{Outcome}
 use Rattle.sw_check.specs.declared.TheConstants.{PROGRAM_LIMIT}
-use Rattle.sw_check.specs.declared.small.tree.Small.{Small}
+use Rattle.sw_small.specs.declared.tree.Small.{Small}
 use Rattle.sw_check.specs.declared.verdict.Verdict.{Verdict}
 use Rattle.sw_check.specs.declared.verdict.Verdict.TheVariants.{Accepted, Refused}
 use Rattle.sw_check.specs.Claims.{EndsSo}
 use Rattle.sw_check.specs.Lines.{schedule_line}
-use Rattle.sw_check.specs.Lower.{IsLowered}
+use Rattle.sw_small.specs.Lower.{IsLowered}
 use Rattle.sw_check.specs.Reply.{check_outcome, refusal, run_outcome, IsRunReply, bad_schedule, ran, Reply, no_form, program_too_long, checked, run_refused, schedule_too_long, run, Stops, Asked, no_file, to_check, not_run, to_run}
 use Rattle.sw_check.specs.Verdict.{IsProgram, IsVerdict, Accepts}
 use Rattle.sw_check.specs.Words.{Command, Check, Run}
-use Rattle.sw_check.proofs.OneGraph.{some_graph, one_graph}
+use Rattle.sw_small.proofs.OneGraph.{some_graph, one_graph}
 use Rattle.sw_check.proofs.Verdicts.{some_verdict, one_verdict, one_small, one_breach, never_both}
 
 -- a replay answers something

@@ -10,8 +10,8 @@ use Rattle.sw_token.specs.Tokens.{IsTokens, IsLexicalPlace}
 use Rattle.sw_check.specs.Breach.{unexpected_token, not_one_entry}
 use Rattle.sw_check.specs.declared.verdict.Verdict.{Verdict}
 use Rattle.sw_check.specs.declared.verdict.Verdict.TheVariants.{Refused}
-use Rattle.sw_check.specs.Small.{IsSmallPlace}
-use Rattle.sw_check.specs.Spelling.{spelling_of}
+use Rattle.sw_small.specs.Small.{IsSmallPlace}
+use Rattle.sw_small.specs.Spelling.{spelling_of}
 use Rattle.sw_check.specs.Verdict.{IsVerdict, not_utf8, no_token, not_spelled, no_entry, lexical_place, token_place}
 
 -- the bytes aren't UTF-8

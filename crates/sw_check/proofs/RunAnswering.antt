@@ -15,12 +15,12 @@ use Rattle.sw_check.specs.declared.exit.Exit.TheVariants as exits
 use Rattle.sw_check.specs.declared.no_reply.NoReply.{NoReply}
 use Rattle.sw_check.specs.Exit.{is_failure}
 use Rattle.sw_check.specs.Lines.{schedule_line}
-use Rattle.sw_check.specs.Lower.{IsLowered}
+use Rattle.sw_small.specs.Lower.{IsLowered}
 use Rattle.sw_check.proofs.Tells.{reply_tells_none}
 use Rattle.sw_check.specs.declared.breach.Breach.{Breach}
 use Rattle.sw_check.specs.declared.outcome.Outcome.{Outcome}
 use Rattle.sw_check.specs.declared.TheConstants.{PROGRAM_LIMIT}
-use Rattle.sw_check.specs.declared.small.tree.Small.{Small}
+use Rattle.sw_small.specs.declared.tree.Small.{Small}
 use Rattle.sw_check.specs.declared.verdict.Verdict.{Verdict}
 use Rattle.sw_check.specs.declared.verdict.Verdict.TheVariants.{Accepted, Refused}
 use Rattle.sw_check.specs.Reply.{too_long_file, refusal, ended_outcome, run_outcome, IsRunReply, bad_schedule, ran, program_too_long, run_refused, schedule_too_long, run, Stops, Asked, not_run, to_run, Agrees, Answered, Unanswered}

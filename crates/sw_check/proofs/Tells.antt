@@ -4,7 +4,7 @@ use Rattle.sw_outside.specs.Shelf.{Told}
 use Rattle.sw_replay.specs.declared.output.End.{End}
 use Rattle.sw_replay.specs.declared.output.End.TheVariants.{Ran, Trapped}
 use Rattle.sw_check.specs.declared.outcome.Outcome.{Outcome}
-use Rattle.sw_check.specs.declared.small.tree.Small.{Small}
+use Rattle.sw_small.specs.declared.tree.Small.{Small}
 use Rattle.sw_check.specs.declared.verdict.Verdict.{Verdict}
 use Rattle.sw_check.specs.declared.verdict.Verdict.TheVariants.{Accepted, Refused}
 use Rattle.sw_check.specs.Exit.{is_failure, is_silent}

@@ -11,15 +11,15 @@ use Rattle.sw_token.specs.Reading.{reading}
 use Rattle.sw_token.proofs.Readings.{reading-IsTokens, reading-IsLexicalPlace, reading-IsReading}
 use Rattle.sw_check.specs.declared.breach.Breach.{Breach}
 use Rattle.sw_check.specs.Breach.{unexpected_token, not_one_entry}
-use Rattle.sw_check.specs.declared.small.tree.Small.{Small}
+use Rattle.sw_small.specs.declared.tree.Small.{Small}
 use Rattle.sw_check.specs.declared.verdict.Verdict.{Verdict}
 use Rattle.sw_check.specs.declared.verdict.Verdict.TheVariants.{Accepted, Refused}
-use Rattle.sw_check.specs.Spelling.{Spelled, spelled, spelling_of}
-use Rattle.sw_check.specs.Small.{SpellsSmall, small, Spells, IsSmallPlace}
-use Rattle.sw_check.specs.SmallReading.{whole}
+use Rattle.sw_small.specs.Spelling.{Spelled, spelled, spelling_of}
+use Rattle.sw_small.specs.Small.{SpellsSmall, small, Spells, IsSmallPlace}
+use Rattle.sw_small.specs.SmallReading.{whole}
 use Rattle.sw_check.specs.Verdict.{Accepts, Refuses, IsProgram, IsFirstBreach, not_utf8, no_token, not_spelled, no_entry, IsVerdict, lexical_place, token_place}
-use Rattle.sw_check.proofs.SmallLaws.{only_small, read_small, read_place, one_place, no_place}
-use Rattle.sw_check.proofs.TokensSpelled.{tokens_spelled}
+use Rattle.sw_small.proofs.SmallLaws.{only_small, read_small, read_place, one_place, no_place}
+use Rattle.sw_small.proofs.TokensSpelled.{tokens_spelled}
 
 -- the refusal for an unexpected token
 abbrev unexpected : ℕ → Verdict

@@ -13,8 +13,8 @@ use Rattle.sw_replay.specs.Output.{end_of}
 use Rattle.sw_check.specs.declared.TheConstants.{PROGRAM_LIMIT}
 use Rattle.sw_check.specs.declared.exit.Exit.{Exit}
 use Rattle.sw_check.specs.declared.exit.Exit.TheVariants.{Done, Breached, Usage, NotRead, TooLong, NotWritten, Memory, Trapped, BadSchedule, Raced}
-use Rattle.sw_check.specs.declared.small.tree.Small.{Small}
-use Rattle.sw_check.specs.Lower.{IsLowered}
+use Rattle.sw_small.specs.declared.tree.Small.{Small}
+use Rattle.sw_small.specs.Lower.{IsLowered}
 use Rattle.sw_check.specs.Verdict.{IsProgram, Accepts, Refuses}
 use Rattle.sw_check.specs.Words.{Command, Check, Run}
 

@@ -3,15 +3,8 @@ pub mod Call
 pub mod Claims
 pub mod Exit
 pub mod Lines
-pub mod Lower
-pub mod Outcome
-pub mod Reader
 pub mod Reply
 pub mod Running
-pub mod Small
-pub mod SmallReading
-pub mod SpelledCode
-pub mod Spelling
 pub mod Verdict
 pub mod Words
 pub mod WordsRead

@@ -13,12 +13,12 @@ use Rattle.sw_check.specs.declared.exit.Exit.TheVariants as exits
 use Rattle.sw_check.specs.declared.outcome.Outcome.{Outcome}
 use Rattle.sw_check.specs.declared.TheConstants.{PROGRAM_LIMIT}
 use Rattle.sw_check.specs.declared.breach.Breach.{Breach}
-use Rattle.sw_check.specs.declared.small.tree.Small.{Small}
+use Rattle.sw_small.specs.declared.tree.Small.{Small}
 use Rattle.sw_check.specs.declared.verdict.Verdict.{Verdict}
 use Rattle.sw_check.specs.declared.verdict.Verdict.TheVariants.{Accepted, Refused}
 use Rattle.sw_check.specs.Breach.{line_feed, verdict_text}
 use Rattle.sw_check.specs.Lines.{summary, trap_line, schedule_line}
-use Rattle.sw_check.specs.Lower.{IsLowered}
+use Rattle.sw_small.specs.Lower.{IsLowered}
 use Rattle.sw_check.specs.Verdict.{IsVerdict, IsProgram, IsFirstBreach, Accepts, Refuses}
 use Rattle.sw_check.specs.Words.{Command, Check, Run}
 

@@ -8,12 +8,12 @@ use Rattle.sw_token.specs.declared.LexFault.{LexFault}
 use Rattle.sw_token.specs.declared.LexFault.TheVariants.{Unclosed, TooBig, BadChar, TooMany, Memory}
 use Rattle.sw_token.specs.Tokens.{IsTokens, IsLexicalPlace}
 use Rattle.sw_check.specs.declared.breach.Breach.{Breach}
-use Rattle.sw_check.specs.declared.small.tree.Small.{Small}
+use Rattle.sw_small.specs.declared.tree.Small.{Small}
 use Rattle.sw_check.specs.declared.verdict.Verdict.{Verdict}
 use Rattle.sw_check.specs.declared.verdict.Verdict.TheVariants.{Accepted, Refused}
 use Rattle.sw_check.specs.Breach.{unexpected_token, not_one_entry}
-use Rattle.sw_check.specs.Spelling.{spelling_of}
-use Rattle.sw_check.specs.Small.{Spells, IsSmallPlace}
+use Rattle.sw_small.specs.Spelling.{spelling_of}
+use Rattle.sw_small.specs.Small.{Spells, IsSmallPlace}
 
 -- the text is that of the small program: it is UTF-8, and its tokens spell the program
 pub record IsProgram (text : List ℕ) (program : Small) : Type 0 where

@@ -1,14 +1,10 @@
 ghost use Rattle.std.specs.Prelude.{◌≡◌, ◌⊎◌, ℕ, List, Option};
-ghost use Rattle.sw_graph.specs.declared.graph.Graph.{Graph};
 ghost use Rattle.sw_replay.specs.declared.output.End.{End};
 ghost use Rattle.sw_check.specs.declared.breach.Breach.{Breach};
 ghost use Rattle.sw_check.specs.declared.outcome.Outcome.{Outcome};
-ghost use Rattle.sw_check.specs.declared.small.tree.Small.{Small};
+ghost use Rattle.sw_small.specs.declared.tree.Small.{Small};
 ghost use Rattle.sw_check.specs.Claims.{EndsSo};
-ghost use Rattle.sw_check.specs.Lower.{IsLowered};
 ghost use Rattle.sw_check.specs.Reply.{Asked, Reply};
-ghost use Rattle.sw_check.specs.Small.{IsSmall, IsSmallPlace, Spells};
-ghost use Rattle.sw_check.specs.Spelling.{IsSpelling, Spelled};
 ghost use Rattle.sw_check.specs.Verdict.{Accepts, IsFirstBreach, IsProgram, Refuses};
 ghost use Rattle.sw_check.specs.Words.{Command};
 
@@ -20,20 +16,6 @@ pub fn texts_have_one_verdict()
     ensures never_both { (text : List ℕ) → Accepts text → ¬ (Refuses text) }
     ensures one_program { (text : List ℕ) (a b : Small) → IsProgram text a → IsProgram text b → a ≡ b }
     ensures one_breach { (text : List ℕ) (a b : Breach) → IsFirstBreach text a → IsFirstBreach text b → a ≡ b }
-{}
-
-/// A list of tokens with their texts spells one program or has one place of a fault, and never both.
-pub fn spellings_have_one_meaning()
-    ensures decided { (tokens : List Spelled) → IsSpelling tokens → IsSmall tokens ⊎ ((place : ℕ) × IsSmallPlace tokens place) }
-    ensures never_both { (tokens : List Spelled) (place : ℕ) → IsSmall tokens → ¬ (IsSmallPlace tokens place) }
-    ensures one_program { (tokens : List Spelled) (a b : Small) → Spells a tokens → Spells b tokens → a ≡ b }
-    ensures one_place { (tokens : List Spelled) (a b : ℕ) → IsSmallPlace tokens a → IsSmallPlace tokens b → a ≡ b }
-{}
-
-/// Every program has one graph. So what is said of some graph that is lowered from it holds of each.
-pub fn programs_have_one_graph()
-    ensures some_graph { (program : Small) → (graph : Graph) × IsLowered program graph }
-    ensures one_graph { (program : Small) (a b : Graph) → IsLowered program a → IsLowered program b → a ≡ b }
 {}
 
 /// The words and the texts of their files have one reply, one list of files is fetched for them, and a run of a program by a

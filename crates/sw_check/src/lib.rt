@@ -20,16 +20,12 @@ mod no_reply;
 mod outcome;
 mod reply;
 mod run;
-mod small;
 mod verdict;
 mod words;
 mod write;
 
 pub use exit::Exit;
-pub use laws::{
-    program_limit, programs_have_one_graph, spellings_have_one_meaning, texts_have_one_verdict,
-    words_have_one_reply,
-};
+pub use laws::{program_limit, texts_have_one_verdict, words_have_one_reply};
 use no_reply::NoReply;
 use reply::answer;
 use std::alloc::Global;

@@ -16,11 +16,11 @@ use crate::lines::{schedule_line, summary, trap_line};
 use crate::no_reply::NoReply;
 use crate::outcome::{Outcome, lines, too_long, with_last_line};
 use crate::reply::refused;
-use crate::small::{Small, lower};
 use crate::verdict::{Verdict, verdict_on};
 use std::alloc::{AllocError, Global};
 use sw_outside::{FetchFault, Shelf};
 use sw_replay::{End, Replay, SCHEDULE_LIMIT, SchedFault, Schedule, replay, schedule};
+use sw_small::{Small, lower};
 
 /// What `run` answers to a replay.
 fn ended(alloc: Global, text: &[u8], replay: Replay) -> Result<Outcome, AllocError>

@@ -6,8 +6,8 @@ ghost use Rattle.sw_check.specs.declared.TheConstants.{PROGRAM_LIMIT};
 ghost use Rattle.sw_check.specs.Verdict.{IsVerdict, lexical_place, token_place};
 
 use crate::breach::{Breach, NOT_ONE_ENTRY, UNEXPECTED_TOKEN};
-use crate::small::{ParseFault, Small, parse};
 use std::alloc::{AllocError, Global};
+use sw_small::{ParseFault, Small, parse};
 use sw_text::{Source, TextFault};
 use sw_token::{LexFault, Token, tokens};
 

@@ -1,6 +1,6 @@
 use Rattle.sw_check.proofs.RunAnswering.{replay_told}
-use Rattle.sw_check.proofs.Runnable.{lowered_runnable}
-use Rattle.sw_check.proofs.SmallSize.{size_of-program}
+use Rattle.sw_small.proofs.Runnable.{lowered_runnable}
+use Rattle.sw_check.proofs.ProgramSize.{size_of-program}
 use Rattle.sw_check.proofs.run.run_items.Goals as goal
 
 pub lower-requires : goal.lower-requires

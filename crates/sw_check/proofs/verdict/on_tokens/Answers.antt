@@ -1,6 +1,6 @@
 use Rattle.std.proofs.Common.{subst, rules}
-use Rattle.sw_check.specs.Outcome.{Explains}
-use Rattle.sw_check.specs.Spelling.{spelling_of}
+use Rattle.sw_small.specs.Outcome.{Explains}
+use Rattle.sw_small.specs.Spelling.{spelling_of}
 use Rattle.sw_check.proofs.Refusals.{refused_empty, refused_token}
 use Rattle.sw_check.proofs.verdict.on_tokens.Goals as goal
 

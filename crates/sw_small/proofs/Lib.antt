@@ -1,0 +1,17 @@
+pub mod BlockItems
+pub mod CursorSteps
+pub mod EachSteps
+pub mod GrammarWords
+pub mod GraphFits
+pub mod OneGraph
+pub mod PlanLoops
+pub mod ReaderLaws
+pub mod ReaderLoops
+pub mod Rising
+pub mod Runnable
+pub mod SmallFunctions
+pub mod SmallLaws
+pub mod SmallRules
+pub mod SmallSize
+pub mod TokenReaders
+pub mod TokensSpelled

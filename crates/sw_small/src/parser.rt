@@ -1,0 +1,163 @@
+//! The parser of small programs. It reads each token once, from left to right.
+
+ghost use Rattle.std.specs.Prelude.{◌≡◌, IfOk, IfErr};
+ghost use Rattle.sw_token.specs.Tokens.{IsTokens};
+ghost use Rattle.sw_small.specs.Spelling.{spelling_of};
+ghost use Rattle.sw_small.specs.Small.{Spells};
+ghost use Rattle.sw_small.specs.SmallReading.{show, each, task, item, block, signature, entry, small, whole};
+ghost use Rattle.sw_small.specs.Outcome.{Gives, Explains};
+
+use super::cursor::Cursor;
+use super::fault::{ParseFault, Stop};
+use super::tree::{Item, ItemList, Show, ShowList, Small};
+use std::alloc::Global;
+use sw_list::ListOf;
+use sw_text::Source;
+use sw_token::Token;
+
+/// `print(7)`.
+#[tactic(auto, unfolding(crate::specs::SmallReading::show))]
+fn show(tokens: &mut Cursor<'_>) -> Result<Show, Stop>
+    ensures { Gives (show tokens.old) result tokens.new }
+{
+    let at = tokens.expect("print")?;
+    tokens.expect_within_line("(")?;
+    let (value_at, value) = tokens.integer()?;
+    tokens.expect(")")?;
+    Ok(Show {
+        at,
+        value_at,
+        value,
+    })
+}
+
+/// The prints of a block, up to its `}`.
+fn shows(alloc: Global, tokens: &mut Cursor<'_>) -> Result<ShowList, Stop>
+    ensures { Gives (each show tokens.old) result tokens.new }
+{
+    let mut shows = Vec::new(alloc);
+    let mut ended = true;
+    while !tokens.sees("}") {
+        tokens.begin(ended)?;
+        shows.push(show(tokens)?)?;
+        ended = tokens.skip(";");
+    }
+    Ok(ListOf::from_vec(shows))
+}
+
+/// `Task.detached { .. }`.
+#[tactic(auto, unfolding(crate::specs::SmallReading::task))]
+fn task(alloc: Global, tokens: &mut Cursor<'_>) -> Result<Item, Stop>
+    ensures { Gives (task tokens.old) result tokens.new }
+{
+    let at = tokens.expect("Task")?;
+    tokens.expect(".")?;
+    tokens.expect("detached")?;
+    let body = tokens.expect("{")?;
+    let shows = shows(alloc, tokens)?;
+    tokens.expect("}")?;
+    Ok(Item::Task { at, body, shows })
+}
+
+/// An item of `main`.
+#[tactic(auto, unfolding(crate::specs::SmallReading::item, crate::specs::SmallReading::printed))]
+fn item(alloc: Global, tokens: &mut Cursor<'_>) -> Result<Item, Stop>
+    ensures { Gives (item tokens.old) result tokens.new }
+{
+    if tokens.sees("Task") {
+        return task(alloc, tokens);
+    }
+    Ok(Item::Show(show(tokens)?))
+}
+
+/// The items of `main`, up to its `}`.
+fn items(alloc: Global, tokens: &mut Cursor<'_>) -> Result<ItemList, Stop>
+    ensures { Gives (each item tokens.old) result tokens.new }
+{
+    let mut items = Vec::new(alloc);
+    let mut ended = true;
+    while !tokens.sees("}") {
+        tokens.begin(ended)?;
+        items.push(item(alloc, tokens)?)?;
+        ended = tokens.skip(";");
+    }
+    Ok(ListOf::from_vec(items))
+}
+
+/// The block of `main`, and what may end the member.
+#[tactic(auto, unfolding(crate::specs::SmallReading::block))]
+fn block(alloc: Global, tokens: &mut Cursor<'_>) -> Result<ItemList, Stop>
+    ensures { Gives (block tokens.old) result tokens.new }
+{
+    tokens.expect("{")?;
+    let items = items(alloc, tokens)?;
+    tokens.expect("}")?;
+    tokens.skip(";");
+    Ok(items)
+}
+
+/// `static func main()`; gives the position of `main`.
+#[tactic(auto, unfolding(crate::specs::SmallReading::signature))]
+fn signature(tokens: &mut Cursor<'_>) -> Result<u32, Stop>
+    ensures { Gives (signature tokens.old) result tokens.new }
+{
+    tokens.expect("static")?;
+    tokens.expect("func")?;
+    let main = tokens.expect("main")?;
+    tokens.expect("(")?;
+    tokens.expect(")")?;
+    Ok(main)
+}
+
+/// `@main struct NAME {`.
+#[tactic(auto, unfolding(crate::specs::SmallReading::entry))]
+fn entry(tokens: &mut Cursor<'_>) -> Result<(), Stop>
+    ensures { Gives (entry tokens.old) result tokens.new }
+{
+    tokens.expect("@main")?;
+    tokens.expect("struct")?;
+    tokens.word()?;
+    tokens.expect("{")?;
+    Ok(())
+}
+
+/// A small program, and what may end its declaration.
+#[tactic(auto, unfolding(crate::specs::SmallReading::small))]
+fn small(alloc: Global, tokens: &mut Cursor<'_>) -> Result<Small, Stop>
+    ensures { Gives (small tokens.old) result tokens.new }
+{
+    entry(tokens)?;
+    let main = signature(tokens)?;
+    let items = block(alloc, tokens)?;
+    tokens.expect("}")?;
+    tokens.skip(";");
+    Ok(Small { main, items })
+}
+
+/// A small program and no more.
+#[tactic(auto, unfolding(crate::specs::SmallReading::whole))]
+fn whole(alloc: Global, tokens: &mut Cursor<'_>) -> Result<Small, Stop>
+    ensures { Gives (whole tokens.old) result tokens.new }
+{
+    let program = small(alloc, tokens)?;
+    tokens.finish()?;
+    Ok(program)
+}
+
+/// The small program that the tokens of a text spell, or the first token with which no small program's spelling goes on.
+pub fn parse(alloc: Global, source: &Source, tokens: &[Token]) -> Result<Small, ParseFault>
+    requires { IsTokens source.now tokens.now }
+    ensures found { IfOk result (λ program. Spells program (spelling_of source.now tokens.now)) }
+    ensures fault { IfErr result (λ fault. Explains fault (spelling_of source.now tokens.now)) }
+{
+    // No text has more tokens than bytes, so each place in the list fits.
+    let bytes = source.len() as usize;
+    prove!(tokens.len() <= bytes);
+    match whole(alloc, &mut Cursor::new(source, tokens)) {
+        Ok(program) => Ok(program),
+        Err(Stop::Unexpected { left }) => Err(ParseFault::Unexpected {
+            token: (tokens.len() - left) as u32,
+        }),
+        Err(Stop::Memory) => Err(ParseFault::Memory),
+    }
+}
