@@ -1,0 +1,4 @@
+pub mod Agreement
+pub mod ScanLaws
+pub mod Turns
+pub mod Positions
