@@ -1,3 +1,3 @@
 pub mod Classes
 pub mod Decimal
-pub mod Fronts
+pub mod Prefixes

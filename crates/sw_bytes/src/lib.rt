@@ -1,4 +1,5 @@
-//! Classes of bytes, and how many bytes of a class stand at the front of some.
+//! Classes of bytes, and the length of the longest prefix whose bytes are of one class. The crate
+//! knows single bytes of ASCII, and no token, item or text.
 #![tactic(auto)]
 
 ghost use Rattle.std.specs.Prelude.{◌≡◌, ◌≤◌, length};
@@ -21,7 +22,7 @@ pub fn is_digit(byte: u8) -> bool
     byte.is_ascii_digit()
 }
 
-/// How many blanks stand at the front.
+/// The length of the longest prefix of blanks.
 pub fn blanks_len(bytes: &[u8]) -> usize
     ensures value { result ≡ prefix_len is_blank bytes.now }
     ensures within { result ≤ length bytes.now }
@@ -29,37 +30,10 @@ pub fn blanks_len(bytes: &[u8]) -> usize
     bytes.iter().take_while(|byte| is_blank(**byte)).count()
 }
 
-/// How many digits stand at the front.
+/// The length of the longest prefix of digits.
 pub fn digits_len(bytes: &[u8]) -> usize
     ensures value { result ≡ prefix_len is_digit bytes.now }
     ensures within { result ≤ length bytes.now }
 {
     bytes.iter().take_while(|byte| is_digit(**byte)).count()
-}
-
-#[cfg(test)]
-mod tests {
-    use super::*;
-
-    #[test]
-    fn fronts(rt: HostRuntime) {
-        for (bytes, blanks, digits) in [
-            (b"".as_slice(), 0, 0),
-            (b" \t\r\n\x0b", 4, 0),
-            (b"0123456789:", 0, 10),
-            (b"/1", 0, 0),
-            (b"7 7", 0, 1),
-            (b" 7", 1, 0),
-            (b"\xc2\xa0", 0, 0),
-        ] {
-            assert_eq!(rt; blanks_len(bytes), blanks);
-            assert_eq!(rt; digits_len(bytes), digits);
-        }
-        for byte in 0..=255 {
-            let blank = byte == 9 || byte == 10 || byte == 13 || byte == 32;
-            assert_eq!(rt; is_blank(byte), blank, "byte {byte}");
-            let digit = byte > 47 && byte < 58;
-            assert_eq!(rt; is_digit(byte), digit, "byte {byte}");
-        }
-    }
 }

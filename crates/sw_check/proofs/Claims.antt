@@ -1,6 +1,6 @@
 -- What the exit of a reply says.
 use Rattle.std.proofs.Common.{◌≡◌, ◌≢◌, ℕ, ◌≤◌, List, [], length, Option, Some, None, IfSome, inl, inr, refl, sym, ap, subst}
-use Rattle.sw_outside.specs.Shelf.{Told, file_of}
+use Rattle.sw_outside.specs.Shelf.{Known, file_of}
 use Rattle.sw_value.proofs.NeverRaces.{never_races}
 use Rattle.sw_value.specs.Reach.{reach}
 use Rattle.sw_replay.specs.declared.output.End.{End}
@@ -77,58 +77,58 @@ reply_says : (command : Option Command) (program schedule : List ℕ) (outcome :
 reply_says command program schedule outcome (no_form _ _) = refl
 reply_says command program schedule outcome (program_too_long _ _ _ more) = inl more
 reply_says command program schedule outcome (checked file _ _ _ short reply) =
-    subst (λ o. Says (Some (Check file)) program schedule o.exit) (sym reply.told) (says_verdict file program schedule reply.verdict short reply.decided)
+    subst (λ o. Says (Some (Check file)) program schedule o.exit) (sym reply.known) (says_verdict file program schedule reply.verdict short reply.decided)
 reply_says command program schedule outcome (run_refused _ _ _ _ breach short is) = (breach, is)
 reply_says command program schedule outcome (schedule_too_long _ _ _ _ short accepts more) = inr (accepts, more)
 reply_says command program schedule outcome (run file schedule_file _ _ small _ short is within reply) =
     says_run file schedule_file program schedule small outcome short is reply
 
 -- the same of the texts in the files
-pub answer_says : {command : Option Command} {before after : Option Told} {outcome : Outcome} → Answered command before outcome after → IfSome before (λ told. Says command (program_text told command) (schedule_text told command) outcome.exit)
+pub answer_says : {command : Option Command} {before after : Option Known} {outcome : Outcome} → Answered command before outcome after → IfSome before (λ known. Says command (program_text known command) (schedule_text known command) outcome.exit)
 answer_says {command} {before} {after} {outcome} answered = by before answered.agrees where
-  by : (told : Option Told) → Agrees told command answered.program answered.schedule → IfSome told (λ told. Says command (program_text told command) (schedule_text told command) outcome.exit)
+  by : (known : Option Known) → Agrees known command answered.program answered.schedule → IfSome known (λ known. Says command (program_text known command) (schedule_text known command) outcome.exit)
   by None agrees = tt
-  by (Some told) agrees =
-      subst (λ program. Says command program (schedule_text told command) outcome.exit) agrees.0
+  by (Some known) agrees =
+      subst (λ program. Says command program (schedule_text known command) outcome.exit) agrees.0
       (subst (λ schedule. Says command answered.program schedule outcome.exit) agrees.1
       (reply_says command answered.program answered.schedule outcome answered.reply))
 
 -- no reply says that a race came
-pub never_raced : {command : Option Command} {before after : Option Told} {outcome : Outcome} → Answered command before outcome after → outcome.exit ≢ Raced
+pub never_raced : {command : Option Command} {before after : Option Known} {outcome : Outcome} → Answered command before outcome after → outcome.exit ≢ Raced
 never_raced {command} {outcome = outcome} answered raced =
     subst (Says command answered.program answered.schedule) raced (reply_says command answered.program answered.schedule outcome answered.reply)
 
 -- words of no form are answered by the usage line
-pub usage_told : {command : Option Command} {before after : Option Told} {outcome : Outcome} → Answered command before outcome after → command ≡ None → outcome.exit ≡ Usage
+pub usage_told : {command : Option Command} {before after : Option Known} {outcome : Outcome} → Answered command before outcome after → command ≡ None → outcome.exit ≡ Usage
 usage_told {command} {outcome = outcome} answered none =
     let reply = subst (λ command. Reply command answered.program answered.schedule outcome) none answered.reply in
     ap (λ o. o.exit) (one_reply None answered.program answered.schedule outcome (record { exit = Usage; bytes = usage }) reply (no_form answered.program answered.schedule))
 
 -- every reply to the words over the files that the shelf tells has the exit of the answer
-pub exact_told : {command : Option Command} {before after : Option Told} {outcome : Outcome} → Answered command before outcome after → (told : Told) (other : Outcome) → before ≡ Some told → ReplyOver told command other → outcome.exit ≡ other.exit
-exact_told {command} {before} {after} {outcome} answered told other tells reply =
+pub exact_told : {command : Option Command} {before after : Option Known} {outcome : Outcome} → Answered command before outcome after → (known : Known) (other : Outcome) → before ≡ Some known → ReplyOver known command other → outcome.exit ≡ other.exit
+exact_told {command} {before} {after} {outcome} answered known other tells reply =
     let agrees = subst (λ before. Agrees before command answered.program answered.schedule) tells answered.agrees in
-    let same : ReplyOver told command outcome =
-    subst (λ program. Reply command program (schedule_text told command) outcome) agrees.0
+    let same : ReplyOver known command outcome =
+    subst (λ program. Reply command program (schedule_text known command) outcome) agrees.0
     (subst (λ schedule. Reply command answered.program schedule outcome) agrees.1 answered.reply) in
-    ap (λ o. o.exit) (one_reply command (program_text told command) (schedule_text told command) outcome other same reply)
+    ap (λ o. o.exit) (one_reply command (program_text known command) (schedule_text known command) outcome other same reply)
 
 -- a program that may be built
-pub accepted_told : {command : Option Command} {before after : Option Told} {outcome : Outcome} → Answered command before outcome after → (told : Told) (file : List ℕ) → before ≡ Some told → command ≡ Some (Check file) → length (file_of told.files file) ≤ PROGRAM_LIMIT → Accepts (file_of told.files file) → outcome.exit ≡ Done
-accepted_told {command} {before} {after} {outcome} answered told file tells is short accepts =
-    let text = file_of told.files file in
+pub accepted_told : {command : Option Command} {before after : Option Known} {outcome : Outcome} → Answered command before outcome after → (known : Known) (file : List ℕ) → before ≡ Some known → command ≡ Some (Check file) → length (file_of known.files file) ≤ PROGRAM_LIMIT → Accepts (file_of known.files file) → outcome.exit ≡ Done
+accepted_told {command} {before} {after} {outcome} answered known file tells is short accepts =
+    let text = file_of known.files file in
     let accepted = check_outcome text (Accepted accepts.0) in
-    let reply : ReplyOver told (Some (Check file)) accepted = checked file text [] accepted short (record { verdict = Accepted accepts.0; decided = accepts.1; told = refl }) in
-    exact_told answered told accepted tells (subst (λ command. ReplyOver told command accepted) (sym is) reply)
+    let reply : ReplyOver known (Some (Check file)) accepted = checked file text [] accepted short (record { verdict = Accepted accepts.0; decided = accepts.1; known = refl }) in
+    exact_told answered known accepted tells (subst (λ command. ReplyOver known command accepted) (sym is) reply)
 
 -- a program that is refused
-refused_reply : (told : Told) (command : Command) (breach : Breach) → length (program_text told (Some command)) ≤ PROGRAM_LIMIT → IsFirstBreach (program_text told (Some command)) breach → ReplyOver told (Some command) (refusal (program_text told (Some command)) breach)
-refused_reply told (Check file) breach short is =
-    let text = file_of told.files file in
-    checked file text [] (refusal text breach) short (record { verdict = Refused breach; decided = is; told = refl })
-refused_reply told (Run file schedule_file) breach short is = run_refused file schedule_file (file_of told.files file) (file_of told.files schedule_file) breach short is
+refused_reply : (known : Known) (command : Command) (breach : Breach) → length (program_text known (Some command)) ≤ PROGRAM_LIMIT → IsFirstBreach (program_text known (Some command)) breach → ReplyOver known (Some command) (refusal (program_text known (Some command)) breach)
+refused_reply known (Check file) breach short is =
+    let text = file_of known.files file in
+    checked file text [] (refusal text breach) short (record { verdict = Refused breach; decided = is; known = refl })
+refused_reply known (Run file schedule_file) breach short is = run_refused file schedule_file (file_of known.files file) (file_of known.files schedule_file) breach short is
 
-pub refused_told : {command : Option Command} {before after : Option Told} {outcome : Outcome} → Answered command before outcome after → (told : Told) (asked : Command) → before ≡ Some told → command ≡ Some asked → length (program_text told (Some asked)) ≤ PROGRAM_LIMIT → Refuses (program_text told (Some asked)) → outcome.exit ≡ Breached
-refused_told {command} {before} {after} {outcome} answered told asked tells is short refuses =
-    let refused = refusal (program_text told (Some asked)) refuses.0 in
-    exact_told answered told refused tells (subst (λ command. ReplyOver told command refused) (sym is) (refused_reply told asked refuses.0 short refuses.1))
+pub refused_told : {command : Option Command} {before after : Option Known} {outcome : Outcome} → Answered command before outcome after → (known : Known) (asked : Command) → before ≡ Some known → command ≡ Some asked → length (program_text known (Some asked)) ≤ PROGRAM_LIMIT → Refuses (program_text known (Some asked)) → outcome.exit ≡ Breached
+refused_told {command} {before} {after} {outcome} answered known asked tells is short refuses =
+    let refused = refusal (program_text known (Some asked)) refuses.0 in
+    exact_told answered known refused tells (subst (λ command. ReplyOver known command refused) (sym is) (refused_reply known asked refuses.0 short refuses.1))

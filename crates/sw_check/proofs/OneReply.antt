@@ -41,7 +41,7 @@ some_reply (Some command) text schedule = by_length (cases_lt PROGRAM_LIMIT (len
       (outcome, run file schedule_file text schedule program outcome short is within reply)
 
   by_verdict : (command : Command) → length text ≤ PROGRAM_LIMIT → (verdict : Verdict) → IsVerdict text verdict → (outcome : Outcome) × Reply (Some command) text schedule outcome
-  by_verdict (Check file) short verdict is = (_, checked file text schedule _ short (record { verdict = verdict; decided = is; told = refl }))
+  by_verdict (Check file) short verdict is = (_, checked file text schedule _ short (record { verdict = verdict; decided = is; known = refl }))
   by_verdict (Run file schedule_file) short (Accepted program) is = to_run file schedule_file program short is (cases_lt SCHEDULE_LIMIT (length schedule))
   by_verdict (Run file schedule_file) short (Refused breach) is = (_, run_refused file schedule_file text schedule breach short is)
 
@@ -75,7 +75,7 @@ one_reply _ _ _ _ _ (program_too_long _ _ _ long) (schedule_too_long _ _ _ _ sho
 one_reply _ _ _ _ _ (program_too_long _ _ _ long) (run _ _ _ _ _ _ short _ _ _) = absurd (omega arith)
 one_reply _ _ _ _ _ (checked _ _ _ _ short _) (program_too_long _ _ _ long) = absurd (omega arith)
 one_reply _ text _ _ _ (checked _ _ _ _ _ a) (checked _ _ _ _ _ b) =
-    a.told ∙ ap (check_outcome text) (one_verdict text a.verdict b.verdict a.decided b.decided) ∙ sym b.told
+    a.known ∙ ap (check_outcome text) (one_verdict text a.verdict b.verdict a.decided b.decided) ∙ sym b.known
 one_reply _ _ _ _ _ (run_refused _ _ _ _ _ short _) (program_too_long _ _ _ long) = absurd (omega arith)
 one_reply _ text _ _ _ (run_refused _ _ _ _ a _ is_a) (run_refused _ _ _ _ b _ is_b) = ap (refusal text) (one_breach text a b is_a is_b)
 one_reply _ text _ _ _ (run_refused _ _ _ _ breach _ is) (schedule_too_long _ _ _ _ _ accepts _) = absurd (never_both text accepts (breach, is))

@@ -1,7 +1,7 @@
 -- From what fetches answer to what is answered to `run`.
 use Rattle.std.proofs.Common.{◌≡◌, ℕ, ◌<◌, ◌≤◌, List, [], ◌∷◌, length, Option, Some, None, option_map, IfSome, ◌⊎◌, inl, inr, Result, Ok, Err, IfOk, OnOk, ◌≢◌, false, sym, subst, ◌∙◌, arith}
 use Rattle.std.proofs.lemmas.Bool.{cases_lt}
-use Rattle.sw_outside.specs.Shelf.{Told, file_of, asked_too}
+use Rattle.sw_outside.specs.Shelf.{Known, file_of, with_request}
 use Rattle.std.specs.declared.alloc.AllocError.{AllocError}
 use Rattle.sw_graph.specs.declared.graph.Graph.{Graph}
 use Rattle.sw_value.specs.Reach.{reach}
@@ -51,7 +51,7 @@ run_files file schedule_file text = by (is_run text) where
 -- behind the program's file
 
 -- the schedule was fetched, and gave a text
-pub schedule_answered : {before after : Option Told} (text schedule_file schedule : List ℕ) (program : Small) (outcome : Outcome) → length text ≤ PROGRAM_LIMIT → IsProgram text program → IfSome before (λ t. schedule ≡ file_of t.files schedule_file) → length schedule ≤ SCHEDULE_LIMIT → IsRunReply text program schedule outcome → after ≡ option_map (asked_too schedule_file) before → RunAnswered text schedule_file before outcome after
+pub schedule_answered : {before after : Option Known} (text schedule_file schedule : List ℕ) (program : Small) (outcome : Outcome) → length text ≤ PROGRAM_LIMIT → IsProgram text program → IfSome before (λ t. schedule ≡ file_of t.files schedule_file) → length schedule ≤ SCHEDULE_LIMIT → IsRunReply text program schedule outcome → after ≡ option_map (with_request schedule_file) before → RunAnswered text schedule_file before outcome after
 schedule_answered text schedule_file schedule program outcome short is found within reply fetched = record {
   schedule = schedule;
   agrees = found;
@@ -62,7 +62,7 @@ schedule_answered text schedule_file schedule program outcome short is found wit
 }
 
 -- the schedule was fetched, and is too long
-pub schedule_long : {before after : Option Told} (text schedule_file : List ℕ) (program : Small) (outcome : Outcome) → outcome ≡ too_long_file → length text ≤ PROGRAM_LIMIT → IsProgram text program → IfSome before (λ t. SCHEDULE_LIMIT < length (file_of t.files schedule_file)) → after ≡ option_map (asked_too schedule_file) before → RunAnswered text schedule_file before outcome after
+pub schedule_long : {before after : Option Known} (text schedule_file : List ℕ) (program : Small) (outcome : Outcome) → outcome ≡ too_long_file → length text ≤ PROGRAM_LIMIT → IsProgram text program → IfSome before (λ t. SCHEDULE_LIMIT < length (file_of t.files schedule_file)) → after ≡ option_map (with_request schedule_file) before → RunAnswered text schedule_file before outcome after
 schedule_long {before} {after} text schedule_file program outcome is_long short is long fetched =
     let (schedule, found, more) = long_text before schedule_file SCHEDULE_LIMIT long in
     subst (λ outcome. RunAnswered text schedule_file before outcome after) (sym is_long) (record {
@@ -75,7 +75,7 @@ schedule_long {before} {after} text schedule_file program outcome is_long short 
     })
 
 -- the schedule was fetched
-pub schedule_fetched : {before after : Option Told} (text schedule_file : List ℕ) (program : Small) → length text ≤ PROGRAM_LIMIT → IsProgram text program → after ≡ option_map (asked_too schedule_file) before → RunUnanswered text schedule_file before after
+pub schedule_fetched : {before after : Option Known} (text schedule_file : List ℕ) (program : Small) → length text ≤ PROGRAM_LIMIT → IsProgram text program → after ≡ option_map (with_request schedule_file) before → RunUnanswered text schedule_file before after
 schedule_fetched text schedule_file program short is fetched = record {
   names = schedule_file ∷ [];
   others = [];
@@ -84,38 +84,38 @@ schedule_fetched text schedule_file program short is fetched = record {
 }
 
 -- the schedule was not fetched
-pub schedule_not_fetched : {before after : Option Told} (text schedule_file : List ℕ) → after ≡ before → RunUnanswered text schedule_file before after
+pub schedule_not_fetched : {before after : Option Known} (text schedule_file : List ℕ) → after ≡ before → RunUnanswered text schedule_file before after
 schedule_not_fetched {before} {after} text schedule_file same = by (is_run text) where
   by : Stops text ⊎ ((length text ≤ PROGRAM_LIMIT) × Accepts text) → RunUnanswered text schedule_file before after
   by (inl stops) = record { names = []; others = []; asked = λ file. not_run file schedule_file text stops; fetched = same ∙ asked_nothing before }
   by (inr runs) = record { names = []; others = schedule_file ∷ []; asked = λ file. to_run file schedule_file text runs.0 runs.1; fetched = same ∙ asked_nothing before }
 
 -- the program is refused
-pub refused_answered : {told : Option Told} (text schedule_file : List ℕ) (breach : Breach) (outcome : Outcome) → length text ≤ PROGRAM_LIMIT → IsFirstBreach text breach → outcome ≡ refusal text breach → RunAnswered text schedule_file told outcome told
-refused_answered {told} text schedule_file breach outcome short is is_refusal =
-    let (schedule, found) = some_text told schedule_file in
-    subst (λ outcome. RunAnswered text schedule_file told outcome told) (sym is_refusal) (record {
+pub refused_answered : {known : Option Known} (text schedule_file : List ℕ) (breach : Breach) (outcome : Outcome) → length text ≤ PROGRAM_LIMIT → IsFirstBreach text breach → outcome ≡ refusal text breach → RunAnswered text schedule_file known outcome known
+refused_answered {known} text schedule_file breach outcome short is is_refusal =
+    let (schedule, found) = some_text known schedule_file in
+    subst (λ outcome. RunAnswered text schedule_file known outcome known) (sym is_refusal) (record {
       schedule = schedule;
       agrees = found;
       reply = λ file. run_refused file schedule_file text schedule breach short is;
       names = [];
       asked = λ file. not_run file schedule_file text (inr (breach, is));
-      fetched = asked_nothing told;
+      fetched = asked_nothing known;
     })
 
 -- with the program's file
 
-agrees : (told : Option Told) (file schedule_file program schedule : List ℕ) → IfSome told (λ t. program ≡ file_of t.files file) → IfSome told (λ t. schedule ≡ file_of t.files schedule_file) → Agrees told (Some (Run file schedule_file)) program schedule
-agrees (Some told) file schedule_file program schedule found other = (found, other)
+agrees : (known : Option Known) (file schedule_file program schedule : List ℕ) → IfSome known (λ t. program ≡ file_of t.files file) → IfSome known (λ t. schedule ≡ file_of t.files schedule_file) → Agrees known (Some (Run file schedule_file)) program schedule
+agrees (Some known) file schedule_file program schedule found other = (found, other)
 agrees None file schedule_file program schedule found other = tt
 
 -- a name asked changes no file
-same_file : (before middle : Option Told) (name file text : List ℕ) → middle ≡ option_map (asked_too name) before → IfSome middle (λ t. text ≡ file_of t.files file) → IfSome before (λ t. text ≡ file_of t.files file)
+same_file : (before middle : Option Known) (name file text : List ℕ) → middle ≡ option_map (with_request name) before → IfSome middle (λ t. text ≡ file_of t.files file) → IfSome before (λ t. text ≡ file_of t.files file)
 same_file None middle name file text asked found = tt
-same_file (Some told) middle name file text asked found = subst (λ after. IfSome after (λ t. text ≡ file_of t.files file)) asked found
+same_file (Some known) middle name file text asked found = subst (λ after. IfSome after (λ t. text ≡ file_of t.files file)) asked found
 
 -- the program's file was fetched, and there is a reply
-pub run_answered : {before middle after : Option Told} (file schedule_file text : List ℕ) (outcome : Outcome) → IfSome before (λ t. text ≡ file_of t.files file) → middle ≡ option_map (asked_too file) before → RunAnswered text schedule_file middle outcome after → Answered (Some (Run file schedule_file)) before outcome after
+pub run_answered : {before middle after : Option Known} (file schedule_file text : List ℕ) (outcome : Outcome) → IfSome before (λ t. text ≡ file_of t.files file) → middle ≡ option_map (with_request file) before → RunAnswered text schedule_file middle outcome after → Answered (Some (Run file schedule_file)) before outcome after
 run_answered {before} {middle} {after} file schedule_file text outcome found fetched rest = record {
   program = text;
   schedule = rest.schedule;
@@ -127,7 +127,7 @@ run_answered {before} {middle} {after} file schedule_file text outcome found fet
 }
 
 -- the program's file was fetched, and there is no reply
-pub run_unanswered : {before middle after : Option Told} (file schedule_file text : List ℕ) (least : ℕ) → least ≤ 1 → IfSome before (λ t. text ≡ file_of t.files file) → middle ≡ option_map (asked_too file) before → RunUnanswered text schedule_file middle after → Unanswered (Some (Run file schedule_file)) least before after
+pub run_unanswered : {before middle after : Option Known} (file schedule_file text : List ℕ) (least : ℕ) → least ≤ 1 → IfSome before (λ t. text ≡ file_of t.files file) → middle ≡ option_map (with_request file) before → RunUnanswered text schedule_file middle after → Unanswered (Some (Run file schedule_file)) least before after
 run_unanswered {before} {middle} {after} file schedule_file text least le found fetched rest =
     let (schedule, other) = some_text before schedule_file in
     record {
@@ -142,7 +142,7 @@ run_unanswered {before} {middle} {after} file schedule_file text least le found 
     }
 
 -- the program's file is too long
-pub run_too_long : {before after : Option Told} (file schedule_file : List ℕ) (outcome : Outcome) → outcome ≡ too_long_file → IfSome before (λ t. PROGRAM_LIMIT < length (file_of t.files file)) → after ≡ option_map (asked_too file) before → Answered (Some (Run file schedule_file)) before outcome after
+pub run_too_long : {before after : Option Known} (file schedule_file : List ℕ) (outcome : Outcome) → outcome ≡ too_long_file → IfSome before (λ t. PROGRAM_LIMIT < length (file_of t.files file)) → after ≡ option_map (with_request file) before → Answered (Some (Run file schedule_file)) before outcome after
 run_too_long {before} {after} file schedule_file outcome is_long long fetched =
     let (program, found, more) = long_text before file PROGRAM_LIMIT long in
     let (schedule, other) = some_text before schedule_file in
@@ -157,7 +157,7 @@ run_too_long {before} {after} file schedule_file outcome is_long long fetched =
     })
 
 -- the program's file was asked for, and gave nothing
-pub run_fetched : {before after : Option Told} (file schedule_file : List ℕ) → after ≡ option_map (asked_too file) before → Unanswered (Some (Run file schedule_file)) 1 before after
+pub run_fetched : {before after : Option Known} (file schedule_file : List ℕ) → after ≡ option_map (with_request file) before → Unanswered (Some (Run file schedule_file)) 1 before after
 run_fetched {before} file schedule_file fetched =
     let (program, found) = some_text before file in
     let (schedule, other) = some_text before schedule_file in
@@ -174,7 +174,7 @@ run_fetched {before} file schedule_file fetched =
     }
 
 -- nothing was fetched
-pub run_not_fetched : {before after : Option Told} (file schedule_file : List ℕ) → after ≡ before → Unanswered (Some (Run file schedule_file)) 0 before after
+pub run_not_fetched : {before after : Option Known} (file schedule_file : List ℕ) → after ≡ before → Unanswered (Some (Run file schedule_file)) 0 before after
 run_not_fetched {before} file schedule_file same =
     let (program, found) = some_text before file in
     let (schedule, other) = some_text before schedule_file in
@@ -191,23 +191,23 @@ run_not_fetched {before} file schedule_file same =
     }
 
 -- the same of whatever was answered
-pub run_answered_all : (before middle after : Option Told) (file schedule_file text : List ℕ) (answer : Result Outcome NoReply) → IfSome before (λ t. text ≡ file_of t.files file) → middle ≡ option_map (asked_too file) before → IfOk answer (λ outcome. RunAnswered text schedule_file middle outcome after) → IfOk answer (λ outcome. Answered (Some (Run file schedule_file)) before outcome after)
+pub run_answered_all : (before middle after : Option Known) (file schedule_file text : List ℕ) (answer : Result Outcome NoReply) → IfSome before (λ t. text ≡ file_of t.files file) → middle ≡ option_map (with_request file) before → IfOk answer (λ outcome. RunAnswered text schedule_file middle outcome after) → IfOk answer (λ outcome. Answered (Some (Run file schedule_file)) before outcome after)
 run_answered_all before middle after file schedule_file text (Ok outcome) found fetched rest = run_answered file schedule_file text outcome found fetched rest
 run_answered_all before middle after file schedule_file text (Err reason) found fetched rest = tt
 
 -- a reply over the program's text tells no failure
-pub run_tells_none : (before after : Option Told) (text schedule_file : List ℕ) (answer : Result Outcome NoReply) → IfOk answer (λ outcome. RunAnswered text schedule_file before outcome after) → IfOk answer (λ outcome. is_failure outcome.exit ≡ false)
+pub run_tells_none : (before after : Option Known) (text schedule_file : List ℕ) (answer : Result Outcome NoReply) → IfOk answer (λ outcome. RunAnswered text schedule_file before outcome after) → IfOk answer (λ outcome. is_failure outcome.exit ≡ false)
 run_tells_none before after text schedule_file (Ok outcome) rest = reply_tells_none (Some (Run [] schedule_file)) text rest.schedule outcome (rest.reply [])
 run_tells_none before after text schedule_file (Err reason) rest = tt
 
--- a replay that was told is the reply
+-- a replay that was known is the reply
 pub replay_told : (text : List ℕ) (program : Small) (schedule : List ℕ) (graph : Graph) (items lines : List ℕ) (ended jobs : ℕ) (end : End) (answer : Result Outcome AllocError) → IsLowered program graph → IsItems schedule items → lines ≡ lines_of graph items → end ≡ end_of (reach graph items) → ended ≡ ended_in (reach graph items) → jobs ≡ jobs_in (reach graph items) → IfOk answer (λ outcome. outcome ≡ ended_outcome text lines ended jobs end) → IfOk answer (IsRunReply text program schedule)
-replay_told text program schedule graph items lines ended jobs end (Ok outcome) lowered are lines_are end_is ended_is jobs_is told =
-    let same : outcome ≡ run_outcome text graph items = told ∙ cc in
+replay_told text program schedule graph items lines ended jobs end (Ok outcome) lowered are lines_are end_is ended_is jobs_is known =
+    let same : outcome ≡ run_outcome text graph items = known ∙ cc in
     subst (IsRunReply text program schedule) (sym same) (ran graph items lowered are)
-replay_told text program schedule graph items lines ended jobs end (Err none) lowered are lines_are end_is ended_is jobs_is told = tt
+replay_told text program schedule graph items lines ended jobs end (Err none) lowered are lines_are end_is ended_is jobs_is known = tt
 
 -- a schedule that is wrong
 pub bad_schedule_told : (text : List ℕ) (program : Small) (schedule : List ℕ) (fault : SchedFault) (answer : Result Outcome AllocError) → (fault ≢ Memory → IsBadPlace schedule fault) → OnOk answer (fault ≢ Memory) → IfOk answer (λ outcome. outcome ≡ record { exit = exits.BadSchedule; bytes = schedule_line schedule fault }) → IfOk answer (IsRunReply text program schedule)
-bad_schedule_told text program schedule fault (Ok outcome) place named told = subst (IsRunReply text program schedule) (sym told) (bad_schedule fault (place named))
-bad_schedule_told text program schedule fault (Err none) place named told = tt
+bad_schedule_told text program schedule fault (Ok outcome) place named known = subst (IsRunReply text program schedule) (sym known) (bad_schedule fault (place named))
+bad_schedule_told text program schedule fault (Err none) place named known = tt

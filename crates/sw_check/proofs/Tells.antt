@@ -1,6 +1,6 @@
 -- Which exits replies have, and which of them write nothing.
 use Rattle.std.proofs.Common.{◌≡◌, true, false, ℕ, List, [], ◌++◌, Option, Some, None, option_map, refl, sym, ap, ◌∙◌, append-nil}
-use Rattle.sw_outside.specs.Shelf.{Told}
+use Rattle.sw_outside.specs.Shelf.{Known}
 use Rattle.sw_replay.specs.declared.output.End.{End}
 use Rattle.sw_replay.specs.declared.output.End.TheVariants.{Ran, Trapped}
 use Rattle.sw_check.specs.declared.outcome.Outcome.{Outcome}
@@ -27,7 +27,7 @@ run_tells_none text program schedule outcome (ran graph items lowered are) = end
 pub reply_tells_none : (command : Option Command) (program schedule : List ℕ) (outcome : Outcome) → Reply command program schedule outcome → is_failure outcome.exit ≡ false
 reply_tells_none command program schedule outcome (no_form _ _) = refl
 reply_tells_none command program schedule outcome (program_too_long _ _ _ more) = refl
-reply_tells_none command program schedule outcome (checked file _ _ _ within reply) = ap (λ o. is_failure o.exit) reply.told ∙ verdict_tells_none program reply.verdict
+reply_tells_none command program schedule outcome (checked file _ _ _ within reply) = ap (λ o. is_failure o.exit) reply.known ∙ verdict_tells_none program reply.verdict
 reply_tells_none command program schedule outcome (run_refused _ _ _ _ breach within is) = refl
 reply_tells_none command program schedule outcome (schedule_too_long _ _ _ _ within accepts more) = refl
 reply_tells_none command program schedule outcome (run _ _ _ _ small _ within is short reply) = run_tells_none program small schedule outcome reply
@@ -48,13 +48,13 @@ reply_silent : (command : Option Command) (program schedule : List ℕ) (outcome
 reply_silent command program schedule outcome (no_form _ _) silent = cc
 reply_silent command program schedule outcome (program_too_long _ _ _ more) silent = refl
 reply_silent command program schedule outcome (checked file _ _ _ within reply) silent =
-    ap (λ o. o.bytes) reply.told ∙ verdict_silent program reply.verdict (sym (ap (λ o. is_silent o.exit) reply.told) ∙ silent)
+    ap (λ o. o.bytes) reply.known ∙ verdict_silent program reply.verdict (sym (ap (λ o. is_silent o.exit) reply.known) ∙ silent)
 reply_silent command program schedule outcome (run_refused _ _ _ _ breach within is) silent = cc
 reply_silent command program schedule outcome (schedule_too_long _ _ _ _ within accepts more) silent = refl
 reply_silent command program schedule outcome (run _ _ _ _ small _ within is short reply) silent = run_silent program small schedule outcome reply silent
 
 -- a whole reply with such an exit leaves a sink as it was
-pub silent_written : {command : Option Command} {before after : Option Told} {outcome : Outcome} {taken taken_after : Option (List ℕ)} → Answered command before outcome after → Appended outcome.bytes taken taken_after → is_silent outcome.exit ≡ true → taken_after ≡ taken
+pub silent_written : {command : Option Command} {before after : Option Known} {outcome : Outcome} {taken taken_after : Option (List ℕ)} → Answered command before outcome after → Appended outcome.bytes taken taken_after → is_silent outcome.exit ≡ true → taken_after ≡ taken
 silent_written {command} {outcome = outcome} {taken = taken} answered written silent =
     written ∙ ap (λ bytes. option_map (λ front. front ++ bytes) taken) (reply_silent command answered.program answered.schedule outcome answered.reply silent) ∙ nothing taken where
       nothing : (taken : Option (List ℕ)) → option_map (λ front. front ++ []) taken ≡ taken

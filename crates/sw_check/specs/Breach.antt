@@ -1,4 +1,4 @@
--- What is wrong with a program's text, and how it is told.
+-- What is wrong with a program's text, and how it is known.
 use Rattle.std.specs.Prelude.{ℕ, List, [], ◌∷◌, ◌++◌, ◌==◌, if◌then◌else◌, codes}
 use Rattle.std.specs.Fmt.{decimal}
 use Rattle.sw_text.specs.Text.{line_of, column_of}

@@ -1,6 +1,6 @@
 -- What the tool answers: the exit and the bytes that it writes.
 use Rattle.std.specs.Prelude.{◌≡◌, ℕ, ◌<◌, ◌≤◌, ◌⊎◌, List, [], ◌∷◌, ◌++◌, length, Option, Some, None, option_map, codes}
-use Rattle.sw_outside.specs.Shelf.{Told, file_of}
+use Rattle.sw_outside.specs.Shelf.{Known, file_of}
 use Rattle.sw_graph.specs.declared.graph.Graph.{Graph}
 use Rattle.sw_value.specs.Reach.{reach}
 use Rattle.sw_replay.specs.declared.text.TheConstants.{SCHEDULE_LIMIT}
@@ -59,7 +59,7 @@ run_outcome text graph items =
 pub record IsCheckReply (text : List ℕ) (outcome : Outcome) : Type 0 where
   pub verdict : Verdict
   pub decided : IsVerdict text verdict
-  pub told : outcome ≡ check_outcome text verdict
+  pub known : outcome ≡ check_outcome text verdict
 
 -- what `run` answers over a program that may be built and the text of a schedule
 pub data IsRunReply (text : List ℕ) (program : Small) (schedule : List ℕ) : Outcome → Type 0 where
@@ -99,43 +99,43 @@ pub data Asked : Option Command → List ℕ → List (List ℕ) → Type 0 wher
       → Asked (Some (Run file schedule_file)) program (file ∷ schedule_file ∷ [])
 
 -- the text in the program's file
-abbrev pub program_text : Told → Option Command → List ℕ
-program_text told (Some (Check file)) = file_of told.files file
-program_text told (Some (Run file schedule_file)) = file_of told.files file
-program_text told None = []
+abbrev pub program_text : Known → Option Command → List ℕ
+program_text known (Some (Check file)) = file_of known.files file
+program_text known (Some (Run file schedule_file)) = file_of known.files file
+program_text known None = []
 
 -- the text in the schedule's file
-abbrev pub schedule_text : Told → Option Command → List ℕ
-schedule_text told (Some (Run file schedule_file)) = file_of told.files schedule_file
-schedule_text told (Some (Check file)) = []
-schedule_text told None = []
+abbrev pub schedule_text : Known → Option Command → List ℕ
+schedule_text known (Some (Run file schedule_file)) = file_of known.files schedule_file
+schedule_text known (Some (Check file)) = []
+schedule_text known None = []
 
 -- the outcome is the reply to the words over these files
-abbrev pub ReplyOver : Told → Option Command → Outcome → Type 0
-ReplyOver told command outcome = Reply command (program_text told command) (schedule_text told command) outcome
+abbrev pub ReplyOver : Known → Option Command → Outcome → Type 0
+ReplyOver known command outcome = Reply command (program_text known command) (schedule_text known command) outcome
 
 -- Where the shelf tells its files, the texts are those of the program's file and of the schedule's.
-abbrev pub Agrees : Option Told → Option Command → List ℕ → List ℕ → Type 0
-Agrees (Some told) command program schedule = (program ≡ program_text told command) × (schedule ≡ schedule_text told command)
+abbrev pub Agrees : Option Known → Option Command → List ℕ → List ℕ → Type 0
+Agrees (Some known) command program schedule = (program ≡ program_text known command) × (schedule ≡ schedule_text known command)
 Agrees None command program schedule = Unit {0}
 
 -- these names were asked too, in this order
-abbrev pub asked_these : List (List ℕ) → Told → Told
-asked_these names told = record told { asked = told.asked ++ names }
+abbrev pub with_requests : List (List ℕ) → Known → Known
+with_requests names known = record known { requested = known.requested ++ names }
 
 -- The outcome is the reply to the words, over the files that the shelf tells or, where it tells none, over some texts; and
 -- the files of the words were fetched, each once, and no others.
-pub record Answered (command : Option Command) (before : Option Told) (outcome : Outcome) (after : Option Told) : Type 0 where
+pub record Answered (command : Option Command) (before : Option Known) (outcome : Outcome) (after : Option Known) : Type 0 where
   pub program : List ℕ
   pub schedule : List ℕ
   pub agrees : Agrees before command program schedule
   pub reply : Reply command program schedule outcome
   pub names : List (List ℕ)
   pub asked : Asked command program names
-  pub fetched : after ≡ option_map (asked_these names) before
+  pub fetched : after ≡ option_map (with_requests names) before
 
 -- There is no reply. Of the files of the words the first so many were fetched, at least `least`, and no others.
-pub record Unanswered (command : Option Command) (least : ℕ) (before after : Option Told) : Type 0 where
+pub record Unanswered (command : Option Command) (least : ℕ) (before after : Option Known) : Type 0 where
   pub program : List ℕ
   pub schedule : List ℕ
   pub agrees : Agrees before command program schedule
@@ -143,4 +143,4 @@ pub record Unanswered (command : Option Command) (least : ℕ) (before after : O
   pub others : List (List ℕ)
   pub asked : Asked command program (names ++ others)
   pub least_fetched : least ≤ length names
-  pub fetched : after ≡ option_map (asked_these names) before
+  pub fetched : after ≡ option_map (with_requests names) before

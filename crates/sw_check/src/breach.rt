@@ -27,7 +27,7 @@ fn text_of(code: u16) -> &'static str
     }
 }
 
-/// A place of the text `bytes` as `LINE:COLUMN`. One past the text is told as the text's end.
+/// A place of the text `bytes` as `LINE:COLUMN`. One past the text is known as the text's end.
 #[tactic(auto, unfolding(crate::specs::Breach::place))]
 pub fn place(alloc: Global, bytes: &[u8], at: u32) -> Result<String, AllocError>
     requires { length bytes.now < 4294967295 }

@@ -20,12 +20,12 @@ pub fn refused(alloc: Global, text: &[u8], breach: Breach) -> Result<Outcome, Al
     requires { length text.now ≤ PROGRAM_LIMIT }
     ensures { IfOk result (λ outcome. outcome ≡ refusal text.now breach) }
 {
-    let told = verdict_text(alloc, text, breach)?;
-    lines(alloc, Exit::Breached, told.as_str())
+    let known = verdict_text(alloc, text, breach)?;
+    lines(alloc, Exit::Breached, known.as_str())
 }
 
 /// What `check` answers to a verdict.
-fn told(alloc: Global, text: &[u8], verdict: &Verdict) -> Result<Outcome, AllocError>
+fn known(alloc: Global, text: &[u8], verdict: &Verdict) -> Result<Outcome, AllocError>
     requires { length text.now ≤ PROGRAM_LIMIT }
     ensures { IfOk result (λ outcome. outcome ≡ check_outcome text.now verdict.now) }
 {
@@ -41,16 +41,16 @@ fn check_text(alloc: Global, text: &[u8]) -> Result<Outcome, AllocError>
     ensures { IfOk result (IsCheckReply text.now) }
 {
     let verdict = verdict_on(alloc, text)?;
-    told(alloc, text, &verdict)
+    known(alloc, text, &verdict)
 }
 
 /// The reply to `check FILE`.
 fn check<S: Shelf>(alloc: Global, file: &str, shelf: &mut S) -> Result<Outcome, NoReply>
-    ensures answered { IfOk result (λ outcome. Answered (Some (Check file.now)) (S.told shelf.old) outcome (S.told shelf.new)) }
+    ensures answered { IfOk result (λ outcome. Answered (Some (Check file.now)) (S.known shelf.old) outcome (S.known shelf.new)) }
     ensures tells_none { IfOk result (λ outcome. IsFalse (is_failure outcome.exit)) }
-    ensures not_read { IsErrOf result NoReply.NotRead → Unanswered (Some (Check file.now)) 1 (S.told shelf.old) (S.told shelf.new) }
-    ensures no_memory { IsErrOf result NoReply.Memory → Unanswered (Some (Check file.now)) 0 (S.told shelf.old) (S.told shelf.new) }
-    ensures long { IfOk result (λ outcome. outcome.exit ≡ Exit.TooLong → IfNone (S.told shelf.old) (PROGRAM_LIMIT < S.came shelf.new)) }
+    ensures not_read { IsErrOf result NoReply.NotRead → Unanswered (Some (Check file.now)) 1 (S.known shelf.old) (S.known shelf.new) }
+    ensures no_memory { IsErrOf result NoReply.Memory → Unanswered (Some (Check file.now)) 0 (S.known shelf.old) (S.known shelf.new) }
+    ensures long { IfOk result (λ outcome. outcome.exit ≡ Exit.TooLong → IfNone (S.known shelf.old) (PROGRAM_LIMIT < S.received shelf.new)) }
     ensures steady { OnOk result (S.faults shelf.new ≡ S.faults shelf.old) }
     ensures failed { IsErrOf result NoReply.NotRead → Rose (S.faults shelf.old) (S.faults shelf.new) }
     ensures memory { IsErrOf result NoReply.Memory → S.faults shelf.new ≡ S.faults shelf.old }
@@ -65,11 +65,11 @@ fn check<S: Shelf>(alloc: Global, file: &str, shelf: &mut S) -> Result<Outcome, 
 
 /// The reply to the words behind the program's name.
 pub fn answer<S: Shelf>(alloc: Global, words: &[String], shelf: &mut S) -> Result<Outcome, NoReply>
-    ensures answered { IfOk result (λ outcome. Answered (command_of (map string_bytes words.now)) (S.told shelf.old) outcome (S.told shelf.new)) }
+    ensures answered { IfOk result (λ outcome. Answered (command_of (map string_bytes words.now)) (S.known shelf.old) outcome (S.known shelf.new)) }
     ensures tells_none { IfOk result (λ outcome. IsFalse (is_failure outcome.exit)) }
-    ensures not_read { IsErrOf result NoReply.NotRead → Unanswered (command_of (map string_bytes words.now)) 1 (S.told shelf.old) (S.told shelf.new) }
-    ensures no_memory { IsErrOf result NoReply.Memory → Unanswered (command_of (map string_bytes words.now)) 0 (S.told shelf.old) (S.told shelf.new) }
-    ensures long { IfOk result (λ outcome. outcome.exit ≡ Exit.TooLong → IfNone (S.told shelf.old) (PROGRAM_LIMIT < S.came shelf.new)) }
+    ensures not_read { IsErrOf result NoReply.NotRead → Unanswered (command_of (map string_bytes words.now)) 1 (S.known shelf.old) (S.known shelf.new) }
+    ensures no_memory { IsErrOf result NoReply.Memory → Unanswered (command_of (map string_bytes words.now)) 0 (S.known shelf.old) (S.known shelf.new) }
+    ensures long { IfOk result (λ outcome. outcome.exit ≡ Exit.TooLong → IfNone (S.known shelf.old) (PROGRAM_LIMIT < S.received shelf.new)) }
     ensures steady { OnOk result (S.faults shelf.new ≡ S.faults shelf.old) }
     ensures failed { IsErrOf result NoReply.NotRead → Rose (S.faults shelf.old) (S.faults shelf.new) }
     ensures memory { IsErrOf result NoReply.Memory → S.faults shelf.new ≡ S.faults shelf.old }

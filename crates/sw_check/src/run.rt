@@ -70,7 +70,7 @@ fn bad_schedule(
     fault: SchedFault,
 ) -> Result<Outcome, AllocError>
     requires { length schedule_text.now ≤ SCHEDULE_LIMIT }
-    ensures told { IfOk result (λ outcome. outcome ≡ record { exit = Exit.BadSchedule; bytes = schedule_line schedule_text.now fault }) }
+    ensures known { IfOk result (λ outcome. outcome ≡ record { exit = Exit.BadSchedule; bytes = schedule_line schedule_text.now fault }) }
     ensures named { OnOk result (fault ≢ SchedFault.Memory) }
 {
     if let SchedFault::Memory = fault {
@@ -108,10 +108,10 @@ fn run_program<S: Shelf>(
 ) -> Result<Outcome, NoReply>
     requires short { length text.now ≤ PROGRAM_LIMIT }
     requires program { IsProgram text.now program.now }
-    ensures answered { IfOk result (λ outcome. RunAnswered text.now schedule_file.now (S.told shelf.old) outcome (S.told shelf.new)) }
-    ensures not_read { IsErrOf result NoReply.NotRead → RunUnanswered text.now schedule_file.now (S.told shelf.old) (S.told shelf.new) }
-    ensures no_memory { IsErrOf result NoReply.Memory → RunUnanswered text.now schedule_file.now (S.told shelf.old) (S.told shelf.new) }
-    ensures long { IfOk result (λ outcome. outcome.exit ≡ Exit.TooLong → IfNone (S.told shelf.old) (PROGRAM_LIMIT < S.came shelf.new)) }
+    ensures answered { IfOk result (λ outcome. RunAnswered text.now schedule_file.now (S.known shelf.old) outcome (S.known shelf.new)) }
+    ensures not_read { IsErrOf result NoReply.NotRead → RunUnanswered text.now schedule_file.now (S.known shelf.old) (S.known shelf.new) }
+    ensures no_memory { IsErrOf result NoReply.Memory → RunUnanswered text.now schedule_file.now (S.known shelf.old) (S.known shelf.new) }
+    ensures long { IfOk result (λ outcome. outcome.exit ≡ Exit.TooLong → IfNone (S.known shelf.old) (PROGRAM_LIMIT < S.received shelf.new)) }
     ensures steady { OnOk result (S.faults shelf.new ≡ S.faults shelf.old) }
     ensures failed { IsErrOf result NoReply.NotRead → Rose (S.faults shelf.old) (S.faults shelf.new) }
     ensures memory { IsErrOf result NoReply.Memory → S.faults shelf.new ≡ S.faults shelf.old }
@@ -132,10 +132,10 @@ fn run_text<S: Shelf>(
     shelf: &mut S,
 ) -> Result<Outcome, NoReply>
     requires { length text.now ≤ PROGRAM_LIMIT }
-    ensures answered { IfOk result (λ outcome. RunAnswered text.now schedule_file.now (S.told shelf.old) outcome (S.told shelf.new)) }
-    ensures not_read { IsErrOf result NoReply.NotRead → RunUnanswered text.now schedule_file.now (S.told shelf.old) (S.told shelf.new) }
-    ensures no_memory { IsErrOf result NoReply.Memory → RunUnanswered text.now schedule_file.now (S.told shelf.old) (S.told shelf.new) }
-    ensures long { IfOk result (λ outcome. outcome.exit ≡ Exit.TooLong → IfNone (S.told shelf.old) (PROGRAM_LIMIT < S.came shelf.new)) }
+    ensures answered { IfOk result (λ outcome. RunAnswered text.now schedule_file.now (S.known shelf.old) outcome (S.known shelf.new)) }
+    ensures not_read { IsErrOf result NoReply.NotRead → RunUnanswered text.now schedule_file.now (S.known shelf.old) (S.known shelf.new) }
+    ensures no_memory { IsErrOf result NoReply.Memory → RunUnanswered text.now schedule_file.now (S.known shelf.old) (S.known shelf.new) }
+    ensures long { IfOk result (λ outcome. outcome.exit ≡ Exit.TooLong → IfNone (S.known shelf.old) (PROGRAM_LIMIT < S.received shelf.new)) }
     ensures steady { OnOk result (S.faults shelf.new ≡ S.faults shelf.old) }
     ensures failed { IsErrOf result NoReply.NotRead → Rose (S.faults shelf.old) (S.faults shelf.new) }
     ensures memory { IsErrOf result NoReply.Memory → S.faults shelf.new ≡ S.faults shelf.old }
@@ -153,11 +153,11 @@ pub fn run<S: Shelf>(
     schedule_file: &str,
     shelf: &mut S,
 ) -> Result<Outcome, NoReply>
-    ensures answered { IfOk result (λ outcome. Answered (Some (Run file.now schedule_file.now)) (S.told shelf.old) outcome (S.told shelf.new)) }
+    ensures answered { IfOk result (λ outcome. Answered (Some (Run file.now schedule_file.now)) (S.known shelf.old) outcome (S.known shelf.new)) }
     ensures tells_none { IfOk result (λ outcome. IsFalse (is_failure outcome.exit)) }
-    ensures not_read { IsErrOf result NoReply.NotRead → Unanswered (Some (Run file.now schedule_file.now)) 1 (S.told shelf.old) (S.told shelf.new) }
-    ensures no_memory { IsErrOf result NoReply.Memory → Unanswered (Some (Run file.now schedule_file.now)) 0 (S.told shelf.old) (S.told shelf.new) }
-    ensures long { IfOk result (λ outcome. outcome.exit ≡ Exit.TooLong → IfNone (S.told shelf.old) (PROGRAM_LIMIT < S.came shelf.new)) }
+    ensures not_read { IsErrOf result NoReply.NotRead → Unanswered (Some (Run file.now schedule_file.now)) 1 (S.known shelf.old) (S.known shelf.new) }
+    ensures no_memory { IsErrOf result NoReply.Memory → Unanswered (Some (Run file.now schedule_file.now)) 0 (S.known shelf.old) (S.known shelf.new) }
+    ensures long { IfOk result (λ outcome. outcome.exit ≡ Exit.TooLong → IfNone (S.known shelf.old) (PROGRAM_LIMIT < S.received shelf.new)) }
     ensures steady { OnOk result (S.faults shelf.new ≡ S.faults shelf.old) }
     ensures failed { IsErrOf result NoReply.NotRead → Rose (S.faults shelf.old) (S.faults shelf.new) }
     ensures memory { IsErrOf result NoReply.Memory → S.faults shelf.new ≡ S.faults shelf.old }

@@ -6,8 +6,8 @@ use sw_outside::{Sink, SinkFault};
 
 /// Hands the bytes to the sink, piece by piece, until all were taken or a put fails.
 pub fn put_all<K: Sink>(out: &mut K, bytes: &[u8]) -> Result<(), SinkFault>
-    ensures whole { OnOk result (Appended bytes.now (K.taken out.old) (K.taken out.new)) }
-    ensures front { OnErr result (IsFrontWritten bytes.now (K.taken out.old) (K.taken out.new)) }
+    ensures whole { OnOk result (Appended bytes.now (K.written out.old) (K.written out.new)) }
+    ensures front { OnErr result (IsFrontWritten bytes.now (K.written out.old) (K.written out.new)) }
     ensures steady { OnOk result (K.faults out.new ≡ K.faults out.old) }
     ensures failed { OnErr result (Rose (K.faults out.old) (K.faults out.new)) }
 {

@@ -1,4 +1,4 @@
-ghost use Rattle.std.specs.Prelude.{◌≡◌, [], ◌∷◌, ◌++◌, ◌<◌, ◌↔◌, length, slice_get, slice_set, IsTrue, IfOk, OnSome, MatchOption, OnOk, OnErr};
+ghost use Rattle.std.specs.Prelude.{◌≡◌, [], ◌∷◌, ◌++◌, ◌<◌, ◌↔◌, length, take, slice_get, slice_set, IsTrue, IfOk, OnSome, MatchOption, OnOk, OnErr};
 ghost use Rattle.std.specs.Option.{option_copied};
 ghost use Rattle.std.specs.Borrow.{Lends, sem};
 
@@ -63,24 +63,25 @@ impl<T> ListOf<T> {
         self.items.is_empty()
     }
 
-    pub fn get(&self, at: usize) -> Option<&T>
-        ensures value { option_copied result ≡ slice_get self.now at }
-        ensures within { OnSome result (at < length self.now) }
+    pub fn get(&self, index: usize) -> Option<&T>
+        ensures value { option_copied result ≡ slice_get self.now index }
+        ensures within { OnSome result (index < length self.now) }
     {
-        self.items.get(at)
+        self.items.get(index)
     }
 
-    /// Lends the item at a place that is there.
-    pub fn at(&self, at: usize) -> &T
-        requires { at < length self.now }
-        ensures { slice_get self.now at ≡ Some result.now }
+    /// Lends the item at an index within the list.
+    pub fn at(&self, index: usize) -> &T
+        requires { index < length self.now }
+        ensures { slice_get self.now index ≡ Some result.now }
     {
-        &self.items[at]
+        &self.items[index]
     }
 
-    /// Takes the last item off.
+    /// Removes the last item and returns it.
     pub fn pop(&mut self) -> Option<T>
-        ensures { MatchOption result ((self.old ≡ []) × (self.new ≡ [])) (λ last. self.old ≡ self.new ++ last ∷ []) }
+        ensures { MatchOption result ((self.old ≡ []) × (self.new ≡ []))
+            (λ last. self.old ≡ self.new ++ last ∷ []) }
     {
         self.items.pop()
     }
@@ -89,13 +90,14 @@ impl<T> ListOf<T> {
 impl<T> ListOf<T> {
     ghost use Rattle.sw_list.specs.contracts.list_of.ListOf.{the_row};
 
-    /// Lends the item at a place that is there for writing; the other items stay.
-    pub fn at_mut(&mut self, at: usize) -> &mut T
-        requires { at < length self.old }
-        ensures* writes_back { sem 𝓛 (Lends (the_row T.row) T.row self.entry result (slice_set self.old at)) }
-        ensures value { slice_get self.old at ≡ Some result.now }
+    /// Lends the item at an index within the list for writing; the other items stay.
+    pub fn at_mut(&mut self, index: usize) -> &mut T
+        requires { index < length self.old }
+        ensures* writes_back { sem 𝓛
+            (Lends (the_row T.row) T.row self.entry result (slice_set self.old index)) }
+        ensures value { slice_get self.old index ≡ Some result.now }
     {
-        &mut self.items[at]
+        &mut self.items[index]
     }
 }
 
@@ -118,12 +120,19 @@ impl<T: Drop> ListOf<T> {
         Ok(list)
     }
 
-    /// Replaces the item at a place that is there.
-    pub fn set(&mut self, at: usize, item: T)
-        requires { at < length self.old }
-        ensures { self.new ≡ slice_set self.old at item }
+    /// Replaces the item at an index within the list.
+    pub fn set(&mut self, index: usize, item: T)
+        requires { index < length self.old }
+        ensures { self.new ≡ slice_set self.old index item }
     {
-        self.items[at] = item;
+        self.items[index] = item;
+    }
+
+    /// Keeps the first `count` items and drops the others; a shorter list stays as it is.
+    pub fn truncate(&mut self, count: usize)
+        ensures { self.new ≡ take count self.old }
+    {
+        self.items.truncate(count);
     }
 
     /// Adds an item at the end. Where memory runs out the item is dropped.

@@ -2,7 +2,7 @@
 use Rattle.std.specs.Prelude.{ℕ}
 
 pub record Counts : Type 0 where
-  -- how many bytes came in the last fetch
-  pub came : ℕ
-  -- how often the system failed
+  -- the number of bytes that the last fetch received
+  pub received : ℕ
+  -- the number of faults of the system
   pub faults : ℕ

@@ -1,22 +1,22 @@
--- A sink in memory: what it is, and how much of a piece its next put takes.
+-- A sink in memory: what it is, and how many bytes of a piece its next put writes.
 use Rattle.std.specs.Prelude.{ℕ, Bool, List, length, ◌-◌, ◌==◌, ◌||◌, min}
 use Rattle.std.specs.List.{list_any}
 
 pub record SinkState : Type 0 where
-  -- the bytes taken so far
+  -- the bytes written so far
   pub bytes : List ℕ
-  -- how many bytes one put takes at most
+  -- the most bytes that one put writes
   pub step : ℕ
   -- the numbers of the puts that fail
   pub fails : List ℕ
-  -- how many bytes the sink takes in all
+  -- the most bytes that the sink holds
   pub room : ℕ
   -- the number of the next put
   pub number : ℕ
-  -- how many puts failed
+  -- the number of puts that failed
   pub faults : ℕ
 
--- how many more bytes the sink takes
+-- the number of bytes that the sink still has room for
 abbrev pub room_left : SinkState → ℕ
 room_left sink = sink.room - length sink.bytes
 
@@ -24,6 +24,6 @@ room_left sink = sink.room - length sink.bytes
 abbrev pub put_fails : SinkState → Bool
 put_fails sink = list_any (λ number. number == sink.number) sink.fails || (room_left sink == 0)
 
--- how many bytes the next put takes of a piece of this length
+-- the number of bytes that the next put writes of a piece of n bytes
 abbrev pub part_of : SinkState → ℕ → ℕ
 part_of sink n = min n (min sink.step (room_left sink))

@@ -1,28 +1,28 @@
--- What a shelf tells: the files that it holds and the names that it was asked for.
+-- What is known of a shelf: the files that it holds, and the names that were requested.
 use Rattle.std.specs.Prelude.{ℕ, List, [], ◌∷◌, ◌++◌, Option, Some, None, unwrap_or, if◌then◌else◌}
 use Rattle.std.specs.Str.{bytes_eq}
 
--- what a shelf that tells has: its files, each a name and the file's bytes, and the names asked so far
-pub record Told : Type 0 where
+-- a shelf whose contents are known: its files, each a name and the file's bytes, and the names requested so far
+pub record Known : Type 0 where
   pub files : List (List ℕ × List ℕ)
-  pub asked : List (List ℕ)
+  pub requested : List (List ℕ)
 
--- what a shelf that doesn't tell has to say
-abbrev pub untold : Option Told
-untold = None
+-- a shelf whose contents are unknown
+abbrev pub unknown : Option Known
+unknown = None
 
 -- the bytes under a name, where a file has that name
-unfoldable pub held : List (List ℕ × List ℕ) → List ℕ → Option (List ℕ)
-held [] name = None
-held (file ∷ files) name = if bytes_eq file.0 name then Some file.1 else held files name
+unfoldable pub find_file : List (List ℕ × List ℕ) → List ℕ → Option (List ℕ)
+find_file [] name = None
+find_file (file ∷ files) name = if bytes_eq file.0 name then Some file.1 else find_file files name
 
 -- the bytes under a name; the empty file where no file has that name
 unfoldable pub file_of : List (List ℕ × List ℕ) → List ℕ → List ℕ
-file_of files name = unwrap_or (held files name) []
+file_of files name = unwrap_or (find_file files name) []
 
--- the same files, and one more name asked
-abbrev pub asked_too : List ℕ → Told → Told
-asked_too name told = record told { asked = told.asked ++ name ∷ [] }
+-- the same files, after one more request
+abbrev pub with_request : List ℕ → Known → Known
+with_request name known = record known { requested = known.requested ++ name ∷ [] }
 
 -- the files with this one in the place of the one of its name, or at the end where none has its name
 unfoldable pub with_file : List ℕ → List ℕ → List (List ℕ × List ℕ) → List (List ℕ × List ℕ)

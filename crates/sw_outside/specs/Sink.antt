@@ -1,6 +1,6 @@
--- What a sink tells.
+-- A sink whose contents are unknown.
 use Rattle.std.specs.Prelude.{ℕ, List, Option, None}
 
--- what a sink that doesn't tell the bytes taken has to say
-abbrev pub untold : Option (List ℕ)
-untold = None
+-- what is known of such a sink's bytes: nothing
+abbrev pub unknown : Option (List ℕ)
+unknown = None

@@ -1,19 +1,20 @@
-//! What the tool talks to: a shelf that files are fetched from, and a sink that output is put into.
-//! Each has a form in memory, for tests and for callers without a file system, and one over the system.
+//! The outside of the tool: a shelf that files are fetched from, and a sink that output is written to.
+//! Each has a form in memory, for tests and for callers without a file system, and one over the
+//! system. The crate knows names and bytes, and nothing of programs, commands or replies.
 #![tactic(auto)]
 
 mod file_shelf;
 mod mem_shelf;
 mod mem_sink;
+mod reading;
 mod shelf;
 mod sink;
 mod std_sink;
-#[cfg(test)]
-mod tests;
 
 pub use file_shelf::FileShelf;
 pub use mem_shelf::MemShelf;
 pub use mem_sink::MemSink;
+pub use reading::{ReadFault, read_whole};
 pub use shelf::{FetchFault, Shelf};
 pub use sink::{Sink, SinkFault};
 pub use std_sink::StdSink;

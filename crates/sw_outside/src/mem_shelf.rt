@@ -2,7 +2,7 @@ ghost use Rattle.std.specs.Prelude.{◌≡◌, ◌≢◌, List, ℕ, Some, None,
 ghost use Rattle.std.specs.Str.{bytes_eq};
 ghost use Rattle.sw_outside.specs.MemShelf.{ShelfState, fails_at, after_fetch};
 ghost use Rattle.sw_outside.specs.Rise.{Rose, raised};
-ghost use Rattle.sw_outside.specs.Shelf.{asked_too, file_of, held, with_file};
+ghost use Rattle.sw_outside.specs.Shelf.{with_request, file_of, find_file, with_file};
 
 use crate::shelf::{FetchFault, Shelf};
 use std::alloc::{AllocError, Global};
@@ -69,15 +69,15 @@ impl StoredFile {
     }
 }
 
-/// Files in memory. A fetch of a name that isn't held fails, as does one whose number, from 0, is
-/// among those that were handed to `new`; a fetch that answers `Memory` has no number.
+/// Files in memory. A fetch of a name that no file has fails, as does one whose number, from 0, is
+/// among those that were passed to `new`; a fetch that runs out of memory has no number.
 #[derive(Drop)]
 pub struct MemShelf {
     alloc: Global,
     files: Vec<StoredFile>,
-    asked: Vec<Name>,
+    requested: Vec<Name>,
     fails: Vec<u64>,
-    came: usize,
+    received: usize,
     faults: u64,
 }
 
@@ -87,9 +87,9 @@ impl Model for MemShelf {
     ghost Value = { ShelfState };
 
     ghost view = { λ s. record {
-      told = record { files = s.files.items; asked = s.asked.items };
+      known = record { files = s.files.items; requested = s.requested.items };
       fails = s.fails.items;
-      came = s.came;
+      received = s.received;
       faults = s.faults;
     } };
 }
@@ -98,18 +98,18 @@ impl MemShelf {
     /// A shelf without files, which keeps the allocator.
     pub fn new(alloc: Global, fails: &[u64]) -> Result<MemShelf, AllocError>
         ensures { IfOk result (λ shelf. shelf ≡ record {
-          told = record { files = []; asked = [] };
+          known = record { files = []; requested = [] };
           fails = fails.now;
-          came = 0;
+          received = 0;
           faults = 0;
         }) }
     {
         Ok(MemShelf {
             alloc,
             files: Vec::new(alloc),
-            asked: Vec::new(alloc),
+            requested: Vec::new(alloc),
             fails: Vec::from_slice(alloc, fails)?,
-            came: 0,
+            received: 0,
             faults: 0,
         })
     }
@@ -117,17 +117,17 @@ impl MemShelf {
     /// Adds a file, or replaces the one of its name.
     pub fn add(&mut self, name: &str, bytes: &[u8]) -> Result<(), AllocError>
         ensures ok { OnOk result (self.new ≡ record self.old {
-          told = record self.old.told { files = with_file name.now bytes.now self.old.told.files };
+          known = record self.old.known { files = with_file name.now bytes.now self.old.known.files };
         }) }
         ensures err { OnErr result (self.new ≡ self.old) }
 
         // So this file is under its name, and the other names keep theirs.
-        ensures added { OnOk result (file_of self.new.told.files name.now ≡ bytes.now) }
+        ensures added { OnOk result (file_of self.new.known.files name.now ≡ bytes.now) }
         ensures others { OnOk result ((other : List ℕ) → other ≢ name.now
-            → file_of self.new.told.files other ≡ file_of self.old.told.files other) }
+            → file_of self.new.known.files other ≡ file_of self.old.known.files other) }
     {
         let file = StoredFile::new(self.alloc, name, bytes)?;
-        match place_of(&self.files, name) {
+        match index_of(&self.files, name) {
             Some(at) => self.files[at] = file,
             None => self.files.push(file)?,
         }
@@ -138,15 +138,15 @@ impl MemShelf {
     #[tactic(auto, unfolding(crate::specs::Shelf::file_of))]
     fn copy_of(&self, alloc: Global, name: &str, limit: usize) -> Result<Vec<u8>, FetchFault>
         ensures ok { OnOk result (¬ IsTrue (fails_at self.now name.now)) }
-        ensures found { IfOk result (λ bytes. bytes.items ≡ file_of self.now.told.files name.now) }
+        ensures found { IfOk result (λ bytes. bytes.items ≡ file_of self.now.known.files name.now) }
         ensures within { IfOk result (λ bytes. length bytes.items ≤ limit) }
         ensures failed { IsErrOf result FetchFault.Failed → IsTrue (fails_at self.now name.now) }
         ensures long { IsErrOf result FetchFault.TooLong → ¬ IsTrue (fails_at self.now name.now) }
         ensures above { IsErrOf result FetchFault.TooLong
-            → limit < length (file_of self.now.told.files name.now) }
+            → limit < length (file_of self.now.known.files name.now) }
     {
-        let number = self.asked.len() as u64;
-        let at = place_of(&self.files, name).ok_or(FetchFault::Failed)?;
+        let number = self.requested.len() as u64;
+        let at = index_of(&self.files, name).ok_or(FetchFault::Failed)?;
         if self.fails.contains(&number) {
             return Err(FetchFault::Failed);
         }
@@ -157,33 +157,33 @@ impl MemShelf {
         Ok(Vec::from_slice(alloc, bytes)?)
     }
 
-    /// Notes a fetch that was answered.
-    fn note(&mut self, name: &str, came: usize, faults: u64) -> Result<(), AllocError>
-        ensures ok { OnOk result (self.new ≡ after_fetch name.now came faults self.old) }
+    /// Records a fetch that was answered.
+    fn record_fetch(&mut self, name: &str, received: usize, faults: u64) -> Result<(), AllocError>
+        ensures ok { OnOk result (self.new ≡ after_fetch name.now received faults self.old) }
         ensures err { OnErr result (self.new ≡ self.old) }
     {
-        self.asked.push(Name::new(self.alloc, name)?)?;
-        self.came = came;
+        self.requested.push(Name::new(self.alloc, name)?)?;
+        self.received = received;
         self.faults = faults;
         Ok(())
     }
 }
 
-/// The place of the file of that name, and what it says of the files as a look-up.
-fn place_of(files: &[StoredFile], name: &str) -> Option<usize>
+/// The index of the file of that name, and what it says of the files.
+fn index_of(files: &[StoredFile], name: &str) -> Option<usize>
     ensures there { IfSome result (λ at. at < length files.now) }
-    ensures held { IfSome result
-        (λ at. (d : List ℕ × List ℕ) → held files.now name.now ≡ Some (slice_index_or files.now at d).1) }
+    ensures found { IfSome result
+        (λ at. (d : List ℕ × List ℕ) → find_file files.now name.now ≡ Some (slice_index_or files.now at d).1) }
     ensures replaced { IfSome result
         (λ at. (bytes : List ℕ) → with_file name.now bytes files.now ≡ slice_set files.now at (name.now, bytes)) }
-    ensures missing { IfNone result (held files.now name.now ≡ None) }
+    ensures missing { IfNone result (find_file files.now name.now ≡ None) }
     ensures added { IfNone result
         ((bytes : List ℕ) → with_file name.now bytes files.now ≡ files.now ++ (name.now, bytes) ∷ []) }
 {
     first_named(files, name)
 }
 
-/// The place of the first file of that name.
+/// The index of the first file of that name.
 fn first_named(files: &[StoredFile], name: &str) -> Option<usize>
     ensures { result ≡ position (λ file. bytes_eq file.0 name.now) files.now }
 {
@@ -191,20 +191,20 @@ fn first_named(files: &[StoredFile], name: &str) -> Option<usize>
 }
 
 impl Shelf for MemShelf {
-    ghost told = { λ s. Some s.told };
+    ghost known = { λ s. Some s.known };
 
-    ghost came = { λ s. s.came };
+    ghost received = { λ s. s.received };
 
     ghost faults = { λ s. s.faults };
 
     fn fetch(&mut self, alloc: Global, name: &str, limit: usize) -> Result<Vec<u8>, FetchFault>
-        // Failed comes exactly where the number or the name asks for it.
+        // Failed comes exactly where the number or the name makes the fetch fail.
         ensures passes { OnOk result (¬ IsTrue (fails_at self.old name.now)) }
         ensures fails { IsErrOf result FetchFault.Failed → IsTrue (fails_at self.old name.now) }
         ensures passes_long { IsErrOf result FetchFault.TooLong
             → ¬ IsTrue (fails_at self.old name.now) }
 
-        // What a fetch leaves.
+        // The shelf after a fetch.
         ensures after_ok { IfOk result
             (λ bytes. self.new ≡ after_fetch name.now (length bytes.items) self.old.faults self.old) }
         ensures after_failed { IsErrOf result FetchFault.Failed
@@ -218,36 +218,37 @@ impl Shelf for MemShelf {
         ensures steady_ok { OnOk result (self.new.faults ≡ self.old.faults) }
         ensures steady_long { IsErrOf result FetchFault.TooLong
             → self.new.faults ≡ self.old.faults }
-        ensures asked_ok { OnOk result
-            (Some self.new.told ≡ Some (asked_too name.now self.old.told)) }
-        ensures asked_failed { IsErrOf result FetchFault.Failed
-            → Some self.new.told ≡ Some (asked_too name.now self.old.told) }
-        ensures asked_long { IsErrOf result FetchFault.TooLong
-            → Some self.new.told ≡ Some (asked_too name.now self.old.told) }
-        ensures memory_told { IsErrOf result FetchFault.Memory
-            → Some self.new.told ≡ Some self.old.told }
-        ensures memory_came { IsErrOf result FetchFault.Memory → self.new.came ≡ self.old.came }
+        ensures requested_ok { OnOk result
+            (Some self.new.known ≡ Some (with_request name.now self.old.known)) }
+        ensures requested_failed { IsErrOf result FetchFault.Failed
+            → Some self.new.known ≡ Some (with_request name.now self.old.known) }
+        ensures requested_long { IsErrOf result FetchFault.TooLong
+            → Some self.new.known ≡ Some (with_request name.now self.old.known) }
+        ensures memory_known { IsErrOf result FetchFault.Memory
+            → Some self.new.known ≡ Some self.old.known }
+        ensures memory_received { IsErrOf result FetchFault.Memory
+            → self.new.received ≡ self.old.received }
         ensures memory_faults { IsErrOf result FetchFault.Memory
             → self.new.faults ≡ self.old.faults }
         ensures within { IfOk result (λ bytes. length bytes.items ≤ limit) }
-        ensures found { IfOk result (λ bytes. bytes.items ≡ file_of self.old.told.files name.now) }
-        ensures long_told { IsErrOf result FetchFault.TooLong
-            → limit < length (file_of self.old.told.files name.now) }
-        ensures long_untold { IsErrOf result FetchFault.TooLong
-            → IfNone (Some self.old.told) (limit < self.new.came) }
+        ensures found { IfOk result (λ bytes. bytes.items ≡ file_of self.old.known.files name.now) }
+        ensures long_known { IsErrOf result FetchFault.TooLong
+            → limit < length (file_of self.old.known.files name.now) }
+        ensures long_unknown { IsErrOf result FetchFault.TooLong
+            → IfNone (Some self.old.known) (limit < self.new.received) }
     {
         match self.copy_of(alloc, name, limit) {
             Ok(bytes) => {
-                let came = bytes.len();
-                self.note(name, came, self.faults)?;
+                let received = bytes.len();
+                self.record_fetch(name, received, self.faults)?;
                 Ok(bytes)
             }
             Err(FetchFault::Failed) => {
-                self.note(name, 0, self.faults.saturating_add(1))?;
+                self.record_fetch(name, 0, self.faults.saturating_add(1))?;
                 Err(FetchFault::Failed)
             }
             Err(FetchFault::TooLong) => {
-                self.note(name, 0, self.faults)?;
+                self.record_fetch(name, 0, self.faults)?;
                 Err(FetchFault::TooLong)
             }
             Err(FetchFault::Memory) => Err(FetchFault::Memory),

@@ -6,8 +6,8 @@ use crate::sink::{Sink, SinkFault};
 use std::alloc::{AllocError, Global};
 use std::marker::Model;
 
-/// A sink in memory, with room for a number of bytes that is settled when it is made. Its puts have
-/// numbers from 0, which stand still at 2^64 - 1.
+/// A sink in memory, with room for a number of bytes that is fixed when it is made. Its puts are
+/// numbered from 0; the number stays at 2^64 - 1.
 #[derive(Drop)]
 pub struct MemSink {
     bytes: Vec<u8>,
@@ -37,8 +37,8 @@ impl Model for MemSink {
 }
 
 impl MemSink {
-    /// A sink that takes `room` bytes in all and at most `step` in one put, and whose puts with a
-    /// number in `fails` fail. It makes the room for all of them.
+    /// A sink that holds at most `room` bytes and writes at most `step` in one put, and whose puts with
+    /// a number in `fails` fail. It allocates the room for all of them.
     pub fn new(
         alloc: Global,
         step: usize,
@@ -65,7 +65,7 @@ impl MemSink {
         })
     }
 
-    /// The bytes taken so far.
+    /// The bytes written so far.
     pub fn bytes(&self) -> &[u8]
         ensures { result.now ≡ self.now.bytes }
     {
@@ -74,18 +74,18 @@ impl MemSink {
 }
 
 impl Sink for MemSink {
-    ghost taken = { λ s. Some s.bytes };
+    ghost written = { λ s. Some s.bytes };
 
     ghost faults = { λ s. s.faults };
 
     fn put(&mut self, piece: &[u8]) -> Result<usize, SinkFault>
         requires { 0 < length piece.now }
 
-        // When it fails, and how many bytes it takes.
+        // When it fails, and how many bytes it writes.
         ensures fails { IsErr result ↔ IsTrue (put_fails self.old) }
         ensures part { IfOk result (λ n. n ≡ part_of self.old (length piece.now)) }
 
-        // What a put leaves.
+        // The sink after a put.
         ensures after_ok { IfOk result (λ n. self.new ≡ record self.old {
           bytes = self.old.bytes ++ take n piece.now;
           number = raised self.old.number;
@@ -97,7 +97,7 @@ impl Sink for MemSink {
 
         ensures some { IfOk result (λ n. 0 < n) }
         ensures within { IfOk result (λ n. n ≤ length piece.now) }
-        ensures taken { IfOk result
+        ensures written { IfOk result
             (λ n. Some self.new.bytes ≡ Some (self.old.bytes ++ take n piece.now)) }
         ensures nothing { OnErr result (Some self.new.bytes ≡ Some self.old.bytes) }
         ensures failed { OnErr result (Rose self.old.faults self.new.faults) }

@@ -1,7 +1,7 @@
 ghost use Rattle.std.specs.Prelude.{◌≡◌, ℕ, Option, ◌<◌, ◌≤◌, length, option_map, IfOk, OnOk, IfSome, IfNone, IsErrOf};
 ghost use Rattle.sw_outside.specs.declared.shelf.FetchFault.TheVariants.{Memory};
 ghost use Rattle.sw_outside.specs.Rise.{Rose};
-ghost use Rattle.sw_outside.specs.Shelf.{Told, file_of, asked_too};
+ghost use Rattle.sw_outside.specs.Shelf.{Known, file_of, with_request};
 
 use std::alloc::{AllocError, AllocFailed, Global};
 use thiserror::Error;
@@ -37,17 +37,17 @@ impl<T: Drop> From<AllocFailed<T>> for FetchFault {
 
 /// Files by name. A fetch reads a file and changes none.
 pub trait Shelf {
-    /// The files and the names asked so far, or `None` where the shelf tells neither.
-    ghost told: { Self → Option Told };
+    /// The files, and the names requested so far; `None` where the contents are unknown.
+    ghost known: { Self → Option Known };
 
-    /// How many bytes came in the last fetch.
-    ghost came: { Self → ℕ };
+    /// The number of bytes that the last fetch received.
+    ghost received: { Self → ℕ };
 
-    /// How often the outside failed, in a counter of 64 bits that stands still at its last value.
+    /// The number of faults of the outside, in a counter of 64 bits that stays at its last value.
     ghost faults: { Self → ℕ };
 
-    /// The bytes of a file of at most `limit` bytes. Every fetch but one that answers `Memory` adds
-    /// its name to those asked.
+    /// The bytes of a file of at most `limit` bytes. Every fetch but one that runs out of memory adds
+    /// its name to those requested.
     fn fetch(&mut self, alloc: Global, name: &str, limit: usize) -> Result<Vec<u8>, FetchFault>
         // Only a fault of the outside raises the count.
         ensures never_falls { faults self.old ≤ faults self.new }
@@ -58,25 +58,26 @@ pub trait Shelf {
             → faults self.new ≡ faults self.old }
 
         // The files stay, and the name is added.
-        ensures asked_ok { OnOk result
-            (told self.new ≡ option_map (asked_too name.now) (told self.old)) }
-        ensures asked_failed { IsErrOf result FetchFault.Failed
-            → told self.new ≡ option_map (asked_too name.now) (told self.old) }
-        ensures asked_long { IsErrOf result FetchFault.TooLong
-            → told self.new ≡ option_map (asked_too name.now) (told self.old) }
+        ensures requested_ok { OnOk result
+            (known self.new ≡ option_map (with_request name.now) (known self.old)) }
+        ensures requested_failed { IsErrOf result FetchFault.Failed
+            → known self.new ≡ option_map (with_request name.now) (known self.old) }
+        ensures requested_long { IsErrOf result FetchFault.TooLong
+            → known self.new ≡ option_map (with_request name.now) (known self.old) }
 
-        // Want of memory leaves the shelf as it was.
-        ensures memory_told { IsErrOf result FetchFault.Memory → told self.new ≡ told self.old }
-        ensures memory_came { IsErrOf result FetchFault.Memory → came self.new ≡ came self.old }
+        // Out of memory, the shelf stays as it was.
+        ensures memory_known { IsErrOf result FetchFault.Memory → known self.new ≡ known self.old }
+        ensures memory_received { IsErrOf result FetchFault.Memory
+            → received self.new ≡ received self.old }
         ensures memory_faults { IsErrOf result FetchFault.Memory
             → faults self.new ≡ faults self.old }
 
-        // What is given, and when the file is too long.
+        // The bytes that are returned, and when the file is too long.
         ensures within { IfOk result (λ bytes. length bytes.items ≤ limit) }
         ensures found { IfOk result
-            (λ bytes. IfSome (told self.old) (λ t. bytes.items ≡ file_of t.files name.now)) }
-        ensures long_told { IsErrOf result FetchFault.TooLong
-            → IfSome (told self.old) (λ t. limit < length (file_of t.files name.now)) }
-        ensures long_untold { IsErrOf result FetchFault.TooLong
-            → IfNone (told self.old) (limit < came self.new) };
+            (λ bytes. IfSome (known self.old) (λ t. bytes.items ≡ file_of t.files name.now)) }
+        ensures long_known { IsErrOf result FetchFault.TooLong
+            → IfSome (known self.old) (λ t. limit < length (file_of t.files name.now)) }
+        ensures long_unknown { IsErrOf result FetchFault.TooLong
+            → IfNone (known self.old) (limit < received self.new) };
 }

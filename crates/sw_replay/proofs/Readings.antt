@@ -11,14 +11,14 @@ use Rattle.sw_replay.specs.declared.text.Number.{Number}
 use Rattle.sw_replay.specs.declared.text.SchedFault.{SchedFault}
 use Rattle.sw_replay.specs.declared.text.SchedFault.TheVariants.{BadItem, TooBig, TooMany, Memory}
 use Rattle.sw_bytes.specs.Classes.{is_blank, is_digit}
-use Rattle.sw_bytes.specs.Fronts.{BeginsWithout}
+use Rattle.sw_bytes.specs.Prefixes.{BeginsWithout}
 use Rattle.sw_bytes.specs.Decimal.{number_of}
 use Rattle.sw_replay.specs.Items.{AreSeparators, EndsWithoutDigit, IsNumber, Splits, IsItems, IsBadPlace, IsReading, place_of}
 use Rattle.sw_replay.specs.Items as items
 use Rattle.sw_replay.specs.Reading.{fitting, item_or_fault, item_of, item_at, next_of, with_front, go_on, read, reading, Gives}
 use Rattle.sw_replay.proofs.Numbers.{fits_some, fits_none}
 use Rattle.std.proofs.lemmas.Bool.{cases_Bool, and_parts}
-use Rattle.sw_bytes.proofs.Fronts.{front_passes, rest_fails, prefix_len-append, prefix_len-yes}
+use Rattle.sw_bytes.proofs.Prefixes.{prefix_passes, suffix_fails, prefix_len-append, prefix_len-yes}
 use Rattle.sw_replay.proofs.Apart.{number_begins, Apart, gap_apart, apart_behind, apart_before}
 
 -- what stands at the bad place of a text, behind so many items
@@ -196,7 +196,7 @@ number_there : (bytes : List ℕ) → eqb (prefix_len is_digit bytes) 0 ≡ fals
 number_there bytes e =
     let long = length-take-le (prefix_len is_digit bytes) bytes (prefix_len-le-length is_digit bytes) in
     let some : 0 < prefix_len is_digit bytes = grind (arith, nat_tests) in
-    record { digits_alone = front_passes is_digit bytes; some = omega (arith, long, some); whole = rest_fails is_digit bytes }
+    record { digits_alone = prefix_passes is_digit bytes; some = omega (arith, long, some); whole = suffix_fails is_digit bytes }
 
 next_number : (at before : ℕ) (gap bytes : List ℕ) → list_all is_blank gap ≡ true → eqb (prefix_len is_digit bytes) 0 ≡ false
     → NextHolds at before (gap ++ bytes) (item_or_fault (at + length gap) before (prefix_len is_digit bytes) (fitting (number_of (take (prefix_len is_digit bytes) bytes))))
@@ -252,7 +252,7 @@ unfolding next_of
 next_holds at before bytes =
     let n = prefix_len is_blank bytes in
     let long : length (take n bytes) ≡ n = length-take-le n bytes (prefix_len-le-length is_blank bytes) in
-    let held = next_behind at before (take n bytes) (drop n bytes) (front_passes is_blank bytes) (rest_fails is_blank bytes) in
+    let held = next_behind at before (take n bytes) (drop n bytes) (prefix_passes is_blank bytes) (suffix_fails is_blank bytes) in
     let whole : take n bytes ++ drop n bytes ≡ bytes = take-append-drop n bytes in
     rw (whole, long) at held
 

@@ -6,7 +6,7 @@ use Rattle.std.specs.Bool.{IsFalse}
 use Rattle.std.specs.List.{list_all}
 use Rattle.sw_bytes.specs.Classes.{is_blank, is_digit}
 use Rattle.sw_bytes.specs.Decimal.{number_of}
-use Rattle.sw_bytes.specs.Fronts.{BeginsWithout}
+use Rattle.sw_bytes.specs.Prefixes.{BeginsWithout}
 use Rattle.sw_replay.specs.declared.items.TheConstants.{MAX_ITEMS}
 use Rattle.sw_replay.specs.declared.text.SchedFault.{SchedFault}
 use Rattle.sw_replay.specs.declared.text.SchedFault.TheVariants.{BadItem, TooBig, TooMany, Memory}

@@ -6,11 +6,11 @@ use Rattle.std.specs.List.{after_last}
 abbrev pub is_line_feed : ℕ → Bool
 is_line_feed byte = byte == 10
 
--- the line on which the place `at` stands, from 1: one more than the line feeds before it
+-- the line of the offset `at`, from 1: one more than the line feeds before it
 abbrev pub line_of : List ℕ → ℕ → ℕ
 line_of bytes at = 1 + count_by is_line_feed (take at bytes)
 
--- the column of the place `at`, in bytes, from 1: one more than the bytes between the last line
--- feed before it and it, or between the start and it where no line feed stands before it
+-- the column of the offset `at`, in bytes, from 1: one more than the bytes since the last line feed
+-- before it, or since the start where no line feed is before it
 abbrev pub column_of : List ℕ → ℕ → ℕ
 column_of bytes at = 1 + length (after_last is_line_feed (take at bytes))

@@ -8,13 +8,13 @@ use Rattle.std.proofs.lemmas.List.Sums.{prefix_len-le-length}
 use Rattle.std.proofs.lemmas.Slice.Eq.{bytes_eq-Decides}
 use Rattle.sw_bytes.specs.Classes.{is_blank, is_digit}
 use Rattle.sw_token.specs.Bytes.{is_word_start, is_word_byte, is_mark}
-use Rattle.sw_bytes.specs.Fronts.{BeginsWithout}
+use Rattle.sw_bytes.specs.Prefixes.{BeginsWithout}
 use Rattle.sw_token.specs.Tokens.{IsToken, IsRefused}
 use Rattle.sw_token.specs.Tokens as tokens
 use Rattle.sw_token.specs.Kinds.{NumberFits}
 use Rattle.sw_token.specs.Reading.{number_len, at_len, token_len}
 use Rattle.std.proofs.lemmas.Bool.{cases_Bool, or_parts}
-use Rattle.sw_bytes.proofs.Fronts.{chosen, prefix_len-yes, front_passes, rest_fails, prefix_len-append, prefix_len-through, list_all-wider}
+use Rattle.sw_bytes.proofs.Prefixes.{chosen, prefix_len-yes, prefix_passes, suffix_fails, prefix_len-append, prefix_len-through, list_all-wider}
 
 -- the classes of bytes are apart
 
@@ -51,7 +51,7 @@ mark_is_apart b h = (grind (arith, nat_tests), grind (arith, nat_tests), grind (
 takes_word : (b : ℕ) (more : List ℕ) (n : ℕ) → is_word_start b ≡ true → n ≡ prefix_len is_word_byte (b ∷ more) → IsToken (take n (b ∷ more)) (drop n (b ∷ more))
 takes_word b more n h e =
     let whole = e ∙ prefix_len-yes is_word_byte b more (start_is_word b h) in
-    rw whole (tokens.word b _ _ h (front_passes is_word_byte more) (rest_fails is_word_byte more))
+    rw whole (tokens.word b _ _ h (prefix_passes is_word_byte more) (suffix_fails is_word_byte more))
 
 number_taken : (d r n : ℕ) → number_len d r ≡ Ok n → (d ≤ 18) × (d ≡ r) × (n ≡ d)
 number_taken d r n e =
@@ -81,8 +81,8 @@ takes_number b more n h e =
     let whole : n ≡ suc (prefix_len is_digit more) = cc in
     let same : prefix_len is_digit more ≡ prefix_len is_word_byte more = omega (arith, d, r, w.1) in
     let few : length (take (prefix_len is_digit more) more) < 18 = omega (arith, d, w.0, length-take-le (prefix_len is_digit more) more (prefix_len-le-length is_digit more)) in
-    let ends : BeginsWithout is_word_byte (drop (prefix_len is_digit more) more) = rw same (rest_fails is_word_byte more) in
-    rw whole (tokens.number b _ _ h (front_passes is_digit more) few ends)
+    let ends : BeginsWithout is_word_byte (drop (prefix_len is_digit more) more) = rw same (suffix_fails is_word_byte more) in
+    rw whole (tokens.number b _ _ h (prefix_passes is_digit more) few ends)
 
 takes_at : (more : List ℕ) (n : ℕ) → at_len more ≡ Ok n → IsToken (take n (64 ∷ more)) (drop n (64 ∷ more))
 takes_at more n e =
@@ -92,7 +92,7 @@ takes_at more n e =
           let four : prefix_len is_word_byte more ≡ 4 = omega (arith, ap length main, length-take-le (prefix_len is_word_byte more) more (prefix_len-le-length is_word_byte more)) in
           let whole : n ≡ 5 = cc in
           let front : take 4 more ≡ codes "main" = rw four at main in
-          let ends : BeginsWithout is_word_byte (drop 4 more) = rw four at (rest_fails is_word_byte more) in
+          let ends : BeginsWithout is_word_byte (drop 4 more) = rw four at (suffix_fails is_word_byte more) in
           rw (whole, front) (tokens.at_main _ ends)
       | inr w ↦ cc
     ]
@@ -148,14 +148,14 @@ refuses_number b more n h e =
     elim (number_refused (prefix_len is_digit (b ∷ more)) (prefix_len is_word_byte (b ∷ more)) n e) [
       | inl w ↦
           let many : 18 ≤ length front = omega (arith, d, long, w.0) in
-          let refused : IsRefused (b ∷ (front ++ rest)) 0 = tokens.long_number b front rest h (front_passes is_digit more) many in
+          let refused : IsRefused (b ∷ (front ++ rest)) 0 = tokens.long_number b front rest h (prefix_passes is_digit more) many in
           rw w.1 (subst (λ xs. IsRefused (b ∷ xs) 0) whole refused)
       | inr w ↦
           let few : length front < 18 = omega (arith, d, long, w.0) in
           let differ : prefix_len is_word_byte (front ++ rest) ≢ length front =
           λ same. w.1 (omega (arith, d, r, long, same, ap (prefix_len is_word_byte) whole)) in
           let at : n ≡ length front + 1 = omega (arith, d, long, w.2) in
-          let refused = refuses_behind b front rest h (front_passes is_digit more) (rest_fails is_digit more) few differ in
+          let refused = refuses_behind b front rest h (prefix_passes is_digit more) (suffix_fails is_digit more) few differ in
           rw at (subst (λ xs. IsRefused (b ∷ xs) (length front + 1)) whole refused)
     ]
 
@@ -290,7 +290,7 @@ refuses_again_at after none =
           let main : take (prefix_len is_word_byte after) after ≡ codes "main" = (bytes_eq-Decides (take_while is_word_byte after) (codes "main")).0 w in
           let whole : after ≡ codes "main" ++ drop (prefix_len is_word_byte after) after =
           sym (take-append-drop (prefix_len is_word_byte after) after) ∙ ap (λ front. front ++ drop (prefix_len is_word_byte after) after) main in
-          absurd (none _ (rest_fails is_word_byte after) whole)
+          absurd (none _ (suffix_fails is_word_byte after) whole)
       | inr w ↦ rw w refl
     ]
 

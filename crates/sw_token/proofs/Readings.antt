@@ -12,11 +12,11 @@ use Rattle.sw_token.specs.declared.Fixity.TheVariants as fixities
 use Rattle.sw_token.specs.Kinds.{kind_of}
 use Rattle.sw_bytes.specs.Classes.{is_blank}
 use Rattle.sw_token.specs.Bytes.{has_line_feed}
-use Rattle.sw_bytes.specs.Fronts.{BeginsWithout}
+use Rattle.sw_bytes.specs.Prefixes.{BeginsWithout}
 use Rattle.sw_token.specs.Tokens.{IsGap, IsToken, IsRefused, Splits, Fails, IsTokens, IsLexicalPlace, IsReading, token_of}
 use Rattle.sw_token.specs.Tokens as tokens
 use Rattle.sw_token.specs.Reading.{token_len, token_or_fault, token_at, next_of, with_front, go_on, read, reading}
-use Rattle.sw_bytes.proofs.Fronts.{front_passes, rest_fails, prefix_len-append}
+use Rattle.sw_bytes.proofs.Prefixes.{prefix_passes, suffix_fails, prefix_len-append}
 use Rattle.sw_token.proofs.Lengths.{token_len-within, token_len-takes, token_len-refuses, token_len-takes_again, token_len-refuses_again, token_begins, refused_begins}
 
 -- what the next token is said to be
@@ -41,7 +41,7 @@ unfolding next_of
 next_holds at leads bytes =
     let n = prefix_len is_blank bytes in
     let long : length (take n bytes) ≡ n = length-take-le n bytes (prefix_len-le-length is_blank bytes) in
-    let held = next_behind at leads (take n bytes) (drop n bytes) (front_passes is_blank bytes) (rest_fails is_blank bytes) in
+    let held = next_behind at leads (take n bytes) (drop n bytes) (prefix_passes is_blank bytes) (suffix_fails is_blank bytes) in
     let whole : take n bytes ++ drop n bytes ≡ bytes = take-append-drop n bytes in
     rw (whole, long) at held
 

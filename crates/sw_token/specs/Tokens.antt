@@ -8,7 +8,7 @@ use Rattle.sw_token.specs.declared.Fixity.TheVariants as fixities
 use Rattle.sw_token.specs.declared.LexFault.{LexFault}
 use Rattle.sw_token.specs.declared.LexFault.TheVariants.{BadChar}
 use Rattle.sw_bytes.specs.Classes.{is_blank, is_digit}
-use Rattle.sw_bytes.specs.Fronts.{BeginsWithout}
+use Rattle.sw_bytes.specs.Prefixes.{BeginsWithout}
 use Rattle.sw_token.specs.Bytes.{is_word_start, is_word_byte, is_mark, has_line_feed}
 use Rattle.sw_token.specs.Kinds.{kind_of}
 

@@ -9,27 +9,27 @@ use Rattle.sw_check.proofs.run_words.Goals as goal
 pub returns-in-Ok-put_all-clause-silent : goal.returns-in-Ok-put_all-clause-silent
 returns-in-Ok-put_all-clause-silent g c silent =
     silent_written c.in-Ok.ensures.answered
-    (subst (λ bytes. Appended bytes (g.K.Sink.taken c.args.out.now) (g.K.Sink.taken c.put_all.new.out)) c.as_slice.ensures c.in-Ok-put_all.ensures.whole) silent
+    (subst (λ bytes. Appended bytes (g.K.Sink.written c.args.out.now) (g.K.Sink.written c.put_all.new.out)) c.as_slice.ensures c.in-Ok-put_all.ensures.whole) silent
 
 pub returns-in-Ok-put_all-clause-says : goal.returns-in-Ok-put_all-clause-says
 returns-in-Ok-put_all-clause-says g c _ =
-    answer_says (subst (λ words. Answered (command_of (map string_bytes words)) (g.S.Shelf.told c.args.shelf.now) c.in-Ok.outcome (g.S.Shelf.told c.answer.new.shelf)) c.deref.ensures.value c.in-Ok.ensures.answered)
+    answer_says (subst (λ words. Answered (command_of (map string_bytes words)) (g.S.Shelf.known c.args.shelf.now) c.in-Ok.outcome (g.S.Shelf.known c.answer.new.shelf)) c.deref.ensures.value c.in-Ok.ensures.answered)
 
 pub returns-in-Ok-put_all-clause-never_raced : goal.returns-in-Ok-put_all-clause-never_raced
 returns-in-Ok-put_all-clause-never_raced g c raced = never_raced c.in-Ok.ensures.answered raced
 
 pub returns-in-Ok-put_all-clause-exact : goal.returns-in-Ok-put_all-clause-exact
-returns-in-Ok-put_all-clause-exact g c told outcome tells reply _ =
-    exact_told (subst (λ words. Answered (command_of (map string_bytes words)) (g.S.Shelf.told c.args.shelf.now) c.in-Ok.outcome (g.S.Shelf.told c.answer.new.shelf)) c.deref.ensures.value c.in-Ok.ensures.answered) told outcome tells reply
+returns-in-Ok-put_all-clause-exact g c known outcome tells reply _ =
+    exact_told (subst (λ words. Answered (command_of (map string_bytes words)) (g.S.Shelf.known c.args.shelf.now) c.in-Ok.outcome (g.S.Shelf.known c.answer.new.shelf)) c.deref.ensures.value c.in-Ok.ensures.answered) known outcome tells reply
 
 pub returns-in-Ok-put_all-clause-usage : goal.returns-in-Ok-put_all-clause-usage
 returns-in-Ok-put_all-clause-usage g c none _ =
-    usage_told (subst (λ words. Answered (command_of (map string_bytes words)) (g.S.Shelf.told c.args.shelf.now) c.in-Ok.outcome (g.S.Shelf.told c.answer.new.shelf)) c.deref.ensures.value c.in-Ok.ensures.answered) none
+    usage_told (subst (λ words. Answered (command_of (map string_bytes words)) (g.S.Shelf.known c.args.shelf.now) c.in-Ok.outcome (g.S.Shelf.known c.answer.new.shelf)) c.deref.ensures.value c.in-Ok.ensures.answered) none
 
 pub returns-in-Ok-put_all-clause-breached : goal.returns-in-Ok-put_all-clause-breached
-returns-in-Ok-put_all-clause-breached g c told command tells is short refuses _ =
-    refused_told (subst (λ words. Answered (command_of (map string_bytes words)) (g.S.Shelf.told c.args.shelf.now) c.in-Ok.outcome (g.S.Shelf.told c.answer.new.shelf)) c.deref.ensures.value c.in-Ok.ensures.answered) told command tells is short refuses
+returns-in-Ok-put_all-clause-breached g c known command tells is short refuses _ =
+    refused_told (subst (λ words. Answered (command_of (map string_bytes words)) (g.S.Shelf.known c.args.shelf.now) c.in-Ok.outcome (g.S.Shelf.known c.answer.new.shelf)) c.deref.ensures.value c.in-Ok.ensures.answered) known command tells is short refuses
 
 pub returns-in-Ok-put_all-clause-accepted : goal.returns-in-Ok-put_all-clause-accepted
-returns-in-Ok-put_all-clause-accepted g c told file tells is short accepts _ =
-    accepted_told (subst (λ words. Answered (command_of (map string_bytes words)) (g.S.Shelf.told c.args.shelf.now) c.in-Ok.outcome (g.S.Shelf.told c.answer.new.shelf)) c.deref.ensures.value c.in-Ok.ensures.answered) told file tells is short accepts
+returns-in-Ok-put_all-clause-accepted g c known file tells is short accepts _ =
+    accepted_told (subst (λ words. Answered (command_of (map string_bytes words)) (g.S.Shelf.known c.args.shelf.now) c.in-Ok.outcome (g.S.Shelf.known c.answer.new.shelf)) c.deref.ensures.value c.in-Ok.ensures.answered) known file tells is short accepts

@@ -5,7 +5,7 @@ use Rattle.sw_check.proofs.write.put_all.Given as goal
 abbrev pub invariant-loop-rest : goal.invariant-loop-rest
 invariant-loop-rest g l = record {
   steady : g.K.Sink.faults l.out ≡ g.K.Sink.faults l.fn.out;
-  part : IsPartWritten l.bytes l.rest (g.K.Sink.taken l.fn.out) (g.K.Sink.taken l.out);
+  part : IsPartWritten l.bytes l.rest (g.K.Sink.written l.fn.out) (g.K.Sink.written l.out);
 }
 
 abbrev pub decreases-loop-rest : goal.decreases-loop-rest

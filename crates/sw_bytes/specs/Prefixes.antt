@@ -1,4 +1,4 @@
--- What stands at the front of bytes.
+-- How bytes begin.
 use Rattle.std.specs.Prelude.{ℕ, Bool, List, [], ◌∷◌}
 use Rattle.std.specs.Bool.{IsFalse}
 
