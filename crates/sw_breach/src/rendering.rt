@@ -1,4 +1,5 @@
-ghost use Rattle.std.specs.Prelude.{◌≡◌, ◌++◌, ◌<◌, length, All, IfOk, OnOk, string_bytes};
+ghost use Rattle.std.specs.Prelude.{◌≡◌, ◌++◌, ◌<◌, length, IfOk, OnOk, string_bytes};
+ghost use Rattle.std.specs.List.{AllByRecursion};
 ghost use Rattle.sw_breach.specs.Codes.{IsCode};
 ghost use Rattle.sw_breach.specs.Lines.{breach_line, count_line, note_line, note_lines, shown_note, verdict_text};
 
@@ -85,7 +86,7 @@ fn count_line(alloc: Global, count: usize) -> Result<String, AllocError>
 pub fn render(alloc: Global, bytes: &[u8], list: &[Breach]) -> Result<Vec<u8>, AllocError>
     requires some { 0 < length list.now }
     requires short { length bytes.now < 4294967295 }
-    requires codes { All (λ breach. IsCode breach.code) list.now }
+    requires codes { AllByRecursion (λ breach. IsCode breach.code) list.now }
     ensures { IfOk result (λ text. text.items ≡ verdict_text bytes.now list.now) }
 {
     let mut text = Vec::new(alloc);
