@@ -40,24 +40,28 @@ is_printable (BoxOf ty) = false
 -- The function gets all that it takes, in order, each where its kind may go.
 pub record GetsAll (regs : List RegKind) (given : List Operand) (function : Function) : Type 0 where
   pub count : length given ≡ function.takes
-  pub each : (k : ℕ) (operand : Operand) (from to : RegKind) → slice_get given k ≡ Some operand → slice_get regs operand.reg ≡ Some from → slice_get function.regs k ≡ Some to → MayGo from to
+  pub each : (k : ℕ) (operand : Operand) (from to : RegKind) → slice_get given k ≡ Some operand
+      → slice_get regs operand.reg ≡ Some from → slice_get function.regs k ≡ Some to → MayGo from to
 
 -- A task's function gets all that it takes, and the task has the type of its result.
-pub record IsTaskOf (regs : List RegKind) (r : ℕ) (given : List Operand) (function : Function) : Type 0 where
+pub record IsTaskOf (regs : List RegKind) (r : ℕ) (given : List Operand)
+    (function : Function) : Type 0 where
   pub takes : GetsAll regs given function
   pub gives : slice_get regs r ≡ Some (Plain (Task function.result))
 
--- A literal is of its type, `print` takes integers and truth values and gives `Void`, and a task is that of its function.
--- Of the other instructions no kinds are asked yet.
+-- A literal is of its type, `print` takes integers and truth values and gives `Void`, and a task is
+-- that of its function. Of the other instructions no kinds are asked yet.
 abbrev pub KindsFit : List Function → List RegKind → Instr → Type 0
 KindsFit functions regs (Const at r v) = slice_get regs r ≡ Some (Plain (literal_type v))
 KindsFit functions regs (Print at r ss) =
-    All (λ s. (kind : RegKind) → slice_get regs s.reg ≡ Some kind → IsTrue (is_printable kind)) ss × (slice_get regs r ≡ Some (Plain Void))
+    All (λ s. (kind : RegKind) → slice_get regs s.reg ≡ Some kind → IsTrue (is_printable kind)) ss
+    × (slice_get regs r ≡ Some (Plain Void))
 KindsFit functions regs (NewTask at r f cs) =
     (function : Function) → slice_get functions f ≡ Some function → IsTaskOf regs r cs function
 KindsFit functions regs _ = Unit {0}
 
 -- What is returned may go where the function's result is expected.
 abbrev pub ReturnFits : List RegKind → Ty → Last → Type 0
-ReturnFits regs result (Return (Some s)) = (kind : RegKind) → slice_get regs s.reg ≡ Some kind → MayGo kind (Plain result)
+ReturnFits regs result (Return (Some s)) = (kind : RegKind) → slice_get regs s.reg ≡ Some kind
+    → MayGo kind (Plain result)
 ReturnFits regs result _ = Unit {0}

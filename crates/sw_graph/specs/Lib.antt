@@ -1,4 +1,6 @@
 pub mod Kinds
+pub mod Lent
 pub mod Mentions
-pub mod WellFormed
 pub mod OneProof
+pub mod Points
+pub mod WellFormed

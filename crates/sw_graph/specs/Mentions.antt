@@ -1,8 +1,14 @@
--- What instructions and last instructions mention: registers, blocks, functions, globals and shapes, by number.
+-- What instructions and last instructions mention: registers, blocks, functions, globals and
+-- shapes, by number.
 use Rattle.std.specs.Prelude.{ℕ, List, [], ◌∷◌, map, Some, None}
 use Rattle.sw_graph.specs.declared.instr.Operand.{Operand}
 use Rattle.sw_graph.specs.declared.instr.Instr.{Instr}
-use Rattle.sw_graph.specs.declared.instr.Instr.TheVariants.{Const, Un, Bin, Print, Copy, Field, Payload, SetField, Make, NewObject, NewBox, NewActor, LoadBox, StoreBox, LoadProp, StoreProp, LoadGlobal, StoreGlobal, NewClosure, Call, CallClosure, NewTask, Await, Yield}
+use Rattle.sw_graph.specs.declared.instr.Instr.TheVariants.{Const, Un, Bin, Print, Copy, Field}
+use Rattle.sw_graph.specs.declared.instr.Instr.TheVariants.{Payload, SetField, Make, NewObject}
+use Rattle.sw_graph.specs.declared.instr.Instr.TheVariants.{NewBox, NewActor, LoadBox, StoreBox}
+use Rattle.sw_graph.specs.declared.instr.Instr.TheVariants.{LoadProp, StoreProp, LoadGlobal}
+use Rattle.sw_graph.specs.declared.instr.Instr.TheVariants.{StoreGlobal, NewClosure, Call}
+use Rattle.sw_graph.specs.declared.instr.Instr.TheVariants.{CallClosure, NewTask, Await, Yield}
 use Rattle.sw_graph.specs.declared.instr.Last.{Last}
 use Rattle.sw_graph.specs.declared.instr.Last.TheVariants.{Jump, Branch, Switch, Return}
 

@@ -29,13 +29,15 @@ MayGo-prop (BoxOf from) (BoxOf to) = hlevel (props, Ty-set)
 MayGo-prop (Plain from) (BoxOf to) = hlevel props
 MayGo-prop (BoxOf from) (Plain to) = hlevel props
 
-KindsFit-prop : (functions : List Function) (regs : List RegKind) (instr : Instr) → IsProp (KindsFit functions regs instr)
+KindsFit-prop : (functions : List Function) (regs : List RegKind) (instr : Instr)
+    → IsProp (KindsFit functions regs instr)
 KindsFit-prop functions regs (Const at r v) = hlevel (props, RegKind-set)
 KindsFit-prop functions regs (Print at r ss) = hlevel (props, RegKind-set)
 KindsFit-prop functions regs (NewTask at r f cs) = hlevel (props, RegKind-set, MayGo-prop)
 KindsFit-prop functions regs _ = Unit-prop
 
-ReturnFits-prop : (regs : List RegKind) (result : Ty) (last : Last) → IsProp (ReturnFits regs result last)
+ReturnFits-prop : (regs : List RegKind) (result : Ty) (last : Last)
+    → IsProp (ReturnFits regs result last)
 ReturnFits-prop regs result (Return (Some s)) = hlevel (props, MayGo-prop)
 ReturnFits-prop regs result _ = Unit-prop
 
@@ -43,5 +45,8 @@ CaseFits-prop : (shapes : List Shape) (instr : Instr) → IsProp (CaseFits shape
 CaseFits-prop shapes (Make at r k (Some tag) ss) = hlevel props
 CaseFits-prop shapes _ = Unit-prop
 
-pub IsWellFormed-prop : (shapes : List Shape) (globals : List GlobalKind) (functions : List Function) (entry : ℕ) (starts : List ℕ) → IsProp (IsWellFormed shapes globals functions entry starts)
-IsWellFormed-prop shapes globals functions entry starts = hlevel (props, KindsFit-prop, ReturnFits-prop, CaseFits-prop)
+pub IsWellFormed-prop : (shapes : List Shape) (globals : List GlobalKind)
+    (functions : List Function) (entry : ℕ) (starts : List ℕ)
+    → IsProp (IsWellFormed shapes globals functions entry starts)
+IsWellFormed-prop shapes globals functions entry starts =
+    hlevel (props, KindsFit-prop, ReturnFits-prop, CaseFits-prop)

@@ -6,8 +6,8 @@ use crate::function::{FunctionList, GlobalKinds};
 use crate::instr::IdList;
 use sw_types::Shapes;
 
-/// A program's control-flow graph. Its numbers are in range and its registers have the kinds that its instructions ask
-/// for.
+/// A program's control-flow graph. Its numbers are in range and its registers have the kinds that
+/// its instructions ask for.
 #[derive(Debug, Drop)]
 pub struct Graph {
     pub shapes: Shapes,

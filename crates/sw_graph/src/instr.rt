@@ -50,8 +50,8 @@ pub enum BinOp {
     Ge,
 }
 
-/// One instruction. `at` is its byte offset in the source, `r` the register that it sets, `k` a shape's number,
-/// `f` a function's, `g` a global's and `i` a part's or a payload's place.
+/// One instruction. `at` is its byte offset in the source, `r` the register that it sets, `k` a
+/// shape's number, `f` a function's, `g` a global's and `i` a part's or a payload's index.
 #[derive(Debug, Drop)]
 pub enum Instr {
     Const {

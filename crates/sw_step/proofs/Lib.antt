@@ -1,4 +1,4 @@
 pub mod EventLemmas
 pub mod LineLemmas
-pub mod PointLemmas
+pub mod RunnableLemmas
 pub mod StepLemmas

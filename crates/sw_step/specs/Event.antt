@@ -1,4 +1,4 @@
--- The event of an item.
+-- The event of an item: what it made its job do.
 use Rattle.std.specs.Prelude.{ℕ, Option, Some, None}
 use Rattle.sw_graph.specs.declared.graph.Graph.{Graph}
 use Rattle.sw_value.specs.declared.state.State.{State}
@@ -6,27 +6,29 @@ use Rattle.sw_value.specs.declared.effect.Effect.{Effect}
 use Rattle.sw_value.specs.declared.effect.Effect.TheVariants as effect
 use Rattle.sw_value.specs.declared.effect.Act.{Act}
 use Rattle.sw_value.specs.declared.effect.Act.TheVariants.{Dispatch, Wake, Execute}
-use Rattle.sw_value.specs.Happening.{Occurrence, happening}
+use Rattle.sw_value.specs.Act.{act_of}
 use Rattle.sw_step.specs.declared.event.Event.{Event}
-use Rattle.sw_step.specs.declared.event.Event.TheVariants.{Nothing, Dispatched, Woken, Ran, Printed, Trapped}
+use Rattle.sw_step.specs.declared.event.Event.TheVariants.{Nothing, Dispatched, Woken, Ran, Printed}
+use Rattle.sw_step.specs.declared.event.Event.TheVariants.{Trapped}
 
--- a line that is printed and a trap have events of their own; an instruction that is stuck is not executed
+-- a line that is printed and a trap have events of their own; an instruction that is stuck is not
+-- executed
 abbrev pub effect_event : Effect → Event
-effect_event (effect.Print r line next) = Printed line
-effect_event (effect.Halt kind at) = Trapped kind at
-effect_event effect.Stuck = Nothing
 effect_event (effect.Set r v next) = Ran
+effect_event (effect.Print r line next) = Printed line
 effect_event (effect.Spawn r frame job cell next) = Ran
 effect_event (effect.Leave v) = Ran
+effect_event (effect.Halt kind at) = Trapped kind at
+effect_event effect.Stuck = Nothing
 
 abbrev pub act_event : Act → Event
 act_event Dispatch = Dispatched
-act_event (Wake r v) = Woken
+act_event (Wake ended r v) = Woken ended
 act_event (Execute e) = effect_event e
 
-abbrev pub occurrence_event : Option Occurrence → Event
-occurrence_event None = Nothing
-occurrence_event (Some o) = act_event o.act
+abbrev pub event_by : Option Act → Event
+event_by None = Nothing
+event_by (Some act) = act_event act
 
 unfoldable pub event_of : Graph → State → ℕ → Event
-event_of graph state item = occurrence_event (happening graph state item)
+event_of graph state item = event_by (act_of graph state item)

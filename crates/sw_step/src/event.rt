@@ -7,8 +7,8 @@ pub enum Event {
     Nothing,
     /// A job got its executor.
     Dispatched,
-    /// A job got the result that it waited for.
-    Woken,
+    /// A job got the result of the job `ended`, for which it waited.
+    Woken { ended: u32 },
     /// A job executed an instruction that prints nothing.
     Ran,
     /// A job executed a Print. The line ends in a line feed.

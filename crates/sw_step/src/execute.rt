@@ -1,30 +1,30 @@
 ghost use Rattle.std.specs.Prelude.{◌≡◌, ◌+◌, ◌<◌, ◌^◌, IfOk, OnOk, OnErr, length};
 ghost use Rattle.sw_graph.specs.declared.instr.Instr.{Instr};
-ghost use Rattle.sw_value.specs.Small.{IsSmall};
+ghost use Rattle.sw_value.specs.Runnable.{IsRunnable};
 ghost use Rattle.sw_value.specs.Effect.{instr_effect, last_effect, spawn_of, effect_of};
 ghost use Rattle.sw_value.specs.Reach.{after_effect};
 ghost use Rattle.sw_step.specs.Event.{effect_event};
 
 use crate::event::Event;
 use crate::operands::{printed_line, values_at};
-use crate::point::{Point, point_at};
 use std::alloc::{AllocError, Global};
-use sw_graph::{Graph, Instr, Last};
+use sw_graph::{Graph, Instr, Last, Point};
 use sw_value::{Effect, Frame, MAX_JOBS, State, TrapKind, Value, first_frame};
 
-/// The effect of the instruction at which a frame stands.
-#[tactic(auto, using(crate::proofs::PointLemmas::next_point_fits), unfolding(sw_value::specs::Effect::effect_of))]
+/// The effect of the instruction at which a frame stands, the top one of `depth` frames.
+#[tactic(auto, using(crate::proofs::RunnableLemmas::next_point_fits), unfolding(sw_value::specs::Effect::effect_of))]
 pub fn effect_of(
     alloc: Global,
     graph: &Graph,
     state: &State,
+    depth: usize,
     frame: &Frame,
 ) -> Result<Effect, AllocError>
-    requires small { IsSmall graph.now }
+    requires runnable { IsRunnable graph.now }
     requires cells { length state.now.cells < 4294967295 }
-    ensures { IfOk result (λ effect. effect ≡ effect_of graph.now state.now frame.now) }
+    ensures { IfOk result (λ effect. effect ≡ effect_of graph.now state.now depth frame.now) }
 {
-    match point_at(graph, frame) {
+    match frame.point_at(graph) {
         None => Ok(Effect::Stuck),
         Some(Point::Middle(instr)) => instr_effect(
             alloc,
@@ -38,7 +38,7 @@ pub fn effect_of(
     }
 }
 
-/// The effect of an instruction behind which the frame goes on at `next`.
+/// The effect of an instruction after which the frame goes on at `next`.
 fn instr_effect(
     alloc: Global,
     graph: &Graph,
@@ -48,7 +48,8 @@ fn instr_effect(
     instr: &Instr,
 ) -> Result<Effect, AllocError>
     requires cells { length state.now.cells < 4294967295 }
-    ensures { IfOk result (λ effect. effect ≡ instr_effect graph.now state.now frame.now next instr.now) }
+    ensures { IfOk result (λ effect.
+        effect ≡ instr_effect graph.now state.now frame.now next instr.now) }
 {
     match instr {
         Instr::Const { r, v, .. } => Ok(Effect::Set {
@@ -112,7 +113,8 @@ fn last_effect(alloc: Global, frame: &Frame, last: &Last) -> Result<Effect, Allo
     }
 }
 
-/// Lets a job execute an instruction with that effect. Want of memory leaves the state as it was.
+/// Lets a job execute an instruction with that effect. Where memory runs out it leaves the state as
+/// it was.
 pub fn apply(
     alloc: Global,
     state: &mut State,

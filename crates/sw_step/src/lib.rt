@@ -1,15 +1,12 @@
-//! One item of a schedule on the actor machine: a job is dispatched, is woken or executes one instruction.
+//! One item of a schedule on the actor machine: a job is dispatched, is woken or executes one
+//! instruction. It knows nothing of lists of items.
 #![tactic(auto)]
 
 mod event;
 mod execute;
 mod operands;
-mod point;
 mod stepping;
 
 pub use event::Event;
 pub use stepping::step;
 pub use sw_value::Line;
-
-#[cfg(test)]
-mod tests;

@@ -1,7 +1,7 @@
 ghost use Rattle.std.specs.Prelude.{◌≡◌, ◌++◌, ◌∷◌, [], IfOk, OnOk, if◌then◌else◌, string_bytes};
 ghost use Rattle.std.specs.Option.{option_map};
 ghost use Rattle.sw_value.specs.Value.{values_at};
-ghost use Rattle.sw_value.specs.Printed.{text_of, text_at, printed_line};
+ghost use Rattle.sw_value.specs.Printed.{truth_text, text_of, text_at, printed_line};
 
 use std::alloc::{AllocError, Global};
 use sw_graph::{Operand, OperandList};
@@ -27,8 +27,8 @@ pub fn values_at(
     Ok(Some(values))
 }
 
-/// The line of some operands: their values with one blank between, and a line feed. `None` where one has no value or one
-/// that cannot be printed.
+/// The line of some operands: their values with one blank between, and a line feed. `None` where
+/// one has no value or one that cannot be printed.
 #[tactic(auto, using(crate::proofs::LineLemmas::lines))]
 pub fn printed_line(
     alloc: Global,
@@ -38,10 +38,10 @@ pub fn printed_line(
     ensures { IfOk result (λ line. line ≡ printed_line frame.now.regs operands.now) }
 {
     let mut line = Vec::new(alloc);
-    for (place, operand) in operands.as_slice().iter().enumerate() {
+    for (index, operand) in operands.as_slice().iter().enumerate() {
         match text_at(alloc, frame, operand)? {
             None => return Ok(None),
-            Some(text) => add_text(&mut line, place == 0, text.as_str())?,
+            Some(text) => add_text(&mut line, index == 0, text.as_str())?,
         }
     }
     line.push(b'\n')?;
@@ -61,7 +61,8 @@ fn add_text(line: &mut Vec<u8>, first: bool, text: &str) -> Result<(), AllocErro
 
 /// How the value of an operand is printed.
 fn text_at(alloc: Global, frame: &Frame, operand: &Operand) -> Result<Option<String>, AllocError>
-    ensures { IfOk result (λ text. option_map string_bytes text ≡ text_at frame.now.regs operand.now) }
+    ensures { IfOk result (λ text.
+        option_map string_bytes text ≡ text_at frame.now.regs operand.now) }
 {
     match frame.value_at(operand.reg) {
         None => Ok(None),
@@ -75,8 +76,13 @@ fn text_of(alloc: Global, value: &Value) -> Result<Option<String>, AllocError>
 {
     match value {
         Value::Int(number) => Ok(Some(number.to_string(alloc)?)),
-        Value::Bool(true) => Ok(Some(String::from_str(alloc, "true")?)),
-        Value::Bool(false) => Ok(Some(String::from_str(alloc, "false")?)),
+        Value::Bool(truth) => Ok(Some(String::from_str(alloc, truth_text(*truth))?)),
         Value::Unit | Value::Cell(_) | Value::Group(_) | Value::Case { .. } => Ok(None),
     }
+}
+
+fn truth_text(truth: bool) -> &'static str
+    ensures { result.now ≡ truth_text truth }
+{
+    if truth { "true" } else { "false" }
 }

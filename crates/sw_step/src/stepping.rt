@@ -1,8 +1,8 @@
 ghost use Rattle.std.specs.Prelude.{◌≡◌, ℕ, ◌↔◌, ◌<◌, IfOk, OnOk, OnErr, length};
-ghost use Rattle.sw_value.specs.Small.{IsSmall};
+ghost use Rattle.sw_value.specs.Runnable.{IsRunnable};
 ghost use Rattle.sw_value.specs.declared.state.TrapKind.{TrapKind};
 ghost use Rattle.sw_step.specs.declared.event.Event.TheVariants.{Nothing, Trapped};
-ghost use Rattle.sw_value.specs.Happening.{happening, execution_of, dispatch_of, act_by, act_of};
+ghost use Rattle.sw_value.specs.Act.{execution_of, dispatch_of, act_by, act_of};
 ghost use Rattle.sw_value.specs.Reach.{after_act, step_of, Reached};
 ghost use Rattle.sw_step.specs.Event.{act_event, event_of};
 
@@ -12,21 +12,22 @@ use std::alloc::{AllocError, Global};
 use sw_graph::Graph;
 use sw_value::{Act, Effect, Frame, Job, State, Status};
 
-/// Does what one item of a schedule says: the job with that number is dispatched, is woken or executes one instruction.
-/// Want of memory leaves the state as it was.
+/// Does what one item of a schedule says: the job with that number is dispatched, is woken or
+/// executes one instruction. Where memory runs out it leaves the state as it was.
 pub fn step(alloc: Global, graph: &Graph, state: &mut State, item: u32) -> Result<Event, AllocError>
-    requires small { IsSmall graph.now }
+    requires runnable { IsRunnable graph.now }
     requires cells { length state.old.cells < 4294967295 }
 
     ensures steps { OnOk result (state.new ≡ step_of graph.now state.old item) }
     ensures event { IfOk result (λ event. event ≡ event_of graph.now state.old item) }
     ensures err { OnErr result (state.new ≡ state.old) }
 
-    // What the event tells, and that the new state is reached if the old one was.
+    // What the event says, and that the new state is reached if the old one was.
     ensures nothing { IfOk result (λ event.
-        (event ≡ Nothing) ↔ (happening graph.now state.old item ≡ None)) }
+        (event ≡ Nothing) ↔ (act_of graph.now state.old item ≡ None)) }
     ensures trapped { IfOk result (λ event. (kind : TrapKind) (at : ℕ) →
-        (event ≡ Trapped kind at) ↔ ((state.old.halted ≡ None) × (state.new.halted ≡ Some (kind, at)))) }
+        (event ≡ Trapped kind at)
+        ↔ ((state.old.halted ≡ None) × (state.new.halted ≡ Some (kind, at)))) }
     ensures reached { Reached graph.now state.old → Reached graph.now state.new }
 {
     let event = do_item(alloc, graph, state, item)?;
@@ -35,7 +36,7 @@ pub fn step(alloc: Global, graph: &Graph, state: &mut State, item: u32) -> Resul
 
 #[tactic(auto, using(crate::proofs::StepLemmas::steps))]
 fn do_item(alloc: Global, graph: &Graph, state: &mut State, item: u32) -> Result<Event, AllocError>
-    requires small { IsSmall graph.now }
+    requires runnable { IsRunnable graph.now }
     requires cells { length state.old.cells < 4294967295 }
     ensures steps { OnOk result (state.new ≡ step_of graph.now state.old item) }
     ensures event { IfOk result (λ event. event ≡ event_of graph.now state.old item) }
@@ -48,9 +49,9 @@ fn do_item(alloc: Global, graph: &Graph, state: &mut State, item: u32) -> Result
 }
 
 /// What an item makes its job do.
-#[tactic(auto, unfolding(sw_value::specs::Happening::act_of))]
+#[tactic(auto, unfolding(sw_value::specs::Act::act_of))]
 fn act_of(alloc: Global, graph: &Graph, state: &State, item: u32) -> Result<Option<Act>, AllocError>
-    requires small { IsSmall graph.now }
+    requires runnable { IsRunnable graph.now }
     requires cells { length state.now.cells < 4294967295 }
     ensures { IfOk result (λ act. act ≡ act_of graph.now state.now item) }
 {
@@ -64,7 +65,7 @@ fn act_of(alloc: Global, graph: &Graph, state: &State, item: u32) -> Result<Opti
 }
 
 fn act_by(alloc: Global, graph: &Graph, state: &State, job: &Job) -> Result<Option<Act>, AllocError>
-    requires small { IsSmall graph.now }
+    requires runnable { IsRunnable graph.now }
     requires cells { length state.now.cells < 4294967295 }
     ensures { IfOk result (λ act. act ≡ act_by graph.now state.now job.now job.now.status) }
 {
@@ -76,13 +77,20 @@ fn act_by(alloc: Global, graph: &Graph, state: &State, job: &Job) -> Result<Opti
         Status::Waiting { job: awaited, reg } => match state.result_of(*awaited) {
             None => Ok(None),
             Some(value) => Ok(Some(Act::Wake {
+                ended: *awaited,
                 reg: *reg,
                 value: value.copied(alloc)?,
             })),
         },
         Status::Running => match job.top_frame() {
             None => Ok(None),
-            Some(frame) => Ok(execution_of(effect_of(alloc, graph, state, frame)?)),
+            Some(frame) => Ok(execution_of(effect_of(
+                alloc,
+                graph,
+                state,
+                job.frames.len(),
+                frame,
+            )?)),
         },
         Status::Ended { .. } => Ok(None),
     }
@@ -107,7 +115,7 @@ fn execution_of(effect: Effect) -> Option<Act>
     Some(Act::Execute { effect })
 }
 
-/// Lets a job do an act. Want of memory leaves the state as it was.
+/// Lets a job do an act. Where memory runs out it leaves the state as it was.
 fn perform(alloc: Global, state: &mut State, item: u32, act: Act) -> Result<Event, AllocError>
     ensures ok { OnOk result (state.new ≡ after_act item act state.old) }
     ensures event { IfOk result (λ event. event ≡ act_event act) }
@@ -118,9 +126,9 @@ fn perform(alloc: Global, state: &mut State, item: u32, act: Act) -> Result<Even
             state.dispatch(item);
             Ok(Event::Dispatched)
         }
-        Act::Wake { reg, value } => {
+        Act::Wake { ended, reg, value } => {
             state.wake(item, reg, value);
-            Ok(Event::Woken)
+            Ok(Event::Woken { ended })
         }
         Act::Execute { effect } => apply(alloc, state, item, effect),
     }

@@ -1,7 +1,8 @@
 -- Which types are Sendable (SE-0302, SE-0306, SE-0316).
 use Rattle.std.specs.Prelude.{Bool, true, false}
 use Rattle.sw_types.specs.declared.ty.Ty.{Ty, out-Ty}
-use Rattle.sw_types.specs.declared.ty.Ty.TheOpen.{Ty-F, Int, Bool as BoolType, Unit, Named, Func, Task}
+use Rattle.sw_types.specs.declared.ty.Ty.TheOpen.{Ty-F, Int, Bool as BoolType, Unit, Named, Func}
+use Rattle.sw_types.specs.declared.ty.Ty.TheOpen.{Task}
 
 abbrev pub layer_is_sendable : Ty-F Ty → Bool
 layer_is_sendable Int = true

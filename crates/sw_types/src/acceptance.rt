@@ -16,7 +16,7 @@ fn is_marked(ty: &Ty) -> bool
 {
     match ty {
         Ty::Func { sendable, .. } => *sendable,
-        _ => false,
+        Ty::Int | Ty::Bool | Ty::Unit | Ty::Named(_) | Ty::Task(_) => false,
     }
 }
 

@@ -12,11 +12,13 @@ pub enum Iso {
 /// How a call crosses between isolations (SE-0306, SE-0338).
 #[derive(Clone, Copy, Debug, PartialEq, Eq)]
 pub enum CallKind {
-    /// A synchronous callee that is isolated to no actor, or an asynchronous one from a body that is isolated to none.
+    /// A synchronous callee that is isolated to no actor, or an asynchronous one from a body that
+    /// is isolated to none.
     Plain,
     /// A callee of the caller's own isolation.
     Same,
-    /// An asynchronous callee that is isolated to no actor, from an isolated body: it leaves the actor.
+    /// An asynchronous callee that is isolated to no actor, from an isolated body: it leaves the
+    /// actor.
     Weak,
     /// A callee of another isolation: it hops to that actor.
     Strong,

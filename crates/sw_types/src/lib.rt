@@ -1,4 +1,5 @@
-//! Types of the language, shapes of declared types, and which types are Sendable.
+//! Types of the language, shapes of declared types, and which types are Sendable. It knows nothing
+//! of how types are spelled, and nothing of functions or values.
 #![tactic(auto)]
 
 mod acceptance;
@@ -12,6 +13,3 @@ pub use isolation::{CallKind, Iso};
 pub use shape::{CaseList, CaseShape, Part, PartList, Shape, ShapeKind, ShapeList};
 pub use shapes::{ShapeFault, Shapes};
 pub use ty::{Ty, TyList};
-
-#[cfg(test)]
-mod tests;

@@ -19,7 +19,8 @@ pub enum ShapeKind {
     Actor,
 }
 
-/// A stored property: its name (a place in the program's names), whether it is a `var`, and its type.
+/// A stored property: its name (an index into the program's names), whether it is a `var`, and its
+/// type.
 #[derive(Debug, Drop)]
 pub struct Part {
     pub name: u32,
@@ -27,7 +28,7 @@ pub struct Part {
     pub ty: Ty,
 }
 
-/// A case of an enum: its name (a place in the program's names) and the types of its payload.
+/// A case of an enum: its name (an index into the program's names) and the types of its payload.
 #[derive(Debug, Drop)]
 pub struct CaseShape {
     pub name: u32,

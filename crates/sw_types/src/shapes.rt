@@ -7,15 +7,16 @@ use thiserror::Error;
 /// Why shapes were refused.
 #[derive(Clone, Copy, Debug, PartialEq, Eq, Error)]
 pub enum ShapeFault {
-    /// A struct or enum holds itself through structs and enums. No list that is taken today has one.
+    /// A struct or enum holds itself through structs and enums. No list that is taken today has
+    /// one.
     #[error("shape {shape} holds itself")]
     Cycle { shape: u32 },
     #[error("out of memory")]
     Memory,
 }
 
-/// The shapes of a program, checked. Contracts see them as their list, by number. Today a program declares no type,
-/// and the list is empty.
+/// The shapes of a program, checked. Contracts see them as their list, by number. Today a program
+/// declares no type, and the list is empty.
 #[derive(Debug, Drop)]
 pub struct Shapes {
     list: ShapeList,

@@ -1,6 +1,7 @@
+pub mod AccessLemmas
 pub mod JobLemmas
 pub mod ListLemmas
 pub mod NeverRaces
-pub mod OccurrenceLemmas
 pub mod ReachLemmas
 pub mod StaysInBounds
+pub mod TransitionLemmas

@@ -1,8 +1,9 @@
 -- Words on lists that the machine's definitions share.
-use Rattle.std.specs.Prelude.{ℕ, Option, Some, None, List, [], ◌∷◌, slice_get, slice_set, option_and_then}
+use Rattle.std.specs.Prelude.{ℕ, Option, Some, None, List, [], ◌∷◌, slice_get, slice_set}
+use Rattle.std.specs.Prelude.{option_and_then}
 use Rattle.std.specs.Option.{option_map}
 
--- the list with the item at a place changed by g; past the end nothing changes
+-- the list with the item at an index changed by g; past the end nothing changes
 abbrev pub changed_by : {A : Type 0} → Option A → (A → A) → ℕ → List A → List A
 changed_by None g i xs = xs
 changed_by (Some x) g i xs = slice_set xs i (g x)

@@ -1,20 +1,27 @@
 -- The line that Print writes.
-use Rattle.std.specs.Prelude.{ℕ, true, false, Option, Some, None, List, [], ◌∷◌, ◌++◌, codes, option_and_then}
+use Rattle.std.specs.Prelude.{ℕ, Bool, true, false, Option, Some, None, List, [], ◌∷◌, ◌++◌, codes}
+use Rattle.std.specs.Prelude.{option_and_then}
 use Rattle.std.specs.Option.{option_map}
 use Rattle.std.specs.List.{join_with_byte}
 use Rattle.std.specs.Fmt.{signed_decimal}
 use Rattle.sw_graph.specs.declared.instr.Operand.{Operand}
-use Rattle.sw_value.specs.declared.value.Value.{Value}
-use Rattle.sw_value.specs.declared.value.Value.TheVariants as value
+use Rattle.sw_value.specs.declared.value.Value.{Value, out-Value}
+use Rattle.sw_value.specs.declared.value.Value.TheOpen as layer
 use Rattle.sw_value.specs.Lists.{each_of}
 use Rattle.sw_value.specs.Value.{value_at}
 
+abbrev pub truth_text : Bool → List ℕ
+truth_text true = codes "true"
+truth_text false = codes "false"
+
+abbrev pub layer_text : layer.Value-F Value → Option (List ℕ)
+layer_text (layer.Int n) = Some (signed_decimal n)
+layer_text (layer.Bool b) = Some (truth_text b)
+layer_text _ = None
+
 -- how a value is printed, if it is one that can be
 abbrev pub text_of : Value → Option (List ℕ)
-text_of (value.Int n) = Some (signed_decimal n)
-text_of (value.Bool true) = Some (codes "true")
-text_of (value.Bool false) = Some (codes "false")
-text_of _ = None
+text_of v = layer_text (out-Value v)
 
 abbrev pub text_at : List (Option Value) → Operand → Option (List ℕ)
 text_at regs o = option_and_then text_of (value_at regs o.reg)

@@ -6,36 +6,38 @@ use Rattle.sw_value.specs.declared.cell.HeapCell.TheVariants.{TaskOf}
 use Rattle.sw_value.specs.declared.state.State.{State}
 use Rattle.sw_value.specs.declared.effect.Effect.{Effect}
 use Rattle.sw_value.specs.declared.effect.Effect.TheVariants as effect
-use Rattle.sw_value.specs.Frame.{after_instr}
-use Rattle.sw_value.specs.Job.{in_top, as_running, after_wake, after_return, first_job}
-use Rattle.sw_value.specs.State.{in_job, with_job, with_cell, with_halt}
 use Rattle.sw_value.specs.declared.effect.Act.{Act}
 use Rattle.sw_value.specs.declared.effect.Act.TheVariants.{Dispatch, Wake, Execute}
-use Rattle.sw_value.specs.Happening.{Occurrence, happening}
+use Rattle.sw_value.specs.Frame.{finish_instr}
+use Rattle.sw_value.specs.Job.{in_top, dispatch, wake, leave, new_job}
+use Rattle.sw_value.specs.State.{in_job, add_job, add_cell, halt}
+use Rattle.sw_value.specs.Transition.{Transition, transition_of}
 use Rattle.sw_value.specs.Start.{start_of}
 
 -- job j executes an instruction with that effect
 abbrev pub after_effect : ℕ → Effect → State → State
-after_effect j (effect.Set r v next) state = in_job (in_top (after_instr r v next)) j state
-after_effect j (effect.Print r line next) state = in_job (in_top (after_instr r value.Unit next)) j state
+after_effect j (effect.Set r v next) state = in_job (in_top (finish_instr r v next)) j state
+after_effect j (effect.Print r line next) state =
+    in_job (in_top (finish_instr r value.Unit next)) j state
 after_effect j (effect.Spawn r frame job cell next) state =
-    in_job (in_top (after_instr r (value.Cell cell) next)) j (with_cell (TaskOf job) (with_job (first_job (frame ∷ [])) state))
-after_effect j (effect.Leave v) state = in_job (after_return v) j state
-after_effect j (effect.Halt kind at) state = with_halt kind at state
+    in_job (in_top (finish_instr r (value.Cell cell) next)) j
+    (add_cell (TaskOf job) (add_job (new_job (frame ∷ [])) state))
+after_effect j (effect.Leave v) state = in_job (leave v) j state
+after_effect j (effect.Halt kind at) state = halt kind at state
 after_effect j effect.Stuck state = state
 
 abbrev pub after_act : ℕ → Act → State → State
-after_act j Dispatch state = in_job as_running j state
-after_act j (Wake r v) state = in_job (after_wake r v) j state
+after_act j Dispatch state = in_job dispatch j state
+after_act j (Wake ended r v) state = in_job (wake r v) j state
 after_act j (Execute e) state = after_effect j e state
 
-abbrev pub after : Option Occurrence → State → State
+abbrev pub after : Option Transition → State → State
 after None state = state
-after (Some o) state = after_act o.job o.act state
+after (Some t) state = after_act t.job t.act state
 
 -- the state after one item
 unfoldable pub step_of : Graph → State → ℕ → State
-step_of graph state item = after (happening graph state item) state
+step_of graph state item = after (transition_of graph state item) state
 
 -- the state after a list of items, of any length
 unfoldable pub reach : Graph → List ℕ → State

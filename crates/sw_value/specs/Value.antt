@@ -1,9 +1,11 @@
 -- Values, and registers that hold them.
-use Rattle.std.specs.Prelude.{ℕ, ◌-◌, Option, Some, None, List, ◌++◌, length, map, replicate, slice_get, option_and_then}
+use Rattle.std.specs.Prelude.{ℕ, ◌-◌, Option, Some, None, List, ◌++◌, length, map, replicate}
+use Rattle.std.specs.Prelude.{slice_get, option_and_then}
 use Rattle.sw_graph.specs.declared.instr.Literal.{Literal}
 use Rattle.sw_graph.specs.declared.instr.Literal.TheVariants as literal
 use Rattle.sw_graph.specs.declared.instr.Operand.{Operand}
-use Rattle.sw_value.specs.declared.value.Value.{Value}
+use Rattle.sw_value.specs.declared.value.Value.{Value, out-Value}
+use Rattle.sw_value.specs.declared.value.Value.TheOpen as layer
 use Rattle.sw_value.specs.declared.value.Value.TheVariants as value
 use Rattle.sw_value.specs.Lists.{each_of}
 
@@ -11,6 +13,14 @@ use Rattle.sw_value.specs.Lists.{each_of}
 abbrev pub value_of : Literal → Value
 value_of (literal.Int n) = value.Int n
 value_of (literal.Bool b) = value.Bool b
+
+abbrev pub layer_reference : layer.Value-F Value → Option ℕ
+layer_reference (layer.Cell c) = Some c
+layer_reference _ = None
+
+-- the cell that a value refers to
+abbrev pub reference_of : Value → Option ℕ
+reference_of v = layer_reference (out-Value v)
 
 -- the value of a register, if it is there and has one
 abbrev pub value_at : List (Option Value) → ℕ → Option Value

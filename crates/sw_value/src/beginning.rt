@@ -14,9 +14,10 @@ use sw_graph::Graph;
 use sw_list::ListOf;
 use sw_types::Iso;
 
-/// The state before any item: no cells, globals without value, and one job that has not run yet. Its frames are from the
-/// bottom the entry and then the functions of the globals' first values, the first global's on top.
-#[tactic(auto, unfolding(crate::specs::Start::start_of, crate::specs::Job::first_job))]
+/// The state before any item: no cells, globals without value, and one job that has not run yet.
+/// Its frames are from the bottom the entry and then the functions of the globals' first values,
+/// the first global's on top.
+#[tactic(auto, unfolding(crate::specs::Start::start_of, crate::specs::Job::new_job))]
 pub fn start(alloc: Global, graph: &Graph) -> Result<State, AllocError>
     ensures { IfOk result (λ state. state ≡ start_of graph.now) }
 {
@@ -53,7 +54,8 @@ fn add_first_frame(
     number: u32,
     frames: &mut FrameList,
 ) -> Result<(), AllocError>
-    ensures { OnOk result (frames.new ≡ frames.old ++ option_to_list (first_frame graph.now number [])) }
+    ensures { OnOk result (frames.new ≡ frames.old
+        ++ option_to_list (first_frame graph.now number [])) }
 {
     if let Some(frame) = first_frame(alloc, graph, number, ListOf::new(alloc))? {
         frames.push(frame)?;
@@ -61,8 +63,9 @@ fn add_first_frame(
     Ok(())
 }
 
-/// The frame that begins a function with values in its first registers, at the bottom of a job or as the frame of a first
-/// value. There is none where there is no such function, or where it is isolated to a `self` that the values lack.
+/// The frame that begins a function with values in its first registers, at the bottom of a job or
+/// as the frame of a first value. There is none where there is no such function, or where it is
+/// isolated to a `self` that the values lack.
 #[tactic(auto, unfolding(crate::specs::Frame::first_frame))]
 pub fn first_frame(
     alloc: Global,
@@ -111,11 +114,11 @@ fn registers(alloc: Global, count: usize, values: ValueList) -> Result<ValueSlot
     Ok(regs)
 }
 
-/// Adds places without value.
+/// Adds `count` slots without value.
 fn add_empty(slots: &mut ValueSlots, count: usize) -> Result<(), AllocError>
     ensures { OnOk result (slots.new ≡ slots.old ++ replicate count None) }
 {
-    for _place in 0..count {
+    for _slot in 0..count {
         slots.push(None)?;
     }
     Ok(())

@@ -2,7 +2,8 @@ use crate::frame::Frame;
 use crate::state::TrapKind;
 use crate::value::{Line, Value};
 
-/// What the next instruction of a running job does. `next` is the point at which the top frame goes on.
+/// What the next instruction of a running job does. `next` is the point at which the top frame goes
+/// on.
 #[derive(Debug, Drop)]
 pub enum Effect {
     /// Register `reg` gets a value.
@@ -17,7 +18,8 @@ pub enum Effect {
         line: Line,
         next: u32,
     },
-    /// The job `job` is made with one frame, and the cell `cell` as its task; register `reg` gets that cell.
+    /// The job `job` is made with one frame, and the cell `cell` as its task; register `reg` gets
+    /// that cell.
     Spawn {
         reg: u32,
         frame: Frame,
@@ -34,7 +36,8 @@ pub enum Effect {
         kind: TrapKind,
         at: u32,
     },
-    /// Nothing: there is no such instruction, or it reads what has no value or a value of another kind.
+    /// Nothing: there is no such instruction, or it reads what has no value or a value of another
+    /// kind.
     Stuck,
 }
 
@@ -43,8 +46,9 @@ pub enum Effect {
 pub enum Act {
     /// The job gets its executor.
     Dispatch,
-    /// The job gets the value that it waited for, in register `reg`.
-    Wake { reg: u32, value: Value },
+    /// The job `ended`, for which it waited, has ended with a value, which goes into register
+    /// `reg`.
+    Wake { ended: u32, reg: u32, value: Value },
     /// The job executes an instruction, which is not stuck.
     Execute { effect: Effect },
 }

@@ -1,4 +1,6 @@
-ghost use Rattle.std.specs.Prelude.{◌≡◌};
+ghost use Rattle.std.specs.Prelude.{◌≡◌, option_map};
+ghost use Rattle.sw_value.specs.Value.{reference_of};
+ghost use Rattle.sw_value.specs.declared.executor.Executor.TheVariants.{ActorOf};
 ghost use Rattle.sw_value.specs.Executor.{is_same, executor_of};
 
 use crate::value::{Value, ValueSlots};
@@ -28,8 +30,8 @@ impl Executor {
         }
     }
 
-    /// The executor of a function with these first registers, or `None` where it is isolated to a `self` that register 0
-    /// does not hold.
+    /// The executor of a function with these first registers, or `None` where it is isolated to a
+    /// `self` that register 0 does not hold.
     pub fn of_isolation(iso: Iso, regs: &ValueSlots) -> Option<Executor>
         ensures { result ≡ executor_of iso regs.now }
     {
@@ -37,9 +39,19 @@ impl Executor {
             Iso::Free => Some(Executor::Generic),
             Iso::Global(actor) => Some(Executor::Global(actor)),
             Iso::Own => match regs.get(0) {
-                Some(Some(Value::Cell(cell))) => Some(Executor::ActorOf(*cell)),
-                _ => None,
+                Some(Some(value)) => actor_of(value),
+                Some(None) | None => None,
             },
         }
+    }
+}
+
+/// The executor of the actor that a value refers to.
+fn actor_of(value: &Value) -> Option<Executor>
+    ensures { result ≡ option_map ActorOf (reference_of value.now) }
+{
+    match value.reference() {
+        None => None,
+        Some(cell) => Some(Executor::ActorOf(cell)),
     }
 }

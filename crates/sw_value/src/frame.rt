@@ -1,10 +1,12 @@
 ghost use Rattle.std.specs.Prelude.{◌≡◌};
 ghost use Rattle.std.specs.Option.{option_copied};
-ghost use Rattle.sw_value.specs.Frame.{with_register, after_instr, with_result};
+ghost use Rattle.sw_value.specs.Frame.{point_at, set_register, finish_instr, take_result};
+ghost use Rattle.sw_graph.specs.Lent.{lent_point};
 ghost use Rattle.sw_value.specs.Value.{value_at};
 
 use crate::executor::Executor;
 use crate::value::{Value, ValueSlots};
+use sw_graph::{Graph, Point};
 use sw_list::ListOf;
 
 /// The frames of a job from the bottom to the top.
@@ -29,6 +31,17 @@ pub struct Frame {
 pub const NO_REGISTER: u32 = 512;
 
 impl Frame {
+    /// What stands at the frame's point, if its function is there and has that point.
+    #[tactic(auto, unfolding(crate::specs::Frame::point_at))]
+    pub fn point_at<'a>(&self, graph: &'a Graph) -> Option<Point<'a>>
+        ensures { lent_point result ≡ point_at graph.now self.now }
+    {
+        match graph.functions.get(self.function as usize) {
+            None => None,
+            Some(function) => function.point(self.point),
+        }
+    }
+
     /// The value of a register, if it is there and has one.
     pub fn value_at(&self, reg: u32) -> Option<&Value>
         ensures { option_copied result ≡ value_at self.now.regs reg }
@@ -40,28 +53,28 @@ impl Frame {
     }
 
     /// Gives a register a value.
-    #[tactic(auto, using(std::proofs::lemmas::List::set_past), unfolding(crate::specs::Frame::with_register))]
+    #[tactic(auto, using(std::proofs::lemmas::List::set_past), unfolding(crate::specs::Frame::set_register))]
     pub fn set_register(&mut self, reg: u32, value: Value)
-        ensures { self.new ≡ with_register reg value self.old }
+        ensures { self.new ≡ set_register reg value self.old }
     {
         if (reg as usize) < self.regs.len() {
             self.regs.set(reg as usize, Some(value));
         }
     }
 
-    /// Gives a register the value of an instruction and goes on behind it.
-    #[tactic(auto, unfolding(crate::specs::Frame::with_register, crate::specs::Frame::after_instr))]
+    /// Gives a register the value of an instruction, and goes on at `next`.
+    #[tactic(auto, unfolding(crate::specs::Frame::set_register, crate::specs::Frame::finish_instr))]
     pub fn finish_instr(&mut self, reg: u32, value: Value, next: u32)
-        ensures { self.new ≡ after_instr reg value next self.old }
+        ensures { self.new ≡ finish_instr reg value next self.old }
     {
         self.set_register(reg, value);
         self.point = next;
     }
 
     /// Takes the result of the frame above into the register that it is for.
-    #[tactic(auto, unfolding(crate::specs::Frame::with_result))]
+    #[tactic(auto, unfolding(crate::specs::Frame::take_result))]
     pub fn take_result(&mut self, reg: u32, value: Value)
-        ensures { self.new ≡ with_result reg value self.old }
+        ensures { self.new ≡ take_result reg value self.old }
     {
         if reg != NO_REGISTER {
             self.set_register(reg, value);

@@ -1,7 +1,8 @@
 ghost use Rattle.std.specs.Prelude.{◌≡◌, IfOk, ◌∷◌, []};
 ghost use Rattle.std.specs.Option.{option_copied};
-ghost use Rattle.sw_value.specs.Frame.{after_instr};
-ghost use Rattle.sw_value.specs.Job.{top_frame, is_running, in_top, as_running, after_wake, after_return, return_to, first_job};
+ghost use Rattle.sw_value.specs.Frame.{finish_instr};
+ghost use Rattle.sw_value.specs.Job.{top_frame, is_running, in_top, dispatch, wake, leave};
+ghost use Rattle.sw_value.specs.Job.{return_to, new_job};
 ghost use Rattle.sw_value.specs.State.{runs_on};
 
 use crate::executor::Executor;
@@ -38,9 +39,9 @@ pub const MAX_JOBS: usize = 65_536;
 
 impl Job {
     /// A job that has not run yet, with one frame.
-    #[tactic(auto, unfolding(crate::specs::Job::first_job))]
+    #[tactic(auto, unfolding(crate::specs::Job::new_job))]
     pub fn new(alloc: Global, frame: Frame) -> Result<Job, AllocError>
-        ensures { IfOk result (λ job. job ≡ first_job (frame ∷ [])) }
+        ensures { IfOk result (λ job. job ≡ new_job (frame ∷ [])) }
     {
         let mut frames = ListOf::new(alloc);
         frames.push(frame)?;
@@ -85,17 +86,17 @@ impl Job {
     }
 
     /// Gives the job its executor.
-    #[tactic(auto, unfolding(crate::specs::Job::as_running))]
-    pub fn start_running(&mut self)
-        ensures { self.new ≡ as_running self.old }
+    #[tactic(auto, unfolding(crate::specs::Job::dispatch))]
+    pub fn dispatch(&mut self)
+        ensures { self.new ≡ dispatch self.old }
     {
         self.status = Status::Running;
     }
 
     /// Gives a register of the top frame the value that the job waited for.
-    #[tactic(auto, using(crate::proofs::ListLemmas::changes), unfolding(crate::specs::Job::after_wake))]
+    #[tactic(auto, using(crate::proofs::ListLemmas::changes), unfolding(crate::specs::Job::wake))]
     pub fn wake(&mut self, reg: u32, value: Value)
-        ensures { self.new ≡ after_wake reg value self.old }
+        ensures { self.new ≡ wake reg value self.old }
     {
         let depth = self.frames.len();
         if depth > 0 {
@@ -104,10 +105,10 @@ impl Job {
         self.status = Status::Ready;
     }
 
-    /// Gives a register of the top frame the value of its instruction and goes on behind it.
+    /// Gives a register of the top frame the value of its instruction; the frame goes on at `next`.
     #[tactic(auto, using(crate::proofs::ListLemmas::changes), unfolding(crate::specs::Job::in_top))]
     pub fn finish_instr(&mut self, reg: u32, value: Value, next: u32)
-        ensures { self.new ≡ in_top (after_instr reg value next) self.old }
+        ensures { self.new ≡ in_top (finish_instr reg value next) self.old }
     {
         let depth = self.frames.len();
         if depth > 0 {
@@ -116,18 +117,18 @@ impl Job {
     }
 
     /// Returns a value from the top frame.
-    #[tactic(auto, using(crate::proofs::JobLemmas::returns), unfolding(crate::specs::Job::after_return, crate::specs::Job::top_frame))]
+    #[tactic(auto, using(crate::proofs::JobLemmas::returns), unfolding(crate::specs::Job::leave, crate::specs::Job::top_frame))]
     pub fn leave(&mut self, value: Value)
-        ensures { self.new ≡ after_return value self.old }
+        ensures { self.new ≡ leave value self.old }
     {
         if let Some(frame) = self.frames.pop() {
-            self.return_from(&frame, value);
+            self.return_to(&frame, value);
         }
     }
 
     /// Gives the frames below a frame that has left them its value.
     #[tactic(auto, using(crate::proofs::JobLemmas::returns))]
-    fn return_from(&mut self, frame: &Frame, value: Value)
+    fn return_to(&mut self, frame: &Frame, value: Value)
         ensures { self.new ≡ return_to self.old.frames frame.now value self.old.status }
     {
         let depth = self.frames.len();

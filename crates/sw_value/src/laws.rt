@@ -1,35 +1,44 @@
-ghost use Rattle.std.specs.Prelude.{◌≡◌, ℕ, ◌<◌, ◌≤◌, Some, List, length};
+ghost use Rattle.std.specs.Prelude.{◌≡◌, ℕ, ◌≤◌, Some, None, List, length};
 ghost use Rattle.sw_graph.specs.declared.graph.Graph.{Graph};
 ghost use Rattle.sw_value.specs.declared.state.State.{State};
-ghost use Rattle.sw_value.specs.Small.{IsSmall};
-ghost use Rattle.sw_value.specs.Happening.{Occurrence, happening};
-ghost use Rattle.sw_value.specs.Occurrence.{Tells};
+ghost use Rattle.sw_value.specs.Access.{next_access};
+ghost use Rattle.sw_value.specs.Act.{act_of};
 ghost use Rattle.sw_value.specs.Racing.{Racing};
-ghost use Rattle.sw_value.specs.Start.{start_of};
 ghost use Rattle.sw_value.specs.Reach.{step_of, reach, Reached};
+ghost use Rattle.sw_value.specs.Runnable.{IsRunnable};
+ghost use Rattle.sw_value.specs.Start.{start_of};
+ghost use Rattle.sw_value.specs.Transition.{Transition, transition_of, Describes};
 
 use crate::frame::NO_REGISTER;
 use crate::job::MAX_JOBS;
 
-/// No list of items, of any length, leads a small graph to a state that is racing.
-pub fn small_graphs_never_race()
-    ensures never_races { (graph : Graph) → IsSmall graph → (items : List ℕ) →
+/// No list of items, of any length, leads a runnable graph to a state that is racing.
+pub fn runnable_graphs_never_race()
+    ensures never_races { (graph : Graph) → IsRunnable graph → (items : List ℕ) →
         ¬ Racing graph (reach graph items) }
 {}
 
-/// However long the items are, there are never more jobs than the machine allows, and a small graph has fewer cells than
-/// jobs. So the number of one more cell fits 32 bits in each state that a small graph reaches.
-pub fn small_graphs_stay_in_bounds()
-    ensures jobs { (graph : Graph) (state : State) → Reached graph state →
-        length state.jobs ≤ MAX_JOBS }
-    ensures cells { (graph : Graph) (state : State) → IsSmall graph → Reached graph state →
-        length state.cells < length state.jobs }
+/// However long the items are, there are never more jobs than the machine allows, and no more cells
+/// than items.
+pub fn states_stay_in_bounds()
+    ensures jobs { (graph : Graph) (items : List ℕ) →
+        length (reach graph items).jobs ≤ MAX_JOBS }
+    ensures cells { (graph : Graph) (items : List ℕ) →
+        length (reach graph items).cells ≤ length items }
 {}
 
-/// What the occurrence of an item tells is what its step changes.
-pub fn occurrences_tell()
-    ensures tells { (graph : Graph) (state : State) (item : ℕ) (o : Occurrence) →
-        happening graph state item ≡ Some o → Tells graph state (step_of graph state item) item o }
+/// A job that an item lets do nothing accesses nothing: one that is stuck, one that isn't running,
+/// and every job of a machine that is halted.
+pub fn idle_jobs_access_nothing()
+    ensures idle { (graph : Graph) (state : State) (job : ℕ) →
+        act_of graph state job ≡ None → next_access graph state job ≡ None }
+{}
+
+/// The transition of an item says what its step changes.
+pub fn transitions_describe()
+    ensures describes { (graph : Graph) (state : State) (item : ℕ) (t : Transition) →
+        transition_of graph state item ≡ Some t →
+        Describes graph state (step_of graph state item) item t }
 {}
 
 /// The start is reached, and so is what a step leads to from a state that is reached.

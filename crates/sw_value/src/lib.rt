@@ -1,4 +1,6 @@
-//! The state of the actor machine: values, cells, frames, jobs, and what one item of a schedule does to them.
+//! The state of the actor machine: values, cells, frames and jobs, and the definitions of what one
+//! item of a schedule does to them and of races. It knows nothing of schedules' texts, and it takes
+//! no step.
 #![tactic(auto)]
 
 mod beginning;
@@ -8,6 +10,7 @@ mod executor;
 mod frame;
 mod job;
 mod laws;
+mod race;
 mod state;
 mod value;
 
@@ -18,11 +21,9 @@ pub use executor::Executor;
 pub use frame::{Frame, FrameList, NO_REGISTER};
 pub use job::{Job, JobList, MAX_JOBS, Status};
 pub use laws::{
-    machine_numbers, occurrences_tell, small_graphs_never_race, small_graphs_stay_in_bounds,
-    steps_reach,
+    idle_jobs_access_nothing, machine_numbers, runnable_graphs_never_race, states_stay_in_bounds,
+    steps_reach, transitions_describe,
 };
+pub use race::{Access, Place, Race};
 pub use state::{State, TrapKind};
 pub use value::{Line, Value, ValueList, ValueSlots};
-
-#[cfg(test)]
-mod tests;

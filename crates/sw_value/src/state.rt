@@ -2,9 +2,10 @@ ghost use Rattle.std.specs.Prelude.{◌≡◌, OnOk, OnErr, ◌∷◌, []};
 ghost use Rattle.std.specs.Option.{option_copied};
 ghost use Rattle.std.specs.List.{list_any};
 ghost use Rattle.sw_value.specs.declared.cell.HeapCell.TheVariants.{TaskOf};
-ghost use Rattle.sw_value.specs.Frame.{after_instr};
-ghost use Rattle.sw_value.specs.Job.{in_top, as_running, after_wake, after_return, first_job};
-ghost use Rattle.sw_value.specs.State.{in_job, with_job, with_cell, with_halt, runs_on, is_free, result_of};
+ghost use Rattle.sw_value.specs.Frame.{finish_instr};
+ghost use Rattle.sw_value.specs.Job.{in_top, dispatch, wake, leave, new_job};
+ghost use Rattle.sw_value.specs.State.{in_job, add_job, add_cell, halt, runs_on, is_free};
+ghost use Rattle.sw_value.specs.State.{result_of};
 
 use crate::cell::{CellList, HeapCell};
 use crate::executor::Executor;
@@ -35,31 +36,31 @@ pub struct State {
     pub halted: Option<(TrapKind, u32)>,
 }
 
+/// Changes of one job of the state.
+#[tactic(auto, using(crate::proofs::ListLemmas::changes), unfolding(crate::specs::State::in_job))]
 impl State {
     /// Gives a job its executor.
-    #[tactic(auto, using(crate::proofs::ListLemmas::changes), unfolding(crate::specs::State::in_job))]
     pub fn dispatch(&mut self, job: u32)
-        ensures { self.new ≡ in_job as_running job self.old }
+        ensures { self.new ≡ in_job dispatch job self.old }
     {
         if (job as usize) < self.jobs.len() {
-            self.jobs.at_mut(job as usize).start_running();
+            self.jobs.at_mut(job as usize).dispatch();
         }
     }
 
     /// Gives a job the value that it waited for, in a register of its top frame.
-    #[tactic(auto, using(crate::proofs::ListLemmas::changes), unfolding(crate::specs::State::in_job))]
     pub fn wake(&mut self, job: u32, reg: u32, value: Value)
-        ensures { self.new ≡ in_job (after_wake reg value) job self.old }
+        ensures { self.new ≡ in_job (wake reg value) job self.old }
     {
         if (job as usize) < self.jobs.len() {
             self.jobs.at_mut(job as usize).wake(reg, value);
         }
     }
 
-    /// Gives a register of a job's top frame the value of its instruction; the frame goes on at `next`.
-    #[tactic(auto, using(crate::proofs::ListLemmas::changes), unfolding(crate::specs::State::in_job))]
+    /// Gives a register of a job's top frame the value of its instruction; the frame goes on at
+    /// `next`.
     pub fn finish_instr(&mut self, job: u32, reg: u32, value: Value, next: u32)
-        ensures { self.new ≡ in_job (in_top (after_instr reg value next)) job self.old }
+        ensures { self.new ≡ in_job (in_top (finish_instr reg value next)) job self.old }
     {
         if (job as usize) < self.jobs.len() {
             self.jobs
@@ -69,28 +70,30 @@ impl State {
     }
 
     /// Returns a value from a job's top frame.
-    #[tactic(auto, using(crate::proofs::ListLemmas::changes), unfolding(crate::specs::State::in_job))]
     pub fn leave(&mut self, job: u32, value: Value)
-        ensures { self.new ≡ in_job (after_return value) job self.old }
+        ensures { self.new ≡ in_job (leave value) job self.old }
     {
         if (job as usize) < self.jobs.len() {
             self.jobs.at_mut(job as usize).leave(value);
         }
     }
+}
 
+impl State {
     /// Halts the machine.
-    #[tactic(auto, unfolding(crate::specs::State::with_halt))]
+    #[tactic(auto, unfolding(crate::specs::State::halt))]
     pub fn halt(&mut self, kind: TrapKind, at: u32)
-        ensures { self.new ≡ with_halt kind at self.old }
+        ensures { self.new ≡ halt kind at self.old }
     {
         self.halted = Some((kind, at));
     }
 
-    /// Adds a job with one frame, and then the cell of its task. Want of memory adds neither.
-    #[tactic(auto, unfolding(crate::specs::State::with_job, crate::specs::State::with_cell))]
+    /// Adds a job with one frame, and then the cell of its task. Where memory runs out it adds
+    /// neither.
+    #[tactic(auto, unfolding(crate::specs::State::add_job, crate::specs::State::add_cell))]
     pub fn add_task(&mut self, alloc: Global, frame: Frame, job: u32) -> Result<(), AllocError>
         ensures ok { OnOk result
-            (self.new ≡ with_cell (TaskOf job) (with_job (first_job (frame ∷ [])) self.old)) }
+            (self.new ≡ add_cell (TaskOf job) (add_job (new_job (frame ∷ [])) self.old)) }
         ensures err { OnErr result (self.new ≡ self.old) }
     {
         let made = Job::new(alloc, frame)?;
@@ -104,8 +107,8 @@ impl State {
         }
     }
 
-    /// Whether one more job may begin to run on an executor: on the generic one always, on another where no job runs
-    /// on it.
+    /// Whether one more job may begin to run on an executor: on the generic one always, on another
+    /// where no job runs on it.
     pub fn is_free(&self, executor: Executor) -> bool
         ensures { result ≡ is_free executor self.now.jobs }
     {

@@ -1,5 +1,5 @@
 ghost use Rattle.std.specs.Prelude.{◌≡◌, IfOk};
-ghost use Rattle.sw_value.specs.Value.{value_of};
+ghost use Rattle.sw_value.specs.Value.{value_of, reference_of};
 
 use std::alloc::{AllocError, Global};
 use sw_graph::Literal;
@@ -8,7 +8,7 @@ use sw_list::ListOf;
 /// Values in order: the parts of an object, the payload of a case, the captures of a closure.
 pub type ValueList = ListOf<Value>;
 
-/// Places that hold a value or none yet: the registers of a frame, or the globals of a program.
+/// Slots that hold a value or none yet: the registers of a frame, or the globals of a program.
 pub type ValueSlots = ListOf<Option<Value>>;
 
 /// The bytes of a line that is printed.
@@ -41,6 +41,17 @@ impl From<Literal> for Value {
 }
 
 impl Value {
+    /// The cell that the value refers to.
+    pub fn reference(&self) -> Option<u32>
+        ensures { result ≡ reference_of self.now }
+    {
+        match self {
+            Value::Cell(cell) => Some(*cell),
+            Value::Int(_) | Value::Bool(_) | Value::Unit | Value::Group(_) | Value::Case { .. } =>
+                None,
+        }
+    }
+
     /// A copy of the value.
     pub fn copied(&self, alloc: Global) -> Result<Value, AllocError>
         ensures { IfOk result (λ value. value ≡ self.now) }

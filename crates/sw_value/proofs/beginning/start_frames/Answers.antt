@@ -9,4 +9,5 @@ loop-i-preserved c =
     let graph = c.args.graph.now in
     c.in_ok-add_first_frame-2.ensures
     ∙ ap (λ l. l ++ option_to_list (first_frame graph c.at.result.now [])) c.loop-i.invariant
-    ∙ sym (filter_map_reverse_drop (λ f. first_frame graph f []) graph.entry graph.starts (c.loop-i.i - 1) c.loop-i.i c.at.result.now (omega arith) c.at.ensures)
+    ∙ sym (filter_map_reverse_drop (λ f. first_frame graph f []) graph.entry graph.starts
+    (c.loop-i.i - 1) c.loop-i.i c.at.result.now (omega arith) c.at.ensures)

@@ -1,0 +1,25 @@
+-- An element of a list, by index.
+use Rattle.std.proofs.Common.{◌≡◌, ℕ, ◌+◌, zero, suc, List, [], ◌∷◌, ◌++◌, length, Some, subst}
+use Rattle.std.proofs.Common.{zero-add, suc-add, refl}
+use Rattle.std.specs.Prelude.{slice_get}
+use Rattle.std.specs.List.{All}
+use Rattle.std.proofs.lemmas.Option.{slice_get_within, get_or_from_slice_get}
+
+-- what holds of each element holds of the one at an index
+pub at_index : {X : Type 0} (P : X → Type 0) (xs : List X) (k : ℕ) (x : X) → All P xs
+    → slice_get xs k ≡ Some x → P x
+at_index P xs k x all here =
+    subst P (get_or_from_slice_get xs k x x here) (all k x (slice_get_within xs k x here))
+
+-- an element of a prefix
+pub slice_get_before : {A : Type 0} (xs ys : List A) (i : ℕ) (x : A) → slice_get xs i ≡ Some x
+    → slice_get (xs ++ ys) i ≡ Some x
+slice_get_before [] ys i x e = cc
+slice_get_before (y ∷ xs) ys zero x e = e
+slice_get_before (y ∷ xs) ys (suc i) x e = slice_get_before xs ys i x e
+
+-- an element after a prefix
+pub slice_get_after : {A : Type 0} (xs ys : List A) (i : ℕ)
+    → slice_get (xs ++ ys) (length xs + i) ≡ slice_get ys i
+slice_get_after [] ys i = rw zero-add refl
+slice_get_after (x ∷ xs) ys i = rw suc-add (slice_get_after xs ys i)

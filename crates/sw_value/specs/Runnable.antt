@@ -1,0 +1,26 @@
+-- The graphs that the machine runs today: of literals, prints, detached tasks and returns, without
+-- actors.
+use Rattle.std.specs.Prelude.{◌≡◌, All}
+use Rattle.sw_types.specs.declared.isolation.Iso.TheVariants.{Free}
+use Rattle.sw_graph.specs.declared.instr.Instr.TheVariants as instr
+use Rattle.sw_graph.specs.declared.instr.Last.TheVariants as last
+use Rattle.sw_graph.specs.declared.function.Function.{Function}
+use Rattle.sw_graph.specs.declared.graph.Graph.{Graph}
+use Rattle.sw_graph.specs.Points.{Point, Middle, End, points_of, IsNumbered}
+
+-- the machine runs what stands at the point
+abbrev pub IsRunnablePoint : Point → Type 0
+IsRunnablePoint (Middle (instr.Const at r literal)) = Unit {0}
+IsRunnablePoint (Middle (instr.Print at r operands)) = Unit {0}
+IsRunnablePoint (Middle (instr.NewTask at r f captures)) = Unit {0}
+IsRunnablePoint (End (last.Return operand)) = Unit {0}
+IsRunnablePoint _ = ⊥
+
+-- the function is isolated to no actor, the machine runs all its points, and these are numbered
+pub record IsRunnableFunction (function : Function) : Type 0 where
+  pub free : function.iso ≡ Free
+  pub points : All IsRunnablePoint (points_of function.blocks)
+  pub numbered : IsNumbered function
+
+pub record IsRunnable (graph : Graph) : Type 0 where
+  pub functions : All IsRunnableFunction graph.functions
