@@ -1,6 +1,6 @@
 pub mod Apart
+pub mod LineLemmas
 pub mod Numbers
 pub mod Readings
+pub mod ReplayLemmas
 pub mod Turns
-pub mod Watches
-pub mod Runs

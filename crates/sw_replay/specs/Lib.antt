@@ -1,4 +1,4 @@
 pub mod Items
 pub mod Output
 pub mod Reading
-pub mod Watched
+pub mod Replay

@@ -1,40 +1,30 @@
--- What comes of a list of items: the lines that they print, and how the machine stands behind them.
-use Rattle.std.specs.Prelude.{ℕ, Bool, true, false, Option, Some, None, List, [], ◌∷◌, ◌++◌, length, count_by}
+-- What comes of a list of items: the lines that they print, and how the machine stands after them.
+use Rattle.std.specs.Prelude.{ℕ, Bool, true, false, Option, Some, None, List, [], ◌∷◌, ◌++◌, length}
+use Rattle.std.specs.Prelude.{count_by}
 use Rattle.sw_graph.specs.declared.graph.Graph.{Graph}
-use Rattle.sw_value.specs.declared.effect.Effect.TheVariants.{Print}
-use Rattle.sw_value.specs.declared.effect.Act.{Act}
-use Rattle.sw_value.specs.declared.effect.Act.TheVariants.{Execute}
 use Rattle.sw_value.specs.declared.job.Job.{Job}
 use Rattle.sw_value.specs.declared.job.Status.{Status}
 use Rattle.sw_value.specs.declared.job.Status.TheVariants.{Ended}
 use Rattle.sw_value.specs.declared.state.State.{State}
 use Rattle.sw_value.specs.declared.state.TrapKind.{TrapKind}
-use Rattle.sw_value.specs.Happening.{Occurrence, happening}
 use Rattle.sw_value.specs.Start.{start_of}
 use Rattle.sw_value.specs.Reach.{step_of}
 use Rattle.sw_step.specs.declared.event.Event.{Event}
 use Rattle.sw_step.specs.declared.event.Event.TheVariants.{Printed}
+use Rattle.sw_step.specs.Event.{event_of}
 use Rattle.sw_replay.specs.declared.output.End.{End}
 use Rattle.sw_replay.specs.declared.output.End.TheVariants.{Ran, Trapped}
 
--- the line of a Print; whatever else a job does prints nothing
-abbrev pub line_of_act : Act → List ℕ
-line_of_act (Execute (Print r line next)) = line
-line_of_act _ = []
+-- the line of an event: that of a Print, or none
+abbrev pub line_of : Event → List ℕ
+line_of (Printed line) = line
+line_of _ = []
 
-abbrev pub line_of : Option Occurrence → List ℕ
-line_of None = []
-line_of (Some o) = line_of_act o.act
-
--- the same, from the event of the item
-abbrev pub event_line : Event → List ℕ
-event_line (Printed line) = line
-event_line _ = []
-
--- the lines that items print from a state on, one behind the other
+-- the lines that items print from a state on, one after the other
 abbrev pub lines_from : Graph → State → List ℕ → List ℕ
 lines_from graph state [] = []
-lines_from graph state (item ∷ items) = line_of (happening graph state item) ++ lines_from graph (step_of graph state item) items
+lines_from graph state (item ∷ items) =
+    line_of (event_of graph state item) ++ lines_from graph (step_of graph state item) items
 
 -- the lines that a program prints under a list of items
 unfoldable pub lines_of : Graph → List ℕ → List ℕ

@@ -1,5 +1,5 @@
 use sw_step::Line;
-use sw_value::TrapKind;
+use sw_value::{Race, TrapKind};
 
 /// How a replay ends.
 #[derive(Clone, Copy, Debug, PartialEq, Eq)]
@@ -8,12 +8,14 @@ pub enum End {
     Ran,
     /// An instruction halted the machine; `at` is its byte offset in the source.
     Trapped { kind: TrapKind, at: u32 },
+    /// Two jobs were about to race, and the replay stopped.
+    Raced { race: Race },
 }
 
 /// What comes of a schedule.
 #[derive(Debug, Drop)]
 pub struct Replay {
-    /// The printed lines, one behind the other; each ends in a line feed.
+    /// The printed lines, one after the other; each ends in a line feed.
     pub lines: Line,
     pub end: End,
     /// How many jobs have ended.

@@ -17,7 +17,7 @@ use Rattle.sw_graph.specs.declared.function.GlobalKind.{GlobalKind}
 use Rattle.sw_graph.specs.declared.instr.Operand.{Operand}
 use Rattle.sw_types.specs.declared.shape.Shape.{Shape}
 use Rattle.sw_graph.specs.Kinds.{is_printable, layer_is_printable}
-use Rattle.sw_graph.proofs.Facts.{at_place}
+use Rattle.sw_graph.proofs.ListLemmas.{at_index}
 use Rattle.sw_small.specs.declared.tree.Item.{Item}
 use Rattle.sw_small.specs.declared.tree.Item.TheVariants.{Show as Shows, Task}
 use Rattle.sw_small.specs.declared.tree.Show.{Show}
@@ -168,7 +168,7 @@ task_instrs functions function at number registers small inside room task =
         shapes_in = All-nil (λ n. n < 0);
         case_in = tt;
         kinds = λ body here.
-            let plain = at_place IsSmallFunction functions number body small here in
+            let plain = at_index IsSmallFunction functions number body small here in
             record {
               takes = record { count = sym plain.takes; each = λ k operand from to given read expected. cc };
               gives = task ∙ ap (λ ty. Some (Plain (TaskOf ty))) (sym plain.result);

@@ -10,8 +10,8 @@ use Rattle.sw_graph.specs.declared.function.RegKind.{RegKind}
 use Rattle.sw_graph.specs.declared.instr.Instr.{Instr}
 use Rattle.sw_graph.specs.declared.instr.Last.TheVariants as last
 use Rattle.sw_graph.specs.declared.graph.Graph.{Graph}
-use Rattle.sw_value.specs.Point.{Middle, End, points_of}
-use Rattle.sw_value.specs.Small.{IsSmallFunction as Runs, IsSmall as IsRunnable}
+use Rattle.sw_graph.specs.Points.{Middle, End, points_of, IsNumbered}
+use Rattle.sw_value.specs.Runnable.{IsRunnableFunction as Runs, IsRunnable}
 use Rattle.sw_small.specs.declared.lowering.Piece.{Piece}
 use Rattle.sw_small.specs.declared.tree.Item.{Item}
 use Rattle.sw_small.specs.declared.tree.Item.TheVariants.{Show as Shows, Task}
@@ -20,10 +20,6 @@ use Rattle.sw_small.specs.declared.tree.Small.{Small}
 use Rattle.sw_small.specs.Lower.{in_order, function_of, functions_of, show_plan, item_plan, item_size, size_of}
 use Rattle.sw_small.proofs.PlanLoops.{shows_bodies}
 use Rattle.sw_small.proofs.SmallFunctions.{program_small}
-
--- the points of a function have numbers of 32 bits
-abbrev IsNumbered : Function → Type 0
-IsNumbered function = length (points_of function.blocks) < 2 ^ 32
 
 function_numbered : (key : ℕ) (is_async : Bool) (instrs : List Instr) (regs : List RegKind) → length instrs + 1 < 2 ^ 32 → IsNumbered (function_of key is_async instrs regs)
 unfolding points_of
@@ -83,4 +79,4 @@ lowered_runnable program graph functions few = record { functions = subst (All R
   each : All Runs (functions_of program)
   each k d inside =
       let small = program_small program k d inside in
-      record { free = small.iso; small = small.points; numbered = program_numbered program few k d inside }
+      record { free = small.iso; points = small.points; numbered = program_numbered program few k d inside }

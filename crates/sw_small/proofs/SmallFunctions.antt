@@ -8,8 +8,8 @@ use Rattle.sw_types.specs.declared.isolation.Iso.TheVariants.{Free}
 use Rattle.sw_graph.specs.declared.function.Function.{Function}
 use Rattle.sw_graph.specs.declared.instr.Instr.{Instr}
 use Rattle.sw_graph.specs.declared.instr.Last.TheVariants.{Return}
-use Rattle.sw_value.specs.Point.{Middle, End, points_of, points_of_block}
-use Rattle.sw_value.specs.Small.{IsSmallPoint}
+use Rattle.sw_graph.specs.Points.{Middle, End, points_of, points_of_block}
+use Rattle.sw_value.specs.Runnable.{IsRunnablePoint}
 use Rattle.sw_small.specs.declared.lowering.Piece.{Piece}
 use Rattle.sw_small.specs.declared.tree.Item.{Item}
 use Rattle.sw_small.specs.declared.tree.Item.TheVariants.{Show as Shows, Task}
@@ -22,13 +22,13 @@ pub record IsSmallFunction (function : Function) : Type 0 where
   pub iso : function.iso ≡ Free
   pub takes : function.takes ≡ 0
   pub result : function.result ≡ Void
-  pub points : All IsSmallPoint (points_of function.blocks)
+  pub points : All IsRunnablePoint (points_of function.blocks)
 
 abbrev pub AreSmall : List Function → Type 0
 AreSmall functions = All IsSmallFunction functions
 
 abbrev IsSmallInstr : Instr → Type 0
-IsSmallInstr instr = IsSmallPoint (Middle instr)
+IsSmallInstr instr = IsRunnablePoint (Middle instr)
 
 record IsSmallPiece (piece : Piece) : Type 0 where
   instrs : All IsSmallInstr piece.instrs
@@ -51,13 +51,13 @@ in_order_small (plan ∷ plans) each functions registers =
     (in_order_small plans (All-tail IsSmallPlan plan plans each) (functions + length piece.bodies) (registers + length piece.regs))
 
 -- the points of a block that returns nothing
-points_small : (instrs : List Instr) → All IsSmallInstr instrs → All IsSmallPoint (points_of (record { instrs = instrs; last = Return None } ∷ []))
+points_small : (instrs : List Instr) → All IsSmallInstr instrs → All IsRunnablePoint (points_of (record { instrs = instrs; last = Return None } ∷ []))
 unfolding points_of
 points_small instrs small =
-    All-append IsSmallPoint (points_of_block (record { instrs = instrs; last = Return None })) []
-    (All-append IsSmallPoint (map Middle instrs) (End (Return None) ∷ []) (All-map IsSmallPoint Middle instrs small)
-    (All-cons IsSmallPoint (End (Return None)) [] tt (All-nil IsSmallPoint)))
-    (All-nil IsSmallPoint)
+    All-append IsRunnablePoint (points_of_block (record { instrs = instrs; last = Return None })) []
+    (All-append IsRunnablePoint (map Middle instrs) (End (Return None) ∷ []) (All-map IsRunnablePoint Middle instrs small)
+    (All-cons IsRunnablePoint (End (Return None)) [] tt (All-nil IsRunnablePoint)))
+    (All-nil IsRunnablePoint)
 
 function_small : (key : ℕ) (is_async : Bool) (piece : Piece) → IsSmallPiece piece → IsSmallFunction (function_of key is_async piece.instrs piece.regs)
 function_small key is_async piece small = record { iso = refl; takes = refl; result = refl; points = points_small piece.instrs small.instrs }

@@ -1,4 +1,4 @@
--- A job that does nothing accesses nothing.
+-- A job that does nothing accesses nothing, and an access names its job.
 use Rattle.std.proofs.Common.{◌≡◌, ℕ, Bool, true, false, cond, Option, Some, None, length, refl, ap}
 use Rattle.std.proofs.Common.{sym, ◌∙◌}
 use Rattle.std.specs.Prelude.{option_and_then, is_some}
@@ -18,7 +18,13 @@ use Rattle.sw_value.specs.Job.{top_frame, is_running_status, is_running}
 use Rattle.sw_value.specs.Frame.{point_at}
 use Rattle.sw_value.specs.Effect.{is_stuck, effect_of}
 use Rattle.sw_value.specs.Act.{execution_of, act_by, act_of}
-use Rattle.sw_value.specs.Access.{point_access, frame_access, job_access, next_access}
+use Rattle.sw_graph.specs.declared.instr.Instr.{Instr}
+use Rattle.sw_graph.specs.declared.instr.Instr.TheVariants as instr
+use Rattle.sw_graph.specs.Points.{Point, Middle, End}
+use Rattle.sw_value.specs.declared.race.Place.{Place}
+use Rattle.sw_value.proofs.ListLemmas.{some_injective}
+use Rattle.sw_value.specs.Access.{reference_at, box_at, part_at, global_at, read_by, write_by}
+use Rattle.sw_value.specs.Access.{access_of, point_access, frame_access, job_access, next_access}
 
 -- only an effect that is stuck is not executed
 stuck_where_idle : (e : Effect) → execution_of e ≡ None → is_stuck e ≡ true
@@ -70,3 +76,74 @@ idle_accesses_nothing graph state j = by_halt (is_some state.halted) where
       → cond b None (option_and_then (job_access graph state j) (slice_get state.jobs j)) ≡ None
   by_halt true h = refl
   by_halt false h = by_job (slice_get state.jobs j) h
+
+-- an access of job j names job j
+Names : ℕ → Option Access → Type 0
+Names j o = (a : Access) → o ≡ Some a → a.job ≡ j
+
+names_none : (j : ℕ) → Names j None
+unfolding Names
+names_none j a h = cc
+
+names_map : (j : ℕ) (f : Place → Access) → ((p : Place) → (f p).job ≡ j) → (o : Option Place)
+    → Names j (option_map f o)
+unfolding Names
+names_map j f names None a h = cc
+names_map j f names (Some p) a h = sym (ap (λ x. x.job) (some_injective h)) ∙ names p
+
+instr_names : (graph : Graph) (state : State) (j : ℕ) (frame : Frame) (i : Instr)
+    → Names j (access_of graph state j frame i)
+instr_names graph state j frame (instr.LoadBox at r b) =
+    names_map j (read_by j at) (λ p. refl) (option_and_then (box_at state) (reference_at frame b))
+instr_names graph state j frame (instr.StoreBox at b s) =
+    names_map j (write_by j at) (λ p. refl) (option_and_then (box_at state) (reference_at frame b))
+instr_names graph state j frame (instr.LoadProp at r o i) =
+    names_map j (read_by j at) (λ p. refl)
+    (option_and_then (part_at graph state i) (reference_at frame o))
+instr_names graph state j frame (instr.StoreProp at o i s) =
+    names_map j (write_by j at) (λ p. refl)
+    (option_and_then (part_at graph state i) (reference_at frame o))
+instr_names graph state j frame (instr.LoadGlobal at r g) =
+    names_map j (read_by j at) (λ p. refl) (global_at graph g)
+instr_names graph state j frame (instr.StoreGlobal at g s) =
+    names_map j (write_by j at) (λ p. refl) (global_at graph g)
+instr_names graph state j frame _ = names_none j
+
+names_and_then : {A : Type 0} (j : ℕ) (f : A → Option Access) → ((x : A) → Names j (f x))
+    → (o : Option A) → Names j (option_and_then f o)
+names_and_then j f names None = names_none j
+names_and_then j f names (Some x) = names x
+
+names_unless : (j : ℕ) (b : Bool) (o : Option Access) → Names j o → Names j (cond b None o)
+names_unless j true o names = names_none j
+names_unless j false o names = names
+
+names_if : (j : ℕ) (b : Bool) (o : Option Access) → Names j o → Names j (cond b o None)
+names_if j true o names = names
+names_if j false o names = names_none j
+
+point_names : (graph : Graph) (state : State) (j : ℕ) (frame : Frame) (p : Point)
+    → Names j (point_access graph state j frame p)
+point_names graph state j frame (Middle i) = instr_names graph state j frame i
+point_names graph state j frame (End l) = names_none j
+
+frame_names : (graph : Graph) (state : State) (j depth : ℕ) (frame : Frame)
+    → Names j (frame_access graph state j depth frame)
+unfolding frame_access
+frame_names graph state j depth frame =
+    names_unless j (is_stuck (effect_of graph state depth frame))
+    (option_and_then (point_access graph state j frame) (point_at graph frame))
+    (names_and_then j (point_access graph state j frame) (point_names graph state j frame)
+    (point_at graph frame))
+
+pub next_names_its_job : (graph : Graph) (state : State) (j : ℕ) (a : Access)
+    → next_access graph state j ≡ Some a → a.job ≡ j
+unfolding next_access Names
+next_names_its_job graph state j =
+    names_unless j (is_some state.halted)
+    (option_and_then (job_access graph state j) (slice_get state.jobs j))
+    (names_and_then j (job_access graph state j)
+    (λ job. names_if j (is_running job)
+    (option_and_then (frame_access graph state j (length job.frames)) (top_frame job))
+    (names_and_then j (frame_access graph state j (length job.frames))
+    (frame_names graph state j (length job.frames)) (top_frame job))) (slice_get state.jobs j))

@@ -1,9 +1,11 @@
-ghost use Rattle.std.specs.Prelude.{◌≡◌, ℕ, ◌≤◌, Some, None, List, length};
+ghost use Rattle.std.specs.Prelude.{◌≡◌, ℕ, ◌≤◌, ◌⊎◌, Some, None, List, length};
 ghost use Rattle.sw_graph.specs.declared.graph.Graph.{Graph};
+ghost use Rattle.sw_value.specs.declared.race.Access.{Access};
+ghost use Rattle.sw_value.specs.declared.race.Race.{Race};
 ghost use Rattle.sw_value.specs.declared.state.State.{State};
 ghost use Rattle.sw_value.specs.Access.{next_access};
 ghost use Rattle.sw_value.specs.Act.{act_of};
-ghost use Rattle.sw_value.specs.Racing.{Racing};
+ghost use Rattle.sw_value.specs.Racing.{Racing, IsLeastRace};
 ghost use Rattle.sw_value.specs.Reach.{step_of, reach, Reached};
 ghost use Rattle.sw_value.specs.Runnable.{IsRunnable};
 ghost use Rattle.sw_value.specs.Start.{start_of};
@@ -32,6 +34,17 @@ pub fn states_stay_in_bounds()
 pub fn idle_jobs_access_nothing()
     ensures idle { (graph : Graph) (state : State) (job : ℕ) →
         act_of graph state job ≡ None → next_access graph state job ≡ None }
+{}
+
+/// Every state has a least race, or no two of its jobs race. It has one least race, and an access
+/// that a job makes names that job.
+pub fn races_are_decided()
+    ensures decided { (graph : Graph) (state : State) →
+        ((race : Race) × IsLeastRace graph state race) ⊎ (Racing graph state → ⊥) }
+    ensures one { (graph : Graph) (state : State) (a b : Race) →
+        IsLeastRace graph state a → IsLeastRace graph state b → a ≡ b }
+    ensures named { (graph : Graph) (state : State) (job : ℕ) (access : Access) →
+        next_access graph state job ≡ Some access → access.job ≡ job }
 {}
 
 /// The transition of an item says what its step changes.

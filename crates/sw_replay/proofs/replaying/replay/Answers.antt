@@ -1,9 +1,11 @@
-use Rattle.sw_replay.specs.Watched.{runs}
-use Rattle.sw_replay.proofs.Watches.{never_racing}
+use Rattle.std.proofs.Common.{sym, subst, ap, ◌∙◌}
+use Rattle.sw_replay.specs.Replay.{whole_replay, IsReplay}
+use Rattle.sw_replay.proofs.ReplayLemmas.{runnable_whole}
 use Rattle.sw_replay.proofs.replaying.replay.Goals as goal
 
-pub returns-clause-no_race : goal.returns-clause-no_race
-returns-clause-no_race c = never_racing c.args.graph.now c.args.schedule.now c.requires
-
-pub returns-clause-watched : goal.returns-clause-watched
-returns-clause-watched c = runs c.args.graph.now c.args.schedule.now (never_racing c.args.graph.now c.args.schedule.now c.requires)
+pub returns : goal.returns
+returns c =
+    let items = c.as_slice.ensures ∙ c.items.ensures.value in
+    subst (IsReplay c.args.graph.now c.args.schedule.now)
+    (sym (c.in_ok-replay.ensures ∙ ap (whole_replay c.args.graph.now) items))
+    (runnable_whole c.args.graph.now c.requires c.args.schedule.now)
