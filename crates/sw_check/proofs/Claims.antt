@@ -6,7 +6,10 @@ use Rattle.sw_value.specs.Reach.{reach}
 use Rattle.sw_replay.specs.declared.output.End.{End}
 use Rattle.sw_replay.specs.declared.output.End.TheVariants as ends
 use Rattle.sw_replay.specs.Items.{IsItems}
-use Rattle.sw_replay.specs.Output.{end_of}
+use Rattle.sw_replay.specs.Output.{end_by, end_of}
+use Rattle.sw_value.specs.declared.race.Race.{Race}
+use Rattle.sw_value.specs.declared.state.State.{State}
+use Rattle.sw_value.specs.declared.state.TrapKind.{TrapKind}
 use Rattle.sw_graph.specs.declared.graph.Graph.{Graph}
 use Rattle.sw_check.specs.declared.exit.Exit.TheVariants.{Done, Breached, Usage, Raced}
 use Rattle.sw_check.specs.declared.outcome.Outcome.{Outcome}
@@ -41,6 +44,13 @@ says_verdict : (file text schedule : List ℕ) (verdict : Verdict) → length te
 says_verdict file text schedule (Accepted program) short is = (never text program short is, tt)
 says_verdict file text schedule (Refused breach) short is = (breach, is)
 
+-- a state does not tell of a race
+end_not_raced : (state : State) (race : Race) → end_of state ≡ ends.Raced race → ⊥
+end_not_raced state race = by state.halted where
+  by : (o : Option (TrapKind × ℕ)) → end_by o ≡ ends.Raced race → ⊥
+  by None h = cc
+  by (Some trap) h = cc
+
 says_end : (file schedule_file text schedule : List ℕ) (program : Small) (graph : Graph) (items lines : List ℕ) (ended jobs : ℕ) (end : End) → length text ≤ PROGRAM_LIMIT → IsProgram text program → IsLowered program graph → IsItems schedule items → end_of (reach graph items) ≡ end → Says (Some (Run file schedule_file)) text schedule (ended_outcome text lines ended jobs end).exit
 says_end file schedule_file text schedule program graph items lines ended jobs ends.Ran short is lowered are ends = (
   never text program short is,
@@ -67,6 +77,8 @@ says_end file schedule_file text schedule program graph items lines ended jobs (
     ends = ends;
   },
 )
+
+says_end file schedule_file text schedule program graph items lines ended jobs (ends.Raced race) short is lowered are ends = absurd (end_not_raced (reach graph items) race ends)
 
 says_run : (file schedule_file text schedule : List ℕ) (program : Small) (outcome : Outcome) → length text ≤ PROGRAM_LIMIT → IsProgram text program → IsRunReply text program schedule outcome → Says (Some (Run file schedule_file)) text schedule outcome.exit
 says_run file schedule_file text schedule program outcome short is (bad_schedule fault place) = ((program, is), fault, place)

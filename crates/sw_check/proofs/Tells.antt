@@ -2,7 +2,7 @@
 use Rattle.std.proofs.Common.{◌≡◌, true, false, ℕ, List, [], ◌++◌, Option, Some, None, option_map, refl, sym, ap, ◌∙◌, append-nil}
 use Rattle.sw_outside.specs.Shelf.{Known}
 use Rattle.sw_replay.specs.declared.output.End.{End}
-use Rattle.sw_replay.specs.declared.output.End.TheVariants.{Ran, Trapped}
+use Rattle.sw_replay.specs.declared.output.End.TheVariants.{Ran, Trapped, Raced}
 use Rattle.sw_check.specs.declared.outcome.Outcome.{Outcome}
 use Rattle.sw_small.specs.declared.tree.Small.{Small}
 use Rattle.sw_check.specs.declared.verdict.Verdict.{Verdict}
@@ -19,6 +19,7 @@ verdict_tells_none text (Refused breach) = refl
 end_tells_none : (text lines : List ℕ) (ended jobs : ℕ) (end : End) → is_failure (ended_outcome text lines ended jobs end).exit ≡ false
 end_tells_none text lines ended jobs Ran = refl
 end_tells_none text lines ended jobs (Trapped kind at) = refl
+end_tells_none text lines ended jobs (Raced race) = refl
 
 run_tells_none : (text : List ℕ) (program : Small) (schedule : List ℕ) (outcome : Outcome) → IsRunReply text program schedule outcome → is_failure outcome.exit ≡ false
 run_tells_none text program schedule outcome (bad_schedule fault place) = refl
@@ -39,6 +40,7 @@ verdict_silent text (Refused breach) silent = cc
 end_silent : (text lines : List ℕ) (ended jobs : ℕ) (end : End) → is_silent (ended_outcome text lines ended jobs end).exit ≡ true → (ended_outcome text lines ended jobs end).bytes ≡ []
 end_silent text lines ended jobs Ran silent = cc
 end_silent text lines ended jobs (Trapped kind at) silent = cc
+end_silent text lines ended jobs (Raced race) silent = cc
 
 run_silent : (text : List ℕ) (program : Small) (schedule : List ℕ) (outcome : Outcome) → IsRunReply text program schedule outcome → is_silent outcome.exit ≡ true → outcome.bytes ≡ []
 run_silent text program schedule outcome (bad_schedule fault place) silent = cc

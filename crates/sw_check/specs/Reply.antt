@@ -8,7 +8,7 @@ use Rattle.sw_replay.specs.declared.text.SchedFault.{SchedFault}
 use Rattle.sw_replay.specs.Items.{IsItems, IsBadPlace}
 use Rattle.sw_replay.specs.Output.{lines_of, ended_in, jobs_in, end_of}
 use Rattle.sw_replay.specs.declared.output.End.{End}
-use Rattle.sw_replay.specs.declared.output.End.TheVariants.{Ran, Trapped}
+use Rattle.sw_replay.specs.declared.output.End.TheVariants.{Ran, Trapped, Raced}
 use Rattle.sw_check.specs.declared.exit.Exit.TheVariants as exits
 use Rattle.sw_check.specs.declared.outcome.Outcome.{Outcome}
 use Rattle.sw_check.specs.declared.TheConstants.{PROGRAM_LIMIT}
@@ -48,6 +48,8 @@ check_outcome text (Refused breach) = refusal text breach
 abbrev pub ended_outcome : List ℕ → List ℕ → ℕ → ℕ → End → Outcome
 ended_outcome text lines ended jobs Ran = record { exit = exits.Done; bytes = lines ++ summary ended jobs }
 ended_outcome text lines ended jobs (Trapped kind at) = record { exit = exits.Trapped; bytes = lines ++ trap_line text kind at }
+-- no race comes: `never_raced`
+ended_outcome text lines ended jobs (Raced race) = record { exit = exits.Raced; bytes = lines }
 
 -- the machine's output after the items
 abbrev pub run_outcome : List ℕ → Graph → List ℕ → Outcome

@@ -42,6 +42,10 @@ fn ended(alloc: Global, text: &[u8], replay: Replay) -> Result<Outcome, AllocErr
             let last = trap_line(alloc, text, kind, at)?;
             with_last_line(Exit::Trapped, printed, last.as_str())
         }
+        End::Raced { .. } => Ok(Outcome {
+            exit: Exit::Raced,
+            bytes: printed,
+        }),
     }
 }
 

@@ -1,2 +1,1 @@
-mod replays;
 mod schedules;
