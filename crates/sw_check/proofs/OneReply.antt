@@ -5,10 +5,10 @@ use Rattle.sw_value.specs.Reach.{reach}
 use Rattle.sw_replay.specs.declared.text.TheConstants.{SCHEDULE_LIMIT}
 use Rattle.sw_replay.specs.declared.text.SchedFault.{SchedFault}
 use Rattle.sw_replay.specs.declared.output.End.{End}
-use Rattle.sw_replay.specs.Items.{IsReading}
+use Rattle.sw_replay.specs.Items.{HasItems}
 use Rattle.sw_replay.specs.Output.{end_of}
-use Rattle.sw_replay.specs.Reading.{reading}
-use Rattle.sw_replay.proofs.Readings.{reading-IsReading, one_list, one_place, never_both as list_or_place}
+use Rattle.sw_replay.specs.Reading.{items_or_fault}
+use Rattle.sw_replay.proofs.ScheduleLaws.{items_or_fault-HasItems, one_list, one_fault, never_both as list_or_fault}
 use Rattle.sw_check.specs.declared.exit.Exit.TheVariants as exits
 use Rattle.sw_check.specs.declared.outcome.Outcome.{Outcome}
 use Rattle.sw_check.specs.declared.TheConstants.{PROGRAM_LIMIT}
@@ -26,8 +26,8 @@ use Rattle.sw_check.proofs.Verdicts.{some_verdict, one_verdict, one_small, one_b
 
 -- a replay answers something
 some_run_reply : (text : List ℕ) (program : Small) (schedule : List ℕ) → (outcome : Outcome) × IsRunReply text program schedule outcome
-some_run_reply text program schedule = by (reading schedule) (reading-IsReading schedule) where
-  by : (read : Result (List ℕ) SchedFault) → IsReading schedule read → (outcome : Outcome) × IsRunReply text program schedule outcome
+some_run_reply text program schedule = by (items_or_fault schedule) (items_or_fault-HasItems schedule) where
+  by : (read : Result (List ℕ) SchedFault) → HasItems schedule read → (outcome : Outcome) × IsRunReply text program schedule outcome
   by (Err fault) bad = (_, bad_schedule fault bad)
   by (Ok items) are = let (graph, lowered) = some_graph program in (run_outcome text graph items, ran graph items lowered are)
 
@@ -60,9 +60,9 @@ one_end text schedule a b is_a is_b =
 
 one_run_reply : (text : List ℕ) (program : Small) (schedule : List ℕ) (a b : Outcome) → IsRunReply text program schedule a → IsRunReply text program schedule b → a ≡ b
 one_run_reply text program schedule _ _ (bad_schedule fault bad) (bad_schedule fault' bad') =
-    ap (λ fault. record { exit = exits.BadSchedule; bytes = schedule_line schedule fault }) (one_place schedule fault fault' bad bad')
-one_run_reply text program schedule _ _ (bad_schedule fault bad) (ran graph items lowered are) = absurd (list_or_place schedule items fault are bad)
-one_run_reply text program schedule _ _ (ran graph items lowered are) (bad_schedule fault bad) = absurd (list_or_place schedule items fault are bad)
+    ap (λ fault. record { exit = exits.BadSchedule; bytes = schedule_line schedule fault }) (one_fault schedule fault fault' bad bad')
+one_run_reply text program schedule _ _ (bad_schedule fault bad) (ran graph items lowered are) = absurd (list_or_fault schedule items fault are bad)
+one_run_reply text program schedule _ _ (ran graph items lowered are) (bad_schedule fault bad) = absurd (list_or_fault schedule items fault are bad)
 one_run_reply text program schedule _ _ (ran graph items lowered are) (ran graph' items' lowered' are') =
     ap₂ (run_outcome text) (one_graph program graph graph' lowered lowered') (one_list schedule items items' are are')
 

@@ -1,7 +1,7 @@
 -- A program is no larger than its text.
 use Rattle.std.proofs.Common.{ℕ, ◌^◌, ◌<◌, ◌≤◌, List, length, arith}
 use Rattle.std.proofs.lemmas.List.{length-map}
-use Rattle.sw_token.proofs.Laws.{IsTokens-few}
+use Rattle.sw_token.proofs.TokenLaws.{IsTokens-few}
 use Rattle.sw_small.specs.declared.tree.Small.{Small}
 use Rattle.sw_small.specs.Lower.{size_of}
 use Rattle.sw_small.specs.Spelling.{spelled, spelling_of}

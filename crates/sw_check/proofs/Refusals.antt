@@ -6,7 +6,7 @@ use Rattle.std.specs.Str.Lossy.{utf8_valid_len}
 use Rattle.sw_token.specs.declared.Token.{Token}
 use Rattle.sw_token.specs.declared.LexFault.{LexFault}
 use Rattle.sw_token.specs.declared.LexFault.TheVariants.{Memory}
-use Rattle.sw_token.specs.Tokens.{IsTokens, IsLexicalPlace}
+use Rattle.sw_token.specs.Tokens.{IsTokens, IsLexicalFault}
 use Rattle.sw_check.specs.Breach.{unexpected_token, not_one_entry}
 use Rattle.sw_check.specs.declared.verdict.Verdict.{Verdict}
 use Rattle.sw_check.specs.declared.verdict.Verdict.TheVariants.{Refused}
@@ -20,7 +20,7 @@ refused_bytes text at verdict why is =
     subst (IsVerdict text) (sym (is ∙ ap (λ at. Refused (record { code = unexpected_token; at = at })) why.1)) (not_utf8 why.0)
 
 -- a byte that no token takes
-pub refused_byte : (text : List ℕ) (fault : LexFault) → IsUtf8 text → (fault ≢ Memory → IsLexicalPlace text fault) → (answer : Result Verdict AllocError) → OnOk answer (fault ≢ Memory) → IfOk answer (λ verdict. verdict ≡ Refused (record { code = unexpected_token; at = lexical_place fault })) → IfOk answer (IsVerdict text)
+pub refused_byte : (text : List ℕ) (fault : LexFault) → IsUtf8 text → (fault ≢ Memory → IsLexicalFault text fault) → (answer : Result Verdict AllocError) → OnOk answer (fault ≢ Memory) → IfOk answer (λ verdict. verdict ≡ Refused (record { code = unexpected_token; at = lexical_place fault })) → IfOk answer (IsVerdict text)
 refused_byte text fault utf8 place (Ok verdict) lexical is = subst (IsVerdict text) (sym is) (no_token fault utf8 (place lexical))
 refused_byte text fault utf8 place (Err none) lexical is = tt
 

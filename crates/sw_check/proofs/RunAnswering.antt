@@ -9,7 +9,7 @@ use Rattle.sw_replay.specs.declared.text.TheConstants.{SCHEDULE_LIMIT}
 use Rattle.sw_replay.specs.declared.text.SchedFault.{SchedFault}
 use Rattle.sw_replay.specs.declared.text.SchedFault.TheVariants.{Memory}
 use Rattle.sw_replay.specs.declared.output.End.{End}
-use Rattle.sw_replay.specs.Items.{IsItems, IsBadPlace}
+use Rattle.sw_replay.specs.Items.{IsItems, IsFirstFault}
 use Rattle.sw_replay.specs.Output.{lines_of, end_of, ended_in, jobs_in}
 use Rattle.sw_check.specs.declared.exit.Exit.TheVariants as exits
 use Rattle.sw_check.specs.declared.no_reply.NoReply.{NoReply}
@@ -208,6 +208,6 @@ replay_told text program schedule graph items lines ended jobs end (Ok outcome) 
 replay_told text program schedule graph items lines ended jobs end (Err none) lowered are lines_are end_is ended_is jobs_is known = tt
 
 -- a schedule that is wrong
-pub bad_schedule_told : (text : List ℕ) (program : Small) (schedule : List ℕ) (fault : SchedFault) (answer : Result Outcome AllocError) → (fault ≢ Memory → IsBadPlace schedule fault) → OnOk answer (fault ≢ Memory) → IfOk answer (λ outcome. outcome ≡ record { exit = exits.BadSchedule; bytes = schedule_line schedule fault }) → IfOk answer (IsRunReply text program schedule)
+pub bad_schedule_told : (text : List ℕ) (program : Small) (schedule : List ℕ) (fault : SchedFault) (answer : Result Outcome AllocError) → (fault ≢ Memory → IsFirstFault schedule fault) → OnOk answer (fault ≢ Memory) → IfOk answer (λ outcome. outcome ≡ record { exit = exits.BadSchedule; bytes = schedule_line schedule fault }) → IfOk answer (IsRunReply text program schedule)
 bad_schedule_told text program schedule fault (Ok outcome) place named known = subst (IsRunReply text program schedule) (sym known) (bad_schedule fault (place named))
 bad_schedule_told text program schedule fault (Err none) place named known = tt

@@ -6,9 +6,9 @@ use Rattle.std.specs.Str.Lossy.{utf8_valid_len}
 use Rattle.std.proofs.lemmas.Str.{IsUtf8-from_is_utf8, is_utf8-from_IsUtf8}
 use Rattle.sw_token.specs.declared.Token.{Token}
 use Rattle.sw_token.specs.declared.LexFault.{LexFault}
-use Rattle.sw_token.specs.Tokens.{IsTokens, IsReading}
-use Rattle.sw_token.specs.Reading.{reading}
-use Rattle.sw_token.proofs.Readings.{reading-IsTokens, reading-IsLexicalPlace, reading-IsReading}
+use Rattle.sw_token.specs.Tokens.{IsTokens, HasTokens}
+use Rattle.sw_token.specs.Reading.{tokens_or_fault}
+use Rattle.sw_token.proofs.TokenLaws.{tokens_or_fault-IsTokens, tokens_or_fault-IsLexicalFault, tokens_or_fault-HasTokens}
 use Rattle.sw_check.specs.declared.breach.Breach.{Breach}
 use Rattle.sw_check.specs.Breach.{unexpected_token, not_one_entry}
 use Rattle.sw_small.specs.declared.tree.Small.{Small}
@@ -38,7 +38,7 @@ verdict_of_tokens text (Ok (token ∷ tokens)) = verdict_of_parse text (token �
 
 -- the verdict as a function of the text
 abbrev verdict_of : List ℕ → Verdict
-verdict_of text = cond (is_utf8 text) (verdict_of_tokens text (reading text)) (unexpected (utf8_valid_len text))
+verdict_of text = cond (is_utf8 text) (verdict_of_tokens text (tokens_or_fault text)) (unexpected (utf8_valid_len text))
 
 -- a text that isn't UTF-8
 not_text : (text : List ℕ) → ¬ (IsUtf8 text) → is_utf8 text ≡ false
@@ -48,8 +48,8 @@ not_text text not = decided (is_utf8 text) refl where
   decided false is = is
 
 -- the verdict on a text that is UTF-8
-of_text : (text : List ℕ) → IsUtf8 text → verdict_of text ≡ verdict_of_tokens text (reading text)
-of_text text utf8 = ap (λ test. cond test (verdict_of_tokens text (reading text)) (unexpected (utf8_valid_len text))) (is_utf8-from_IsUtf8 text utf8)
+of_text : (text : List ℕ) → IsUtf8 text → verdict_of text ≡ verdict_of_tokens text (tokens_or_fault text)
+of_text text utf8 = ap (λ test. cond test (verdict_of_tokens text (tokens_or_fault text)) (unexpected (utf8_valid_len text))) (is_utf8-from_IsUtf8 text utf8)
 
 -- the verdict on the tokens of a text, of which there is one at least
 of_tokens : (text : List ℕ) (tokens : List Token) → tokens ≢ [] → verdict_of_tokens text (Ok tokens) ≡ verdict_of_parse text tokens (whole (spelling_of text tokens))
@@ -67,11 +67,11 @@ of_place text tokens before are place = by (whole (spelling_of text tokens)) ref
 
 -- a verdict is the function's
 breach_is : (text : List ℕ) (breach : Breach) → IsFirstBreach text breach → Refused breach ≡ verdict_of text
-breach_is text breach (not_utf8 not) = ap (λ test. cond test (verdict_of_tokens text (reading text)) (unexpected (utf8_valid_len text))) (sym (not_text text not))
-breach_is text breach (no_token fault utf8 place) = sym (of_text text utf8 ∙ ap (verdict_of_tokens text) (reading-IsLexicalPlace text fault place))
+breach_is text breach (not_utf8 not) = ap (λ test. cond test (verdict_of_tokens text (tokens_or_fault text)) (unexpected (utf8_valid_len text))) (sym (not_text text not))
+breach_is text breach (no_token fault utf8 place) = sym (of_text text utf8 ∙ ap (verdict_of_tokens text) (tokens_or_fault-IsLexicalFault text fault place))
 breach_is text breach (not_spelled tokens before utf8 are some place) =
-    sym (of_text text utf8 ∙ ap (verdict_of_tokens text) (reading-IsTokens text tokens are) ∙ of_tokens text tokens some ∙ of_place text tokens before are place)
-breach_is text breach (no_entry utf8 none) = sym (of_text text utf8 ∙ ap (verdict_of_tokens text) (reading-IsTokens text [] none))
+    sym (of_text text utf8 ∙ ap (verdict_of_tokens text) (tokens_or_fault-IsTokens text tokens are) ∙ of_tokens text tokens some ∙ of_place text tokens before are place)
+breach_is text breach (no_entry utf8 none) = sym (of_text text utf8 ∙ ap (verdict_of_tokens text) (tokens_or_fault-IsTokens text [] none))
 
 has_tokens : (program : Small) (tokens : List Spelled) → SpellsSmall program tokens → 0 < length tokens
 has_tokens program tokens (small _ _ _ _ _ _ _ _ _ _ _ _ _ _ _ _ _ _ _ _ _ _ _ _ _ _ _ _ _ _ _ _ _) = omega arith
@@ -83,7 +83,7 @@ some_tokens text tokens program spells none =
 
 program_is : (text : List ℕ) (program : Small) → IsProgram text program → Accepted program ≡ verdict_of text
 program_is text program is =
-    sym (of_text text is.utf8 ∙ ap (verdict_of_tokens text) (reading-IsTokens text is.tokens is.are_tokens)
+    sym (of_text text is.utf8 ∙ ap (verdict_of_tokens text) (tokens_or_fault-IsTokens text is.tokens is.are_tokens)
     ∙ of_tokens text is.tokens (some_tokens text is.tokens program is.spells)
     ∙ ap (verdict_of_parse text is.tokens) (only_small program (spelling_of text is.tokens) is.spells))
 
@@ -104,14 +104,14 @@ some_verdict text = by_test (is_utf8 text) refl where
   by_parse utf8 tokens are some (Err left) is =
       (Refused _, not_spelled tokens _ utf8 are some (read_place (spelling_of text tokens) (tokens_spelled text tokens are) left is))
 
-  by_tokens : IsUtf8 text → (read : Result (List Token) LexFault) → IsReading text read → (verdict : Verdict) × IsVerdict text verdict
+  by_tokens : IsUtf8 text → (read : Result (List Token) LexFault) → HasTokens text read → (verdict : Verdict) × IsVerdict text verdict
   by_tokens utf8 (Err fault) place = (Refused _, no_token fault utf8 place)
   by_tokens utf8 (Ok []) are = (Refused _, no_entry utf8 are)
   by_tokens utf8 (Ok (token ∷ tokens)) are = by_parse utf8 (token ∷ tokens) are (λ e. cc) (whole (spelling_of text (token ∷ tokens))) refl
 
   by_test : (test : Bool) → is_utf8 text ≡ test → (verdict : Verdict) × IsVerdict text verdict
   by_test false is = (Refused _, not_utf8 (λ utf8. cc (is_utf8-from_IsUtf8 text utf8, is)))
-  by_test true is = by_tokens (IsUtf8-from_is_utf8 text is) (reading text) (reading-IsReading text)
+  by_test true is = by_tokens (IsUtf8-from_is_utf8 text is) (tokens_or_fault text) (tokens_or_fault-HasTokens text)
 
 -- every text is accepted or refused
 pub decided : (text : List ℕ) → Accepts text ⊎ Refuses text

@@ -8,7 +8,7 @@ use Rattle.sw_replay.specs.declared.text.TheConstants.{SCHEDULE_LIMIT}
 use Rattle.sw_replay.specs.declared.text.SchedFault.{SchedFault}
 use Rattle.sw_replay.specs.declared.output.End.{End}
 use Rattle.sw_replay.specs.declared.output.End.TheVariants as ends
-use Rattle.sw_replay.specs.Items.{IsItems, IsBadPlace}
+use Rattle.sw_replay.specs.Items.{IsItems, IsFirstFault}
 use Rattle.sw_replay.specs.Output.{end_of}
 use Rattle.sw_check.specs.declared.TheConstants.{PROGRAM_LIMIT}
 use Rattle.sw_check.specs.declared.exit.Exit.{Exit}
@@ -50,7 +50,7 @@ Says command program schedule Breached = Refuses program
 Says command program schedule Usage = command ≡ None
 Says command program schedule TooLong = (PROGRAM_LIMIT < length program) ⊎ (Accepts program × (SCHEDULE_LIMIT < length schedule))
 Says command program schedule Trapped = (kind : TrapKind) × (at : ℕ) × EndsSo (ends.Trapped kind at) program schedule
-Says command program schedule BadSchedule = Accepts program × (fault : SchedFault) × IsBadPlace schedule fault
+Says command program schedule BadSchedule = Accepts program × (fault : SchedFault) × IsFirstFault schedule fault
 -- no race comes
 Says command program schedule Raced = ⊥
 Says command program schedule NotRead = ⊥

@@ -5,7 +5,7 @@ use Rattle.sw_value.specs.declared.state.TrapKind.{TrapKind}
 use Rattle.sw_value.specs.declared.state.TrapKind.TheVariants.{Overflow, ZeroDivisor, Frames, Jobs}
 use Rattle.sw_replay.specs.declared.text.SchedFault.{SchedFault}
 use Rattle.sw_replay.specs.declared.text.SchedFault.TheVariants.{BadItem, TooBig, TooMany, Memory}
-use Rattle.sw_replay.specs.Items.{place_of}
+use Rattle.sw_replay.specs.Items.{position_of}
 use Rattle.sw_check.specs.Breach.{line_feed, place}
 
 -- `done D of J jobs`: how many jobs have ended, of how many there are
@@ -32,4 +32,4 @@ schedule_text Memory = codes "out of memory"
 
 -- `LINE:COLUMN: schedule: TEXT`
 unfoldable pub schedule_line : List ℕ → SchedFault → List ℕ
-schedule_line text fault = place text (place_of fault) ++ (codes ": schedule: " ++ (schedule_text fault ++ line_feed))
+schedule_line text fault = place text (position_of fault) ++ (codes ": schedule: " ++ (schedule_text fault ++ line_feed))

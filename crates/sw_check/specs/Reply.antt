@@ -5,7 +5,7 @@ use Rattle.sw_graph.specs.declared.graph.Graph.{Graph}
 use Rattle.sw_value.specs.Reach.{reach}
 use Rattle.sw_replay.specs.declared.text.TheConstants.{SCHEDULE_LIMIT}
 use Rattle.sw_replay.specs.declared.text.SchedFault.{SchedFault}
-use Rattle.sw_replay.specs.Items.{IsItems, IsBadPlace}
+use Rattle.sw_replay.specs.Items.{IsItems, IsFirstFault}
 use Rattle.sw_replay.specs.Output.{lines_of, ended_in, jobs_in, end_of}
 use Rattle.sw_replay.specs.declared.output.End.{End}
 use Rattle.sw_replay.specs.declared.output.End.TheVariants.{Ran, Trapped, Raced}
@@ -65,7 +65,7 @@ pub record IsCheckReply (text : List ℕ) (outcome : Outcome) : Type 0 where
 
 -- what `run` answers over a program that may be built and the text of a schedule
 pub data IsRunReply (text : List ℕ) (program : Small) (schedule : List ℕ) : Outcome → Type 0 where
-  bad_schedule : (fault : SchedFault) → IsBadPlace schedule fault
+  bad_schedule : (fault : SchedFault) → IsFirstFault schedule fault
       → IsRunReply text program schedule (record { exit = exits.BadSchedule; bytes = schedule_line schedule fault })
   ran : (graph : Graph) (items : List ℕ) → IsLowered program graph → IsItems schedule items
       → IsRunReply text program schedule (run_outcome text graph items)

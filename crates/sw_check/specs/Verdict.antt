@@ -6,7 +6,7 @@ use Rattle.std.specs.Str.Lossy.{utf8_valid_len}
 use Rattle.sw_token.specs.declared.Token.{Token}
 use Rattle.sw_token.specs.declared.LexFault.{LexFault}
 use Rattle.sw_token.specs.declared.LexFault.TheVariants.{Unclosed, TooBig, BadChar, TooMany, Memory}
-use Rattle.sw_token.specs.Tokens.{IsTokens, IsLexicalPlace}
+use Rattle.sw_token.specs.Tokens.{IsTokens, IsLexicalFault}
 use Rattle.sw_check.specs.declared.breach.Breach.{Breach}
 use Rattle.sw_small.specs.declared.tree.Small.{Small}
 use Rattle.sw_check.specs.declared.verdict.Verdict.{Verdict}
@@ -39,7 +39,7 @@ token_place text tokens before = option_map_or (λ token. token.span.start) (sli
 pub data IsFirstBreach (text : List ℕ) : Breach → Type 0 where
   not_utf8 : ¬ (IsUtf8 text)
       → IsFirstBreach text (record { code = unexpected_token; at = utf8_valid_len text })
-  no_token : (fault : LexFault) → IsUtf8 text → IsLexicalPlace text fault
+  no_token : (fault : LexFault) → IsUtf8 text → IsLexicalFault text fault
       → IsFirstBreach text (record { code = unexpected_token; at = lexical_place fault })
   not_spelled : (tokens : List Token) (before : ℕ) → IsUtf8 text → IsTokens text tokens → tokens ≢ []
       → IsSmallPlace (spelling_of text tokens) before

@@ -1,7 +1,7 @@
 //! The lines about a replay.
 
 ghost use Rattle.std.specs.Prelude.{◌≡◌, ◌<◌, IfOk, length, string_bytes};
-ghost use Rattle.sw_replay.specs.Items.{place_of};
+ghost use Rattle.sw_replay.specs.Items.{position_of};
 ghost use Rattle.sw_check.specs.Lines.{schedule_line, schedule_text, summary, trap_line, trap_text};
 
 use crate::breach::place;
@@ -41,8 +41,8 @@ pub fn trap_line(alloc: Global, bytes: &[u8], kind: TrapKind, at: u32) -> Result
 }
 
 /// The byte offset that a fault of a schedule names.
-fn place_of(fault: SchedFault) -> u32
-    ensures { result ≡ place_of fault }
+fn position_of(fault: SchedFault) -> u32
+    ensures { result ≡ position_of fault }
 {
     match fault {
         SchedFault::BadItem { at } | SchedFault::TooBig { at } | SchedFault::TooMany { at } => at,
@@ -68,7 +68,7 @@ pub fn schedule_line(alloc: Global, bytes: &[u8], fault: SchedFault) -> Result<S
     requires { length bytes.now < 4294967295 }
     ensures { IfOk result (λ text. string_bytes text ≡ schedule_line bytes.now fault) }
 {
-    let place = place(alloc, bytes, place_of(fault))?;
+    let place = place(alloc, bytes, position_of(fault))?;
     let text = schedule_text(fault);
     format!(in alloc; "{place}: schedule: {text}\n")
 }

@@ -1,6 +1,5 @@
-pub mod Apart
 pub mod LineLemmas
 pub mod Numbers
-pub mod Readings
 pub mod ReplayLemmas
-pub mod Turns
+pub mod ScheduleLaws
+pub mod ScheduleSteps

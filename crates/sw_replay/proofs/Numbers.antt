@@ -18,13 +18,18 @@ pub number_from-nil : (number : ℕ) → number_from number [] ≡ number
 unfolding number_from
 number_from-nil number = refl
 
-pub number_from-cons : (number digit : ℕ) (digits : List ℕ) → number_from number (digit ∷ digits) ≡ number_from (number * 10 + (digit - 48)) digits
+pub number_from-cons : (number digit : ℕ) (digits : List ℕ)
+    → number_from number (digit ∷ digits) ≡ number_from (number * 10 + (digit - 48)) digits
 unfolding number_from
 number_from-cons number digit digits = refl
 
 -- one more digit
-pub number_from-drop : (number : ℕ) (digits : List ℕ) (n : ℕ) → n < length digits → number_from number (drop n digits) ≡ number_from (number * 10 + (get_or digits n 0 - 48)) (drop (n + 1) digits)
-number_from-drop number digits n inside = rw (add-one, drop-cons digits n 0) (number_from-cons number (get_or digits n 0) (drop (suc n) digits))
+pub number_from-drop : (number : ℕ) (digits : List ℕ) (n : ℕ) → n < length digits
+    → number_from number (drop n digits)
+    ≡ number_from (number * 10 + (get_or digits n 0 - 48)) (drop (n + 1) digits)
+number_from-drop number digits n inside =
+    rw (add-one, drop-cons digits n 0)
+    (number_from-cons number (get_or digits n 0) (drop (suc n) digits))
 
 -- more digits make no number less
 pub number_from-grows : (digits : List ℕ) (number : ℕ) → number ≤ number_from number digits
@@ -42,7 +47,8 @@ pub fits_none : (n : ℕ) → 2 ^ 32 ≤ n → fitting n ≡ None
 fits_none n h = (let t : ltb n (2 ^ 32) ≡ false = grind (arith, nat_tests) in rw t refl)
 
 -- the number so far, with one more digit, has more than 32 bits: so the whole number has
-pub grown_too_big : (digits : List ℕ) (n number : ℕ) → n < length digits → number_from number (drop n digits) ≡ number_of digits
+pub grown_too_big : (digits : List ℕ) (n number : ℕ) → n < length digits
+    → number_from number (drop n digits) ≡ number_of digits
     → 2 ^ 32 ≤ number * 10 + (get_or digits n 0 - 48) → fitting (number_of digits) ≡ None
 grown_too_big digits n number inside so_far more =
     let step = number_from-drop number digits n inside in
@@ -50,9 +56,12 @@ grown_too_big digits n number inside so_far more =
     fits_none (number_of digits) (omega arith)
 
 -- no digit is left
-pub number_done : (digits : List ℕ) (n number : ℕ) → length digits ≤ n → number_from number (drop n digits) ≡ number_of digits → number < 2 ^ 32 → Some number ≡ fitting (number_of digits)
+pub number_done : (digits : List ℕ) (n number : ℕ) → length digits ≤ n
+    → number_from number (drop n digits) ≡ number_of digits → number < 2 ^ 32
+    → Some number ≡ fitting (number_of digits)
 number_done digits n number past so_far small =
     let none : drop n digits ≡ [] = drop_all n digits past in
-    let whole : number ≡ number_of digits = sym (number_from-nil number) ∙ (ap (number_from number) (sym none) ∙ so_far) in
+    let whole : number ≡ number_of digits =
+    sym (number_from-nil number) ∙ (ap (number_from number) (sym none) ∙ so_far) in
     let fits : number_of digits < 2 ^ 32 = omega arith in
     ap Some whole ∙ sym (fits_some (number_of digits) fits)

@@ -1,7 +1,7 @@
-ghost use Rattle.std.specs.Prelude.{ℕ, ◌≡◌, ◌<◌, List, length, Result};
+ghost use Rattle.std.specs.Prelude.{ℕ, ◌≡◌, ◌<◌, ◌≤◌, ◌^◌, List, length, All, Result};
 ghost use Rattle.sw_graph.specs.declared.graph.Graph.{Graph};
 ghost use Rattle.sw_replay.specs.declared.text.SchedFault.{SchedFault};
-ghost use Rattle.sw_replay.specs.Items.{IsItems, IsBadPlace, IsReading, place_of};
+ghost use Rattle.sw_replay.specs.Items.{IsItems, IsFirstFault, HasItems, position_of};
 ghost use Rattle.sw_value.specs.Runnable.{IsRunnable};
 ghost use Rattle.sw_replay.specs.declared.output.Replay.{Replay};
 ghost use Rattle.sw_replay.specs.Replay.{whole_replay, IsReplay};
@@ -9,18 +9,24 @@ ghost use Rattle.sw_replay.specs.Replay.{whole_replay, IsReplay};
 use crate::items::MAX_ITEMS;
 use crate::text::SCHEDULE_LIMIT;
 
-/// Every text is the text of one list of items or has one bad place, and never both. A bad place is
-/// inside the text.
+/// Every text is the text of one list of items or has one first fault, and never both. A first fault
+/// is inside the text.
 pub fn schedule_texts_have_one_reading()
-    ensures some_reading { (bytes : List ℕ) → (outcome : Result (List ℕ) SchedFault)
-        × IsReading bytes outcome }
+    ensures some_reading { (bytes : List ℕ)
+        → (outcome : Result (List ℕ) SchedFault) × HasItems bytes outcome }
     ensures one_list { (bytes a b : List ℕ) → IsItems bytes a → IsItems bytes b → a ≡ b }
-    ensures one_place { (bytes : List ℕ) (a b : SchedFault) → IsBadPlace bytes a
-        → IsBadPlace bytes b → a ≡ b }
-    ensures never_both { (bytes items : List ℕ) (fault : SchedFault) → IsItems bytes items
-        → ¬ IsBadPlace bytes fault }
-    ensures inside { (bytes : List ℕ) (fault : SchedFault) → IsBadPlace bytes fault
-        → place_of fault < length bytes }
+    ensures one_fault { (bytes : List ℕ) (a b : SchedFault)
+        → IsFirstFault bytes a → IsFirstFault bytes b → a ≡ b }
+    ensures never_both { (bytes items : List ℕ) (fault : SchedFault)
+        → IsItems bytes items → ¬ IsFirstFault bytes fault }
+    ensures inside { (bytes : List ℕ) (fault : SchedFault)
+        → IsFirstFault bytes fault → position_of fault < length bytes }
+{}
+
+/// The items of a text are numbers of 32 bits, and no more than a schedule has.
+pub fn items_of_texts()
+    ensures fit { (bytes items : List ℕ) → IsItems bytes items → All (λ item. item < 2 ^ 32) items }
+    ensures few { (bytes items : List ℕ) → IsItems bytes items → length items ≤ MAX_ITEMS }
 {}
 
 /// Every list of items has one replay. That of a graph that the machine runs today takes all items,

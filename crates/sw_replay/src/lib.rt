@@ -10,7 +10,9 @@ mod tests;
 mod text;
 
 pub use items::{MAX_ITEMS, Schedule};
-pub use laws::{items_have_one_replay, schedule_limits, schedule_texts_have_one_reading};
+pub use laws::{
+    items_have_one_replay, items_of_texts, schedule_limits, schedule_texts_have_one_reading,
+};
 pub use output::{End, Replay};
 pub use replaying::replay;
 pub use text::{SCHEDULE_LIMIT, SchedFault, schedule};

@@ -1,13 +1,14 @@
-ghost use Rattle.std.specs.Prelude.{ℕ, ◌≡◌, ◌≢◌, ◌+◌, ◌<◌, ◌≤◌, ◌^◌, ◌↔◌, length, IfOk, IfErr, IsErrOf, IsTrue};
-ghost use Rattle.std.specs.List.{prefix_len, list_all};
-ghost use Rattle.sw_bytes.specs.Classes.{is_blank, is_digit};
+ghost use Rattle.std.specs.Prelude.{◌≡◌, ◌≢◌, ◌<◌, ◌≤◌, ◌^◌, length, IfOk, IfErr, IsTrue};
+ghost use Rattle.std.specs.List.{list_all};
+ghost use Rattle.sw_bytes.specs.Classes.{is_digit};
 ghost use Rattle.sw_bytes.specs.Decimal.{number_of};
-ghost use Rattle.sw_replay.specs.Items.{IsItems, IsBadPlace};
-ghost use Rattle.sw_replay.specs.Reading.{fitting, item_of, item_at, next_of, reading, Gives};
+ghost use Rattle.sw_replay.specs.Items.{IsItems, IsFirstFault};
+ghost use Rattle.sw_replay.specs.Reading.{fitting, step, items_or_fault, Schedules};
 
 use crate::items::{MAX_ITEMS, Schedule};
 use std::alloc::{AllocError, Global};
-use sw_bytes::{blanks_len, digits_len};
+use sw_bytes::{digits_len, is_blank};
+use sw_scan::Step;
 use thiserror::Error;
 
 /// The most bytes of a schedule text.
@@ -41,67 +42,65 @@ impl From<AllocError> for SchedFault {
     }
 }
 
-/// A number that stands in a text, and the place behind its last digit.
-#[derive(Clone, Copy)]
-struct Number {
-    value: u32,
-    end: u32,
-}
-
-/// The items of a schedule text: runs of decimal digits, with spaces, tabs, carriage returns and line feeds between them,
-/// which may also stand at both ends.
+/// The items of a schedule text: runs of decimal digits, with spaces, tabs, carriage returns and line
+/// feeds between them, which may also stand at both ends.
 pub fn schedule(alloc: Global, bytes: &[u8]) -> Result<Schedule, SchedFault>
     requires { length bytes.now ≤ SCHEDULE_LIMIT }
     ensures items { IfOk result (IsItems bytes.now) }
-    ensures fault { IfErr result (λ fault. fault ≢ SchedFault.Memory → IsBadPlace bytes.now fault) }
+    ensures fault { IfErr result
+        (λ fault. fault ≢ SchedFault.Memory → IsFirstFault bytes.now fault) }
 {
-    read(alloc, bytes)
+    items_of(alloc, bytes)
 }
 
-fn read(alloc: Global, bytes: &[u8]) -> Result<Schedule, SchedFault>
+fn items_of(alloc: Global, bytes: &[u8]) -> Result<Schedule, SchedFault>
     requires { length bytes.now < 2 ^ 32 }
-    ensures { Gives (reading bytes.now) result }
+    ensures { Schedules (items_or_fault bytes.now) result }
 {
     let mut items = Schedule::new(alloc);
     let mut at = 0;
-    while let Some(number) = next_number(&bytes[at as usize..], at, items.len())? {
-        at = number.end;
-        items.push(number.value)?;
+    loop {
+        let rest = &bytes[at..];
+        match step(rest, at as u32, items.len())? {
+            Step::End => return Ok(items),
+            Step::Skip(len) => at += len,
+            Step::Take(len) => {
+                items.push(value_of(&rest[..len]))?;
+                at += len;
+            }
+        }
     }
-    Ok(items)
 }
 
-/// The next number of `bytes`, which stand at the place `at` of a text behind `before` items.
-#[tactic(auto, unfolding(crate::specs::Reading::next_of))]
-fn next_number(bytes: &[u8], at: u32, before: usize) -> Result<Option<Number>, SchedFault>
-    requires { at + length bytes.now < 2 ^ 32 }
-    ensures { result ≡ next_of at before bytes.now }
+/// What the bytes, which stand at the offset `at` of a text after `count` items, begin with.
+#[tactic(auto, unfolding(crate::specs::Reading::step))]
+fn step(bytes: &[u8], at: u32, count: usize) -> Result<Step, SchedFault>
+    ensures { result ≡ step at count bytes.now }
 {
-    let gap = blanks_len(bytes);
-    number_at(&bytes[gap..], at + gap as u32, before)
-}
-
-/// The number at the front, behind the separators.
-#[tactic(auto, unfolding(crate::specs::Reading::item_at))]
-fn number_at(bytes: &[u8], start: u32, before: usize) -> Result<Option<Number>, SchedFault>
-    requires { start + length bytes.now < 2 ^ 32 }
-    ensures { result ≡ item_at start before bytes.now }
-{
-    if bytes.is_empty() {
-        return Ok(None);
+    let Some(byte) = bytes.first().copied() else {
+        return Ok(Step::End);
+    };
+    if is_blank(byte) {
+        return Ok(Step::Skip(1));
     }
     let len = digits_len(bytes);
     if len == 0 {
-        return Err(SchedFault::BadItem { at: start });
+        return Err(SchedFault::BadItem { at });
     }
     match number_of(&bytes[..len]) {
-        None => Err(SchedFault::TooBig { at: start }),
-        Some(_) if before >= MAX_ITEMS => Err(SchedFault::TooMany { at: start }),
-        Some(value) => Ok(Some(Number {
-            value,
-            end: start + len as u32,
-        })),
+        None => Err(SchedFault::TooBig { at }),
+        Some(_) if count < MAX_ITEMS => Ok(Step::Take(len)),
+        Some(_) => Err(SchedFault::TooMany { at }),
     }
+}
+
+/// The number of an item's digits.
+fn value_of(digits: &[u8]) -> u32
+    requires digits { IsTrue (list_all is_digit digits.now) }
+    requires fits { number_of digits.now < 2 ^ 32 }
+    ensures { result ≡ number_of digits.now }
+{
+    number_of(digits).unwrap_or(u32::MAX)
 }
 
 /// The number that digits spell, if it is one of 32 bits.

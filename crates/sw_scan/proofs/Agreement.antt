@@ -35,3 +35,7 @@ pub record Agrees {B T F : Type 0} (form : Form B T F) (IsSound : List ℕ → T
   pub sound_item : (before : B) (text after : List ℕ) → form.IsItem before text after
       → IsSound (text ++ after)
       → IsSound after
+
+-- Bytes of any kind are sound.
+abbrev pub IsAny : List ℕ → Type 0
+IsAny bytes = Unit {0}

@@ -24,7 +24,7 @@ take_within n bytes long = omega (
   ap length (take-append-drop n bytes),
 )
 
-module _ {B T F : Type 0} (form : Form B T F) (IsSound : List ℕ → Type 0) (step : StepOf B F)
+module _ {B T F : Type 0} {form : Form B T F} {IsSound : List ℕ → Type 0} {step : StepOf B F}
     (agrees : Agrees form IsSound step) where
   -- what the form says is read
 

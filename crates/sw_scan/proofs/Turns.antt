@@ -26,7 +26,7 @@ with_prefix-append : {T F : Type 0} (front more : List T) (outcome : Result (Lis
 with_prefix-append front more (Ok items) = ap Ok (sym (append_assoc front more items))
 with_prefix-append front more (Err fault) = refl
 
-module _ {B T F : Type 0} (form : Form B T F) (IsSound : List ℕ → Type 0) (step : StepOf B F)
+module _ {B T F : Type 0} {form : Form B T F} {IsSound : List ℕ → Type 0} {step : StepOf B F}
     (agrees : Agrees form IsSound step) where
   pub starts : (text : List ℕ) (before : B) → IsSound text
       → IsAt form IsSound step text (scan form step 0 before text) [] 0 before
@@ -36,14 +36,14 @@ module _ {B T F : Type 0} (form : Form B T F) (IsSound : List ℕ → Type 0) (s
     sound = sound;
   }
 
-  module _ (text : List ℕ) (outcome : Result (List T) F) (items : List T) (at : ℕ) (before : B)
+  module _ {text : List ℕ} {outcome : Result (List T) F} {items : List T} {at : ℕ} {before : B}
       (is : IsAt form IsSound step text outcome items at before) where
     -- what the step that was found makes of the rest
     goes : (found : Result Step F) → step at before (drop at text) ≡ found
         → with_prefix items (past_step form found (scan form step) at before (drop at text))
         ≡ outcome
     goes found e =
-        let step_is = scan-step form IsSound step agrees at before (drop at text) is.sound in
+        let step_is = scan-step agrees at before (drop at text) is.sound in
         let past = λ (o : Result Step F). past_step form o (scan form step) at before (drop at text) in
         ap (λ o. with_prefix items (past o)) (sym e)
         ∙ (ap (with_prefix items) (sym step_is) ∙ is.gives)
@@ -59,7 +59,7 @@ module _ {B T F : Type 0} (form : Form B T F) (IsSound : List ℕ → Type 0) (s
         → (step at before (drop at text) ≡ Ok (Skip n)) ⊎ (step at before (drop at text) ≡ Ok (Take n))
         → (0 < n) × (at + n ≤ length text) × IsSound (drop (at + n) text)
     ahead n e =
-        let found = step_ahead form IsSound step agrees at before (drop at text) is.sound n e in
+        let found = step_ahead agrees at before (drop at text) is.sound n e in
         let within : at + n ≤ length text =
         omega (arith, found.1, length-drop at text, is.inside) in
         (found.0, within, rw (drop-drop n at text) at found.2)

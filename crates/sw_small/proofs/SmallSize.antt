@@ -1,5 +1,5 @@
 -- A program is no larger than its spelling.
-use Rattle.std.proofs.Common.{ℕ, ◌^◌, ◌<◌, ◌≤◌, Bool, List, [], ◌∷◌, ◌++◌, length, sum_by, arith, length-append}
+use Rattle.std.proofs.Common.{ℕ, ◌≤◌, Bool, List, [], ◌∷◌, ◌++◌, length, sum_by, arith, length-append}
 use Rattle.std.proofs.lemmas.List.Sums.{sum_by-cons}
 use Rattle.sw_small.specs.declared.tree.Show.{Show}
 use Rattle.sw_small.specs.declared.tree.Item.{Item}

@@ -1,8 +1,7 @@
 -- The tokens of a text, with their texts, are a spelling; and their spans cut the text between characters.
-use Rattle.std.proofs.Common.{◌≡◌, ℕ, suc, ◌+◌, ◌-◌, ◌≤◌, ◌<◌, Bool, true, false, cond, List, [], ◌∷◌, ◌++◌, length, take, drop, refl, sym, ◌∙◌, ap, subst, ℤ, append_assoc, arith, length-append}
-use Rattle.std.proofs.lemmas.List.{take_at, drop_at}
+use Rattle.std.proofs.Common.{◌≡◌, ℕ, suc, ◌≤◌, Bool, true, false, cond, List, [], ◌∷◌, refl, ◌∙◌, ap, ℤ, arith}
 use Rattle.std.proofs.lemmas.List.Elements.{All-weaker}
-use Rattle.std.specs.Prelude.{Option, Some, None, All, slice_range, codes, ◌&&◌}
+use Rattle.std.specs.Prelude.{Option, Some, None, All, codes, ◌&&◌}
 use Rattle.std.specs.List.{AllByRecursion, list_all}
 use Rattle.std.specs.Str.{IsUtf8}
 use Rattle.sw_token.specs.declared.Kind.{Kind}
@@ -11,20 +10,15 @@ use Rattle.sw_token.specs.declared.Token.{Token}
 use Rattle.sw_bytes.specs.Classes.{is_digit}
 use Rattle.sw_token.specs.Bytes.{is_word_start}
 use Rattle.sw_token.specs.Kinds.{kind_of, word_kind, named_kind}
-use Rattle.sw_token.specs.Tokens.{IsToken, Splits, IsTokens, IsTokenIn}
-use Rattle.sw_token.proofs.Laws.{IsTokens-each, IsTokenIn-borders}
+use Rattle.sw_scan.proofs.Positions.{StandsIn}
+use Rattle.sw_token.specs.Tokens.{IsToken, IsTokens, IsTokenIn, StandInOrder, lexis}
 use Rattle.sw_token.specs.Tokens.IsToken.{word, number, at_main, mark}
-use Rattle.sw_token.specs.Tokens.Splits.{last_gap, then_token}
-use Rattle.sw_small.specs.Spelling.{Spelled, spelling_of, HasKind, IsNumeral, IsSpelling, IsWithin}
+use Rattle.sw_token.proofs.Spans.{slice_of}
+use Rattle.sw_token.proofs.TokenLaws.{IsTokens-each, IsTokens-each_by_recursion, IsTokens-stand, IsTokens-order, IsTokenIn-borders}
+use Rattle.sw_small.specs.Spelling.{Spelled, spelled, spelling_of, HasKind, IsNumeral, IsSpelling, IsWithin}
 use Rattle.sw_small.proofs.Rising.{Rises, IsKind, is_spelling}
 use Rattle.sw_small.proofs.GrammarWords.{is_int, IsPlain, plain_entry}
 use Rattle.sw_small.proofs.TokenReaders.{kind_or_numeral, HasKind-of}
-
-token_takes : (text after : List ℕ) → IsToken text after → 0 < length text
-token_takes _ _ (word byte more after _ _ _) = omega arith
-token_takes _ _ (number byte more after _ _ _ _) = omega arith
-token_takes _ _ (at_main after _) = omega arith
-token_takes _ _ (mark byte after _) = omega arith
 
 -- A token's kind is that of its text.
 
@@ -61,53 +55,39 @@ token_kind _ _ (number byte more after first all short ends) = kind_or_numeral (
 token_kind _ _ (at_main after ends) = HasKind-of (codes "@main") plain_entry
 token_kind _ _ (mark byte after is) = kind_or_numeral (kind_of (byte ∷ [])) (byte ∷ []) refl (λ int. numeral byte [] (int_digit byte [] int) refl)
 
--- the text that a token's span cuts out
-cut : (source before gap text after : List ℕ) → source ≡ before ++ (gap ++ (text ++ after))
-    → slice_range source (length before + length gap) (length before + length gap + length text) ≡ text
-cut source before gap text after split =
-    let whole : source ≡ (before ++ gap) ++ (text ++ after) = split ∙ sym (append_assoc before gap (text ++ after)) in
-    let behind : drop (length before + length gap) source ≡ text ++ after
-    = ap (λ us. drop (length before + length gap) us) whole ∙ drop_at (before ++ gap) (text ++ after) (length before + length gap) (length-append before gap) in
-    ap (λ us. take (length before + length gap + length text - (length before + length gap)) us) behind
-    ∙ take_at text after (length before + length gap + length text - (length before + length gap)) (omega arith)
+-- a token that stands in a source has the kind of the text that its span cuts out
+stands_kind : (source : List ℕ) (token : Token) → StandsIn lexis source token
+    → IsKind (spelled source token)
+stands_kind source token is =
+    rw (is.is_made, is.whole_is, slice_of is.prefix is.text is.after)
+    (token_kind is.text is.after is.is_item)
 
--- where the text goes on behind a token
-next_split : (source before gap text after : List ℕ) → source ≡ before ++ (gap ++ (text ++ after)) → source ≡ (before ++ (gap ++ text)) ++ after
-next_split source before gap text after split =
-    split ∙ (ap (λ us. before ++ us) (sym (append_assoc gap text after)) ∙ sym (append_assoc before (gap ++ text) after))
+tokens_kinds : (source : List ℕ) (tokens : List Token) → AllByRecursion (StandsIn lexis source) tokens
+    → AllByRecursion IsKind (spelling_of source tokens)
+tokens_kinds source [] h = tt
+tokens_kinds source (token ∷ tokens) h = (stands_kind source token h.0, tokens_kinds source tokens h.1)
 
-next_length : (before gap text : List ℕ) → length (before ++ (gap ++ text)) ≡ length before + length gap + length text
-next_length before gap text = omega (arith, length-append before (gap ++ text), length-append gap text)
-
-tokens_kinds : (source before bytes : List ℕ) (at : ℕ) (leads : Bool) (tokens : List Token) → source ≡ before ++ bytes → length before ≡ at
-    → Splits at leads bytes tokens → AllByRecursion IsKind (spelling_of source tokens)
-tokens_kinds source before _ _ _ _ split is (last_gap at leads gap _) = tt
-tokens_kinds source before _ _ _ _ split is (then_token at leads gap text after tokens _ token rest) = (
-  subst (λ n. HasKind (kind_of text) (slice_range source (n + length gap) (n + length gap + length text))) is
-      (subst (HasKind (kind_of text)) (sym (cut source before gap text after split)) (token_kind text after token)),
-  tokens_kinds source (before ++ (gap ++ text)) after (at + length gap + length text) false tokens
-      (next_split source before gap text after split) (next_length before gap text ∙ ap (λ n. n + length gap + length text) is) rest,
-)
-
--- Tokens begin one behind the other.
+-- Tokens begin one after the other.
 
 Rises-weaker : (m n : ℕ) (ts : List Spelled) → m ≤ n → Rises n ts → Rises m ts
 Rises-weaker m n [] less h = tt
 Rises-weaker m n (t ∷ ts) less h = (omega (arith, h.0), h.1)
 
-tokens_rise : (source bytes : List ℕ) (at : ℕ) (leads : Bool) (tokens : List Token) → Splits at leads bytes tokens → Rises at (spelling_of source tokens)
-tokens_rise source _ _ _ _ (last_gap at leads gap _) = tt
-tokens_rise source _ _ _ _ (then_token at leads gap text after tokens _ token rest) =
-    let some = token_takes text after token in (
-      omega arith,
-      Rises-weaker (suc (at + length gap)) (at + length gap + length text) (spelling_of source tokens) (omega arith)
-          (tokens_rise source after (at + length gap + length text) false tokens rest),
-    )
+tokens_rise : (source : List ℕ) (from : ℕ) (tokens : List Token) → StandInOrder from tokens
+    → AllByRecursion (IsTokenIn source) tokens → Rises from (spelling_of source tokens)
+tokens_rise source from [] order each = tt
+tokens_rise source from (token ∷ tokens) order each =
+    let rest = tokens_rise source token.span.end tokens order.1 each.1 in
+    let later : suc token.span.start ≤ token.span.end = omega (arith, each.0.some) in
+    (order.0, Rises-weaker (suc token.span.start) token.span.end (spelling_of source tokens) later rest)
 
 -- The tokens of a text are a spelling.
 pub tokens_spelled : (source : List ℕ) (tokens : List Token) → IsTokens source tokens → IsSpelling (spelling_of source tokens)
 tokens_spelled source tokens is =
-    is_spelling 0 (spelling_of source tokens) (tokens_kinds source [] source 0 true tokens refl refl is) (tokens_rise source source 0 true tokens is)
+    let rising = tokens_rise source 0 tokens (IsTokens-order source tokens is)
+    (IsTokens-each_by_recursion source tokens is) in
+    is_spelling 0 (spelling_of source tokens)
+    (tokens_kinds source tokens (IsTokens-stand source tokens is)) rising
 
 -- The spans of the tokens of a text cut parts out of it.
 

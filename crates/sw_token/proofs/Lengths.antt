@@ -1,4 +1,4 @@
--- The token at the front of bytes, as the definitions say it and as the reading finds it.
+-- The token that bytes begin with, as the definitions say it and as the function finds it.
 use Rattle.std.proofs.Common.{◌≡◌, ◌≢◌, ℕ, suc, ◌+◌, ◌<◌, ◌≤◌, true, false, eqb, ltb, List, [], ◌∷◌, ◌++◌, length, take, drop, take_while, bytes_eq, Ok, Err, refl, sym, ap, ◌∙◌, subst, ◌⊎◌, inl, inr, arith, length-append}
 use Rattle.std.specs.List.{list_all, prefix_len}
 use Rattle.std.specs.Prelude.{codes}
@@ -24,34 +24,43 @@ start_is_word b h = rw h refl
 
 digit_is_word : (b : ℕ) → is_digit b ≡ true → is_word_byte b ≡ true
 unfolding is_word_byte
-digit_is_word b h = elim (cases_Bool (is_word_start b)) [ inl s ↦ rw s refl | inr s ↦ rw (s, h) refl ]
+digit_is_word b h =
+    elim (cases_Bool (is_word_start b)) [ inl s ↦ rw s refl | inr s ↦ rw (s, h) refl ]
 
 digit_is_no_start : (b : ℕ) → is_digit b ≡ true → is_word_start b ≡ false
 unfolding is_digit is_word_start
 digit_is_no_start b h = grind (arith, nat_tests)
 
-start_is_no_gap : (b : ℕ) → is_word_start b ≡ true → is_blank b ≡ false
+start_is_no_blank : (b : ℕ) → is_word_start b ≡ true → is_blank b ≡ false
 unfolding is_word_start is_blank
-start_is_no_gap b h = grind (arith, nat_tests)
+start_is_no_blank b h = grind (arith, nat_tests)
 
-digit_is_no_gap : (b : ℕ) → is_digit b ≡ true → is_blank b ≡ false
+digit_is_no_blank : (b : ℕ) → is_digit b ≡ true → is_blank b ≡ false
 unfolding is_digit is_blank
-digit_is_no_gap b h = grind (arith, nat_tests)
+digit_is_no_blank b h = grind (arith, nat_tests)
 
 no_word_byte : (b : ℕ) → is_word_start b ≡ false → is_digit b ≡ false → is_word_byte b ≡ false
 unfolding is_word_byte
 no_word_byte b s d = rw (s, d) refl
 
-mark_is_apart : (b : ℕ) → is_mark b ≡ true → (is_word_start b ≡ false) × (is_digit b ≡ false) × (eqb b 64 ≡ false) × (is_blank b ≡ false)
+mark_is_apart : (b : ℕ) → is_mark b ≡ true
+    → (is_word_start b ≡ false) × (is_digit b ≡ false) × (eqb b 64 ≡ false) × (is_blank b ≡ false)
 unfolding is_digit is_word_start is_blank is_mark
-mark_is_apart b h = (grind (arith, nat_tests), grind (arith, nat_tests), grind (arith, nat_tests), grind (arith, nat_tests))
+mark_is_apart b h = (
+  grind (arith, nat_tests),
+  grind (arith, nat_tests),
+  grind (arith, nat_tests),
+  grind (arith, nat_tests),
+)
 
 -- `IsToken` and `IsRefused` by the first byte, from what the reading finds
 
-takes_word : (b : ℕ) (more : List ℕ) (n : ℕ) → is_word_start b ≡ true → n ≡ prefix_len is_word_byte (b ∷ more) → IsToken (take n (b ∷ more)) (drop n (b ∷ more))
+takes_word : (b : ℕ) (more : List ℕ) (n : ℕ) → is_word_start b ≡ true
+    → n ≡ prefix_len is_word_byte (b ∷ more) → IsToken (take n (b ∷ more)) (drop n (b ∷ more))
 takes_word b more n h e =
     let whole = e ∙ prefix_len-yes is_word_byte b more (start_is_word b h) in
-    rw whole (tokens.word b _ _ h (prefix_passes is_word_byte more) (suffix_fails is_word_byte more))
+    rw whole
+    (tokens.word b _ _ h (prefix_passes is_word_byte more) (suffix_fails is_word_byte more))
 
 number_taken : (d r n : ℕ) → number_len d r ≡ Ok n → (d ≤ 18) × (d ≡ r) × (n ≡ d)
 number_taken d r n e =
@@ -63,7 +72,8 @@ number_taken d r n e =
       ]
     ]
 
-number_refused : (d r n : ℕ) → number_len d r ≡ Err n → ((18 < d) × (n ≡ 0)) ⊎ ((d ≤ 18) × (d ≢ r) × (n ≡ d))
+number_refused : (d r n : ℕ) → number_len d r ≡ Err n
+    → ((18 < d) × (n ≡ 0)) ⊎ ((d ≤ 18) × (d ≢ r) × (n ≡ d))
 number_refused d r n e =
     elim (chosen (ltb 18 d) _ _ _ e) [
       | inl w ↦ inl (grind (arith, nat_tests), cc)
@@ -73,35 +83,56 @@ number_refused d r n e =
       ]
     ]
 
-takes_number : (b : ℕ) (more : List ℕ) (n : ℕ) → is_digit b ≡ true → number_len (prefix_len is_digit (b ∷ more)) (prefix_len is_word_byte (b ∷ more)) ≡ Ok n → IsToken (take n (b ∷ more)) (drop n (b ∷ more))
+takes_number : (b : ℕ) (more : List ℕ) (n : ℕ) → is_digit b ≡ true
+    → number_len (prefix_len is_digit (b ∷ more)) (prefix_len is_word_byte (b ∷ more)) ≡ Ok n
+    → IsToken (take n (b ∷ more)) (drop n (b ∷ more))
 takes_number b more n h e =
     let d = prefix_len-yes is_digit b more h in
     let r = prefix_len-yes is_word_byte b more (digit_is_word b h) in
-    let w = number_taken (prefix_len is_digit (b ∷ more)) (prefix_len is_word_byte (b ∷ more)) n e in
+    let w =
+    number_taken (prefix_len is_digit (b ∷ more)) (prefix_len is_word_byte (b ∷ more)) n e in
     let whole : n ≡ suc (prefix_len is_digit more) = cc in
     let same : prefix_len is_digit more ≡ prefix_len is_word_byte more = omega (arith, d, r, w.1) in
-    let few : length (take (prefix_len is_digit more) more) < 18 = omega (arith, d, w.0, length-take-le (prefix_len is_digit more) more (prefix_len-le-length is_digit more)) in
-    let ends : BeginsWithout is_word_byte (drop (prefix_len is_digit more) more) = rw same (suffix_fails is_word_byte more) in
+    let few : length (take (prefix_len is_digit more) more) < 18 =
+    omega (
+      arith,
+      d,
+      w.0,
+      length-take-le (prefix_len is_digit more) more (prefix_len-le-length is_digit more),
+    ) in
+    let ends : BeginsWithout is_word_byte (drop (prefix_len is_digit more) more) =
+    rw same (suffix_fails is_word_byte more) in
     rw whole (tokens.number b _ _ h (prefix_passes is_digit more) few ends)
 
-takes_at : (more : List ℕ) (n : ℕ) → at_len more ≡ Ok n → IsToken (take n (64 ∷ more)) (drop n (64 ∷ more))
+takes_at : (more : List ℕ) (n : ℕ) → at_len more ≡ Ok n
+    → IsToken (take n (64 ∷ more)) (drop n (64 ∷ more))
 takes_at more n e =
     elim (chosen (bytes_eq (take_while is_word_byte more) (codes "main")) _ _ _ e) [
       | inl w ↦
-          let main : take (prefix_len is_word_byte more) more ≡ codes "main" = (bytes_eq-Decides _ _).0 w.0 in
-          let four : prefix_len is_word_byte more ≡ 4 = omega (arith, ap length main, length-take-le (prefix_len is_word_byte more) more (prefix_len-le-length is_word_byte more)) in
+          let main : take (prefix_len is_word_byte more) more ≡ codes "main" =
+          (bytes_eq-Decides _ _).0 w.0 in
+          let four : prefix_len is_word_byte more ≡ 4 =
+          omega (
+            arith,
+            ap length main,
+            length-take-le (prefix_len is_word_byte more) more
+                (prefix_len-le-length is_word_byte more),
+          ) in
           let whole : n ≡ 5 = cc in
-          let front : take 4 more ≡ codes "main" = rw four at main in
-          let ends : BeginsWithout is_word_byte (drop 4 more) = rw four at (suffix_fails is_word_byte more) in
-          rw (whole, front) (tokens.at_main _ ends)
+          let prefix : take 4 more ≡ codes "main" = rw four at main in
+          let ends : BeginsWithout is_word_byte (drop 4 more) =
+          rw four at (suffix_fails is_word_byte more) in
+          rw (whole, prefix) (tokens.at_main _ ends)
       | inr w ↦ cc
     ]
 
-takes_mark : (b : ℕ) (more : List ℕ) (n : ℕ) → is_mark b ≡ true → n ≡ 1 → IsToken (take n (b ∷ more)) (drop n (b ∷ more))
+takes_mark : (b : ℕ) (more : List ℕ) (n : ℕ) → is_mark b ≡ true → n ≡ 1
+    → IsToken (take n (b ∷ more)) (drop n (b ∷ more))
 takes_mark b more n h e = rw e (tokens.mark b more h)
 
 -- what the reading takes is a token
-pub token_len-takes : (bytes : List ℕ) (n : ℕ) → token_len bytes ≡ Ok n → IsToken (take n bytes) (drop n bytes)
+pub token_len-takes : (bytes : List ℕ) (n : ℕ) → token_len bytes ≡ Ok n
+    → IsToken (take n bytes) (drop n bytes)
 unfolding token_len
 token_len-takes [] n e = cc
 token_len-takes (b ∷ more) n e =
@@ -120,52 +151,71 @@ token_len-takes (b ∷ more) n e =
     ]
 
 -- a letter or `_` stands where digits end and word bytes go on
-start_behind : (front rest : List ℕ) → list_all is_digit front ≡ true → BeginsWithout is_digit rest
-    → prefix_len is_word_byte (front ++ rest) ≢ length front
+start_after : (prefix rest : List ℕ) → list_all is_digit prefix ≡ true → BeginsWithout is_digit rest
+    → prefix_len is_word_byte (prefix ++ rest) ≢ length prefix
     → (y : ℕ) × (ys : List ℕ) × (rest ≡ y ∷ ys) × (is_word_start y ≡ true)
-start_behind front [] passes fails differ =
-    absurd (differ (prefix_len-append is_word_byte front [] (list_all-wider is_digit is_word_byte digit_is_word front passes) tt))
-start_behind front (y ∷ ys) passes fails differ =
+start_after prefix [] passes fails differ =
+    absurd
+    (differ
+    (prefix_len-append is_word_byte prefix []
+    (list_all-wider is_digit is_word_byte digit_is_word prefix passes) tt))
+start_after prefix (y ∷ ys) passes fails differ =
     elim (cases_Bool (is_word_start y)) [
       | inl s ↦ (y, ys, refl, s)
-      | inr s ↦ absurd (differ (prefix_len-append is_word_byte front (y ∷ ys) (list_all-wider is_digit is_word_byte digit_is_word front passes) (no_word_byte y s fails)))
+      | inr s ↦
+          absurd
+          (differ
+          (prefix_len-append is_word_byte prefix (y ∷ ys)
+          (list_all-wider is_digit is_word_byte digit_is_word prefix passes)
+          (no_word_byte y s fails)))
     ]
 
-refuses_behind : (b : ℕ) (front rest : List ℕ) → is_digit b ≡ true → list_all is_digit front ≡ true → BeginsWithout is_digit rest → length front < 18
-    → prefix_len is_word_byte (front ++ rest) ≢ length front → IsRefused (b ∷ (front ++ rest)) (length front + 1)
-refuses_behind b front rest h passes fails few differ =
-    let found = start_behind front rest passes fails differ in
-    rw found.2 (tokens.behind_number b front found.0 found.1 h passes few found.3)
+refuses_after : (b : ℕ) (prefix rest : List ℕ) → is_digit b ≡ true
+    → list_all is_digit prefix ≡ true → BeginsWithout is_digit rest → length prefix < 18
+    → prefix_len is_word_byte (prefix ++ rest) ≢ length prefix
+    → IsRefused (b ∷ (prefix ++ rest)) (length prefix + 1)
+refuses_after b prefix rest h passes fails few differ =
+    let found = start_after prefix rest passes fails differ in
+    rw found.2 (tokens.after_number b prefix found.0 found.1 h passes few found.3)
 
-refuses_number : (b : ℕ) (more : List ℕ) (n : ℕ) → is_digit b ≡ true → number_len (prefix_len is_digit (b ∷ more)) (prefix_len is_word_byte (b ∷ more)) ≡ Err n → IsRefused (b ∷ more) n
+refuses_number : (b : ℕ) (more : List ℕ) (n : ℕ) → is_digit b ≡ true
+    → number_len (prefix_len is_digit (b ∷ more)) (prefix_len is_word_byte (b ∷ more)) ≡ Err n
+    → IsRefused (b ∷ more) n
 refuses_number b more n h e =
     let d = prefix_len-yes is_digit b more h in
     let r = prefix_len-yes is_word_byte b more (digit_is_word b h) in
-    let front = take (prefix_len is_digit more) more in
+    let prefix = take (prefix_len is_digit more) more in
     let rest = drop (prefix_len is_digit more) more in
-    let whole : front ++ rest ≡ more = take-append-drop (prefix_len is_digit more) more in
-    let long : length front ≡ prefix_len is_digit more = length-take-le (prefix_len is_digit more) more (prefix_len-le-length is_digit more) in
+    let whole : prefix ++ rest ≡ more = take-append-drop (prefix_len is_digit more) more in
+    let long : length prefix ≡ prefix_len is_digit more =
+    length-take-le (prefix_len is_digit more) more (prefix_len-le-length is_digit more) in
     elim (number_refused (prefix_len is_digit (b ∷ more)) (prefix_len is_word_byte (b ∷ more)) n e) [
       | inl w ↦
-          let many : 18 ≤ length front = omega (arith, d, long, w.0) in
-          let refused : IsRefused (b ∷ (front ++ rest)) 0 = tokens.long_number b front rest h (prefix_passes is_digit more) many in
+          let many : 18 ≤ length prefix = omega (arith, d, long, w.0) in
+          let refused : IsRefused (b ∷ (prefix ++ rest)) 0 =
+          tokens.long_number b prefix rest h (prefix_passes is_digit more) many in
           rw w.1 (subst (λ xs. IsRefused (b ∷ xs) 0) whole refused)
       | inr w ↦
-          let few : length front < 18 = omega (arith, d, long, w.0) in
-          let differ : prefix_len is_word_byte (front ++ rest) ≢ length front =
+          let few : length prefix < 18 = omega (arith, d, long, w.0) in
+          let differ : prefix_len is_word_byte (prefix ++ rest) ≢ length prefix =
           λ same. w.1 (omega (arith, d, r, long, same, ap (prefix_len is_word_byte) whole)) in
-          let at : n ≡ length front + 1 = omega (arith, d, long, w.2) in
-          let refused = refuses_behind b front rest h (prefix_passes is_digit more) (suffix_fails is_digit more) few differ in
-          rw at (subst (λ xs. IsRefused (b ∷ xs) (length front + 1)) whole refused)
+          let at : n ≡ length prefix + 1 = omega (arith, d, long, w.2) in
+          let refused =
+          refuses_after b prefix rest h (prefix_passes is_digit more)
+          (suffix_fails is_digit more) few differ in
+          rw at (subst (λ xs. IsRefused (b ∷ xs) (length prefix + 1)) whole refused)
     ]
 
-main_word : (rest : List ℕ) → BeginsWithout is_word_byte rest → take_while is_word_byte (codes "main" ++ rest) ≡ codes "main"
+main_word : (rest : List ℕ) → BeginsWithout is_word_byte rest
+    → take_while is_word_byte (codes "main" ++ rest) ≡ codes "main"
 unfolding is_word_byte is_word_start
 main_word rest ends = rw (prefix_len-append is_word_byte (codes "main") rest refl ends) refl
 
-no_main : (more rest : List ℕ) → BeginsWithout is_word_byte rest → more ≡ codes "main" ++ rest → bytes_eq (take_while is_word_byte more) (codes "main") ≡ false → ⊥
+no_main : (more rest : List ℕ) → BeginsWithout is_word_byte rest → more ≡ codes "main" ++ rest
+    → bytes_eq (take_while is_word_byte more) (codes "main") ≡ false → ⊥
 no_main more rest ends same differs =
-    let word : take_while is_word_byte more ≡ codes "main" = ap (take_while is_word_byte) same ∙ main_word rest ends in
+    let word : take_while is_word_byte more ≡ codes "main" =
+    ap (take_while is_word_byte) same ∙ main_word rest ends in
     let equal = (bytes_eq-Decides (take_while is_word_byte more) (codes "main")).1 word in
     cc
 
@@ -179,9 +229,10 @@ refuses_at more n e =
     ]
 
 -- what the reading refuses is refused
-pub token_len-refuses : (b : ℕ) (more : List ℕ) (n : ℕ) → is_blank b ≡ false → token_len (b ∷ more) ≡ Err n → IsRefused (b ∷ more) n
+pub token_len-refuses : (b : ℕ) (more : List ℕ) (n : ℕ) → is_blank b ≡ false
+    → token_len (b ∷ more) ≡ Err n → IsRefused (b ∷ more) n
 unfolding token_len
-token_len-refuses b more n gap e =
+token_len-refuses b more n no_blank e =
     elim (chosen (is_word_start b) _ _ _ e) [
       | inl w ↦ cc
       | inr w ↦ elim (chosen (is_digit b) _ _ _ w.1) [
@@ -193,7 +244,7 @@ token_len-refuses b more n gap e =
             | inr t ↦
                 let none : n ≡ 0 = cc in
                 let off : b ≢ 64 = λ same. grind (arith, nat_tests, same) in
-                rw none (tokens.other b more gap (no_word_byte b w.0 v.0) off t.0)
+                rw none (tokens.other b more no_blank (no_word_byte b w.0 v.0) off t.0)
           ]
         ]
       ]
@@ -201,13 +252,19 @@ token_len-refuses b more n gap e =
 
 -- The reading takes each token, and refuses what the definitions refuse.
 
-takes_again_word : (b : ℕ) (more after : List ℕ) → is_word_start b ≡ true → list_all is_word_byte more ≡ true → BeginsWithout is_word_byte after
+takes_again_word : (b : ℕ) (more after : List ℕ) → is_word_start b ≡ true
+    → list_all is_word_byte more ≡ true → BeginsWithout is_word_byte after
     → token_len (b ∷ (more ++ after)) ≡ Ok (suc (length more))
 unfolding token_len
 takes_again_word b more after h passes ends =
-    rw h (ap Ok (prefix_len-yes is_word_byte b (more ++ after) (start_is_word b h) ∙ ap suc (prefix_len-append is_word_byte more after passes ends)))
+    rw h
+    (ap Ok
+    (prefix_len-yes is_word_byte b (more ++ after) (start_is_word b h)
+    ∙ ap suc (prefix_len-append is_word_byte more after passes ends)))
 
-digits_ahead : (b : ℕ) (more after : List ℕ) → is_digit b ≡ true → token_len (b ∷ (more ++ after)) ≡ number_len (prefix_len is_digit (b ∷ (more ++ after))) (prefix_len is_word_byte (b ∷ (more ++ after)))
+digits_ahead : (b : ℕ) (more after : List ℕ) → is_digit b ≡ true
+    → token_len (b ∷ (more ++ after)) ≡ number_len (prefix_len is_digit (b ∷ (more ++ after)))
+    (prefix_len is_word_byte (b ∷ (more ++ after)))
 unfolding token_len
 digits_ahead b more after h = rw (digit_is_no_start b h, h) refl
 
@@ -217,8 +274,8 @@ number_len-taken d r few same = grind (arith, nat_tests)
 number_len-many : (d r : ℕ) → 18 < d → number_len d r ≡ Err 0
 number_len-many d r many = grind (arith, nat_tests)
 
-number_len-behind : (d r : ℕ) → d ≤ 18 → d ≢ r → number_len d r ≡ Err d
-number_len-behind d r few differ = grind (arith, nat_tests)
+number_len-after : (d r : ℕ) → d ≤ 18 → d ≢ r → number_len d r ≡ Err d
+number_len-after d r few differ = grind (arith, nat_tests)
 
 without_digit : (rest : List ℕ) → BeginsWithout is_word_byte rest → BeginsWithout is_digit rest
 without_digit [] ends = tt
@@ -233,18 +290,24 @@ start_is_no_digit b s = elim (cases_Bool (is_digit b)) [
   | inr h ↦ h
 ]
 
-takes_again_number : (b : ℕ) (more after : List ℕ) → is_digit b ≡ true → list_all is_digit more ≡ true → length more < 18 → BeginsWithout is_word_byte after
+takes_again_number : (b : ℕ) (more after : List ℕ) → is_digit b ≡ true
+    → list_all is_digit more ≡ true → length more < 18 → BeginsWithout is_word_byte after
     → token_len (b ∷ (more ++ after)) ≡ Ok (suc (length more))
 takes_again_number b more after h passes few ends =
     let d : prefix_len is_digit (b ∷ (more ++ after)) ≡ suc (length more) =
-    prefix_len-yes is_digit b (more ++ after) h ∙ ap suc (prefix_len-append is_digit more after passes (without_digit after ends)) in
+    prefix_len-yes is_digit b (more ++ after) h
+    ∙ ap suc (prefix_len-append is_digit more after passes (without_digit after ends)) in
     let r : prefix_len is_word_byte (b ∷ (more ++ after)) ≡ suc (length more) =
     prefix_len-yes is_word_byte b (more ++ after) (digit_is_word b h)
-    ∙ ap suc (prefix_len-append is_word_byte more after (list_all-wider is_digit is_word_byte digit_is_word more passes) ends) in
+    ∙ ap suc
+    (prefix_len-append is_word_byte more after
+    (list_all-wider is_digit is_word_byte digit_is_word more passes) ends) in
     digits_ahead b more after h
-    ∙ (number_len-taken (prefix_len is_digit (b ∷ (more ++ after))) (prefix_len is_word_byte (b ∷ (more ++ after))) (omega arith) (d ∙ sym r) ∙ ap Ok d)
+    ∙ (number_len-taken (prefix_len is_digit (b ∷ (more ++ after)))
+    (prefix_len is_word_byte (b ∷ (more ++ after))) (omega arith) (d ∙ sym r) ∙ ap Ok d)
 
-takes_again_at : (after : List ℕ) → BeginsWithout is_word_byte after → token_len (codes "@main" ++ after) ≡ Ok 5
+takes_again_at : (after : List ℕ) → BeginsWithout is_word_byte after
+    → token_len (codes "@main" ++ after) ≡ Ok 5
 unfolding token_len is_word_start is_digit
 takes_again_at after ends = rw (main_word after ends) refl
 
@@ -252,49 +315,69 @@ takes_again_mark : (b : ℕ) (after : List ℕ) → is_mark b ≡ true → token
 unfolding token_len
 takes_again_mark b after h = let apart = mark_is_apart b h in rw (apart.0, apart.1, apart.2, h) refl
 
-pub token_len-takes_again : (text after : List ℕ) → IsToken text after → token_len (text ++ after) ≡ Ok (length text)
-token_len-takes_again _ _ (tokens.word b more after h passes ends) = takes_again_word b more after h passes ends
-token_len-takes_again _ _ (tokens.number b more after h passes few ends) = takes_again_number b more after h passes few ends
+pub token_len-takes_again : (text after : List ℕ) → IsToken text after
+    → token_len (text ++ after) ≡ Ok (length text)
+token_len-takes_again _ _ (tokens.word b more after h passes ends) =
+    takes_again_word b more after h passes ends
+token_len-takes_again _ _ (tokens.number b more after h passes few ends) =
+    takes_again_number b more after h passes few ends
 token_len-takes_again _ _ (tokens.at_main after ends) = takes_again_at after ends
 token_len-takes_again _ _ (tokens.mark b after h) = takes_again_mark b after h
 
-refuses_again_behind : (b : ℕ) (more : List ℕ) (y : ℕ) (after : List ℕ) → is_digit b ≡ true → list_all is_digit more ≡ true → length more < 18 → is_word_start y ≡ true
+refuses_again_after : (b : ℕ) (more : List ℕ) (y : ℕ) (after : List ℕ) → is_digit b ≡ true
+    → list_all is_digit more ≡ true → length more < 18 → is_word_start y ≡ true
     → token_len (b ∷ (more ++ (y ∷ after))) ≡ Err (length more + 1)
-refuses_again_behind b more y after h passes few s =
+refuses_again_after b more y after h passes few s =
     let d : prefix_len is_digit (b ∷ (more ++ (y ∷ after))) ≡ suc (length more) =
-    prefix_len-yes is_digit b (more ++ (y ∷ after)) h ∙ ap suc (prefix_len-append is_digit more (y ∷ after) passes (start_is_no_digit y s)) in
-    let differ : prefix_len is_digit (b ∷ (more ++ (y ∷ after))) ≢ prefix_len is_word_byte (b ∷ (more ++ (y ∷ after))) = λ same.
+    prefix_len-yes is_digit b (more ++ (y ∷ after)) h
+    ∙ ap suc (prefix_len-append is_digit more (y ∷ after) passes (start_is_no_digit y s)) in
+    let differ : prefix_len is_digit (b ∷ (more ++ (y ∷ after)))
+    ≢ prefix_len is_word_byte (b ∷ (more ++ (y ∷ after))) = λ same.
     omega (
       arith,
       d,
       same,
       prefix_len-yes is_word_byte b (more ++ (y ∷ after)) (digit_is_word b h),
-      prefix_len-through is_word_byte more (y ∷ after) (list_all-wider is_digit is_word_byte digit_is_word more passes),
+      prefix_len-through is_word_byte more (y ∷ after)
+          (list_all-wider is_digit is_word_byte digit_is_word more passes),
       prefix_len-yes is_word_byte y after (start_is_word y s),
     ) in
     digits_ahead b more (y ∷ after) h
-    ∙ (number_len-behind (prefix_len is_digit (b ∷ (more ++ (y ∷ after)))) (prefix_len is_word_byte (b ∷ (more ++ (y ∷ after)))) (omega arith) differ
+    ∙ (number_len-after (prefix_len is_digit (b ∷ (more ++ (y ∷ after))))
+    (prefix_len is_word_byte (b ∷ (more ++ (y ∷ after)))) (omega arith) differ
     ∙ ap Err (omega (arith, d)))
 
-refuses_again_long : (b : ℕ) (more after : List ℕ) → is_digit b ≡ true → list_all is_digit more ≡ true → 18 ≤ length more → token_len (b ∷ (more ++ after)) ≡ Err 0
+refuses_again_long : (b : ℕ) (more after : List ℕ) → is_digit b ≡ true
+    → list_all is_digit more ≡ true → 18 ≤ length more → token_len (b ∷ (more ++ after)) ≡ Err 0
 refuses_again_long b more after h passes many =
     let d : 18 < prefix_len is_digit (b ∷ (more ++ after)) =
-    omega (arith, prefix_len-yes is_digit b (more ++ after) h, prefix_len-through is_digit more after passes) in
-    digits_ahead b more after h ∙ number_len-many (prefix_len is_digit (b ∷ (more ++ after))) (prefix_len is_word_byte (b ∷ (more ++ after))) d
+    omega (
+      arith,
+      prefix_len-yes is_digit b (more ++ after) h,
+      prefix_len-through is_digit more after passes,
+    ) in
+    digits_ahead b more after h
+    ∙ number_len-many (prefix_len is_digit (b ∷ (more ++ after)))
+    (prefix_len is_word_byte (b ∷ (more ++ after))) d
 
-refuses_again_at : (after : List ℕ) → ((rest : List ℕ) → BeginsWithout is_word_byte rest → after ≢ codes "main" ++ rest) → token_len (64 ∷ after) ≡ Err 0
+refuses_again_at : (after : List ℕ)
+    → ((rest : List ℕ) → BeginsWithout is_word_byte rest → after ≢ codes "main" ++ rest)
+    → token_len (64 ∷ after) ≡ Err 0
 unfolding token_len is_word_start is_digit
 refuses_again_at after none =
     elim (cases_Bool (bytes_eq (take_while is_word_byte after) (codes "main"))) [
       | inl w ↦
-          let main : take (prefix_len is_word_byte after) after ≡ codes "main" = (bytes_eq-Decides (take_while is_word_byte after) (codes "main")).0 w in
+          let main : take (prefix_len is_word_byte after) after ≡ codes "main" =
+          (bytes_eq-Decides (take_while is_word_byte after) (codes "main")).0 w in
           let whole : after ≡ codes "main" ++ drop (prefix_len is_word_byte after) after =
-          sym (take-append-drop (prefix_len is_word_byte after) after) ∙ ap (λ front. front ++ drop (prefix_len is_word_byte after) after) main in
+          sym (take-append-drop (prefix_len is_word_byte after) after)
+          ∙ ap (λ prefix. prefix ++ drop (prefix_len is_word_byte after) after) main in
           absurd (none _ (suffix_fails is_word_byte after) whole)
       | inr w ↦ rw w refl
     ]
 
-refuses_again_other : (b : ℕ) (after : List ℕ) → is_word_byte b ≡ false → b ≢ 64 → is_mark b ≡ false → token_len (b ∷ after) ≡ Err 0
+refuses_again_other : (b : ℕ) (after : List ℕ) → is_word_byte b ≡ false → b ≢ 64
+    → is_mark b ≡ false → token_len (b ∷ after) ≡ Err 0
 unfolding token_len is_word_byte
 refuses_again_other b after word off m =
     let parts = or_parts (is_word_start b) (is_digit b) word in
@@ -302,24 +385,38 @@ refuses_again_other b after word off m =
     rw (parts.0, parts.1, off_test, m) refl
 
 pub token_len-refuses_again : (bytes : List ℕ) (n : ℕ) → IsRefused bytes n → token_len bytes ≡ Err n
-token_len-refuses_again _ _ (tokens.behind_number b more y after h passes few s) = refuses_again_behind b more y after h passes few s
-token_len-refuses_again _ _ (tokens.long_number b more after h passes many) = refuses_again_long b more after h passes many
+token_len-refuses_again _ _ (tokens.after_number b more y after h passes few s) =
+    refuses_again_after b more y after h passes few s
+token_len-refuses_again _ _ (tokens.long_number b more after h passes many) =
+    refuses_again_long b more after h passes many
 token_len-refuses_again _ _ (tokens.lone_at after none) = refuses_again_at after none
-token_len-refuses_again _ _ (tokens.other b after gap word off m) = refuses_again_other b after word off m
+token_len-refuses_again _ _ (tokens.other b after no_blank word off m) =
+    refuses_again_other b after word off m
 
--- what stands where a token should is no gap
+-- no token begins with a blank, and no bytes that are refused do
 
-pub refused_begins : (bytes : List ℕ) (n : ℕ) → IsRefused bytes n → (b : ℕ) × (more : List ℕ) × (bytes ≡ b ∷ more) × (is_blank b ≡ false) × (n < length bytes)
+pub refused_begins : (bytes : List ℕ) (n : ℕ) → IsRefused bytes n
+    → (b : ℕ) × (more : List ℕ) × (bytes ≡ b ∷ more) × (is_blank b ≡ false) × (n < length bytes)
 unfolding is_blank
-refused_begins _ _ (tokens.behind_number b more y after h passes few s) = (b, more ++ (y ∷ after), refl, digit_is_no_gap b h, omega (arith, length-append more (y ∷ after)))
-refused_begins _ _ (tokens.long_number b more after h passes many) = (b, more ++ after, refl, digit_is_no_gap b h, omega arith)
+refused_begins _ _ (tokens.after_number b more y after h passes few s) = (
+  b,
+  more ++ (y ∷ after),
+  refl,
+  digit_is_no_blank b h,
+  omega (arith, length-append more (y ∷ after)),
+)
+refused_begins _ _ (tokens.long_number b more after h passes many) =
+    (b, more ++ after, refl, digit_is_no_blank b h, omega arith)
 refused_begins _ _ (tokens.lone_at after none) = (64, after, refl, refl, omega arith)
-refused_begins _ _ (tokens.other b after gap word off m) = (b, after, refl, gap, omega arith)
+refused_begins _ _ (tokens.other b after no_blank word off m) =
+    (b, after, refl, no_blank, omega arith)
 
-pub token_begins : (text after : List ℕ) → IsToken text after → (b : ℕ) × (more : List ℕ) × (text ≡ b ∷ more) × (is_blank b ≡ false)
+pub token_begins : (text after : List ℕ) → IsToken text after
+    → (b : ℕ) × (more : List ℕ) × (text ≡ b ∷ more) × (is_blank b ≡ false)
 unfolding is_blank
-token_begins _ _ (tokens.word b more after h passes ends) = (b, more, refl, start_is_no_gap b h)
-token_begins _ _ (tokens.number b more after h passes few ends) = (b, more, refl, digit_is_no_gap b h)
+token_begins _ _ (tokens.word b more after h passes ends) = (b, more, refl, start_is_no_blank b h)
+token_begins _ _ (tokens.number b more after h passes few ends) =
+    (b, more, refl, digit_is_no_blank b h)
 token_begins _ _ (tokens.at_main after ends) = (64, codes "main", refl, refl)
 token_begins _ _ (tokens.mark b after h) = (b, [], refl, (mark_is_apart b h).3)
 
@@ -330,19 +427,32 @@ unfolding token_len
 token_len-within [] n e = cc
 token_len-within (b ∷ more) n e =
     elim (chosen (is_word_start b) _ _ _ (sym e)) [
-      | inl w ↦ (let same : n ≡ prefix_len is_word_byte (b ∷ more) = cc in rw same (prefix_len-le-length is_word_byte (b ∷ more)))
+      | inl w ↦
+          (let same : n ≡ prefix_len is_word_byte (b ∷ more) =
+          cc in rw same (prefix_len-le-length is_word_byte (b ∷ more)))
       | inr w ↦ elim (chosen (is_digit b) _ _ _ w.1) [
         | inl v ↦
-            let taken = number_taken (prefix_len is_digit (b ∷ more)) (prefix_len is_word_byte (b ∷ more)) n v.1 in
+            let taken =
+            number_taken (prefix_len is_digit (b ∷ more))
+            (prefix_len is_word_byte (b ∷ more)) n v.1 in
             rw taken.2 (prefix_len-le-length is_digit (b ∷ more))
         | inr v ↦ elim (chosen (eqb b 64) _ _ _ v.1) [
-          | inl u ↦ elim (chosen (bytes_eq (take_while is_word_byte more) (codes "main")) _ _ _ u.1) [
-            | inl t ↦
-                let main : take (prefix_len is_word_byte more) more ≡ codes "main" = (bytes_eq-Decides (take_while is_word_byte more) (codes "main")).0 t.0 in
-                let five : n ≡ 5 = cc in
-                omega (arith, five, ap length main, length-take-le (prefix_len is_word_byte more) more (prefix_len-le-length is_word_byte more), prefix_len-le-length is_word_byte more)
-            | inr t ↦ cc
-          ]
+          | inl u ↦
+              elim (chosen (bytes_eq (take_while is_word_byte more) (codes "main")) _ _ _ u.1) [
+                | inl t ↦
+                    let main : take (prefix_len is_word_byte more) more ≡ codes "main" =
+                    (bytes_eq-Decides (take_while is_word_byte more) (codes "main")).0 t.0 in
+                    let five : n ≡ 5 = cc in
+                    omega (
+                      arith,
+                      five,
+                      ap length main,
+                      length-take-le (prefix_len is_word_byte more) more
+                          (prefix_len-le-length is_word_byte more),
+                      prefix_len-le-length is_word_byte more,
+                    )
+                | inr t ↦ cc
+              ]
           | inr u ↦ elim (chosen (is_mark b) _ _ _ u.1) [
             | inl t ↦ (let same : n ≡ 1 = cc in omega arith)
             | inr t ↦ cc
@@ -358,15 +468,19 @@ refused-within (b ∷ more) n e =
     elim (chosen (is_word_start b) _ _ _ (sym e)) [
       | inl w ↦ cc
       | inr w ↦ elim (chosen (is_digit b) _ _ _ w.1) [
-        | inl v ↦ elim (number_refused (prefix_len is_digit (b ∷ more)) (prefix_len is_word_byte (b ∷ more)) n v.1) [
-          | inl t ↦ omega (arith, t.1)
-          | inr t ↦ rw t.2 (prefix_len-le-length is_digit (b ∷ more))
-        ]
+        | inl v ↦
+            elim
+            (number_refused (prefix_len is_digit (b ∷ more))
+            (prefix_len is_word_byte (b ∷ more)) n v.1) [
+              | inl t ↦ omega (arith, t.1)
+              | inr t ↦ rw t.2 (prefix_len-le-length is_digit (b ∷ more))
+            ]
         | inr v ↦ elim (chosen (eqb b 64) _ _ _ v.1) [
-          | inl u ↦ elim (chosen (bytes_eq (take_while is_word_byte more) (codes "main")) _ _ _ u.1) [
-            | inl t ↦ cc
-            | inr t ↦ (let none : n ≡ 0 = cc in omega arith)
-          ]
+          | inl u ↦
+              elim (chosen (bytes_eq (take_while is_word_byte more) (codes "main")) _ _ _ u.1) [
+                | inl t ↦ cc
+                | inr t ↦ (let none : n ≡ 0 = cc in omega arith)
+              ]
           | inr u ↦ elim (chosen (is_mark b) _ _ _ u.1) [
             | inl t ↦ cc
             | inr t ↦ (let none : n ≡ 0 = cc in omega arith)
@@ -376,12 +490,10 @@ refused-within (b ∷ more) n e =
     ]
 
 -- a token that begins with a digit is a number of at most eighteen digits
-number_fits : (text after : List ℕ) → IsToken text after → NumberFits text
+pub number_fits : (text after : List ℕ) → IsToken text after → NumberFits text
 unfolding is_digit
-number_fits _ _ (tokens.word b more after h passes ends) = λ d. (let other = digit_is_no_start b d in cc)
+number_fits _ _ (tokens.word b more after h passes ends) =
+    λ d. (let other = digit_is_no_start b d in cc)
 number_fits _ _ (tokens.number b more after h passes few ends) = λ d. (passes, few)
 number_fits _ _ (tokens.at_main after ends) = λ d. cc
 number_fits _ _ (tokens.mark b after h) = λ d. (let apart = (mark_is_apart b h).1 in cc)
-
-pub token_len-fits : (bytes : List ℕ) (n : ℕ) → Ok n ≡ token_len bytes → NumberFits (take n bytes)
-token_len-fits bytes n e = number_fits (take n bytes) (drop n bytes) (token_len-takes bytes n (sym e))

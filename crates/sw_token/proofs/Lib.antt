@@ -1,6 +1,5 @@
 pub mod Lengths
-pub mod Readings
 pub mod Numbers
-pub mod Turns
+pub mod Steps
 pub mod Spans
-pub mod Laws
+pub mod TokenLaws

@@ -1,20 +1,19 @@
--- Where the tokens of a text stand.
-use Rattle.std.proofs.Common.{◌≡◌, ℕ, ◌+◌, ◌-◌, ◌<◌, ◌≤◌, Bool, true, false, ◌||◌, List, [], ◌∷◌, ◌++◌, length, take, drop, refl, sym, ap, ◌∙◌, subst, arith, length-append}
+-- What one token is in its text.
+use Rattle.std.proofs.Common.{◌≡◌, ℕ, ◌+◌, ◌-◌, ◌<◌, Bool, true, List, [], ◌∷◌, ◌++◌, length, take, refl, sym, ap, ◌∙◌, arith, length-append}
 use Rattle.std.specs.Prelude.{slice_range, IsAscii, codes}
-use Rattle.std.specs.List.{list_all, AllByRecursion}
+use Rattle.std.specs.List.{list_all}
 use Rattle.std.proofs.lemmas.Bool.Decides.{nat_tests}
-use Rattle.std.proofs.lemmas.List.{append_assoc, take_at, drop_at}
+use Rattle.std.proofs.lemmas.List.{take_at, drop_at}
 use Rattle.std.proofs.lemmas.Str.Ascii.{IsAscii-nil, IsAscii-cons}
-use Rattle.sw_token.specs.declared.Token.{Token}
-use Rattle.sw_token.specs.declared.LexFault.{LexFault}
-use Rattle.sw_token.specs.declared.LexFault.TheVariants.{BadChar}
+use Rattle.sw_token.specs.declared.before.Before.{Before}
 use Rattle.sw_bytes.specs.Classes.{is_digit}
-use Rattle.sw_token.specs.Bytes.{is_word_start, is_word_byte, is_mark, has_line_feed}
+use Rattle.sw_scan.proofs.Positions.{StandsIn}
+use Rattle.sw_token.specs.Bytes.{is_word_start, is_word_byte, is_mark}
 use Rattle.sw_token.specs.Kinds.{kind_of}
-use Rattle.sw_token.specs.Tokens.{IsGap, IsToken, Splits, Fails, IsTokenIn, StandInOrder, token_of}
+use Rattle.sw_token.specs.Tokens.{IsToken, IsTokenIn, token_of, lexis}
 use Rattle.sw_token.specs.Tokens as tokens
 use Rattle.std.proofs.lemmas.Bool.{and_parts}
-use Rattle.sw_token.proofs.Lengths.{token_begins, refused_begins}
+use Rattle.sw_token.proofs.Lengths.{token_begins}
 
 word_ascii : (b : ℕ) → is_word_byte b ≡ true → b < 128
 unfolding is_word_byte is_word_start is_digit
@@ -32,7 +31,8 @@ mark_ascii : (b : ℕ) → is_mark b ≡ true → b < 128
 unfolding is_mark
 mark_ascii b h = grind (arith, nat_tests)
 
-all_ascii : (p : ℕ → Bool) → ((b : ℕ) → p b ≡ true → b < 128) → (bytes : List ℕ) → list_all p bytes ≡ true → IsAscii bytes
+all_ascii : (p : ℕ → Bool) → ((b : ℕ) → p b ≡ true → b < 128) → (bytes : List ℕ)
+    → list_all p bytes ≡ true → IsAscii bytes
 all_ascii p low [] passes = IsAscii-nil
 all_ascii p low (b ∷ bs) passes =
     let parts = and_parts (p b) (list_all p bs) passes in
@@ -43,57 +43,38 @@ unfolding is_word_byte is_word_start
 main_passes = refl
 
 token_ascii : (text after : List ℕ) → IsToken text after → IsAscii text
-token_ascii _ _ (tokens.word b more after h passes ends) = IsAscii-cons b more (start_ascii b h) (all_ascii is_word_byte word_ascii more passes)
-token_ascii _ _ (tokens.number b more after h passes few ends) = IsAscii-cons b more (digit_ascii b h) (all_ascii is_digit digit_ascii more passes)
-token_ascii _ _ (tokens.at_main after ends) = IsAscii-cons 64 (codes "main") (omega arith) (all_ascii is_word_byte word_ascii (codes "main") main_passes)
+token_ascii _ _ (tokens.word b more after h passes ends) =
+    IsAscii-cons b more (start_ascii b h) (all_ascii is_word_byte word_ascii more passes)
+token_ascii _ _ (tokens.number b more after h passes few ends) =
+    IsAscii-cons b more (digit_ascii b h) (all_ascii is_digit digit_ascii more passes)
+token_ascii _ _ (tokens.at_main after ends) =
+    IsAscii-cons 64 (codes "main") (omega arith)
+    (all_ascii is_word_byte word_ascii (codes "main") main_passes)
 token_ascii _ _ (tokens.mark b after h) = IsAscii-cons b [] (mark_ascii b h) IsAscii-nil
 
 -- the bytes that a token spans are its text
-slice_of : (front gap text after : List ℕ)
-    → slice_range (front ++ (gap ++ (text ++ after))) (length front + length gap) (length front + length gap + length text) ≡ text
-slice_of front gap text after =
-    let start = length front + length gap in
-    let size : length text ≡ (start + length text) - start = omega arith in
-    ap (λ xs. take ((start + length text) - start) (drop start xs)) (sym (append_assoc front gap (text ++ after)))
-    ∙ (ap (take ((start + length text) - start)) (drop_at (front ++ gap) (text ++ after) start (length-append front gap))
-    ∙ take_at text after ((start + length text) - start) size)
+pub slice_of : (prefix text after : List ℕ)
+    → slice_range (prefix ++ (text ++ after)) (length prefix) (length prefix + length text) ≡ text
+slice_of prefix text after =
+    let size : length text ≡ (length prefix + length text) - length prefix = omega arith in
+    ap (take ((length prefix + length text) - length prefix))
+    (drop_at prefix (text ++ after) (length prefix) refl)
+    ∙ take_at text after ((length prefix + length text) - length prefix) size
 
-token_in : (front gap text after : List ℕ) (first : Bool) → IsToken text after → IsTokenIn (front ++ (gap ++ (text ++ after))) (token_of (length front + length gap) first text)
-token_in front gap text after first t =
+made_in : (prefix text after : List ℕ) (before : Before) → IsToken text after
+    → IsTokenIn (prefix ++ (text ++ after)) (token_of (length prefix) before text)
+made_in prefix text after before t =
     let begins = token_begins text after t in
-    let cut = slice_of front gap text after in
+    let cut = slice_of prefix text after in
     record {
       some = omega (arith, ap length begins.2);
-      within = omega (arith, length-append front (gap ++ (text ++ after)), length-append gap (text ++ after), length-append text after);
+      within = omega (arith, length-append prefix (text ++ after), length-append text after);
       kind = ap kind_of (sym cut);
       ascii = rw cut (token_ascii text after t);
       fixity = refl;
     }
 
-pub spans : (front bytes : List ℕ) (at : ℕ) (leads : Bool) (ts : List Token) → Splits at leads bytes ts → at ≡ length front
-    → AllByRecursion (IsTokenIn (front ++ bytes)) ts × StandInOrder at ts × (length ts ≤ length bytes)
-spans front _ _ _ _ (tokens.last_gap at leads gap passes) e = (tt, tt, omega arith)
-spans front _ _ _ _ (tokens.then_token at leads gap text after ts passes t rest) e =
-    let begins = token_begins text after t in
-    let to : at + length gap + length text ≡ length (front ++ (gap ++ text)) = omega (arith, length-append front (gap ++ text), length-append gap text) in
-    let behind = spans (front ++ (gap ++ text)) after (at + length gap + length text) false ts rest to in
-    let same : (front ++ (gap ++ text)) ++ after ≡ front ++ (gap ++ (text ++ after)) = simp append_assoc in
-    let here : IsTokenIn (front ++ (gap ++ (text ++ after))) (token_of (at + length gap) (leads || has_line_feed gap) text) =
-    rw e (token_in front gap text after (leads || has_line_feed gap) t) in
-    let P : List ℕ → Type 0 = λ xs. AllByRecursion (IsTokenIn xs) ts in (
-      (here, subst P same behind.0),
-      (omega arith, behind.1),
-      omega (arith, behind.2, ap length begins.2, length-append gap (text ++ after), length-append text after),
-    )
-
--- a fault names a byte of the text
-pub fault_within : (at : ℕ) (bytes : List ℕ) (fault : LexFault) → Fails at bytes fault → (n : ℕ) × (fault ≡ BadChar n) × (n < at + length bytes)
-fault_within _ _ _ (tokens.here at gap rest n passes r) =
-    (at + length gap + n, refl, omega (arith, (refused_begins rest n r).4, length-append gap rest))
-fault_within _ _ _ (tokens.behind_token at gap text after fault passes t rest) =
-    let found = fault_within _ _ _ rest in
-    (found.0, found.1, omega (arith, found.2, length-append gap (text ++ after), length-append text after))
-
-pub gap_alone : (at : ℕ) (leads : Bool) (bytes : List ℕ) (ts : List Token) → Splits at leads bytes ts → ts ≡ [] → IsGap bytes
-gap_alone _ _ _ _ (tokens.last_gap at leads gap passes) e = passes
-gap_alone _ _ _ _ (tokens.then_token at leads gap text after ts passes t rest) e = cc
+pub IsTokenIn-stands : (text : List ℕ) (token : _) → StandsIn lexis text token
+    → IsTokenIn text token
+IsTokenIn-stands text token is =
+    rw (is.whole_is, is.is_made) (made_in is.prefix is.text is.after is.before is.is_item)

@@ -27,11 +27,11 @@ reserved_words =
     ∷ codes "subscript" ∷ codes "super" ∷ codes "throw" ∷ codes "throws" ∷ codes "try"
     ∷ codes "typealias" ∷ codes "where" ∷ []
 
--- all key words: a key word's number is its place here, from 0
+-- all key words: a key word's number is its index here, from 0
 abbrev pub key_words : List (List ℕ)
 key_words = ruled_words ++ reserved_words
 
--- all marks: a mark's number is its place here, from 0
+-- all marks: a mark's number is its index here, from 0
 abbrev pub marks : List ℕ
 marks = codes "(){}[],:;."
 
@@ -51,7 +51,7 @@ unfoldable pub mark_number : ℕ → ℕ
 mark_number byte = unwrap_or (position (λ mark. mark == byte) marks) 0
 
 -- The kind of the token with this text: its first byte says whether it is a word, a number, an `@`
--- with a word behind it, or a mark. No token has an empty text.
+-- with a word after it, or a mark. No token has an empty text.
 unfoldable pub kind_of : List ℕ → Kind
 kind_of [] = kinds.Word
 kind_of (byte ∷ more) =
@@ -63,4 +63,5 @@ kind_of (byte ∷ more) =
 -- below 2 ^ 63.
 abbrev pub NumberFits : List ℕ → Type 0
 NumberFits [] = Unit {0}
-NumberFits (byte ∷ more) = IsTrue (is_digit byte) → IsTrue (list_all is_digit more) × (length more < 18)
+NumberFits (byte ∷ more) = IsTrue (is_digit byte)
+    → IsTrue (list_all is_digit more) × (length more < 18)

@@ -26,7 +26,7 @@ pub fn is_mark(byte: u8) -> bool
     b"(){};.".contains(&byte)
 }
 
-/// How many bytes of a word stand at the front.
+/// The number of word bytes that the bytes begin with.
 pub fn word_len(bytes: &[u8]) -> usize
     ensures value { result ≡ prefix_len is_word_byte bytes.now }
     ensures within { result ≤ length bytes.now }

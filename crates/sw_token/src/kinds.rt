@@ -109,15 +109,15 @@ fn key_number(text: &[u8]) -> Option<u8>
     ensures { result ≡ position (λ word. bytes_eq word text.now) key_words }
 {
     let words: [&str; 59] = KEY_WORDS;
-    match place_of(words.as_slice(), text) {
-        Some(place) => Some(place as u8),
+    match index_of(words.as_slice(), text) {
+        Some(index) => Some(index as u8),
         None => None,
     }
 }
 
-fn place_of(words: &[&str], text: &[u8]) -> Option<usize>
-    ensures place { result ≡ position (λ word. bytes_eq word.now text.now) words.now }
-    ensures within { IfSome result (λ place. place < length words.now) }
+fn index_of(words: &[&str], text: &[u8]) -> Option<usize>
+    ensures index { result ≡ position (λ word. bytes_eq word.now text.now) words.now }
+    ensures within { IfSome result (λ index. index < length words.now) }
 {
     words.iter().position(|word| is_same(word, text))
 }
@@ -132,12 +132,12 @@ fn is_same(word: &str, text: &[u8]) -> bool
 fn mark_number(byte: u8) -> u8
     ensures { result ≡ mark_number byte }
 {
-    mark_place(byte).unwrap_or(0) as u8
+    mark_index(byte).unwrap_or(0) as u8
 }
 
-fn mark_place(byte: u8) -> Option<usize>
-    ensures place { result ≡ position (λ mark. mark == byte) marks }
-    ensures within { IfSome result (λ place. place < 10) }
+fn mark_index(byte: u8) -> Option<usize>
+    ensures index { result ≡ position (λ mark. mark == byte) marks }
+    ensures within { IfSome result (λ index. index < 10) }
 {
     b"(){}[],:;.".iter().position(|mark| *mark == byte)
 }

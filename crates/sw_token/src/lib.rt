@@ -1,19 +1,27 @@
-//! The tokens of a program's text.
+//! The tokens of a program's text: their kinds, where they stand, and the lexical fault of a text
+//! that has none. It knows bytes and nothing of grammar.
 #![tactic(auto)]
 
-ghost use Rattle.std.specs.Prelude.{ℕ, ◌≡◌, ◌≢◌, ◌≤◌, ◌<◌, ◌^◌, ◌↔◌, List, [], length, All, IfOk, IfErr};
+ghost use Rattle.std.specs.Prelude.{ℕ, ◌≡◌, ◌≢◌, ◌+◌, ◌≤◌, ◌<◌, ◌^◌, ◌↔◌, List, [], length, All, IfOk, IfErr, IsTrue};
+ghost use Rattle.std.specs.List.{list_all};
 ghost use Rattle.std.specs.Str.{IsUtf8, IsCharBoundary};
+ghost use Rattle.sw_bytes.specs.Classes.{is_blank};
 ghost use Rattle.sw_token.specs.declared.Token.{Token};
 ghost use Rattle.sw_token.specs.declared.LexFault.{LexFault};
-ghost use Rattle.sw_token.specs.Tokens.{IsGap, IsTokens, IsLexicalPlace, IsReading, IsTokenIn, StandInOrder};
-ghost use Rattle.sw_token.specs.Reading.{Gives, reading};
+ghost use Rattle.sw_token.specs.Kinds.{NumberFits};
+ghost use Rattle.sw_token.specs.Tokens.{IsTokens, IsLexicalFault, HasTokens, IsTokenIn, StandInOrder, token_of};
+ghost use Rattle.sw_token.specs.Reading.{Lexes, tokens_or_fault};
 
+mod before;
 mod bytes;
 mod kinds;
-mod next;
+mod step;
 
-use next::next_token;
+use before::Before;
+use kinds::kind_of;
 use std::alloc::{AllocFailed, Global};
+use step::step_at;
+use sw_scan::Step;
 use sw_text::{Source, Span};
 use thiserror::Error;
 
@@ -26,7 +34,7 @@ pub enum Fixity {
     None,
 }
 
-/// What a token is. The numbers are places in the lists of key words, operators and marks, from 0.
+/// What a token is. The numbers are indices in the lists of key words, operators and marks, from 0.
 #[derive(Clone, Copy, Debug, PartialEq, Eq)]
 pub enum Kind {
     /// A word that names something.
@@ -35,7 +43,7 @@ pub enum Kind {
     Underscore,
     /// A word that the grammar keeps for itself.
     Key(u8),
-    /// An `@` and the word behind it.
+    /// An `@` and the word after it.
     At,
     /// An integer literal, by its value.
     Int(i64),
@@ -52,7 +60,8 @@ pub struct Token {
     /// Where it stands, in byte offsets; that of an `At` begins with its `@`.
     pub span: Span,
     pub fixity: Fixity,
-    /// Whether it is the first of its line: a line feed stands between it and the token before it, or none is before it.
+    /// Whether it is the first of its line: a line feed stands between it and the token before it,
+    /// or no token is before it.
     pub first: bool,
 }
 
@@ -87,17 +96,23 @@ impl<T: Drop> From<AllocFailed<T>> for LexFault {
     }
 }
 
-/// The tokens of a text, in order, or the first byte that no token can take. It goes over the text once.
+/// The tokens of a text, in order, or its lexical fault: the first byte that no token can take. It
+/// goes over the text once.
 pub fn tokens(alloc: Global, source: &Source) -> Result<Vec<Token>, LexFault>
     ensures found { IfOk result (λ tokens. IsTokens source.now tokens.items) }
-    ensures fault { IfErr result (λ fault. fault ≢ LexFault.Memory → IsLexicalPlace source.now fault) }
-    // What has tokens is read, and what has a lexical place is refused there, unless memory runs out.
-    ensures only { (tokens : List Token) → IsTokens source.now tokens → Gives (Ok tokens) result }
-    ensures only_fault { (fault : LexFault) → IsLexicalPlace source.now fault → Gives (Err fault) result }
+    ensures fault { IfErr result
+        (λ fault. fault ≢ LexFault.Memory → IsLexicalFault source.now fault) }
+    // A text that has tokens is read, and one that has a lexical fault is refused with it, unless
+    // memory runs out.
+    ensures only { (tokens : List Token) → IsTokens source.now tokens
+        → Lexes (Ok tokens) result }
+    ensures only_fault { (fault : LexFault) → IsLexicalFault source.now fault
+        → Lexes (Err fault) result }
     // The other faults wait for comments, larger literals and a limit on the number of tokens.
-    ensures only_bad_char { IfErr result (λ fault. fault ≢ LexFault.Memory → (at : ℕ) × (fault ≡ LexFault.BadChar at)) }
+    ensures only_bad_char { IfErr result
+        (λ fault. fault ≢ LexFault.Memory → (at : ℕ) × (fault ≡ LexFault.BadChar at)) }
     // The same as one function of the text.
-    ensures exact { Gives (reading source.now) result }
+    ensures exact { Lexes (tokens_or_fault source.now) result }
 {
     let span = Span {
         start: 0,
@@ -108,35 +123,71 @@ pub fn tokens(alloc: Global, source: &Source) -> Result<Vec<Token>, LexFault>
 
 fn tokens_of(alloc: Global, text: &[u8]) -> Result<Vec<Token>, LexFault>
     requires { length text.now < 2 ^ 32 }
-    ensures { Gives (reading text.now) result }
+    ensures { Lexes (tokens_or_fault text.now) result }
 {
     let mut tokens = Vec::new(alloc);
+    let mut before = Before::at_start();
     let mut at = 0;
-    while let Some(token) = next_token(&text[at as usize..], at, tokens.is_empty())? {
-        at = token.span.end;
-        tokens.push(token)?;
+    loop {
+        let rest = &text[at..];
+        match step_at(rest, at as u32)? {
+            Step::End => return Ok(tokens),
+            Step::Skip(len) => {
+                before = before.past_piece(&rest[..len]);
+                at += len;
+            }
+            Step::Take(len) => {
+                tokens.push(token_of(&rest[..len], at as u32, before))?;
+                before = before.past_token(&rest[..len]);
+                at += len;
+            }
+        }
     }
-    Ok(tokens)
 }
 
-/// A text has one token list or one lexical place, and not both.
+/// The token of this text, which stands at the offset `at`.
+fn token_of(text: &[u8], at: u32, before: Before) -> Token
+    requires fits { NumberFits text.now }
+    requires within { at + length text.now < 2 ^ 32 }
+    ensures { result ≡ token_of at before text.now }
+{
+    Token {
+        kind: kind_of(text),
+        span: Span {
+            start: at,
+            end: at + text.len() as u32,
+        },
+        fixity: Fixity::None,
+        first: before.is_first_on_line,
+    }
+}
+
+/// A text has one token list or one lexical fault, and not both.
 pub fn one_reading()
-    ensures tokens { (text : List ℕ) (a b : List Token) → IsTokens text a → IsTokens text b → a ≡ b }
-    ensures places { (text : List ℕ) (a b : LexFault) → IsLexicalPlace text a → IsLexicalPlace text b → a ≡ b }
-    ensures apart { (text : List ℕ) (tokens : List Token) (fault : LexFault) → IsTokens text tokens → IsLexicalPlace text fault → ⊥ }
-    ensures always { (text : List ℕ) → IsReading text (reading text) }
+    ensures tokens { (text : List ℕ) (a b : List Token)
+        → IsTokens text a → IsTokens text b → a ≡ b }
+    ensures faults { (text : List ℕ) (a b : LexFault)
+        → IsLexicalFault text a → IsLexicalFault text b → a ≡ b }
+    ensures apart { (text : List ℕ) (tokens : List Token) (fault : LexFault)
+        → IsTokens text tokens → ¬ IsLexicalFault text fault }
+    ensures always { (text : List ℕ) → HasTokens text (tokens_or_fault text) }
 {}
 
 /// What the tokens of a text are, one by one and together.
 pub fn tokens_in_text()
-    ensures each { (text : List ℕ) (tokens : List Token) → IsTokens text tokens → All (IsTokenIn text) tokens }
-    ensures order { (text : List ℕ) (tokens : List Token) → IsTokens text tokens → StandInOrder 0 tokens }
-    ensures few { (text : List ℕ) (tokens : List Token) → IsTokens text tokens → length tokens ≤ length text }
-    ensures empty { (text : List ℕ) → IsTokens text [] ↔ IsGap text }
+    ensures each { (text : List ℕ) (tokens : List Token) → IsTokens text tokens
+        → All (IsTokenIn text) tokens }
+    ensures order { (text : List ℕ) (tokens : List Token) → IsTokens text tokens
+        → StandInOrder 0 tokens }
+    ensures few { (text : List ℕ) (tokens : List Token) → IsTokens text tokens
+        → length tokens ≤ length text }
+    ensures empty { (text : List ℕ) → IsTokens text [] ↔ IsTrue (list_all is_blank text) }
     // A span of a token may be cut out of the text.
     ensures borders { (text : List ℕ) (tokens : List Token) → IsUtf8 text → IsTokens text tokens
-        → All (λ token. IsCharBoundary text token.span.start × IsCharBoundary text token.span.end) tokens }
-    ensures place { (text : List ℕ) (at : ℕ) → IsLexicalPlace text (LexFault.BadChar at) → at < length text }
+        → All (λ token. IsCharBoundary text token.span.start
+        × IsCharBoundary text token.span.end) tokens }
+    ensures inside { (text : List ℕ) (at : ℕ) → IsLexicalFault text (LexFault.BadChar at)
+        → at < length text }
 {}
 
 #[cfg(test)]

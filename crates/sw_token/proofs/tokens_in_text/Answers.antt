@@ -1,4 +1,4 @@
-use Rattle.sw_token.proofs.Laws.{IsTokens-each, IsTokens-order, IsTokens-few, IsTokens-empty, IsTokens-borders, IsLexicalPlace-within}
+use Rattle.sw_token.proofs.TokenLaws.{IsTokens-each, IsTokens-order, IsTokens-few, IsTokens-empty, IsTokens-borders, IsLexicalFault-within}
 use Rattle.sw_token.proofs.tokens_in_text.Goals as goal
 
 pub returns-clause-each : goal.returns-clause-each
@@ -16,5 +16,5 @@ returns-clause-empty c = IsTokens-empty
 pub returns-clause-borders : goal.returns-clause-borders
 returns-clause-borders c = IsTokens-borders
 
-pub returns-clause-place : goal.returns-clause-place
-returns-clause-place c = IsLexicalPlace-within
+pub returns-clause-inside : goal.returns-clause-inside
+returns-clause-inside c = IsLexicalFault-within

@@ -1,7 +1,7 @@
 use Rattle.std.proofs.Common.{◌≡◌, ◌-◌, arith, sym, ◌∙◌, ap, subst}
 use Rattle.std.proofs.lemmas.List.{length-map}
 use Rattle.std.specs.Prelude.{Err}
-use Rattle.sw_token.proofs.Laws.{IsTokens-few}
+use Rattle.sw_token.proofs.TokenLaws.{IsTokens-few}
 use Rattle.sw_small.specs.Spelling.{spelled, spelling_of}
 use Rattle.sw_small.specs.Small.{IsSmallPlace}
 use Rattle.sw_small.specs.SmallReading.{whole}

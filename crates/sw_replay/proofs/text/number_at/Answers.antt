@@ -1,6 +1,0 @@
-use Rattle.sw_bytes.specs.Classes.{is_digit}
-use Rattle.sw_bytes.proofs.Prefixes.{prefix_passes}
-use Rattle.sw_replay.proofs.text.number_at.Goals as goal
-
-pub number_of-requires : goal.number_of-requires
-number_of-requires c = rw c.digits_len-len.ensures.value (prefix_passes is_digit c.args.bytes.now)
