@@ -14,3 +14,5 @@ mod list_tests;
 mod memory_tests;
 #[cfg(test)]
 mod text_tests;
+#[cfg(test)]
+mod token_tests;

@@ -189,6 +189,3 @@ pub fn tokens_in_text()
     ensures inside { (text : List ℕ) (at : ℕ) → IsLexicalFault text (LexFault.BadChar at)
         → at < length text }
 {}
-
-#[cfg(test)]
-mod tests;
