@@ -1,0 +1,127 @@
+//! Calls of the tool as data. Each file `data/cases/TOPIC/NAME.case` has the words of a call, its files and
+//! the reply that it has; each file `data/differing/NAME.case` has a reply that its call doesn't have, and
+//! so tests the comparison. The calls that `data/README.md` shows are made too. The program prints each
+//! call that is wrong, with what the tool replied, and at the end the numbers of calls.
+//!
+//! A case file begins with the words, one a line. A line `---- NAME` begins the text of a file, and
+//! `---- exit STATUS` the reply. `---- NAME times N` repeats the text that follows; after `open` its last
+//! line feed isn't part of the text; after `hex` it is bytes in hexadecimal. Texts of one file that follow
+//! one another are one text.
+#![tactic(auto)]
+
+mod case;
+mod folder;
+mod head;
+mod outcome;
+mod tally;
+mod transcript;
+
+use case::Case;
+use folder::{files_in, names_in};
+use outcome::Outcome;
+use std::process::ExitCode;
+use std::rt::Files;
+use std::{fs, io};
+use tally::Tally;
+use transcript::shown_calls;
+
+/// Makes the call of a case, and counts whether its reply is as it should be.
+fn run_case<R: Print + AllocGlobal>(
+    rt: &R,
+    tally: &mut Tally,
+    name: &str,
+    case: &Case,
+) -> io::Result<()> {
+    let outcome = Outcome::of(rt.alloc(), case)?;
+    let is_reply = outcome.is_reply(case.exit, case.reply.as_slice());
+    if tally.count(is_reply) {
+        return Ok(());
+    }
+    let exit = outcome.exit;
+    let reply = outcome.text();
+    println!(rt; "wrong: {name}\nexit {exit}\n{reply}")
+}
+
+/// Makes the call of a case file. A file that is no case is counted as one with another reply.
+fn run_file<R: Files + Print + AllocGlobal>(
+    rt: &R,
+    tally: &mut Tally,
+    path: &str,
+) -> io::Result<()> {
+    let text = fs::read_to_string(rt, path)?;
+    match Case::parse(rt.alloc(), text.as_str())? {
+        Some(case) => run_case(rt, tally, path, &case),
+        None => {
+            if tally.count(false) {
+                return Ok(());
+            }
+            println!(rt; "wrong: {path}\nno case")
+        }
+    }
+}
+
+/// Makes the calls of the case files in a folder.
+fn run_folder<R: Files + Print + AllocGlobal + Clone + Drop>(
+    rt: &R,
+    tally: &mut Tally,
+    folder: &str,
+) -> io::Result<()> {
+    for path in &names_in(rt, folder)? {
+        run_file(rt, tally, path.as_str())?;
+    }
+    Ok(())
+}
+
+/// Makes the calls of the case files of all topics.
+fn run_topics<R: Files + Print + AllocGlobal + Clone + Drop>(
+    rt: &R,
+    tally: &mut Tally,
+) -> io::Result<()> {
+    for topic in &names_in(rt, "cases")? {
+        run_folder(rt, tally, topic.as_str())?;
+    }
+    Ok(())
+}
+
+/// Makes the calls that a document shows, over the files of the examples.
+fn run_document<R: Files + Print + AllocGlobal + Clone + Drop>(
+    rt: &R,
+    tally: &mut Tally,
+    path: &str,
+) -> io::Result<()> {
+    let text = fs::read_to_string(rt, path)?;
+    for mut case in shown_calls(rt.alloc(), text.as_str())? {
+        case.files = files_in(rt, "examples")?;
+        run_case(rt, tally, path, &case)?;
+    }
+    Ok(())
+}
+
+/// Makes all calls, prints their numbers and returns how many are wrong.
+fn run_all<R: Files + Print + AllocGlobal + Clone + Drop>(rt: &R) -> io::Result<u64> {
+    let mut cases = Tally::new(true);
+    run_topics(rt, &mut cases)?;
+    let mut differing = Tally::new(false);
+    run_folder(rt, &mut differing, "differing")?;
+    let mut shown = Tally::new(true);
+    run_document(rt, &mut shown, "README.md")?;
+    let (cases_made, differing_made, shown_made) = (cases.calls, differing.calls, shown.calls);
+    println!(rt; "{cases_made} cases")?;
+    println!(rt; "{differing_made} cases with another reply")?;
+    println!(rt; "{shown_made} calls in README.md")?;
+    Ok(
+        cases
+            .wrong
+            .saturating_add(differing.wrong)
+            .saturating_add(shown.wrong),
+    )
+}
+
+fn main(rt: HostRuntime) -> io::Result<ExitCode> {
+    let wrong = run_all(&rt)?;
+    if wrong == 0 {
+        return Ok(ExitCode::SUCCESS);
+    }
+    println!(rt; "{wrong} are wrong")?;
+    Ok(ExitCode::FAILURE)
+}

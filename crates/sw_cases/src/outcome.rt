@@ -1,0 +1,46 @@
+ghost use Rattle.std.specs.Prelude.{◌≡◌, ◌↔◌, IsTrue, Some, IfSome};
+
+use crate::case::Case;
+use std::alloc::{AllocError, Global};
+use sw_check::run_words;
+use sw_outside::{MemShelf, MemSink};
+
+/// The room for a reply in bytes.
+const ROOM: usize = 1_048_576;
+
+/// The exit status of a call, and the bytes that it wrote.
+#[derive(Drop)]
+pub struct Outcome {
+    pub exit: u8,
+    pub bytes: Vec<u8>,
+}
+
+impl Outcome {
+    /// Makes the call of a case over its files in memory.
+    pub fn of(alloc: Global, case: &Case) -> Result<Outcome, AllocError> {
+        let mut shelf = MemShelf::new(alloc, &[])?;
+        for file in &case.files {
+            shelf.add(file.name.as_str(), file.bytes.as_slice())?;
+        }
+        let mut sink = MemSink::new(alloc, ROOM, &[], ROOM)?;
+        let exit = run_words(alloc, &case.words, &mut shelf, &mut sink).status();
+        let bytes = Vec::from_slice(alloc, sink.bytes())?;
+        Ok(Outcome { exit, bytes })
+    }
+
+    /// Whether these are the bytes, and the exit where one is given.
+    pub fn is_reply(&self, exit: Option<u8>, bytes: &[u8]) -> bool
+        ensures { IsTrue result
+            ↔ (IfSome exit (λ status. status ≡ self.now.exit) × (self.now.bytes.items ≡ bytes.now)) }
+    {
+        exit.unwrap_or(self.exit) == self.exit && self.bytes.as_slice() == bytes
+    }
+
+    /// The bytes as a text to print.
+    pub fn text(&self) -> &str {
+        match str::from_utf8(self.bytes.as_slice()) {
+            Ok(text) => text,
+            Err(_) => "(not UTF-8)",
+        }
+    }
+}
