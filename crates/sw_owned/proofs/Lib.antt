@@ -1,0 +1,9 @@
+pub mod FrameLemmas
+pub mod CarriedLemmas
+pub mod WithinLemmas
+pub mod MergedLemmas
+pub mod FreshenedLemmas
+pub mod PushedLemmas
+pub mod CallLemmas
+pub mod ReturnedLemmas
+pub mod OwnerLemmas
