@@ -1,6 +1,6 @@
 //! Calls of the tool as data. Each file `data/cases/TOPIC/NAME.case` has the words of a call, its files and
 //! the reply that it has; each file `data/differing/NAME.case` has a reply that its call doesn't have, and
-//! so tests the comparison. The calls that `data/README.md` shows are made too. The program prints each
+//! so tests the comparison. The calls that `data/shown.md` shows are made too. The program prints each
 //! call that is wrong, with what the tool replied, and at the end the numbers of calls.
 //!
 //! A case file begins with the words, one a line. A line `---- NAME` begins the text of a file, and
@@ -104,11 +104,11 @@ fn run_all<R: Files + Print + AllocGlobal + Clone + Drop>(rt: &R) -> io::Result<
     let mut differing = Tally::new(false);
     run_folder(rt, &mut differing, "differing")?;
     let mut shown = Tally::new(true);
-    run_document(rt, &mut shown, "README.md")?;
+    run_document(rt, &mut shown, "shown.md")?;
     let (cases_made, differing_made, shown_made) = (cases.calls, differing.calls, shown.calls);
     println!(rt; "{cases_made} cases")?;
     println!(rt; "{differing_made} cases with another reply")?;
-    println!(rt; "{shown_made} calls in README.md")?;
+    println!(rt; "{shown_made} calls that the documents show")?;
     Ok(
         cases
             .wrong
