@@ -2,7 +2,8 @@
 use Rattle.std.proofs.Common.{◌≡◌, ◌==◌, ℕ, Bool, true, false, cond, List, [], ◌∷◌, Option, Some, None, IsSome, find, map, option_map, refl}
 use Rattle.sw_breach.specs.Codes.{text_in}
 
-pub text_in-map : {Row : Type 0} (rows : List Row) (number : Row → ℕ) (text : Row → List ℕ) (code : ℕ)
+pub text_in-map : {Row : Type 0} (rows : List Row) (number : Row → ℕ) (text : Row → List ℕ)
+    (code : ℕ)
     → option_map text (find (λ row. number row == code) rows)
     ≡ text_in (map (λ row. (number row, text row)) rows) code
 text_in-map [] number text code = refl

@@ -32,7 +32,8 @@ note_lines bytes (Some at) = note_line bytes at
 abbrev pub breach_lines : List ℕ → List Breach → List ℕ
 breach_lines bytes [] = []
 breach_lines bytes (breach ∷ breaches) =
-    breach_line bytes breach ++ (note_lines bytes (shown_note breach) ++ breach_lines bytes breaches)
+    breach_line bytes breach
+    ++ (note_lines bytes (shown_note breach) ++ breach_lines bytes breaches)
 
 -- the last line, which counts the breaches: `refused: N`
 unfoldable pub count_line : ℕ → List ℕ

@@ -1,6 +1,6 @@
-//! Breaches: what is wrong with a program's text, and where. The crate knows the codes of all phases
-//! with their texts, the order in which breaches are listed, and the lines of a verdict on a text that
-//! is refused. It knows nothing of how a breach is found.
+//! Breaches: what is wrong with a program's text, and where. The crate knows the codes of all
+//! phases with their texts, the order in which breaches are listed, and the lines of a verdict on a
+//! text that is refused. It knows nothing of how a breach is found.
 #![tactic(auto)]
 
 mod codes;

@@ -18,7 +18,8 @@ impl Breach {
     }
 }
 
-/// A law, without code: [`Breach::compare`] is a total order, and only equal breaches compare as equal.
+/// A law, without code: [`Breach::compare`] is a total order, and only equal breaches compare as
+/// equal.
 pub fn breaches_are_in_order()
     ensures total { IsTotalOrder breach_cmp }
     ensures equal { (one other : Breach) → breach_cmp one other ≡ Ordering.Equal → one ≡ other }

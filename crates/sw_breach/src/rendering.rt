@@ -80,8 +80,8 @@ fn count_line(alloc: Global, count: usize) -> Result<String, AllocError>
     format!(in alloc; "refused: {count}\n")
 }
 
-/// What the tool prints of the breaches of the text `bytes`, in the order of the list. A position after
-/// the end of the text is shown as the end.
+/// What the tool prints of the breaches of the text `bytes`, in the order of the list. A position
+/// after the end of the text is shown as the end.
 #[tactic(auto, unfolding(crate::specs::Lines::verdict_text))]
 pub fn render(alloc: Global, bytes: &[u8], list: &[Breach]) -> Result<Vec<u8>, AllocError>
     requires some { 0 < length list.now }

@@ -1,12 +1,13 @@
-//! Calls of the tool as data. Each file `data/cases/TOPIC/NAME.case` has the words of a call, its files and
-//! the reply that it has; each file `data/differing/NAME.case` has a reply that its call doesn't have, and
-//! so tests the comparison. The calls that `data/shown.md` shows are made too. The program prints each
-//! call that is wrong, with what the tool replied, and at the end the numbers of calls.
+//! Calls of the tool as data. Each file `data/cases/TOPIC/NAME.case` has the words of a call, its
+//! files and the reply that it has; each file `data/differing/NAME.case` has a reply that its call
+//! doesn't have, and so tests the comparison. The calls that `data/shown.md` shows are made too.
+//! The program prints each call that is wrong, with what the tool replied, and at the end the
+//! numbers of calls.
 //!
 //! A case file begins with the words, one a line. A line `---- NAME` begins the text of a file, and
-//! `---- exit STATUS` the reply. `---- NAME times N` repeats the text that follows; after `open` its last
-//! line feed isn't part of the text; after `hex` it is bytes in hexadecimal. Texts of one file that follow
-//! one another are one text.
+//! `---- exit STATUS` the reply. `---- NAME times N` repeats the text that follows; after `open`
+//! its last line feed isn't part of the text; after `hex` it is bytes in hexadecimal. Texts of one
+//! file that follow one another are one text.
 #![tactic(auto)]
 
 mod case;

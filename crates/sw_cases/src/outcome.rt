@@ -31,7 +31,8 @@ impl Outcome {
     /// Whether these are the bytes, and the exit where one is given.
     pub fn is_reply(&self, exit: Option<u8>, bytes: &[u8]) -> bool
         ensures { IsTrue result
-            ↔ (IfSome exit (λ status. status ≡ self.now.exit) × (self.now.bytes.items ≡ bytes.now)) }
+            ↔ (IfSome exit (λ status. status ≡ self.now.exit)
+              × (self.now.bytes.items ≡ bytes.now)) }
     {
         exit.unwrap_or(self.exit) == self.exit && self.bytes.as_slice() == bytes
     }

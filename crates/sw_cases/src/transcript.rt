@@ -1,8 +1,8 @@
 use crate::case::{Case, words_of};
 use std::alloc::{AllocError, Global};
 
-/// The calls that a document shows. A line `$ ./swiftcheck WORDS` is a call; the lines after it, up to the
-/// next line that begins with `$ ` or the end of the block, are what it prints.
+/// The calls that a document shows. A line `$ ./swiftcheck WORDS` is a call; the lines after it, up
+/// to the next line that begins with `$ ` or the end of the block, are what it prints.
 pub fn shown_calls(alloc: Global, text: &str) -> Result<Vec<Case>, AllocError> {
     let mut calls = Vec::new(alloc);
     let mut is_reply = false;

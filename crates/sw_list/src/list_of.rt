@@ -5,7 +5,8 @@ ghost use Rattle.std.specs.Borrow.{Lends, sem};
 use std::alloc::{AllocError, Global};
 use std::marker::Model;
 
-/// Items in order. A field of this type is made from a `Vec` and gives it back without taking memory.
+/// Items in order. A field of this type is made from a `Vec` and gives it back without taking
+/// memory.
 #[derive(Debug, Drop)]
 pub struct ListOf<T> {
     items: Vec<T>,

@@ -13,13 +13,15 @@ pub record ShelfState : Type 0 where
   -- the number of fetches that failed
   pub faults : ℕ
 
--- The next fetch fails if it requests this name: its number, which is the number of requests before it,
--- is among the failing ones, or no file has the name.
+-- The next fetch fails if it requests this name: its number, which is the number of requests before
+-- it, is among the failing ones, or no file has the name.
 abbrev pub fails_at : ShelfState → List ℕ → Bool
 fails_at shelf name =
-    list_any (λ number. number == length shelf.known.requested) shelf.fails || is_none (find_file shelf.known.files name)
+    list_any (λ number. number == length shelf.known.requested) shelf.fails
+    || is_none (find_file shelf.known.files name)
 
--- the shelf after a fetch that was answered, with the bytes that it received and the faults until then
+-- the shelf after a fetch that was answered, with the bytes that it received and the faults until
+-- then
 abbrev pub after_fetch : List ℕ → ℕ → ℕ → ShelfState → ShelfState
 after_fetch name received faults shelf =
     record shelf { known = with_request name shelf.known; received = received; faults = faults }

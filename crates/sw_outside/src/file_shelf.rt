@@ -40,7 +40,8 @@ impl<'a, R: Files> FileShelf<'a, R> {
     /// Counts a fault of the system in a fetch that received this number of bytes.
     fn fail(&mut self, received: usize) -> FetchFault
         ensures fault { result ≡ FetchFault.Failed }
-        ensures counts { self.new ≡ record { received = received; faults = raised self.old.faults } }
+        ensures counts { self.new
+            ≡ record { received = received; faults = raised self.old.faults } }
         ensures never_falls { self.old.faults ≤ self.new.faults }
     {
         self.received = received;

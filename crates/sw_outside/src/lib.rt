@@ -1,5 +1,5 @@
-//! The outside of the tool: a shelf that files are fetched from, and a sink that output is written to.
-//! Each has a form in memory, for tests and for callers without a file system, and one over the
+//! The outside of the tool: a shelf that files are fetched from, and a sink that output is written
+//! to. Each has a form in memory, for tests and for callers without a file system, and one over the
 //! system. The crate knows names and bytes, and nothing of programs, commands or replies.
 #![tactic(auto)]
 

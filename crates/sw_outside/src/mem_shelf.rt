@@ -117,7 +117,9 @@ impl MemShelf {
     /// Adds a file, or replaces the one of its name.
     pub fn add(&mut self, name: &str, bytes: &[u8]) -> Result<(), AllocError>
         ensures ok { OnOk result (self.new ≡ record self.old {
-          known = record self.old.known { files = with_file name.now bytes.now self.old.known.files };
+          known = record self.old.known {
+            files = with_file name.now bytes.now self.old.known.files;
+          };
         }) }
         ensures err { OnErr result (self.new ≡ self.old) }
 
@@ -171,14 +173,17 @@ impl MemShelf {
 
 /// The index of the file of that name, and what it says of the files.
 fn index_of(files: &[StoredFile], name: &str) -> Option<usize>
-    ensures there { IfSome result (λ at. at < length files.now) }
+    ensures there { IfSome result (λ i. i < length files.now) }
     ensures found { IfSome result
-        (λ at. (d : List ℕ × List ℕ) → find_file files.now name.now ≡ Some (slice_index_or files.now at d).1) }
+        (λ i. (d : List ℕ × List ℕ)
+        → find_file files.now name.now ≡ Some (slice_index_or files.now i d).1) }
     ensures replaced { IfSome result
-        (λ at. (bytes : List ℕ) → with_file name.now bytes files.now ≡ slice_set files.now at (name.now, bytes)) }
+        (λ i. (bytes : List ℕ)
+        → with_file name.now bytes files.now ≡ slice_set files.now i (name.now, bytes)) }
     ensures missing { IfNone result (find_file files.now name.now ≡ None) }
     ensures added { IfNone result
-        ((bytes : List ℕ) → with_file name.now bytes files.now ≡ files.now ++ (name.now, bytes) ∷ []) }
+        ((bytes : List ℕ)
+        → with_file name.now bytes files.now ≡ files.now ++ (name.now, bytes) ∷ []) }
 {
     first_named(files, name)
 }
@@ -206,7 +211,8 @@ impl Shelf for MemShelf {
 
         // The shelf after a fetch.
         ensures after_ok { IfOk result
-            (λ bytes. self.new ≡ after_fetch name.now (length bytes.items) self.old.faults self.old) }
+            (λ bytes. self.new
+            ≡ after_fetch name.now (length bytes.items) self.old.faults self.old) }
         ensures after_failed { IsErrOf result FetchFault.Failed
             → self.new ≡ after_fetch name.now 0 (raised self.old.faults) self.old }
         ensures after_long { IsErrOf result FetchFault.TooLong

@@ -33,12 +33,13 @@ impl Model for MemSink {
       faults = s.faults;
     } };
 
-    ghost invariant = { λ s. (0 < s.step) × (vec_len s.bytes ≤ s.room) × (s.room ≤ vec_capacity s.bytes) };
+    ghost invariant = { λ s.
+        (0 < s.step) × (vec_len s.bytes ≤ s.room) × (s.room ≤ vec_capacity s.bytes) };
 }
 
 impl MemSink {
-    /// A sink that holds at most `room` bytes and writes at most `step` in one put, and whose puts with
-    /// a number in `fails` fail. It allocates the room for all of them.
+    /// A sink that holds at most `room` bytes and writes at most `step` in one put, and whose puts
+    /// with a number in `fails` fail. It allocates the room for all of them.
     pub fn new(
         alloc: Global,
         step: usize,

@@ -46,8 +46,8 @@ pub trait Shelf {
     /// The number of faults of the outside, in a counter of 64 bits that stays at its last value.
     ghost faults: { Self → ℕ };
 
-    /// The bytes of a file of at most `limit` bytes. Every fetch but one that runs out of memory adds
-    /// its name to those requested.
+    /// The bytes of a file of at most `limit` bytes. Every fetch but one that runs out of memory
+    /// adds its name to those requested.
     fn fetch(&mut self, alloc: Global, name: &str, limit: usize) -> Result<Vec<u8>, FetchFault>
         // Only a fault of the outside raises the count.
         ensures never_falls { faults self.old ≤ faults self.new }

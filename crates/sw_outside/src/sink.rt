@@ -25,7 +25,8 @@ pub trait Sink {
         ensures some { IfOk result (λ n. 0 < n) }
         ensures within { IfOk result (λ n. n ≤ length piece.now) }
         ensures written { IfOk result
-            (λ n. written self.new ≡ option_map (λ bytes. bytes ++ take n piece.now) (written self.old)) }
+            (λ n. written self.new
+            ≡ option_map (λ bytes. bytes ++ take n piece.now) (written self.old)) }
         ensures nothing { OnErr result (written self.new ≡ written self.old) }
         ensures failed { OnErr result (Rose (faults self.old) (faults self.new)) }
         ensures steady { OnOk result (faults self.new ≡ faults self.old) }

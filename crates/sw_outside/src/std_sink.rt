@@ -34,7 +34,8 @@ impl<R: Print> Sink for StdSink<'_, R> {
 
     ghost faults = { λ s. s };
 
-    // One write of the system and no buffer: the bytes written have left the program when it returns.
+    // One write of the system and no buffer: the bytes written have left the program when it
+    // returns.
     fn put(&mut self, piece: &[u8]) -> Result<usize, SinkFault>
         requires { 0 < length piece.now }
         ensures one_fault { OnErr result (self.new ≡ raised self.old) }

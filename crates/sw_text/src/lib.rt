@@ -45,7 +45,8 @@ impl From<AllocError> for TextFault {
     }
 }
 
-/// The text of a program: UTF-8, and at most [`MAX_LENGTH`] bytes. Contracts see the list of its bytes.
+/// The text of a program: UTF-8, and at most [`MAX_LENGTH`] bytes. Contracts see the list of its
+/// bytes.
 #[derive(Debug, Drop)]
 pub struct Source {
     text: String,
@@ -72,7 +73,8 @@ impl Source {
         ensures not_utf8 { (at : ℕ) → IsErrOf result (TextFault.NotUtf8 at)
             ↔ ((¬ (IsUtf8 bytes.now)) × (at ≡ utf8_valid_len bytes.now)) }
         // The bytes before `at` are UTF-8, and no longer prefix of the bytes is.
-        ensures longest { (at : ℕ) → IsErrOf result (TextFault.NotUtf8 at) → IsValidUpTo bytes.now at }
+        ensures longest { (at : ℕ)
+            → IsErrOf result (TextFault.NotUtf8 at) → IsValidUpTo bytes.now at }
     {
         match str::from_utf8(bytes) {
             Ok(text) => Ok(Source {

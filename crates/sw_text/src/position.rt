@@ -4,8 +4,8 @@ ghost use Rattle.sw_text.specs.Text.{line_of, column_of};
 
 use std::alloc::{AllocError, Global};
 
-/// The line and the column of the position `at`, a byte offset. Both count from 1, the column counts
-/// bytes, and a line ends after a line feed.
+/// The line and the column of the position `at`, a byte offset. Both count from 1, the column
+/// counts bytes, and a line ends after a line feed.
 pub fn line_col_of(bytes: &[u8], at: u32) -> (u32, u32)
     requires within { at ≤ length bytes.now }
     requires short { length bytes.now < 4294967295 }
@@ -26,7 +26,8 @@ pub fn line_col_of(bytes: &[u8], at: u32) -> (u32, u32)
     (line, column)
 }
 
-/// The position `at` as messages show it: `LINE:COLUMN`. A position after the end is shown as the end.
+/// The position `at` as messages show it: `LINE:COLUMN`. A position after the end is shown as the
+/// end.
 #[tactic(auto, unfolding(crate::specs::Position::shown_position))]
 pub fn shown_position(alloc: Global, bytes: &[u8], at: u32) -> Result<String, AllocError>
     requires { length bytes.now < 4294967295 }

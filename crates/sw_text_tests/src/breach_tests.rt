@@ -39,7 +39,8 @@ fn a_breach_with_a_note(rt: HostRuntime) -> Result<(), Fail> {
     Ok(())
 }
 
-/// Pairs of breaches, each a code, a position and a note, of which the first comes before the other.
+/// Pairs of breaches, each a code, a position and a note, of which the first comes before the
+/// other.
 const PAIRS: [((u16, u32, Option<u32>), (u16, u32, Option<u32>)); 5] = [
     ((704, 1, Some(9)), (101, 2, None)),
     ((101, 2, Some(9)), (102, 2, None)),

@@ -1,5 +1,5 @@
-//! Tests of the crates from lists and bytes up to breaches, by their public calls: what no clause says,
-//! as that a call succeeds while there is memory. The crate has no item of its own.
+//! Tests of the crates from lists and bytes up to breaches, by their public calls: what no clause
+//! says, as that a call succeeds while there is memory. The crate has no item of its own.
 #![tactic(auto)]
 
 #[cfg(test)]

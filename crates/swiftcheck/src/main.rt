@@ -1,4 +1,5 @@
-//! The command `swiftcheck`: it answers the words behind its name over the system's files and standard output.
+//! The command `swiftcheck`: it answers the words behind its name over the system's files and
+//! standard output.
 #![tactic(auto)]
 
 use std::env;
