@@ -1,9 +1,6 @@
-pub mod Answering
-pub mod Claims
-pub mod OneReply
-pub mod ProgramSize
-pub mod Refusals
-pub mod RunAnswering
-pub mod Tells
-pub mod Verdicts
-pub mod Writing
+pub mod CallLemmas
+pub mod ClaimLemmas
+pub mod Courses
+pub mod ExitLemmas
+pub mod PartLemmas
+pub mod RuleLemmas

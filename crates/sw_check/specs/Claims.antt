@@ -1,6 +1,7 @@
--- What each exit says of the files, where the shelf tells them.
-use Rattle.std.specs.Prelude.{◌≡◌, ℕ, ◌<◌, ◌⊎◌, List, length, Option, Some, None}
+-- What each exit says of the files.
+use Rattle.std.specs.Prelude.{◌≡◌, ℕ, ◌<◌, ◌≤◌, ◌⊎◌, List, [], length, Option, Some, None}
 use Rattle.sw_graph.specs.declared.graph.Graph.{Graph}
+use Rattle.sw_value.specs.declared.race.Race.{Race}
 use Rattle.sw_value.specs.declared.state.TrapKind.{TrapKind}
 use Rattle.sw_value.specs.Racing.{Racing}
 use Rattle.sw_value.specs.Reach.{reach}
@@ -8,51 +9,76 @@ use Rattle.sw_replay.specs.declared.text.TheConstants.{SCHEDULE_LIMIT}
 use Rattle.sw_replay.specs.declared.text.SchedFault.{SchedFault}
 use Rattle.sw_replay.specs.declared.output.End.{End}
 use Rattle.sw_replay.specs.declared.output.End.TheVariants as ends
+use Rattle.sw_replay.specs.declared.output.Replay.{Replay}
 use Rattle.sw_replay.specs.Items.{IsItems, IsFirstFault}
-use Rattle.sw_replay.specs.Output.{end_of}
-use Rattle.sw_check.specs.declared.TheConstants.{PROGRAM_LIMIT}
-use Rattle.sw_check.specs.declared.exit.Exit.{Exit}
-use Rattle.sw_check.specs.declared.exit.Exit.TheVariants.{Done, Breached, Usage, NotRead, TooLong, NotWritten, Memory, Trapped, BadSchedule, Raced}
-use Rattle.sw_small.specs.declared.tree.Small.{Small}
-use Rattle.sw_small.specs.Lower.{IsLowered}
-use Rattle.sw_check.specs.Verdict.{IsProgram, Accepts, Refuses}
+use Rattle.sw_course.specs.declared.exit.Exit.{Exit}
+use Rattle.sw_course.specs.declared.exit.Exit.TheVariants.{Done, Breached, Usage, NotRead, TooLong, NotWritten, Memory, Trapped, BadSchedule, Raced}
+use Rattle.sw_course.specs.declared.TheConstants.{PROGRAM_LIMIT}
+use Rattle.sw_verdict.specs.Phases.{Phase, all_phases}
+use Rattle.sw_verdict.specs.Verdict.{Breaches, Refuses, IsGraphOf}
+use Rattle.sw_replay.specs.Replay.{IsReplay}
 use Rattle.sw_check.specs.Words.{Command, Check, Run}
 
--- The text is that of a program, and the machine of its graph isn't racing after any list of items, of any length.
+-- The text has a graph, and the machine isn't racing after any list of items, of any length.
 pub record NeverRaces (text : List ℕ) : Type 0 where
-  pub program : Small
-  pub spelled : IsProgram text program
   pub graph : Graph
-  pub lowered : IsLowered program graph
+  pub of_text : IsGraphOf text graph
   pub no_race : (items : List ℕ) → ¬ Racing graph (reach graph items)
 
--- the replay of the program by the schedule ends so
+-- the text of the program that a command is about
+abbrev pub program_of : (List ℕ → List ℕ) → Command → List ℕ
+program_of files (Check file) = files file
+program_of files (Run file schedule_file) = files file
+
+-- the phases that count for a command: it refuses a program in which one of them finds a breach
+abbrev pub phases_of : Command → List Phase
+phases_of (Check file) = all_phases
+phases_of (Run file schedule_file) = all_phases
+
+-- the program of the command is within the limit, and no phase that counts finds a breach in it
+pub record Passes (files : List ℕ → List ℕ) (command : Command) : Type 0 where
+  pub short : length (program_of files command) ≤ PROGRAM_LIMIT
+  pub no_breach : Breaches (phases_of command) (program_of files command) []
+
+-- the replay of a program by a schedule ends so
 pub record EndsSo (end : End) (text schedule : List ℕ) : Type 0 where
-  pub program : Small
-  pub spelled : IsProgram text program
   pub graph : Graph
-  pub lowered : IsLowered program graph
+  pub of_text : IsGraphOf text graph
   pub items : List ℕ
   pub are_items : IsItems schedule items
-  pub ends : end_of (reach graph items) ≡ end
+  pub replay : Replay
+  pub is_replay : IsReplay graph items replay
+  pub ends : replay.end ≡ end
 
--- `run` went to the end of the schedule
-abbrev pub RunsToEnd : Option Command → List ℕ → List ℕ → Type 0
-RunsToEnd (Some (Run file schedule_file)) program schedule = EndsSo ends.Ran program schedule
-RunsToEnd (Some (Check file)) program schedule = Unit {0}
-RunsToEnd None program schedule = Unit {0}
+-- how a command ends that goes to its end
+abbrev pub Ends : End → (List ℕ → List ℕ) → Command → Type 0
+Ends end files (Check file) = end ≡ ends.Ran
+Ends end files (Run file schedule_file) = EndsSo end (files file) (files schedule_file)
 
--- What an exit says of the words and of the texts of their files. The exits that tell a failure say nothing of them, and
--- are left out here: they are no exits of a reply.
-abbrev pub Says : Option Command → List ℕ → List ℕ → Exit → Type 0
-Says command program schedule Done = NeverRaces program × RunsToEnd command program schedule
-Says command program schedule Breached = Refuses program
-Says command program schedule Usage = command ≡ None
-Says command program schedule TooLong = (PROGRAM_LIMIT < length program) ⊎ (Accepts program × (SCHEDULE_LIMIT < length schedule))
-Says command program schedule Trapped = (kind : TrapKind) × (at : ℕ) × EndsSo (ends.Trapped kind at) program schedule
-Says command program schedule BadSchedule = Accepts program × (fault : SchedFault) × IsFirstFault schedule fault
--- no race comes
-Says command program schedule Raced = ⊥
-Says command program schedule NotRead = ⊥
-Says command program schedule NotWritten = ⊥
-Says command program schedule Memory = ⊥
+-- the second file of a command is longer than it may be
+abbrev pub SecondIsLong : (List ℕ → List ℕ) → Command → Type 0
+SecondIsLong files (Check file) = ⊥
+SecondIsLong files (Run file schedule_file) = SCHEDULE_LIMIT < length (files schedule_file)
+
+-- the schedule of a command has a fault
+abbrev pub ScheduleIsBad : (List ℕ → List ℕ) → Command → Type 0
+ScheduleIsBad files (Check file) = ⊥
+ScheduleIsBad files (Run file schedule_file) = (fault : SchedFault) × IsFirstFault (files schedule_file) fault
+
+-- What an exit says of a command and its files. The exits that tell a failure say nothing of them; they are no exits of a reply.
+abbrev pub SaysOf : (List ℕ → List ℕ) → Command → Exit → Type 0
+SaysOf files command Done = Passes files command × Ends ends.Ran files command
+SaysOf files command Breached = Refuses (phases_of command) (program_of files command)
+SaysOf files command TooLong = (PROGRAM_LIMIT < length (program_of files command)) ⊎ (Passes files command × SecondIsLong files command)
+SaysOf files command Trapped = Passes files command × (kind : TrapKind) × (at : ℕ) × Ends (ends.Trapped kind at) files command
+SaysOf files command BadSchedule = Passes files command × ScheduleIsBad files command
+SaysOf files command Raced = Passes files command × (race : Race) × Ends (ends.Raced race) files command
+SaysOf files command Usage = ⊥
+SaysOf files command NotRead = ⊥
+SaysOf files command NotWritten = ⊥
+SaysOf files command Memory = ⊥
+
+-- the same of any words
+abbrev pub Says : (List ℕ → List ℕ) → Option Command → Exit → Type 0
+Says files None exit = exit ≡ Usage
+Says files (Some command) exit = SaysOf files command exit

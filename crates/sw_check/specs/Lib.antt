@@ -1,11 +1,6 @@
-pub mod Breach
 pub mod Call
 pub mod Claims
-pub mod Exit
 pub mod Lines
 pub mod Reply
-pub mod Running
-pub mod Verdict
 pub mod Words
 pub mod WordsRead
-pub mod Written

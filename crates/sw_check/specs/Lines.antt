@@ -1,12 +1,15 @@
 -- The lines about a replay.
-use Rattle.std.specs.Prelude.{ℕ, List, ◌++◌, codes}
+use Rattle.std.specs.Prelude.{ℕ, Bool, List, ◌++◌, codes, if◌then◌else◌}
 use Rattle.std.specs.Fmt.{decimal}
+use Rattle.sw_text.specs.Position.{shown_position}
+use Rattle.sw_breach.specs.Lines.{line_feed}
+use Rattle.sw_value.specs.declared.race.Access.{Access}
+use Rattle.sw_value.specs.declared.race.Race.{Race}
 use Rattle.sw_value.specs.declared.state.TrapKind.{TrapKind}
 use Rattle.sw_value.specs.declared.state.TrapKind.TheVariants.{Overflow, ZeroDivisor, Frames, Jobs}
 use Rattle.sw_replay.specs.declared.text.SchedFault.{SchedFault}
 use Rattle.sw_replay.specs.declared.text.SchedFault.TheVariants.{BadItem, TooBig, TooMany, Memory}
 use Rattle.sw_replay.specs.Items.{position_of}
-use Rattle.sw_check.specs.Breach.{line_feed, place}
 
 -- `done D of J jobs`: how many jobs have ended, of how many there are
 unfoldable pub summary : ℕ → ℕ → List ℕ
@@ -21,7 +24,19 @@ trap_text Jobs = codes "too many jobs"
 
 -- `LINE:COLUMN: trap: TEXT`
 unfoldable pub trap_line : List ℕ → TrapKind → ℕ → List ℕ
-trap_line text kind at = place text at ++ (codes ": trap: " ++ (trap_text kind ++ line_feed))
+trap_line text kind at = shown_position text at ++ (codes ": trap: " ++ (trap_text kind ++ line_feed))
+
+-- what a job is about to do: `job J writes`, or `job J reads`
+unfoldable pub deed : ℕ → Bool → List ℕ
+deed job writes = codes "job " ++ (decimal job ++ (if writes then codes " writes" else codes " reads"))
+
+-- `LINE:COLUMN: race: job J writes`
+unfoldable pub access_line : List ℕ → Access → List ℕ
+access_line text access = shown_position text access.at ++ (codes ": race: " ++ (deed access.job access.writes ++ line_feed))
+
+-- the lines of the two accesses, the lower job's first
+unfoldable pub race_lines : List ℕ → Race → List ℕ
+race_lines text race = access_line text race.first ++ access_line text race.second
 
 -- what is wrong with a schedule's text
 abbrev pub schedule_text : SchedFault → List ℕ
@@ -32,4 +47,4 @@ schedule_text Memory = codes "out of memory"
 
 -- `LINE:COLUMN: schedule: TEXT`
 unfoldable pub schedule_line : List ℕ → SchedFault → List ℕ
-schedule_line text fault = place text (position_of fault) ++ (codes ": schedule: " ++ (schedule_text fault ++ line_feed))
+schedule_line text fault = shown_position text (position_of fault) ++ (codes ": schedule: " ++ (schedule_text fault ++ line_feed))

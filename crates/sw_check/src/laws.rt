@@ -1,31 +1,28 @@
-ghost use Rattle.std.specs.Prelude.{◌≡◌, ◌⊎◌, ℕ, List, Option};
+ghost use Rattle.std.specs.Prelude.{◌≡◌, ℕ, List, ◌++◌, Option};
 ghost use Rattle.sw_replay.specs.declared.output.End.{End};
-ghost use Rattle.sw_check.specs.declared.breach.Breach.{Breach};
-ghost use Rattle.sw_check.specs.declared.outcome.Outcome.{Outcome};
-ghost use Rattle.sw_small.specs.declared.tree.Small.{Small};
+ghost use Rattle.sw_course.specs.declared.outcome.Outcome.{Outcome};
+ghost use Rattle.sw_course.specs.Course.{AreOf, Read, Underway};
+ghost use Rattle.sw_course.specs.Lawful.{IsPrefixOf};
 ghost use Rattle.sw_check.specs.Claims.{EndsSo};
-ghost use Rattle.sw_check.specs.Reply.{Asked, Reply};
-ghost use Rattle.sw_check.specs.Verdict.{Accepts, IsFirstBreach, IsProgram, Refuses};
+ghost use Rattle.sw_check.specs.Reply.{Reply, course_of};
 ghost use Rattle.sw_check.specs.Words.{Command};
 
 use crate::PROGRAM_LIMIT;
 
-/// Every text is that of a program or has a first breach, never both, and there is one program and one first breach.
-pub fn texts_have_one_verdict()
-    ensures decided { (text : List ℕ) → Accepts text ⊎ Refuses text }
-    ensures never_both { (text : List ℕ) → Accepts text → ¬ (Refuses text) }
-    ensures one_program { (text : List ℕ) (a b : Small) → IsProgram text a → IsProgram text b → a ≡ b }
-    ensures one_breach { (text : List ℕ) (a b : Breach) → IsFirstBreach text a → IsFirstBreach text b → a ≡ b }
-{}
-
-/// The words and the texts of their files have one reply, one list of files is fetched for them, and a run of a program by a
-/// schedule ends in one way.
+/// Over any files the words have one reply, and the same files are read for it.
 pub fn words_have_one_reply()
-    ensures some_reply { (command : Option Command) (program schedule : List ℕ) → (outcome : Outcome) × Reply command program schedule outcome }
-    ensures one_reply { (command : Option Command) (program schedule : List ℕ) (a b : Outcome) → Reply command program schedule a
-        → Reply command program schedule b → a ≡ b }
-    ensures one_asking { (command : Option Command) (program : List ℕ) (a b : List (List ℕ)) → Asked command program a
-        → Asked command program b → a ≡ b }
+    ensures some_reply { (command : Option Command) (files : List ℕ → List ℕ)
+        → (reads : List Read) × (outcome : Outcome) × AreOf files reads × Reply command reads outcome }
+    ensures one_reply { (command : Option Command) (files : List ℕ → List ℕ) (reads others : List Read) (a b : Outcome)
+        → AreOf files reads → AreOf files others → Reply command reads a → Reply command others b → (reads ≡ others) × (a ≡ b) }
+    // What was read before there is a reply is a prefix of what is read for it.
+    ensures read_in_order { (command : Option Command) (files : List ℕ → List ℕ) (reads others : List Read) (outcome : Outcome)
+        → AreOf files reads → AreOf files others → course_of command reads Underway → Reply command others outcome
+        → IsPrefixOf reads others }
+    // Whatever was read, there may be a reply.
+    ensures goes_on { (command : Option Command) (reads : List Read) → course_of command reads Underway
+        → (others : List Read) × (outcome : Outcome) × Reply command (reads ++ others) outcome }
+    // A replay of a program by a schedule ends in one way.
     ensures one_end { (text schedule : List ℕ) (a b : End) → EndsSo a text schedule → EndsSo b text schedule → a ≡ b }
 {}
 

@@ -2,12 +2,12 @@
 
 ghost use Rattle.std.specs.Prelude.{◌≡◌, ◌<◌, IfOk, length, string_bytes};
 ghost use Rattle.sw_replay.specs.Items.{position_of};
-ghost use Rattle.sw_check.specs.Lines.{schedule_line, schedule_text, summary, trap_line, trap_text};
+ghost use Rattle.sw_check.specs.Lines.{access_line, deed, race_lines, schedule_line, schedule_text, summary, trap_line, trap_text};
 
-use crate::breach::place;
 use std::alloc::{AllocError, Global};
 use sw_replay::SchedFault;
-use sw_value::TrapKind;
+use sw_text::shown_position;
+use sw_value::{Access, Race, TrapKind};
 
 /// `done D of J jobs`.
 #[tactic(auto, unfolding(crate::specs::Lines::summary))]
@@ -35,9 +35,43 @@ pub fn trap_line(alloc: Global, bytes: &[u8], kind: TrapKind, at: u32) -> Result
     requires { length bytes.now < 4294967295 }
     ensures { IfOk result (λ text. string_bytes text ≡ trap_line bytes.now kind at) }
 {
-    let place = place(alloc, bytes, at)?;
+    let position = shown_position(alloc, bytes, at)?;
     let text = trap_text(kind);
-    format!(in alloc; "{place}: trap: {text}\n")
+    format!(in alloc; "{position}: trap: {text}\n")
+}
+
+/// What a job is about to do.
+#[tactic(auto, unfolding(crate::specs::Lines::deed))]
+fn deed(alloc: Global, job: u32, writes: bool) -> Result<String, AllocError>
+    ensures { IfOk result (λ text. string_bytes text ≡ deed job writes) }
+{
+    if writes {
+        format!(in alloc; "job {job} writes")
+    } else {
+        format!(in alloc; "job {job} reads")
+    }
+}
+
+/// The line about an access of the program with the text `bytes`.
+#[tactic(auto, unfolding(crate::specs::Lines::access_line))]
+fn access_line(alloc: Global, bytes: &[u8], access: Access) -> Result<String, AllocError>
+    requires { length bytes.now < 4294967295 }
+    ensures { IfOk result (λ text. string_bytes text ≡ access_line bytes.now access) }
+{
+    let position = shown_position(alloc, bytes, access.at)?;
+    let deed = deed(alloc, access.job, access.writes)?;
+    format!(in alloc; "{position}: race: {deed}\n")
+}
+
+/// The lines about the two accesses of a race.
+#[tactic(auto, unfolding(crate::specs::Lines::race_lines))]
+pub fn race_lines(alloc: Global, bytes: &[u8], race: Race) -> Result<String, AllocError>
+    requires { length bytes.now < 4294967295 }
+    ensures { IfOk result (λ text. string_bytes text ≡ race_lines bytes.now race) }
+{
+    let first = access_line(alloc, bytes, race.first)?;
+    let second = access_line(alloc, bytes, race.second)?;
+    format!(in alloc; "{first}{second}")
 }
 
 /// The byte offset that a fault of a schedule names.
@@ -68,7 +102,7 @@ pub fn schedule_line(alloc: Global, bytes: &[u8], fault: SchedFault) -> Result<S
     requires { length bytes.now < 4294967295 }
     ensures { IfOk result (λ text. string_bytes text ≡ schedule_line bytes.now fault) }
 {
-    let place = place(alloc, bytes, position_of(fault))?;
+    let position = shown_position(alloc, bytes, position_of(fault))?;
     let text = schedule_text(fault);
-    format!(in alloc; "{place}: schedule: {text}\n")
+    format!(in alloc; "{position}: schedule: {text}\n")
 }

@@ -1,0 +1,112 @@
+//! The parts of commands that read no file.
+
+ghost use Rattle.std.specs.Prelude.{◌≡◌, ◌≢◌, ◌<◌, ◌≤◌, IfOk, Ok, length};
+ghost use Rattle.std.specs.List.{AllByRecursion};
+ghost use Rattle.sw_value.specs.Runnable.{IsRunnable};
+ghost use Rattle.sw_breach.specs.Codes.{IsCode};
+ghost use Rattle.sw_course.specs.Leaves.{Decides};
+ghost use Rattle.sw_verdict.specs.Phases.{all_phases};
+ghost use Rattle.sw_check.specs.Lines.{schedule_line};
+ghost use Rattle.sw_check.specs.Reply.{Judged, Replayed, Scheduled, bad_schedule_outcome, refusal, replay_outcome};
+
+use crate::lines::{race_lines, schedule_line, summary, trap_line};
+use std::alloc::{AllocError, Global};
+use sw_breach::{Breach, render};
+use sw_course::{Exit, Outcome, PROGRAM_LIMIT, Stop, lines, with_last_line};
+use sw_graph::Graph;
+use sw_list::ListOf;
+use sw_replay::{End, Replay, SCHEDULE_LIMIT, SchedFault, Schedule, replay, schedule};
+use sw_verdict::{Refusal, judge};
+
+/// The reply about a program that is refused.
+fn refusal(alloc: Global, text: &[u8], breaches: &[Breach]) -> Result<Outcome, AllocError>
+    requires short { length text.now ≤ PROGRAM_LIMIT }
+    requires some { 0 < length breaches.now }
+    requires codes { AllByRecursion (λ breach. IsCode breach.code) breaches.now }
+    ensures { IfOk result (λ outcome. outcome ≡ refusal text.now breaches.now) }
+{
+    let bytes = render(alloc, text, breaches)?;
+    Ok(Outcome {
+        exit: Exit::Breached,
+        bytes: ListOf::from_vec(bytes),
+    })
+}
+
+/// The graph of a program that no phase refuses.
+pub fn judged(alloc: Global, text: &[u8]) -> Result<Graph, Stop>
+    requires { length text.now ≤ PROGRAM_LIMIT }
+    ensures { Decides (Judged all_phases text.now) result }
+{
+    match judge(alloc, text) {
+        Ok(graph) => Ok(graph),
+        Err(Refusal::Breached { breaches }) => {
+            Err(Stop::Refused(refusal(alloc, text, breaches.as_slice())?))
+        }
+        Err(Refusal::Memory) => Err(Stop::Memory),
+    }
+}
+
+/// The reply about the text of a schedule that has a fault.
+fn bad_schedule(alloc: Global, text: &[u8], fault: SchedFault) -> Result<Outcome, AllocError>
+    requires { length text.now ≤ SCHEDULE_LIMIT }
+    ensures outcome { IfOk result (λ outcome. (fault ≢ SchedFault.Memory) × (outcome ≡ bad_schedule_outcome text.now fault)) }
+{
+    if let SchedFault::Memory = fault {
+        return Err(AllocError);
+    }
+    let line = schedule_line(alloc, text, fault)?;
+    lines(alloc, Exit::BadSchedule, line.as_str())
+}
+
+/// The items of a schedule.
+pub fn scheduled(alloc: Global, text: &[u8]) -> Result<Schedule, Stop>
+    requires { length text.now ≤ SCHEDULE_LIMIT }
+    ensures { Decides (Scheduled text.now) result }
+{
+    match schedule(alloc, text) {
+        Ok(schedule) => Ok(schedule),
+        Err(fault) => Err(Stop::Refused(bad_schedule(alloc, text, fault)?)),
+    }
+}
+
+/// The reply to a replay.
+fn told(alloc: Global, text: &[u8], replay: Replay) -> Result<Outcome, AllocError>
+    requires { length text.now ≤ PROGRAM_LIMIT }
+    ensures { IfOk result (λ outcome. outcome ≡ replay_outcome text.now replay) }
+{
+    let Replay {
+        lines: printed,
+        end,
+        ended,
+        jobs,
+    } = replay;
+    match end {
+        End::Ran => {
+            let last = summary(alloc, ended, jobs)?;
+            with_last_line(Exit::Done, printed, last.as_str())
+        }
+        End::Trapped { kind, at } => {
+            let last = trap_line(alloc, text, kind, at)?;
+            with_last_line(Exit::Trapped, printed, last.as_str())
+        }
+        End::Raced { race } => {
+            let last = race_lines(alloc, text, race)?;
+            with_last_line(Exit::Raced, printed, last.as_str())
+        }
+    }
+}
+
+/// The reply to a replay of a graph by items.
+pub fn replayed(
+    alloc: Global,
+    text: &[u8],
+    graph: &Graph,
+    items: &Schedule,
+) -> Result<Outcome, AllocError>
+    requires short { length text.now ≤ PROGRAM_LIMIT }
+    requires runs { IsRunnable graph.now }
+    ensures { IfOk result (λ outcome. Replayed text.now graph.now items.now (Ok outcome)) }
+{
+    let replay = replay(alloc, graph, items)?;
+    told(alloc, text, replay)
+}

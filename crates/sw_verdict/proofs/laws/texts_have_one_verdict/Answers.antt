@@ -1,0 +1,30 @@
+use Rattle.sw_verdict.specs.Phases.{all_phases}
+use Rattle.sw_verdict.proofs.Verdicts as verdicts
+use Rattle.sw_verdict.proofs.laws.texts_have_one_verdict.Goals as goal
+
+pub returns-clause-decided : goal.returns-clause-decided
+returns-clause-decided c = verdicts.decided
+
+pub returns-clause-never_both : goal.returns-clause-never_both
+returns-clause-never_both c = verdicts.never_both all_phases
+
+pub returns-clause-one_list : goal.returns-clause-one_list
+returns-clause-one_list c = verdicts.one_list
+
+pub returns-clause-one_breach : goal.returns-clause-one_breach
+returns-clause-one_breach c = verdicts.one_breach all_phases
+
+pub returns-clause-some_graph : goal.returns-clause-some_graph
+returns-clause-some_graph c = verdicts.some_graph_of
+
+pub returns-clause-graph_accepted : goal.returns-clause-graph_accepted
+returns-clause-graph_accepted c text graph is = verdicts.program_accepted text is.program is.of_text
+
+pub returns-clause-one_graph : goal.returns-clause-one_graph
+returns-clause-one_graph c = verdicts.one_graph_of
+
+pub returns-clause-runs : goal.returns-clause-runs
+returns-clause-runs c = verdicts.graph_runs
+
+pub returns-clause-codes : goal.returns-clause-codes
+returns-clause-codes c = verdicts.have_codes

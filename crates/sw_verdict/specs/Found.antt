@@ -1,0 +1,15 @@
+-- What the function of a phase answers.
+use Rattle.std.specs.Prelude.{◌≢◌, List, [], Result, Ok, Err}
+use Rattle.sw_breach.specs.declared.Breach.{Breach}
+use Rattle.sw_verdict.specs.declared.phases.Refusal.{Refusal}
+use Rattle.sw_verdict.specs.declared.phases.Refusal.TheVariants.{Breached, Memory}
+
+-- the phase finds these breaches, unless memory ran out
+abbrev pub FoundBy : (List Breach → Type 0) → Refusal → Type 0
+FoundBy Finding (Breached list) = (list ≢ []) × Finding list
+FoundBy Finding Memory = Unit {0}
+
+-- `Found (Finds phase text) result`: the phase finds no breach, or those of the refusal.
+abbrev pub Found : {A : Type 0} → (List Breach → Type 0) → Result A Refusal → Type 0
+Found Finding (Ok value) = Finding []
+Found Finding (Err refusal) = FoundBy Finding refusal

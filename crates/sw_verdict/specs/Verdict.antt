@@ -1,0 +1,47 @@
+-- The verdict on the text of a program.
+use Rattle.std.specs.Prelude.{◌≢◌, ℕ, List, [], ◌∷◌, Result, Ok, Err}
+use Rattle.std.specs.Str.{IsUtf8}
+use Rattle.sw_token.specs.declared.Token.{Token}
+use Rattle.sw_token.specs.Tokens.{IsTokens}
+use Rattle.sw_graph.specs.declared.graph.Graph.{Graph}
+use Rattle.sw_breach.specs.declared.Breach.{Breach}
+use Rattle.sw_small.specs.declared.tree.Small.{Small}
+use Rattle.sw_small.specs.Lower.{IsLowered}
+use Rattle.sw_small.specs.Spelling.{spelling_of}
+use Rattle.sw_small.specs.Small.{Spells}
+use Rattle.sw_verdict.specs.Phases.{Phase, all_phases, Finds}
+
+-- `Breaches phases text list`: the first of these phases that finds breaches in the text decides, and these are what it finds.
+-- The list is empty where none of them finds any.
+pub data Breaches : List Phase → List ℕ → List Breach → Type 0 where
+  none : (text : List ℕ) → Breaches [] text []
+  first : (phase : Phase) (phases : List Phase) (text : List ℕ) (breach : Breach) (others : List Breach)
+      → Finds phase text (breach ∷ others) → Breaches (phase ∷ phases) text (breach ∷ others)
+  later : (phase : Phase) (phases : List Phase) (text : List ℕ) (list : List Breach)
+      → Finds phase text [] → Breaches phases text list → Breaches (phase ∷ phases) text list
+
+-- no phase finds a breach in the text
+abbrev pub Accepts : List ℕ → Type 0
+Accepts text = Breaches all_phases text []
+
+-- one of these phases finds a breach in the text
+abbrev pub Refuses : List Phase → List ℕ → Type 0
+Refuses phases text = (list : List Breach) × (list ≢ []) × Breaches phases text list
+
+-- the text is that of the program: it is UTF-8, and its tokens spell the program
+pub record IsProgram (text : List ℕ) (program : Small) : Type 0 where
+  pub utf8 : IsUtf8 text
+  pub tokens : List Token
+  pub are_tokens : IsTokens text tokens
+  pub spells : Spells program (spelling_of text tokens)
+
+-- the graph is that of the text's program
+pub record IsGraphOf (text : List ℕ) (graph : Graph) : Type 0 where
+  pub program : Small
+  pub of_text : IsProgram text program
+  pub lowered : IsLowered program graph
+
+-- What these phases say of a text: its graph, where none of them finds a breach, or else what the first finds that does.
+abbrev pub Judges : List Phase → List ℕ → Result Graph (List Breach) → Type 0
+Judges phases text (Ok graph) = Breaches phases text [] × IsGraphOf text graph
+Judges phases text (Err list) = (list ≢ []) × Breaches phases text list
