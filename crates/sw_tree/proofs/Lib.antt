@@ -1,0 +1,9 @@
+pub mod Counting
+pub mod FoldEquations
+pub mod KeyCounts
+pub mod KeyEquations
+pub mod NameCounts
+pub mod NameEquations
+pub mod NamesLemmas
+pub mod NodeKeyLemmas
+pub mod TreeInduction

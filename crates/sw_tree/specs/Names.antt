@@ -1,0 +1,23 @@
+-- The texts of a program's names. They are distinct, and a name's id is the index of its text.
+use Rattle.std.specs.Prelude.{ℕ, if◌then◌else◌, List, [], ◌∷◌, ◌++◌, codes, bytes_eq, fold}
+use Rattle.std.specs.List.{list_any, position_or_len}
+
+-- the names that each program has before it declares any, in the order of their ids
+unfoldable pub predeclared : List (List ℕ)
+predeclared =
+    codes "Int" ∷ codes "Bool" ∷ codes "Void" ∷ codes "Never" ∷ codes "Task" ∷ codes "Sendable"
+    ∷ codes "MainActor" ∷ codes "print" ∷ codes "value" ∷ codes "shared" ∷ codes "main"
+    ∷ codes "detached" ∷ codes "yield" ∷ []
+
+-- the index of a text, or the number of texts where it isn't there
+unfoldable pub id_in : List (List ℕ) → List ℕ → ℕ
+id_in texts text = position_or_len (bytes_eq text) texts
+
+-- the texts with one more: it comes last, and a text that is there isn't added again
+unfoldable pub with_text : List (List ℕ) → List ℕ → List (List ℕ)
+with_text texts text =
+    if list_any (bytes_eq text) texts then texts else texts ++ text ∷ []
+
+-- the texts with each of more, in turn
+unfoldable pub with_texts : List (List ℕ) → List (List ℕ) → List (List ℕ)
+with_texts texts more = fold with_text texts more
