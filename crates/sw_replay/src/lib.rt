@@ -5,8 +5,6 @@ mod items;
 mod laws;
 mod output;
 mod replaying;
-#[cfg(test)]
-mod tests;
 mod text;
 
 pub use items::{MAX_ITEMS, Schedule};

@@ -5,7 +5,7 @@ use Rattle.std.proofs.lemmas.List.Sums.{sum_by-cons}
 use Rattle.std.proofs.lemmas.List.{get_or-set_same, get_or-set_other, get_or-replicate, get_or_past}
 use Rattle.std.proofs.Math.ListN.{length-set, length-replicate}
 use Rattle.std.proofs.Math.Nat.{mul-le-mul_left}
-use Rattle.sw_solve.specs.Annotation.{value_at, IsBelow, IsAtMost, IsAtMostEverywhere, IsPassedOn, IsClosed}
+use Rattle.sw_solve.specs.Annotation.{value_at, IsBelow, IsAtMost, IsAtMostEverywhere, IsPassedOn, IsClosed, IsBound}
 use Rattle.sw_solve.specs.Ways.{IsWay, HasWay}
 use Rattle.sw_solve.specs.Work.{edge_count, level_of, weighed, Listed, IsSpread, IsVisited}
 use Rattle.sw_solve.proofs.Members.{contains_cons_cases, contains_none}
@@ -31,6 +31,9 @@ pub record IsLawful {X : Type 0} (P : Problem X) : Type 0 where
 abbrev pub Closed : {X : Type 0} → Problem X → List (Option X) → Type 0
 Closed P a = IsClosed P.le P.size P.facts P.enters P.leads P.successors a
 
+abbrev pub Bounds : {X : Type 0} → Problem X → List (Option X) → Type 0
+Bounds P a = IsBound P.le P.size P.facts P.enters P.leads P.successors a
+
 -- what stands at a point is passed on
 abbrev pub IsSettled : {X : Type 0} → Problem X → List (Option X) → ℕ → Type 0
 IsSettled {X} P a p = (x : X) → value_at a p ≡ Some x → IsPassedOn P.le P.leads P.successors a p x
@@ -38,7 +41,7 @@ IsSettled {X} P a p = (x : X) → value_at a p ≡ Some x → IsPassedOn P.le P.
 abbrev pub out_degree : {X : Type 0} → Problem X → ℕ → ℕ
 out_degree P p = length (P.successors p)
 
--- the places so far: below each closed annotation, and closed but for the points on the list
+-- the values so far: below each annotation that bounds, and closed but for the points on the list
 pub record IsSolving {X : Type 0} (P : Problem X) (count start : ℕ) (places : List (Option X)) (list : Listed) (steps : ℕ) : Type 0 where
   pub length_is : length places ≡ count
   pub room_is : list.room ≡ count
@@ -47,7 +50,7 @@ pub record IsSolving {X : Type 0} (P : Problem X) (count start : ℕ) (places : 
   pub enters_by : P.enters entry
   pub entered : IsBelow P.le entry (value_at places 0)
   pub settled : (p : ℕ) → Contains list.points p ⊎ IsSettled P places p
-  pub least : (a : List (Option X)) → Closed P a → IsAtMostEverywhere P.le places a
+  pub lowest : (a : List (Option X)) → Bounds P a → IsAtMostEverywhere P.le places a
   pub ways : (p : ℕ) → IsSome (value_at places p) → HasWay P.successors p
   pub work : steps + sum_by (out_degree P) list.points ≤ start + weighed P.rank (out_degree P) 0 places
 
@@ -68,12 +71,21 @@ passed_on_up P laws old new p x grown passed = record {
   below = λ q has. below_up P.le laws.transitive passed.made (value_at old q) (value_at new q) (passed.below q has) (grown.each q);
 }
 
--- what a step makes of a value is below what the step makes of a closed annotation's value there
-made_below : {X : Type 0} (P : Problem X) → IsLawful P → (a : List (Option X)) → Closed P a → (p : ℕ) (x made : X) (o : Option X) → value_at a p ≡ o → P.size x ≡ P.facts → IsBelow P.le x o → P.leads p x made → (q : ℕ) → Contains (P.successors p) q → IsBelow P.le made (value_at a q)
-made_below P laws a closed p x made None e fits below leads q has = absurd below
-made_below P laws a closed p x made (Some y) e fits below leads q has =
-    let passed = closed.stepped p y e in
-    below_down P.le laws.transitive made passed.made (value_at a q) (laws.monotone p x y made passed.made fits (sized_at P (value_at a p) y e (closed.sized p)) below leads passed.leads_to) (passed.below q has)
+-- what a step makes of a value is below what an annotation that bounds has after it
+made_below : {X : Type 0} (P : Problem X) (a : List (Option X)) → Bounds P a → (p : ℕ) (x made : X) (o : Option X) → value_at a p ≡ o → P.size x ≡ P.facts → IsBelow P.le x o → P.leads p x made → (q : ℕ) → Contains (P.successors p) q → IsBelow P.le made (value_at a q)
+made_below P a bounds p x made None e fits below leads q has = absurd below
+made_below P a bounds p x made (Some y) e fits below leads q has =
+    bounds.stepped p x y made e below fits leads q has
+
+-- a closed annotation bounds
+pub closed_bounds : {X : Type 0} (P : Problem X) → IsLawful P → (a : List (Option X)) → Closed P a → Bounds P a
+closed_bounds P laws a closed = record {
+  sized = closed.sized;
+  entered = λ x enters fits. below_down P.le laws.transitive x closed.entry (value_at a 0) (laws.one_entry x closed.entry enters closed.enters_by) closed.entered;
+  stepped = λ p x y made e below fits leads q has.
+      let passed = closed.stepped p y e in
+      below_down P.le laws.transitive made passed.made (value_at a q) (laws.monotone p x y made passed.made fits (sized_at P (value_at a p) y e (closed.sized p)) below leads passed.leads_to) (passed.below q has);
+}
 
 -- a point without a value is visited
 visit_none : {X : Type 0} (P : Problem X) → (count start : ℕ) (places : List (Option X)) (points : List ℕ) (p room steps later : ℕ) → value_at places p ≡ None → later ≤ steps + out_degree P p → IsSolving P count start places (record { points = p ∷ points; room = room }) steps → IsSolving P count start places (record { points = points; room = room }) later
@@ -91,7 +103,7 @@ visit_none P count start places points p room steps later none counted solving =
     ]
     | inr is ↦ inr is
   ];
-  least = solving.least;
+  lowest = solving.lowest;
   ways = solving.ways;
   work = omega (arith, solving.work, counted, sum_by-cons (out_degree P) p points);
 }
@@ -119,7 +131,7 @@ visit_some {X} P laws count start old new points p room steps later after x made
         ]
         | inr listed ↦ inl listed
       ];
-      least = λ a closed. spread.least a (λ q. sized_like P (value_at a q) made made_fits (closed.sized q)) (solving.least a closed) (made_below P laws a closed p x made (value_at a p) refl fits (subst (λ o. IsAtMost P.le o (value_at a p)) e ((solving.least a closed).each p)) leads);
+      lowest = λ a bounds. spread.least a (λ q. sized_like P (value_at a q) made made_fits (bounds.sized q)) (solving.lowest a bounds) (made_below P a bounds p x made (value_at a p) refl fits (subst (λ o. IsAtMost P.le o (value_at a p)) e ((solving.lowest a bounds).each p)) leads);
       ways = λ q is. elim (spread.touched q is) [
         | inl was ↦ solving.ways q was
         | inr has ↦ (let way = solving.ways p (subst (λ o. IsSome o) (sym e) refl) in (suc way.0, (p, way.1, has)))
@@ -251,9 +263,9 @@ solving_begins {X} P laws count start list x lt enters fits listed room weight =
         | inl e ↦ inl (subst (λ v. Contains list.points v) (sym e) listed)
         | inr ne ↦ inr (λ y at. absurd (none_not_some y (sym (other p ne) ∙ at)))
       ];
-      least = λ a closed. record {
+      lowest = λ a bounds. record {
         each = λ p. elim (cases_eq p 0) [
-          | inl e ↦ subst (λ v. IsAtMost P.le (value_at (set blank 0 (Some x)) v) (value_at a v)) (sym e) (subst (λ o. IsAtMost P.le o (value_at a 0)) (sym first) (below_down P.le laws.transitive x closed.entry (value_at a 0) (laws.one_entry x closed.entry enters closed.enters_by) closed.entered))
+          | inl e ↦ subst (λ v. IsAtMost P.le (value_at (set blank 0 (Some x)) v) (value_at a v)) (sym e) (subst (λ o. IsAtMost P.le o (value_at a 0)) (sym first) (bounds.entered x enters fits))
           | inr ne ↦ subst (λ o. IsAtMost P.le o (value_at a p)) (sym (other p ne)) tt
         ];
       };

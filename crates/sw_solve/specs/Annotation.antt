@@ -10,7 +10,7 @@ abbrev pub IsBelow : {X : Type 0} → (X → X → Type 0) → X → Option X �
 IsBelow le x None = ⊥
 IsBelow le x (Some y) = le x y
 
--- what stands at the first place is at most what stands at the second; nothing is at most anything
+-- the first is at most the second; nothing is at most anything
 abbrev pub IsAtMost : {X : Type 0} → (X → X → Type 0) → Option X → Option X → Type 0
 IsAtMost le None o = Unit {0}
 IsAtMost le (Some x) o = IsBelow le x o
@@ -33,3 +33,13 @@ pub record IsClosed {X : Type 0} (le : X → X → Type 0) (size : X → List �
   pub enters_by : enters entry
   pub entered : IsBelow le entry (value_at a 0)
   pub stepped : (p : ℕ) (x : X) → value_at a p ≡ Some x → IsPassedOn le leads successors a p x
+
+-- An annotation that bounds from above: it has at point 0 at least each value that enters, and what
+-- the step of a point makes of a value that is at most the one there is at most what stands at each
+-- of the points that follow. Each closed annotation is one, since the steps are monotone; that an
+-- annotation bounds doesn't say that the steps make anything.
+pub record IsBound {X : Type 0} (le : X → X → Type 0) (size : X → List ℕ) (facts : List ℕ) (enters : X → Type 0) (leads : ℕ → X → X → Type 0) (successors : ℕ → List ℕ) (a : List (Option X)) : Type 0 where
+  pub sized : (p : ℕ) → IfSome (value_at a p) (λ x. size x ≡ facts)
+  pub entered : (x : X) → enters x → size x ≡ facts → IsBelow le x (value_at a 0)
+  pub stepped : (p : ℕ) (x y made : X) → value_at a p ≡ Some y → le x y → size x ≡ facts → leads p x made
+      → (q : ℕ) → Contains (successors p) q → IsBelow le made (value_at a q)

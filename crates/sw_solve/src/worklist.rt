@@ -1,6 +1,6 @@
 //! The passes of the solver.
 ghost use Rattle.std.specs.Prelude.{◌≡◌, ℕ, ◌+◌, ◌*◌, ◌<◌, ◌≤◌, List, [], ◌∷◌, length, All, Option, None, IsSome, ◌↔◌, IfSome, IfOk, OnOk, vec_len, replicate};
-ghost use Rattle.sw_solve.specs.Annotation.{value_at, IsClosed, IsAtMostEverywhere};
+ghost use Rattle.sw_solve.specs.Annotation.{value_at, IsClosed, IsBound, IsAtMostEverywhere};
 ghost use Rattle.sw_solve.specs.Work.{IsMerged, IsSpread, IsVisited, edge_count};
 ghost use Rattle.sw_solve.specs.Ways.{HasWay};
 
@@ -129,6 +129,12 @@ pub fn solve<F: Flow, L: Ledger>(
         (F.fact_size flow.now) (F.enters flow.now) (F.leads flow.now) (F.successors flow.now)) }
     ensures least { IfOk result (λ s. (a : List (Option F.Fact))
         → IsClosed F.Fact.le F.Fact.size
+        (F.fact_size flow.now) (F.enters flow.now) (F.leads flow.now) (F.successors flow.now) a
+        → IsAtMostEverywhere F.Fact.le s a) }
+
+    // Also among the annotations that bound from above, of which the closed ones are some.
+    ensures lowest { IfOk result (λ s. (a : List (Option F.Fact))
+        → IsBound F.Fact.le F.Fact.size
         (F.fact_size flow.now) (F.enters flow.now) (F.leads flow.now) (F.successors flow.now) a
         → IsAtMostEverywhere F.Fact.le s a) }
     ensures reached { IfOk result (λ s. (p : ℕ)

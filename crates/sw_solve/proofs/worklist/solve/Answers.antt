@@ -1,5 +1,5 @@
 use Rattle.std.proofs.Common.{refl}
-use Rattle.sw_solve.proofs.Solving.{solving_starts, solving_more, work_falls, within_bound, within_bound_now, solved_closed, solved_ways, before_visit, fewer_left}
+use Rattle.sw_solve.proofs.Solving.{solving_starts, solving_more, work_falls, within_bound, within_bound_now, closed_bounds, solved_closed, solved_ways, before_visit, fewer_left}
 use Rattle.sw_solve.proofs.worklist.solve.Goals as goal
 
 pub loop-point-init : goal.loop-point-init
@@ -29,7 +29,12 @@ returns-clause-closed g c =
     rw c.of_values.ensures (solved_closed _ _ _ c.loop-point.places.items c.loop-point.list _ c.in_default.ensures.points c.loop-point.invariant)
 
 pub returns-clause-least : goal.returns-clause-least
-returns-clause-least g c = rw c.of_values.ensures (λ a closed. c.loop-point.invariant.least a closed)
+returns-clause-least g c =
+    rw c.of_values.ensures
+    (λ a closed. c.loop-point.invariant.lowest a (closed_bounds _ (record { reflexive = g.met.F.Fact.Lattice.reflexive; transitive = g.met.F.Fact.Lattice.transitive; one_entry = g.met.F.Flow.one_entry c.args.flow.now; monotone = g.met.F.Flow.monotone c.args.flow.now }) a closed))
+
+pub returns-clause-lowest : goal.returns-clause-lowest
+returns-clause-lowest g c = rw c.of_values.ensures (λ a bounds. c.loop-point.invariant.lowest a bounds)
 
 pub returns-clause-reached : goal.returns-clause-reached
 returns-clause-reached g c =

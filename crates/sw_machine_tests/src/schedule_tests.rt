@@ -1,8 +1,8 @@
 ghost use Rattle.std.specs.Prelude.{◌<◌};
 
-use crate::*;
 use std::alloc::{AllocError, Global};
 use std::test::Fail;
+use sw_replay::{SCHEDULE_LIMIT, SchedFault, schedule};
 
 /// What the text is read as, as one line.
 fn read_as(alloc: Global, text: &[u8]) -> Result<String, AllocError> {
@@ -63,7 +63,7 @@ fn short_texts(rt: HostRuntime) -> Result<(), Fail> {
     Ok(())
 }
 
-/// A text of so many zeros with one blank between, and the bytes of `last` behind them.
+/// A text of `count` zeros with one blank between, and then the bytes of `last`.
 fn zeros(alloc: Global, count: usize, last: &[u8]) -> Result<Vec<u8>, AllocError> {
     let mut text = Vec::new(alloc);
     for _zero in 0..count {
@@ -73,7 +73,7 @@ fn zeros(alloc: Global, count: usize, last: &[u8]) -> Result<Vec<u8>, AllocError
     Ok(text)
 }
 
-/// Behind 19,999 items one more is allowed, and behind 20,000 none.
+/// After 19,999 items one more is allowed, and after 20,000 none.
 #[test]
 fn many_items(rt: HostRuntime) -> Result<(), Fail> {
     let alloc = rt.alloc();
@@ -112,7 +112,7 @@ fn summed(alloc: Global, text: &[u8]) -> Result<String, AllocError> {
     }
 }
 
-/// A text of so many bytes: blanks and a last byte.
+/// A text of `len` bytes: blanks and a last byte.
 fn long(alloc: Global, len: usize, last: u8) -> Result<Vec<u8>, AllocError>
     requires { 0 < len }
 {
