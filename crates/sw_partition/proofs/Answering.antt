@@ -1,5 +1,8 @@
 -- What the tests and the making of a state answer, from the tables.
-use Rattle.std.proofs.Common.{◌≡◌, ◌≢◌, ℕ, zero, suc, ◌+◌, ◌*◌, ◌/◌, ◌%◌, ◌^◌, ◌<◌, ◌≤◌, ◌⊎◌, inl, inr, Result, Ok, Err, IsOk, MatchResult, List, length, get_or, slice_index, replicate, Contains, refl, sym, subst, ap, ◌∙◌, arith, ◌-◌}
+use Rattle.std.proofs.Common.{◌≡◌, ◌≢◌, ℕ, zero, suc, ◌+◌, ◌*◌, ◌/◌, ◌%◌, ◌^◌, ◌<◌, ◌≤◌, ◌⊎◌, inl}
+use Rattle.std.proofs.Common.{inr, Result, Ok, Err, IsOk, MatchResult, List, length, get_or}
+use Rattle.std.proofs.Common.{slice_index, replicate, Contains, refl, sym, subst, ap, ◌∙◌, arith}
+use Rattle.std.proofs.Common.{◌-◌}
 use Rattle.std.specs.List.Sorted.{IsStrictlyIncreasing, IsBinarySearchResult}
 use Rattle.std.specs.Ordering.{nat_cmp}
 use Rattle.std.specs.Int.{bit_at}
@@ -8,37 +11,48 @@ use Rattle.std.proofs.lemmas.List.{get_or-replicate, get_or_past, get_or_read}
 use Rattle.std.proofs.lemmas.List.Sorted.{searched}
 use Rattle.std.proofs.lemmas.Nat.Bits.{bit_at-zero}
 use Rattle.std.proofs.Math.ListN.{length-replicate}
-use Rattle.sw_partition.specs.Regions.{Regions, words_for, bit_of, Together, HasPair}
+use Rattle.sw_partition.specs.Regions.{Regions, words_for, bit_of, Together, HasPair, HasSomePair}
 use Rattle.sw_partition.specs.Effects.{IsBlank, IsGiven, IsLeastSite}
 use Rattle.sw_partition.specs.Tables.{AreNumbers, AreTables, IsClassMarked, IsFirstBit}
-use Rattle.sw_partition.proofs.Effecting.{place_in_row, written, refilled, zero_not_one}
+use Rattle.sw_partition.proofs.Effecting.{column_in_row, written, refilled, zero_not_one}
 
 -- ---- sites in rising order
-rising_below : (sites : List ℕ) → IsStrictlyIncreasing sites → (i n : ℕ) → i + suc n < length sites → slice_index sites i < slice_index sites (i + suc n)
-rising_below sites rising i zero lt = let e : i + suc 0 ≡ i + 1 = omega arith in rw e (rising i (omega arith))
+rising_below : (sites : List ℕ) → IsStrictlyIncreasing sites → (i n : ℕ) → i + suc n < length sites
+    → slice_index sites i < slice_index sites (i + suc n)
+rising_below sites rising i zero lt = let e : i + suc 0 ≡ i + 1 = omega arith in
+    rw e (rising i (omega arith))
 rising_below sites rising i (suc n) lt =
     let e : i + suc (suc n) ≡ (i + suc n) + 1 = omega arith in
-    let step : slice_index sites (i + suc n) < slice_index sites ((i + suc n) + 1) = rising (i + suc n) (omega arith) in
+    let step : slice_index sites (i + suc n) < slice_index sites ((i + suc n) + 1) =
+    rising (i + suc n) (omega arith) in
     let before = rising_below sites rising i n (omega arith) in
     rw e (omega (arith, step, before))
 
-pub rising_lt : (sites : List ℕ) → IsStrictlyIncreasing sites → (i j : ℕ) → i < j → j < length sites → slice_index sites i < slice_index sites j
+pub rising_lt : (sites : List ℕ) → IsStrictlyIncreasing sites → (i j : ℕ) → i < j → j < length sites
+    → slice_index sites i < slice_index sites j
 rising_lt sites rising i j lt j_lt =
     let n : ℕ = j - (i + 1) in
     let e : i + suc (j - (i + 1)) ≡ j = omega arith in
-    subst (λ v. slice_index sites i < slice_index sites v) e (rising_below sites rising i (j - (i + 1)) (omega arith))
+    subst (λ v. slice_index sites i < slice_index sites v) e
+    (rising_below sites rising i (j - (i + 1)) (omega arith))
 
-pub rising_le : (sites : List ℕ) → IsStrictlyIncreasing sites → (i j : ℕ) → i ≤ j → j < length sites → slice_index sites i ≤ slice_index sites j
+pub rising_le : (sites : List ℕ) → IsStrictlyIncreasing sites → (i j : ℕ) → i ≤ j → j < length sites
+    → slice_index sites i ≤ slice_index sites j
 rising_le sites rising i j le j_lt = elim (cases_eq i j) [
   | inl e ↦ (let same = ap (slice_index sites) e in omega (arith, same))
   | inr ne ↦ (let lt = rising_lt sites rising i j (omega (arith, ne)) j_lt in omega (arith, lt))
 ]
 
 -- a site that is there is found
-pub site_found : (sites : List ℕ) (site : ℕ) (r : Result ℕ ℕ) → IsStrictlyIncreasing sites → IsBinarySearchResult (λ y. nat_cmp y site) sites r → Contains sites site → IsOk r
-site_found sites site r rising found has = there sites site r has (searched sites site r found (rising_le sites rising))
+pub site_found : (sites : List ℕ) (site : ℕ) (r : Result ℕ ℕ) → IsStrictlyIncreasing sites
+    → IsBinarySearchResult (λ y. nat_cmp y site) sites r → Contains sites site → IsOk r
+site_found sites site r rising found has =
+    there sites site r has (searched sites site r found (rising_le sites rising))
   where
-    there : (sites : List ℕ) (site : ℕ) (r : Result ℕ ℕ) → Contains sites site → MatchResult r (λ i. (i < length sites) × (get_or sites i 0 ≡ site)) (λ i. (i ≤ length sites) × ((k : ℕ) → k < i → get_or sites k 0 < site) × ((k : ℕ) → i ≤ k → k < length sites → site < get_or sites k 0)) → IsOk r
+    there : (sites : List ℕ) (site : ℕ) (r : Result ℕ ℕ) → Contains sites site
+        → MatchResult r (λ i. (i < length sites) × (get_or sites i 0 ≡ site))
+        (λ i. (i ≤ length sites) × ((k : ℕ) → k < i → get_or sites k 0 < site)
+        × ((k : ℕ) → i ≤ k → k < length sites → site < get_or sites k 0)) → IsOk r
     there sites site (Ok i) has h = refl
     there sites site (Err i) (k, k_lt, is) h =
         let at : site ≡ get_or sites k 0 = get_or_read sites k site k_lt (sym is) 0 in
@@ -47,25 +61,44 @@ site_found sites site r rising found has = there sites site r has (searched site
           | inr ge ↦ absurd (omega (arith, at, h.2 k ge k_lt))
         ]
 
-pub site_place : (sites : List ℕ) (site place : ℕ) (r : Result ℕ ℕ) → IsStrictlyIncreasing sites → IsBinarySearchResult (λ y. nat_cmp y site) sites r → r ≡ Ok place → (place < length sites) × (slice_index sites place ≡ site)
-site_place sites site place r rising found e =
-    subst (λ (v : Result ℕ ℕ). MatchResult v (λ i. (i < length sites) × (get_or sites i 0 ≡ site)) (λ i. (i ≤ length sites) × ((k : ℕ) → k < i → get_or sites k 0 < site) × ((k : ℕ) → i ≤ k → k < length sites → site < get_or sites k 0))) e (searched sites site r found (rising_le sites rising))
+pub site_column : (sites : List ℕ) (site column : ℕ) (r : Result ℕ ℕ) → IsStrictlyIncreasing sites
+    → IsBinarySearchResult (λ y. nat_cmp y site) sites r → r ≡ Ok column → (column < length sites)
+    × (slice_index sites column ≡ site)
+site_column sites site column r rising found e =
+    subst (λ (v : Result ℕ ℕ). MatchResult v (λ i. (i < length sites) × (get_or sites i 0 ≡ site))
+    (λ i. (i ≤ length sites) × ((k : ℕ) → k < i → get_or sites k 0 < site)
+    × ((k : ℕ) → i ≤ k → k < length sites → site < get_or sites k 0))) e
+    (searched sites site r found (rising_le sites rising))
 
 -- ---- give
-marked_or_kept : (labels : List ℕ) (label stride place : ℕ) (old new : List ℕ) → IsClassMarked labels label stride place old new → (a k : ℕ) → a < length labels → k < stride → ((k ≡ place) × (a ≢ 0) × (slice_index labels a ≡ label) × (bit_of new (a * stride + k) ≡ 1)) ⊎ (bit_of new (a * stride + k) ≡ bit_of old (a * stride + k))
-marked_or_kept labels label stride place old new marked a k a_lt k_lt = elim (cases_eq k place) [
+marked_or_kept : (labels : List ℕ) (label stride column : ℕ) (old new : List ℕ)
+    → IsClassMarked labels label stride column old new → (a k : ℕ) → a < length labels → k < stride
+    → ((k ≡ column) × (a ≢ 0) × (slice_index labels a ≡ label) × (bit_of new (a * stride + k) ≡ 1))
+    ⊎ (bit_of new (a * stride + k) ≡ bit_of old (a * stride + k))
+marked_or_kept labels label stride column old new marked a k a_lt k_lt = elim (cases_eq k column) [
   | inr ne ↦ inr (marked.others a k k_lt (λ w. ne w.0))
   | inl is ↦ elim (cases_eq a 0) [
     | inl here ↦ inr (marked.others a k k_lt (λ w. w.1 here))
     | inr not_here ↦ elim (cases_eq (slice_index labels a) label) [
       | inr other ↦ inr (marked.others a k k_lt (λ w. other w.2))
-      | inl has ↦ inl (is, not_here, has, ap (λ v. bit_of new (a * stride + v)) is ∙ marked.set a (omega (arith, not_here)) a_lt has)
+      | inl has ↦ inl (
+        is,
+        not_here,
+        has,
+        ap (λ v. bit_of new (a * stride + v)) is
+            ∙ marked.set a (omega (arith, not_here)) a_lt has,
+      )
     ]
   ]
 ]
 
-given : (x site place : ℕ) (labels sites words words' : List ℕ) → x < length labels → place < length sites → slice_index sites place ≡ site → IsClassMarked labels (slice_index labels x) (words_for (length sites) * 64) place words words' → IsGiven x site (record { labels = labels; sites = sites; words = words }) (record { labels = labels; sites = sites; words = words' })
-given x site place labels sites words words' x_lt place_lt is_site marked = record {
+given : (x site column : ℕ) (labels sites words words' : List ℕ) → x < length labels
+    → column < length sites → slice_index sites column ≡ site
+    → IsClassMarked labels (slice_index labels x)
+    (words_for (length sites) * 64) column words words'
+    → IsGiven x site (record { labels = labels; sites = sites; words = words })
+    (record { labels = labels; sites = sites; words = words' })
+given x site column labels sites words words' x_lt column_lt is_site marked = record {
   elements_same = refl;
   sites_same = refl;
   together = λ a b. (
@@ -73,77 +106,140 @@ given x site place labels sites words words' x_lt place_lt is_site marked = reco
     (λ t. record { left = t.left; right = t.right; same = t.same }),
   );
   pairs = λ a s. (
-    (λ has. elim (marked_or_kept labels (slice_index labels x) (words_for (length sites) * 64) place words words' marked a has.place has.element (place_in_row sites has.place has.in_range)) [
-      | inl w ↦ inr (sym has.is_site ∙ (ap (slice_index sites) w.0 ∙ is_site), w.1, record { left = has.element; right = x_lt; same = w.2 })
-      | inr kept ↦ inl (record { element = has.element; place = has.place; in_range = has.in_range; is_site = has.is_site; marked = sym kept ∙ has.marked })
-    ]),
-    given_back x site place labels sites words words' place_lt is_site marked a s,
+    (λ has. elim (marked_or_kept labels (slice_index labels x)
+        (words_for (length sites) * 64) column words words' marked a has.column has.element
+        (column_in_row sites has.column has.in_range)) [
+          | inl w ↦ inr (
+            sym has.is_site
+                ∙ (ap (slice_index sites) w.0 ∙ is_site),
+            w.1,
+            record { left = has.element; right = x_lt; same = w.2 },
+          )
+          | inr kept ↦ inl (record {
+            element = has.element;
+            column = has.column;
+            in_range =
+                has.in_range;
+            is_site = has.is_site;
+            marked = sym kept ∙ has.marked;
+          })
+        ]),
+    given_back x site column labels sites words words' column_lt is_site marked a s,
   );
 }
   where
-    given_back : (x site place : ℕ) (labels sites words words' : List ℕ) → place < length sites → slice_index sites place ≡ site → IsClassMarked labels (slice_index labels x) (words_for (length sites) * 64) place words words' → (a s : ℕ) → (HasPair (record { labels = labels; sites = sites; words = words }) a s ⊎ ((s ≡ site) × (a ≢ 0) × Together (record { labels = labels; sites = sites; words = words }) a x)) → HasPair (record { labels = labels; sites = sites; words = words' }) a s
-    given_back x site place labels sites words words' place_lt is_site marked a s (inl has) = record {
-      element = has.element;
-      place = has.place;
-      in_range = has.in_range;
-      is_site = has.is_site;
-      marked = elim (marked_or_kept labels (slice_index labels x) (words_for (length sites) * 64) place words words' marked a has.place has.element (place_in_row sites has.place has.in_range)) [
-        | inl w ↦ w.3
-        | inr kept ↦ kept ∙ has.marked
-      ];
-    }
-    given_back x site place labels sites words words' place_lt is_site marked a s (inr w) = record {
-      element = w.2.left;
-      place = place;
-      in_range = place_lt;
-      is_site = is_site ∙ sym w.0;
-      marked = marked.set a (omega (arith, w.1)) w.2.left w.2.same;
-    }
+    given_back : (x site column : ℕ) (labels sites words words' : List ℕ) → column < length sites
+        → slice_index sites column ≡ site
+        → IsClassMarked labels (slice_index labels x)
+        (words_for (length sites) * 64) column words words' → (a s : ℕ)
+        → (HasPair (record { labels = labels; sites = sites; words = words }) a s
+        ⊎ ((s ≡ site) × (a ≢ 0)
+        × Together (record { labels = labels; sites = sites; words = words }) a x))
+        → HasPair (record { labels = labels; sites = sites; words = words' }) a s
+    given_back x site column labels sites words words' column_lt is_site marked a s (inl has) =
+        record {
+          element = has.element;
+          column = has.column;
+          in_range = has.in_range;
+          is_site = has.is_site;
+          marked = elim (marked_or_kept labels (slice_index labels x)
+              (words_for (length sites) * 64) column words words' marked a has.column has.element
+              (column_in_row sites has.column has.in_range)) [
+                | inl w ↦ w.3
+                | inr kept ↦ kept ∙ has.marked
+              ];
+        }
+    given_back x site column labels sites words words' column_lt is_site marked a s (inr w) =
+        record {
+          element = w.2.left;
+          column = column;
+          in_range = column_lt;
+          is_site = is_site ∙ sym w.0;
+          marked = marked.set a (omega (arith, w.1)) w.2.left w.2.same;
+        }
 
 -- give, as the code makes it
-pub give_done : (x site width place label words_len : ℕ) (labels sites words seen_words words' : List ℕ) (now : Regions) → record { labels = labels; sites = sites; words = words } ≡ now → seen_words ≡ words → width ≡ words_for (length sites) → words_len ≡ length words → x < length now.labels → (place < length sites) × (slice_index sites place ≡ site) → label ≡ get_or labels x label → IsClassMarked labels label (width * 64) place seen_words words' → IsGiven x site now (record { labels = labels; sites = sites; words = written words_len words' words })
-give_done x site width place label words_len labels sites words seen_words words' now now_is words_are width_is words_len_is x_now found label_is marked =
-    let x_lt : x < length labels = subst (λ (v : Regions). x < length v.labels) (sym now_is) x_now in
-    let m : IsClassMarked labels (slice_index labels x) (words_for (length sites) * 64) place words words' = subst (λ n. IsClassMarked labels n (words_for (length sites) * 64) place words words') (get_or_read labels x label x_lt label_is 0) (subst (λ w. IsClassMarked labels label (w * 64) place words words') width_is (subst (λ v. IsClassMarked labels label (width * 64) place v words') words_are marked)) in
-    subst (λ (n : Regions). IsGiven x site n (record { labels = labels; sites = sites; words = written words_len words' words })) now_is
-    (subst (λ v. IsGiven x site (record { labels = labels; sites = sites; words = words }) (record { labels = labels; sites = sites; words = v })) (sym (refilled words_len words' words words_len_is m.length_same)) (given x site place labels sites words words' x_lt found.0 found.1 m))
+pub give_done : (x site width column label words_len : ℕ)
+    (labels sites words seen_words words' : List ℕ) (now : Regions)
+    → record { labels = labels; sites = sites; words = words } ≡ now → seen_words ≡ words
+    → width ≡ words_for (length sites) → words_len ≡ length words → x < length now.labels
+    → (column < length sites) × (slice_index sites column ≡ site) → label ≡ get_or labels x label
+    → IsClassMarked labels label (width * 64) column seen_words words'
+    → IsGiven x site now (record {
+      labels = labels;
+      sites = sites;
+      words =
+          written words_len words' words;
+    })
+give_done x site width column label words_len labels sites words seen_words words' now now_is
+    words_are width_is words_len_is x_now found label_is marked =
+    let x_lt : x < length labels =
+    subst (λ (v : Regions). x < length v.labels) (sym now_is) x_now in
+    let m : IsClassMarked labels (slice_index labels x)
+    (words_for (length sites) * 64) column words words' =
+    subst (λ n. IsClassMarked labels n (words_for (length sites) * 64) column words words')
+    (get_or_read labels x label x_lt label_is 0)
+    (subst (λ w. IsClassMarked labels label (w * 64) column words words') width_is
+    (subst (λ v. IsClassMarked labels label (width * 64) column v words') words_are marked)) in
+    subst (λ (n : Regions). IsGiven x site n
+    (record { labels = labels; sites = sites; words = written words_len words' words })) now_is
+    (subst (λ v. IsGiven x site (record { labels = labels; sites = sites; words = words })
+    (record { labels = labels; sites = sites; words = v }))
+    (sym (refilled words_len words' words words_len_is m.length_same))
+    (given x site column labels sites words words' x_lt found.0 found.1 m))
 
 -- ---- need
-row_place : (x w k : ℕ) → x * w * 64 + k ≡ x * (w * 64) + k
-row_place x w k = omega arith
+row_column : (x w k : ℕ) → x * w * 64 + k ≡ x * (w * 64) + k
+row_column x w k = omega arith
 
-pub first_in_sites : (x bit : ℕ) (labels sites words : List ℕ) → AreTables labels sites words → x < length labels → IsFirstBit words (x * words_for (length sites)) (words_for (length sites)) bit → bit < length sites
+pub first_in_sites : (x bit : ℕ) (labels sites words : List ℕ) → AreTables labels sites words
+    → x < length labels → IsFirstBit words (x * words_for (length sites))
+    (words_for (length sites)) bit → bit < length sites
 first_in_sites x bit labels sites words tables x_lt first = elim (cases_lt bit (length sites)) [
   | inl lt ↦ lt
-  | inr ge ↦ absurd (zero_not_one _ (ap (bit_of words) (row_place x (words_for (length sites)) bit) ∙ tables.clear x bit x_lt ge first.in_row) first.set)
+  | inr ge ↦ absurd (zero_not_one _ (ap (bit_of words) (row_column x (words_for (length sites)) bit)
+      ∙ tables.clear x bit x_lt ge first.in_row) first.set)
 ]
 
-pub least_site : (x bit : ℕ) (labels sites words : List ℕ) → AreTables labels sites words → x < length labels → IsFirstBit words (x * words_for (length sites)) (words_for (length sites)) bit → IsLeastSite (record { labels = labels; sites = sites; words = words }) x (slice_index sites bit)
+pub least_site : (x bit : ℕ) (labels sites words : List ℕ) → AreTables labels sites words
+    → x < length labels → IsFirstBit words (x * words_for (length sites))
+    (words_for (length sites)) bit
+    → IsLeastSite (record { labels = labels; sites = sites; words = words }) x
+    (slice_index sites bit)
 least_site x bit labels sites words tables x_lt first = record {
   there = record {
     element = x_lt;
-    place = bit;
+    column = bit;
     in_range = first_in_sites x bit labels sites words tables x_lt first;
     is_site = refl;
-    marked = ap (bit_of words) (sym (row_place x (words_for (length sites)) bit)) ∙ first.set;
+    marked = ap (bit_of words) (sym (row_column x (words_for (length sites)) bit)) ∙ first.set;
   };
-  least = λ other has. elim (cases_lt has.place bit) [
-    | inl lt ↦ absurd (zero_not_one _ (ap (bit_of words) (sym (row_place x (words_for (length sites)) has.place)) ∙ first.clear has.place lt) has.marked)
-    | inr ge ↦ subst (λ v. slice_index sites bit ≤ v) has.is_site (rising_le sites tables.rising bit has.place ge has.in_range)
+  least = λ other has. elim (cases_lt has.column bit) [
+    | inl lt ↦ absurd (zero_not_one _
+        (ap (bit_of words) (sym (row_column x (words_for (length sites)) has.column))
+        ∙ first.clear has.column lt) has.marked)
+    | inr ge ↦ subst (λ v. slice_index sites bit ≤ v) has.is_site
+        (rising_le sites tables.rising bit has.column ge has.in_range)
   ];
 }
 
 -- ---- new
 bit_of-zeros : (count n : ℕ) → bit_of (replicate count 0) n ≡ 0
 bit_of-zeros count n = elim (cases_lt (n / 64) count) [
-  | inl lt ↦ ap (λ v. bit_at v (n % 64)) (get_or-replicate count (n / 64) 0 0 lt) ∙ bit_at-zero (n % 64)
-  | inr ge ↦ ap (λ v. bit_at v (n % 64)) (get_or_past (replicate count 0) (n / 64) 0 (rw length-replicate ge)) ∙ bit_at-zero (n % 64)
+  | inl lt ↦ ap (λ v. bit_at v (n % 64)) (get_or-replicate count (n / 64) 0 0 lt)
+      ∙ bit_at-zero (n % 64)
+  | inr ge ↦ ap (λ v. bit_at v (n % 64))
+      (get_or_past (replicate count 0) (n / 64) 0 (rw length-replicate ge)) ∙ bit_at-zero (n % 64)
 ]
 
-pub blank_tables : (elements width : ℕ) (labels sites words : List ℕ) → 0 < elements → elements < 2 ^ 32 → IsStrictlyIncreasing sites → AreNumbers elements labels → words ≡ replicate (elements * width) 0 → width ≡ words_for (length sites) → AreTables labels sites words
+pub blank_tables : (elements width : ℕ) (labels sites words : List ℕ) → 0 < elements
+    → elements < 2 ^ 32 → IsStrictlyIncreasing sites → AreNumbers elements labels
+    → words ≡ replicate (elements * width) 0 → width ≡ words_for (length sites)
+    → AreTables labels sites words
 blank_tables elements width labels sites words some few rising labels_are words_are width_is =
     let count : length labels ≡ elements = labels_are.length_is in
-    let own : (p : ℕ) → p < length labels → slice_index labels p ≡ p = λ p lt. labels_are.each p (subst (λ n. p < n) count lt) in
+    let own : (p : ℕ) → p < length labels → slice_index labels p ≡ p =
+    λ p lt. labels_are.each p (subst (λ n. p < n) count lt) in
     record {
       here = omega (arith, count);
       few = omega (arith, count);
@@ -152,14 +248,23 @@ blank_tables elements width labels sites words some few rising labels_are words_
         own = λ p lt. ap (slice_index labels) (own p lt);
       };
       rising = rising;
-      full = ap length words_are ∙ (length-replicate (elements * width) 0 ∙ (ap (λ n. elements * n) width_is ∙ ap (λ n. n * words_for (length sites)) (sym count)));
-      clear = λ x k x_lt past k_lt. ap (λ v. bit_of v (x * (words_for (length sites) * 64) + k)) words_are ∙ bit_of-zeros (elements * width) (x * (words_for (length sites) * 64) + k);
+      full = ap length words_are
+          ∙ (length-replicate (elements * width) 0
+          ∙ (ap (λ n. elements * n) width_is ∙ ap (λ n. n * words_for (length sites)) (sym count)));
+      clear = λ x k x_lt past k_lt. ap
+          (λ v. bit_of v (x * (words_for (length sites) * 64) + k)) words_are
+          ∙ bit_of-zeros (elements * width) (x * (words_for (length sites) * 64) + k);
+      here_bare = λ k k_lt. ap (λ v. bit_of v (0 * (words_for (length sites) * 64) + k)) words_are
+          ∙ bit_of-zeros (elements * width) (0 * (words_for (length sites) * 64) + k);
     }
 
-pub blank : (elements count_of_words : ℕ) (given labels sites words : List ℕ) → AreNumbers elements labels → words ≡ replicate count_of_words 0 → sites ≡ given → IsBlank elements given (record { labels = labels; sites = sites; words = words })
+pub blank : (elements count_of_words : ℕ) (given labels sites words : List ℕ)
+    → AreNumbers elements labels → words ≡ replicate count_of_words 0 → sites ≡ given
+    → IsBlank elements given (record { labels = labels; sites = sites; words = words })
 blank elements count_of_words given labels sites words labels_are words_are sites_are =
     let count : length labels ≡ elements = labels_are.length_is in
-    let own : (p : ℕ) → p < length labels → slice_index labels p ≡ p = λ p lt. labels_are.each p (subst (λ n. p < n) count lt) in
+    let own : (p : ℕ) → p < length labels → slice_index labels p ≡ p =
+    λ p lt. labels_are.each p (subst (λ n. p < n) count lt) in
     record {
       elements_are = count;
       sites_are = sites_are;
@@ -171,12 +276,38 @@ blank elements count_of_words given labels sites words labels_are words_are site
           same = ap (slice_index labels) w.0;
         }),
       );
-      no_pairs = λ x site has. zero_not_one _ (ap (λ v. bit_of v (x * (words_for (length sites) * 64) + has.place)) words_are ∙ bit_of-zeros count_of_words (x * (words_for (length sites) * 64) + has.place)) has.marked;
+      no_pairs = λ x site has. zero_not_one _
+          (ap (λ v. bit_of v (x * (words_for (length sites) * 64) + has.column)) words_are
+          ∙ bit_of-zeros count_of_words (x * (words_for (length sites) * 64) + has.column))
+          has.marked;
     }
 
 -- ---- need, as the code makes it
-pub need_found : (x width bit : ℕ) (labels sites words seen_words : List ℕ) (now : Regions) → record { labels = labels; sites = sites; words = words } ≡ now → seen_words ≡ words → width ≡ words_for (length sites) → x < length now.labels → AreTables labels sites words → IsFirstBit seen_words (x * width) width bit → (bit < length sites) × IsLeastSite now x (slice_index sites bit)
-need_found x width bit labels sites words seen_words now now_is words_are width_is x_now tables first =
-    let x_lt : x < length labels = subst (λ (v : Regions). x < length v.labels) (sym now_is) x_now in
-    let f : IsFirstBit words (x * words_for (length sites)) (words_for (length sites)) bit = subst (λ w. IsFirstBit words (x * w) w bit) width_is (subst (λ v. IsFirstBit v (x * width) width bit) words_are first) in
-    (first_in_sites x bit labels sites words tables x_lt f, subst (λ (n : Regions). IsLeastSite n x (slice_index sites bit)) now_is (least_site x bit labels sites words tables x_lt f))
+pub need_found : (x width bit : ℕ) (labels sites words seen_words : List ℕ) (now : Regions)
+    → record { labels = labels; sites = sites; words = words } ≡ now → seen_words ≡ words
+    → width ≡ words_for (length sites) → x < length now.labels → AreTables labels sites words
+    → IsFirstBit seen_words (x * width) width bit → (bit < length sites)
+    × IsLeastSite now x (slice_index sites bit)
+need_found x width bit labels sites words seen_words now now_is words_are width_is x_now tables
+    first =
+    let x_lt : x < length labels =
+    subst (λ (v : Regions). x < length v.labels) (sym now_is) x_now in
+    let f : IsFirstBit words (x * words_for (length sites)) (words_for (length sites)) bit =
+    subst (λ w. IsFirstBit words (x * w) w bit) width_is
+    (subst (λ v. IsFirstBit v (x * width) width bit) words_are first) in (
+      first_in_sites x bit labels sites words tables x_lt f,
+      subst (λ (n : Regions). IsLeastSite n x (slice_index sites bit)) now_is
+          (least_site x bit labels sites words tables x_lt f),
+    )
+
+-- `Here` has no pair
+pub here_has_none : (labels sites words : List ℕ) (now : Regions)
+    → record { labels = labels; sites = sites; words = words } ≡ now → AreTables labels sites words
+    → HasSomePair now 0 → ⊥
+here_has_none labels sites words now now_is tables some =
+    none (subst (λ (r : Regions). HasSomePair r 0) (sym now_is) some) where
+      none : HasSomePair (record { labels = labels; sites = sites; words = words }) 0 → ⊥
+      none (site, has) =
+          let within = has.in_range in
+          zero_not_one _ (tables.here_bare has.column (column_in_row sites has.column within))
+          has.marked

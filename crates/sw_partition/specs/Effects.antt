@@ -2,7 +2,7 @@
 use Rattle.std.specs.Prelude.{◌≡◌, ◌≢◌, ℕ, ◌<◌, ◌≤◌, List, length, ◌↔◌, ◌⊎◌, ◌==◌, if◌then◌else◌}
 use Rattle.sw_partition.specs.Regions.{Regions, Together, HasPair, HasSomePair}
 
--- each of so many elements is alone, and there are no pairs
+-- each of the elements is alone, and there are no pairs
 pub record IsBlank (elements : ℕ) (sites : List ℕ) (r : Regions) : Type 0 where
   pub elements_are : length r.labels ≡ elements
   pub sites_are : r.sites ≡ sites
@@ -33,7 +33,8 @@ pub record IsJoined (x y : ℕ) (old new : Regions) : Type 0 where
   pub elements_same : length new.labels ≡ length old.labels
   pub sites_same : new.sites ≡ old.sites
   pub together : (a b : ℕ) → Together new a b
-      ↔ (Together old a b ⊎ ((Together old a x × Together old y b) ⊎ (Together old a y × Together old x b)))
+      ↔ (Together old a b ⊎ ((Together old a x × Together old y b)
+      ⊎ (Together old a y × Together old x b)))
   pub pairs : (a site : ℕ) → HasPair new a site ↔ HasPair old a site
 
 -- every element of x's class but `Here`, which is element 0, gets a pair with the site

@@ -1,5 +1,6 @@
 -- How far up a region state stands, and how far one can stand.
-use Rattle.std.specs.Prelude.{ℕ, zero, suc, ◌+◌, ◌*◌, Bool, false, cond, ◌==◌, ◌&&◌, ◌||◌, List, [], ◌∷◌, length, slice_index}
+use Rattle.std.specs.Prelude.{ℕ, zero, suc, ◌+◌, ◌*◌, Bool, false, cond, ◌==◌, ◌&&◌, ◌||◌, List, []}
+use Rattle.std.specs.Prelude.{◌∷◌, length, slice_index}
 use Rattle.sw_partition.specs.Regions.{Regions, mark_of}
 
 -- some number below n passes the test
@@ -22,11 +23,13 @@ is_later r x = any_below x (λ y. slice_index r.labels y == slice_index r.labels
 
 -- element x has a pair with the site
 abbrev pub has_pair : Regions → ℕ → ℕ → Bool
-has_pair r x site = any_below (length r.sites) (λ k. (slice_index r.sites k == site) && (mark_of r x k == 1))
+has_pair r x site = any_below (length r.sites)
+    (λ k. (slice_index r.sites k == site) && (mark_of r x k == 1))
 
 -- the elements that are not the first of their class, and the pairs
 abbrev pub rank_of : Regions → ℕ
-rank_of r = count_below (length r.labels) (is_later r) + sum_below (length r.labels) (λ x. count_below (length r.sites) (λ k. has_pair r x (slice_index r.sites k)))
+rank_of r = count_below (length r.labels) (is_later r) + sum_below (length r.labels)
+    (λ x. count_below (length r.sites) (λ k. has_pair r x (slice_index r.sites k)))
 
 -- elements * (sites + 1)
 abbrev pub height_of : List ℕ → ℕ

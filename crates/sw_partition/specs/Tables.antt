@@ -1,12 +1,14 @@
 -- The tables of a partition.
-use Rattle.std.specs.Prelude.{◌≡◌, ◌≢◌, ℕ, ◌+◌, ◌*◌, ◌^◌, ◌<◌, ◌≤◌, ◌↔◌, max, Bool, true, false, List, length, slice_index, ◌==◌, if◌then◌else◌}
+use Rattle.std.specs.Prelude.{◌≡◌, ◌≢◌, ℕ, ◌+◌, ◌*◌, ◌^◌, ◌<◌, ◌≤◌, ◌↔◌, max, Bool, true, false}
+use Rattle.std.specs.Prelude.{List, length, slice_index, ◌==◌, if◌then◌else◌}
 use Rattle.std.specs.List.Sorted.{IsStrictlyIncreasing}
 use Rattle.sw_partition.specs.Regions.{words_for, bit_of}
 
 -- each label is an element, and labels itself: it is in the class that it names
 pub record AreLabels (labels : List ℕ) : Type 0 where
   pub within : (p : ℕ) → p < length labels → slice_index labels p < length labels
-  pub own : (p : ℕ) → p < length labels → slice_index labels (slice_index labels p) ≡ slice_index labels p
+  pub own : (p : ℕ) → p < length labels
+      → slice_index labels (slice_index labels p) ≡ slice_index labels p
 
 -- the numbers below count, in order
 pub record AreNumbers (count : ℕ) (labels : List ℕ) : Type 0 where
@@ -16,19 +18,24 @@ pub record AreNumbers (count : ℕ) (labels : List ℕ) : Type 0 where
 -- one label in place of another
 pub record IsRelabeled (from to : ℕ) (old new : List ℕ) : Type 0 where
   pub length_same : length new ≡ length old
-  pub each : (p : ℕ) → p < length old → slice_index new p ≡ (if slice_index old p == from then to else slice_index old p)
+  pub each : (p : ℕ) → p < length old
+      → slice_index new p ≡ (if slice_index old p == from then to else slice_index old p)
 
--- element x labels itself, and another element of its class, if there is one, labels the others that x labelled
+-- element x labels itself, and another element of its class, if there is one, labels the others
+-- that x labelled
 pub record IsReleased (x : ℕ) (old new : List ℕ) : Type 0 where
   pub length_same : length new ≡ length old
   pub heir : ℕ
-  pub is_heir : (p : ℕ) → p < length old → p ≢ x → slice_index old p ≡ x → (heir < length old) × (heir ≢ x) × (slice_index old heir ≡ x)
+  pub is_heir : (p : ℕ) → p < length old → p ≢ x → slice_index old p ≡ x → (heir < length old)
+      × (heir ≢ x) × (slice_index old heir ≡ x)
   pub at : slice_index new x ≡ x
-  pub others : (p : ℕ) → p < length old → p ≢ x → slice_index new p ≡ (if slice_index old p == x then heir else slice_index old p)
+  pub others : (p : ℕ) → p < length old → p ≢ x
+      → slice_index new p ≡ (if slice_index old p == x then heir else slice_index old p)
 
 -- elements that the first table puts together are together in the second
 pub record IsCoarser (a b : List ℕ) : Type 0 where
-  pub each : (p q : ℕ) → p < length a → q < length a → slice_index a p ≡ slice_index a q → slice_index b p ≡ slice_index b q
+  pub each : (p q : ℕ) → p < length a → q < length a → slice_index a p ≡ slice_index a q
+      → slice_index b p ≡ slice_index b q
 
 -- the finest table that is coarser than both; `rose` says whether it is another than the old one
 pub record IsUnited (old other new : List ℕ) (rose : Bool) : Type 0 where
@@ -58,7 +65,8 @@ pub record IsSunk (old new : List ℕ) : Type 0 where
 pub record IsLinked (x y : ℕ) (old new : List ℕ) : Type 0 where
   pub length_same : length new ≡ length old
   pub links : AreLinks new
-  pub same : (z : List ℕ) → KeepsLinks new z ↔ (KeepsLinks old z × (slice_index z x ≡ slice_index z y))
+  pub same : (z : List ℕ) → KeepsLinks new z
+      ↔ (KeepsLinks old z × (slice_index z x ≡ slice_index z y))
 
 -- the finest table of labels that keeps the links
 pub record IsFlattened (old new : List ℕ) : Type 0 where
@@ -67,28 +75,32 @@ pub record IsFlattened (old new : List ℕ) : Type 0 where
   pub keeps : KeepsLinks old new
   pub least : (z : List ℕ) → KeepsLinks old z → KeepsLinks new z
 
--- the tables of a partition: element 0 is there, the sites rise, and no bit is set beyond the sites
+-- the tables of a partition: element 0 is there and has no pair, the sites rise, and no bit is set
+-- beyond the sites
 pub record AreTables (labels sites words : List ℕ) : Type 0 where
   pub here : 0 < length labels
   pub few : length labels < 2 ^ 32
   pub labelled : AreLabels labels
   pub rising : IsStrictlyIncreasing sites
   pub full : length words ≡ length labels * words_for (length sites)
-  pub clear : (x k : ℕ) → x < length labels → length sites ≤ k → k < words_for (length sites) * 64 → bit_of words (x * (words_for (length sites) * 64) + k) ≡ 0
+  pub clear : (x k : ℕ) → x < length labels → length sites ≤ k → k < words_for (length sites) * 64
+      → bit_of words (x * (words_for (length sites) * 64) + k) ≡ 0
+  pub here_bare : (k : ℕ) → k < words_for (length sites) * 64
+      → bit_of words (0 * (words_for (length sites) * 64) + k) ≡ 0
 
--- so many words from a place on are 0, and the others are as they were
+-- `count` words from an index on are 0, and the others are as they were
 pub record IsCleared (from count : ℕ) (old new : List ℕ) : Type 0 where
   pub length_same : length new ≡ length old
   pub inside : (i : ℕ) → i < count → slice_index new (from + i) ≡ 0
   pub before : (i : ℕ) → i < from → slice_index new i ≡ slice_index old i
-  pub behind : (i : ℕ) → from + count ≤ i → slice_index new i ≡ slice_index old i
+  pub after : (i : ℕ) → from + count ≤ i → slice_index new i ≡ slice_index old i
 
--- so many words are copied from a place to another, and the others are as they were
+-- `count` words are copied from one index to another, and the others are as they were
 pub record IsCopied (from to count : ℕ) (old new : List ℕ) : Type 0 where
   pub length_same : length new ≡ length old
   pub inside : (i : ℕ) → i < count → slice_index new (to + i) ≡ slice_index old (from + i)
   pub before : (i : ℕ) → i < to → slice_index new i ≡ slice_index old i
-  pub behind : (i : ℕ) → to + count ≤ i → slice_index new i ≡ slice_index old i
+  pub after : (i : ℕ) → to + count ≤ i → slice_index new i ≡ slice_index old i
 
 -- the words take in the bits of the others; `rose` says whether that changed them
 pub record IsFilled (old other new : List ℕ) (rose : Bool) : Type 0 where
@@ -103,18 +115,23 @@ pub record IsMarked (n : ℕ) (old new : List ℕ) : Type 0 where
   pub set : bit_of new n ≡ 1
   pub others : (m : ℕ) → m ≢ n → bit_of new m ≡ bit_of old m
 
--- the bit at a place of a row is set for each element but 0 with the label, and the others are as they were
-pub record IsClassMarked (labels : List ℕ) (label stride place : ℕ) (old new : List ℕ) : Type 0 where
+-- the bit of a column is set in the row of each element but 0 with the label, and the others are as
+-- they were
+pub record IsClassMarked (labels : List ℕ) (label stride column : ℕ)
+    (old new : List ℕ) : Type 0 where
   pub length_same : length new ≡ length old
-  pub set : (p : ℕ) → 0 < p → p < length labels → slice_index labels p ≡ label → bit_of new (p * stride + place) ≡ 1
-  pub others : (p k : ℕ) → k < stride → ((k ≡ place) × (p ≢ 0) × (slice_index labels p ≡ label) → ⊥) → bit_of new (p * stride + k) ≡ bit_of old (p * stride + k)
+  pub set : (p : ℕ) → 0 < p → p < length labels → slice_index labels p ≡ label
+      → bit_of new (p * stride + column) ≡ 1
+  pub others : (p k : ℕ) → k < stride
+      → ((k ≡ column) × (p ≢ 0) × (slice_index labels p ≡ label) → ⊥)
+      → bit_of new (p * stride + k) ≡ bit_of old (p * stride + k)
 
--- the first bit that is set in a row of so many words
+-- the first bit that is set in a row of `count` words
 pub record IsFirstBit (words : List ℕ) (from count bit : ℕ) : Type 0 where
   pub in_row : bit < count * 64
   pub set : bit_of words (from * 64 + bit) ≡ 1
   pub clear : (k : ℕ) → k < bit → bit_of words (from * 64 + k) ≡ 0
 
--- a row of so many words has no bit that is set
+-- a row of `count` words has no bit that is set
 pub record IsClearRow (words : List ℕ) (from count : ℕ) : Type 0 where
   pub each : (k : ℕ) → k < count * 64 → bit_of words (from * 64 + k) ≡ 0

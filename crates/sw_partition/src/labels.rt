@@ -1,6 +1,7 @@
 //! Tables of classes: each element has a label, which is an element of its class.
 ghost use Rattle.std.specs.Prelude.{◌≡◌, ◌^◌, ◌<◌, ◌↔◌, length, IsTrue, IfOk};
-ghost use Rattle.sw_partition.specs.Tables.{AreNumbers, AreLabels, IsRelabeled, IsReleased, KeepsLinks, IsUnited};
+ghost use Rattle.sw_partition.specs.Tables.{AreNumbers, AreLabels, IsRelabeled, IsReleased};
+ghost use Rattle.sw_partition.specs.Tables.{KeepsLinks, IsUnited};
 
 use crate::links::{flatten, link, sink};
 use std::alloc::{AllocError, Global};
@@ -27,7 +28,7 @@ pub(crate) fn relabel(labels: &mut [u32], from: u32, to: u32)
     }
 }
 
-/// Makes the element its own label; another element of its class takes its place as a label.
+/// Makes the element its own label; another element of its class becomes the label of the others.
 pub(crate) fn release(labels: &mut [u32], x: usize)
     requires x { x < length labels.old }
     requires few { length labels.old < 2 ^ 32 }

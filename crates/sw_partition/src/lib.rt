@@ -15,6 +15,3 @@ pub use laws::{
     fresh_is_monotone, give_is_monotone, join_is_monotone, put_is_monotone, tests_are_monotone,
 };
 pub use state::Partition;
-
-#[cfg(test)]
-mod tests;

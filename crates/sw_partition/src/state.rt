@@ -1,8 +1,10 @@
 //! The region state and its operations.
-ghost use Rattle.std.specs.Prelude.{◌≡◌, ◌≢◌, ℕ, ◌<◌, length, Contains, ◌↔◌, IsTrue, IsSome, IfSome, IfOk};
+ghost use Rattle.std.specs.Prelude.{◌≡◌, ◌≢◌, ℕ, ◌<◌, length, Contains, ◌↔◌, IsTrue, IsSome};
+ghost use Rattle.std.specs.Prelude.{IfSome, IfOk};
 ghost use Rattle.std.specs.List.Sorted.{IsStrictlyIncreasing};
 ghost use Rattle.sw_partition.specs.Regions.{Together, HasSomePair};
-ghost use Rattle.sw_partition.specs.Effects.{IsBlank, IsFree, IsLeastSite, IsFreshened, IsPut, IsJoined, IsGiven};
+ghost use Rattle.sw_partition.specs.Effects.{IsBlank, IsFree, IsLeastSite, IsFreshened, IsPut};
+ghost use Rattle.sw_partition.specs.Effects.{IsJoined, IsGiven};
 
 use crate::labels::{numbers, relabel, release, unite};
 use crate::words::{clear, copy, fill, first_bit, mark_class, words_for, zeros};
@@ -29,13 +31,19 @@ impl Model for Partition {
 
     ghost Value = { Regions };
 
-    ghost view = { λ p. record { labels = p.labels.items; sites = p.sites.items; words = p.words.items } };
+    ghost view = { λ p. record {
+      labels = p.labels.items;
+      sites = p.sites.items;
+      words =
+          p.words.items;
+    } };
 
     ghost invariant = { λ p. AreTables p.labels.items p.sites.items p.words.items };
 }
 
 impl Partition {
-    /// So many elements, each alone, and no pairs; pairs may come to be with these sites.
+    /// The elements below `elements`, each alone, and no pairs; pairs may come to be with these
+    /// sites.
     pub fn new(alloc: Global, elements: u32, sites: &[u32]) -> Result<Partition, AllocError>
         requires elements { 0 < elements }
         requires sites { IsStrictlyIncreasing sites.now }
@@ -54,13 +62,16 @@ impl Partition {
         requires { x < length self.now.labels }
         ensures given { IsSome result ↔ HasSomePair self.now x }
         ensures least { IfSome result (λ site. IsLeastSite self.now x site) }
+
+        // `Here` is never given away.
+        ensures here { ¬ (HasSomePair self.now 0) }
     {
         let width = words_for(self.sites.len());
-        let place = first_bit(&self.words, x as usize * width, width)?;
-        Some(self.sites[place])
+        let column = first_bit(&self.words, x as usize * width, width)?;
+        Some(self.sites[column])
     }
 
-    /// Whether the element may be given away: it has no pair, and isn't with `Here`.
+    /// Whether the element may be given away: it has no pair, and is not with `Here`.
     pub fn is_free(&self, x: u32) -> bool
         requires { x < length self.now.labels }
         ensures { IsTrue result ↔ IsFree self.now x }
@@ -122,16 +133,17 @@ impl Partition {
         ensures { IsGiven x site self.old self.new }
     {
         let width = words_for(self.sites.len());
-        let place = self.sites.binary_search(&site).unwrap();
+        let column = self.sites.binary_search(&site).unwrap();
         let label = self.labels[x as usize];
-        mark_class(&mut self.words, &self.labels, label, width, place);
+        mark_class(&mut self.words, &self.labels, label, width, column);
     }
 }
 
 impl Lattice for Partition {
     ghost use Rattle.sw_partition.specs.Regions.{size_of, IsWithin, IsSameState};
     ghost use Rattle.sw_partition.specs.Rank.{rank_of, height_of};
-    ghost use Rattle.sw_partition.specs.Laws.{within_refl, within_trans, within_both, same_within, rank_rises, rank_bound};
+    ghost use Rattle.sw_partition.specs.Laws.{within_refl, within_trans, within_both, same_within};
+    ghost use Rattle.sw_partition.specs.Laws.{rank_rises, rank_bound};
 
     ghost size = { size_of };
 

@@ -1,18 +1,20 @@
 //! Rows of bits, in words of 64.
-ghost use Rattle.std.specs.Prelude.{◌≡◌, ℕ, ◌+◌, ◌*◌, ◌/◌, ◌^◌, ◌<◌, ◌≤◌, ◌⊎◌, length, replicate, IfOk, MatchOption};
+ghost use Rattle.std.specs.Prelude.{◌≡◌, ℕ, ◌+◌, ◌*◌, ◌/◌, ◌^◌, ◌<◌, ◌≤◌, ◌⊎◌, length, replicate};
+ghost use Rattle.std.specs.Prelude.{IfOk, MatchOption};
 ghost use Rattle.sw_partition.specs.Regions as spec;
-ghost use Rattle.sw_partition.specs.Tables.{IsCleared, IsCopied, IsFilled, IsMarked, IsClassMarked, IsFirstBit, IsClearRow};
+ghost use Rattle.sw_partition.specs.Tables.{IsCleared, IsCopied, IsFilled, IsMarked, IsClassMarked};
+ghost use Rattle.sw_partition.specs.Tables.{IsFirstBit, IsClearRow};
 
 use std::alloc::{AllocError, Global};
 
-/// How many words a row of so many bits takes.
+/// How many words a row of `bits` bits takes.
 pub(crate) fn words_for(bits: usize) -> usize
     ensures { result ≡ spec.words_for bits }
 {
     bits.div_ceil(64)
 }
 
-/// So many rows of so many words that are 0.
+/// `rows` rows of `width` words each, which are 0.
 pub(crate) fn zeros(alloc: Global, rows: usize, width: usize) -> Result<Vec<u64>, AllocError>
     ensures { IfOk result (λ v. v.items ≡ replicate (rows * width) 0) }
 {
@@ -20,7 +22,7 @@ pub(crate) fn zeros(alloc: Global, rows: usize, width: usize) -> Result<Vec<u64>
     vec![in alloc; 0; count]
 }
 
-/// Clears so many words.
+/// Clears `count` words.
 pub(crate) fn clear(words: &mut [u64], from: usize, count: usize)
     requires { from + count ≤ length words.old }
     ensures { IsCleared from count words.old words.new }
@@ -30,7 +32,7 @@ pub(crate) fn clear(words: &mut [u64], from: usize, count: usize)
     }
 }
 
-/// Copies so many words to another place.
+/// Copies `count` words from one index to another.
 pub(crate) fn copy(words: &mut [u64], from: usize, to: usize, count: usize)
     requires from { from + count ≤ length words.old }
     requires to { to + count ≤ length words.old }
@@ -67,24 +69,25 @@ pub(crate) fn mark(words: &mut [u64], word: usize, bit: usize)
     words[word] |= 1 << bit;
 }
 
-/// Sets the bit at a place of its row for each element but 0 that has the label.
-pub(crate) fn mark_class(words: &mut [u64], labels: &[u32], label: u32, width: usize, place: usize)
+/// Sets the bit of a column in the row of each element but 0 that has the label.
+pub(crate) fn mark_class(words: &mut [u64], labels: &[u32], label: u32, width: usize, column: usize)
     requires full { length words.old ≡ length labels.now * width }
-    requires place { place < width * 64 }
-    ensures { IsClassMarked labels.now label (width * 64) place words.old words.new }
+    requires column { column < width * 64 }
+    ensures { IsClassMarked labels.now label (width * 64) column words.old words.new }
 {
     for p in 1..labels.len() {
         if labels[p] == label {
-            mark(words, p * width + place / 64, place % 64);
+            mark(words, p * width + column / 64, column % 64);
         }
     }
 }
 
-/// The first bit that is set in a row of so many words.
+/// The first bit that is set in a row of `count` words.
 pub(crate) fn first_bit(words: &[u64], from: usize, count: usize) -> Option<usize>
     requires row { from + count ≤ length words.now }
     requires fits { count * 64 < 2 ^ 64 }
-    ensures { MatchOption result (IsClearRow words.now from count) (IsFirstBit words.now from count) }
+    ensures { MatchOption result (IsClearRow words.now from count)
+        (IsFirstBit words.now from count) }
 {
     for i in 0..count {
         let word = words[from + i];

@@ -16,18 +16,24 @@ IsAtMost le None o = Unit {0}
 IsAtMost le (Some x) o = IsBelow le x o
 
 -- at each point the first annotation is at most the second
-pub record IsAtMostEverywhere {X : Type 0} (le : X → X → Type 0) (a b : List (Option X)) : Type 0 where
+pub record IsAtMostEverywhere {X : Type 0} (le : X → X → Type 0)
+    (a b : List (Option X)) : Type 0 where
   pub each : (p : ℕ) → IsAtMost le (value_at a p) (value_at b p)
 
--- the step of point p makes of x a value that is at most what stands at each of the points that follow p
-pub record IsPassedOn {X : Type 0} (le : X → X → Type 0) (leads : ℕ → X → X → Type 0) (successors : ℕ → List ℕ) (a : List (Option X)) (p : ℕ) (x : X) : Type 0 where
+-- the step of point p makes of x a value that is at most what stands at each of the points that
+-- follow p
+pub record IsPassedOn {X : Type 0} (le : X → X → Type 0) (leads : ℕ → X → X → Type 0)
+    (successors : ℕ → List ℕ) (a : List (Option X)) (p : ℕ) (x : X) : Type 0 where
   pub made : X
   pub leads_to : leads p x made
   pub below : (q : ℕ) → Contains (successors p) q → IsBelow le made (value_at a q)
 
--- a closed annotation: it has at point 0 at least a value that enters, and with the value at a point it has at each
--- point that follows at least what the step makes of that value; all values have the flow's size
-pub record IsClosed {X : Type 0} (le : X → X → Type 0) (size : X → List ℕ) (facts : List ℕ) (enters : X → Type 0) (leads : ℕ → X → X → Type 0) (successors : ℕ → List ℕ) (a : List (Option X)) : Type 0 where
+-- a closed annotation: it has at point 0 at least a value that enters, and with the value at a
+-- point it has at each point that follows at least what the step makes of that value; all values
+-- have the flow's size
+pub record IsClosed {X : Type 0} (le : X → X → Type 0) (size : X → List ℕ) (facts : List ℕ)
+    (enters : X → Type 0) (leads : ℕ → X → X → Type 0) (successors : ℕ → List ℕ)
+    (a : List (Option X)) : Type 0 where
   pub sized : (p : ℕ) → IfSome (value_at a p) (λ x. size x ≡ facts)
   pub entry : X
   pub enters_by : enters entry
@@ -38,8 +44,11 @@ pub record IsClosed {X : Type 0} (le : X → X → Type 0) (size : X → List �
 -- the step of a point makes of a value that is at most the one there is at most what stands at each
 -- of the points that follow. Each closed annotation is one, since the steps are monotone; that an
 -- annotation bounds doesn't say that the steps make anything.
-pub record IsBound {X : Type 0} (le : X → X → Type 0) (size : X → List ℕ) (facts : List ℕ) (enters : X → Type 0) (leads : ℕ → X → X → Type 0) (successors : ℕ → List ℕ) (a : List (Option X)) : Type 0 where
+pub record IsBound {X : Type 0} (le : X → X → Type 0) (size : X → List ℕ) (facts : List ℕ)
+    (enters : X → Type 0) (leads : ℕ → X → X → Type 0) (successors : ℕ → List ℕ)
+    (a : List (Option X)) : Type 0 where
   pub sized : (p : ℕ) → IfSome (value_at a p) (λ x. size x ≡ facts)
   pub entered : (x : X) → enters x → size x ≡ facts → IsBelow le x (value_at a 0)
-  pub stepped : (p : ℕ) (x y made : X) → value_at a p ≡ Some y → le x y → size x ≡ facts → leads p x made
+  pub stepped : (p : ℕ) (x y made : X) → value_at a p ≡ Some y → le x y → size x ≡ facts
+      → leads p x made
       → (q : ℕ) → Contains (successors p) q → IsBelow le made (value_at a q)

@@ -20,6 +20,3 @@ pub use laws::chains_are_short;
 pub use order::Lattice;
 pub use problem::Flow;
 pub use worklist::solve;
-
-#[cfg(test)]
-mod tests;

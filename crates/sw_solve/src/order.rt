@@ -52,7 +52,7 @@ pub trait Lattice: Sized + Drop {
     /// Two values each at most the other mean the same.
     ghost antisymmetric: { (a b : Self) → le a b → le b a → alike a b };
 
-    /// Values that mean the same stand at one place of the order.
+    /// Values that mean the same are equal in the order.
     ghost alike_le: { (a b : Self) → alike a b → le a b × le b a };
 
     /// A value strictly above another has the greater rank.

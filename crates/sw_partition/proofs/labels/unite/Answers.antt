@@ -9,4 +9,7 @@ pub loop-x-preserved : goal.loop-x-preserved
 loop-x-preserved c = uniting_goes _ _ _ _ _ c.link.ensures c.loop-x.invariant
 
 pub returns : goal.returns
-returns c = uniting_ends _ _ c.loop-x.labels _ c.loop-x.x (omega arith) c.requires.length c.requires.labels c.requires.other (λ keeps. absurd (cc (c.is_coarser.ensures.1 keeps, c.if-is_coarser.false))) c.flatten.ensures c.loop-x.invariant
+returns c = uniting_ends _ _ c.loop-x.labels _ c.loop-x.x
+    (omega arith) c.requires.length c.requires.labels c.requires.other
+    (λ keeps. absurd (cc (c.is_coarser.ensures.1 keeps, c.if-is_coarser.false))) c.flatten.ensures
+    c.loop-x.invariant

@@ -4,6 +4,7 @@ use Rattle.sw_solve.proofs.worklist.spread.Given as goal
 
 abbrev pub invariant-loop-target : goal.invariant-loop-target
 invariant-loop-target g l = record {
-  spread : IsSpread g.T.Lattice.le g.T.Lattice.size g.T.Lattice.rank (take l.target-index l.targets) l.value l.fn.places.items l.places.items l.fn.list l.list;
+  spread : IsSpread g.T.Lattice.le g.T.Lattice.size g.T.Lattice.rank
+      (take l.target-index l.targets) l.value l.fn.slots.items l.slots.items l.fn.list l.list;
   counted : l.steps ≤ l.fn.steps + l.target-index;
 }

@@ -3,18 +3,31 @@ use Rattle.std.specs.Ordering.{nat_cmp}
 use Rattle.std.specs.List.Sorted.{IsBinarySearchResult}
 use Rattle.sw_partition.specs.Regions.{Regions, words_for}
 use Rattle.sw_partition.specs.Tables.{IsClassMarked}
-use Rattle.sw_partition.proofs.Answering.{site_found, site_place, give_done}
+use Rattle.sw_partition.proofs.Answering.{site_found, site_column, give_done}
 use Rattle.sw_partition.proofs.state.Partition.give.Goals as goal
 
-pub unwrap-place-requires : goal.unwrap-place-requires
-unwrap-place-requires c =
-    site_found c.self.inside.sites.items c.args.site _ c.self.invariant.rising (subst (λ (v : List ℕ). IsBinarySearchResult (λ y. nat_cmp y c.args.site) v c.binary_search.result) c.deref.ensures.value c.binary_search.ensures.position)
+pub unwrap-column-requires : goal.unwrap-column-requires
+unwrap-column-requires c =
+    site_found c.self.inside.sites.items c.args.site _ c.self.invariant.rising
+    (subst (λ (v : List ℕ). IsBinarySearchResult
+    (λ y. nat_cmp y c.args.site) v c.binary_search.result) c.deref.ensures.value
+    c.binary_search.ensures.position)
     (subst (λ (r : Regions). Contains r.sites c.args.site) (sym c.self.view_is) c.requires.site)
 
 pub returns : goal.returns
 returns c =
-    let sites : c.len.result ≡ length c.self.inside.sites.items = omega (arith, c.len.ensures, c.self.inside.sites.ok.0) in
-    give_done c.args.x c.args.site c.words_for-width.result c.unwrap-place.result c.index-label.result.now c.self.inside.words.len c.self.inside.labels.items c.self.inside.sites.items c.self.inside.words.items _ c.mark_class.new.words c.args.self.now c.self.view_is c.deref_mut.ensures.value (c.words_for-width.ensures ∙ ap words_for sites) (omega (arith, c.self.inside.words.ok.0)) c.requires.element
-    (site_place c.self.inside.sites.items c.args.site _ _ c.self.invariant.rising (subst (λ (v : List ℕ). IsBinarySearchResult (λ y. nat_cmp y c.args.site) v c.binary_search.result) c.deref.ensures.value c.binary_search.ensures.position) c.unwrap-place.ensures)
+    let sites : c.len.result ≡ length c.self.inside.sites.items =
+    omega (arith, c.len.ensures, c.self.inside.sites.ok.0) in
+    give_done c.args.x c.args.site c.words_for-width.result c.unwrap-column.result
+    c.index-label.result.now c.self.inside.words.len c.self.inside.labels.items
+    c.self.inside.sites.items c.self.inside.words.items _ c.mark_class.new.words c.args.self.now
+    c.self.view_is c.deref_mut.ensures.value (c.words_for-width.ensures ∙ ap words_for sites)
+    (omega (arith, c.self.inside.words.ok.0)) c.requires.element
+    (site_column c.self.inside.sites.items c.args.site _ _ c.self.invariant.rising
+    (subst (λ (v : List ℕ). IsBinarySearchResult
+    (λ y. nat_cmp y c.args.site) v c.binary_search.result) c.deref.ensures.value
+    c.binary_search.ensures.position) c.unwrap-column.ensures)
     c.index-label.ensures
-    (subst (λ (v : List ℕ). IsClassMarked v c.index-label.result.now (c.words_for-width.result * 64) c.unwrap-place.result c.deref_mut.result.now c.mark_class.new.words) c.deref-2.ensures.value c.mark_class.ensures)
+    (subst (λ (v : List ℕ). IsClassMarked v c.index-label.result.now
+    (c.words_for-width.result * 64) c.unwrap-column.result c.deref_mut.result.now
+    c.mark_class.new.words) c.deref-2.ensures.value c.mark_class.ensures)

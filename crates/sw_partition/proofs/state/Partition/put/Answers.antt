@@ -8,10 +8,26 @@ copy-requires-clause-apart c = rows_apart c.args.x c.args.y c.words_for-width.re
 
 pub invariant_of-self : goal.invariant_of-self
 invariant_of-self c =
-    let sites : c.len.result ≡ length c.self.inside.sites.items = omega (arith, c.len.ensures, c.self.inside.sites.ok.0) in
-    (put_done c.args.x c.args.y c.words_for-width.result c.self.inside.labels.len c.self.inside.words.len c.index.result.now c.self.inside.labels.items _ c.release.new.labels c.self.inside.sites.items c.self.inside.words.items _ c.copy.new.words c.args.self.now c.self.view_is c.deref_mut.ensures.value c.deref_mut-2.ensures.value (c.words_for-width.ensures ∙ ap words_for sites) (omega (arith, c.self.inside.labels.ok.0)) (omega (arith, c.self.inside.words.ok.0)) c.requires.element c.requires.other c.if-x-y.false c.self.invariant c.release.ensures c.index.ensures c.copy.ensures).0
+    let sites : c.len.result ≡ length c.self.inside.sites.items =
+    omega (arith, c.len.ensures, c.self.inside.sites.ok.0) in
+    (put_done c.args.x c.args.y c.words_for-width.result c.self.inside.labels.len
+    c.self.inside.words.len c.index.result.now c.self.inside.labels.items _ c.release.new.labels
+    c.self.inside.sites.items c.self.inside.words.items _ c.copy.new.words c.args.self.now
+    c.self.view_is c.deref_mut.ensures.value c.deref_mut-2.ensures.value
+    (c.words_for-width.ensures ∙ ap words_for sites) (omega (arith, c.self.inside.labels.ok.0))
+    (omega (arith, c.self.inside.words.ok.0)) c.requires.element c.requires.not_here
+    c.requires.other c.if-x-y.false c.self.invariant c.release.ensures c.index.ensures
+    c.copy.ensures).0
 
 pub returns : goal.returns
 returns c =
-    let sites : c.len.result ≡ length c.self.inside.sites.items = omega (arith, c.len.ensures, c.self.inside.sites.ok.0) in
-    (put_done c.args.x c.args.y c.words_for-width.result c.self.inside.labels.len c.self.inside.words.len c.index.result.now c.self.inside.labels.items _ c.release.new.labels c.self.inside.sites.items c.self.inside.words.items _ c.copy.new.words c.args.self.now c.self.view_is c.deref_mut.ensures.value c.deref_mut-2.ensures.value (c.words_for-width.ensures ∙ ap words_for sites) (omega (arith, c.self.inside.labels.ok.0)) (omega (arith, c.self.inside.words.ok.0)) c.requires.element c.requires.other c.if-x-y.false c.self.invariant c.release.ensures c.index.ensures c.copy.ensures).1
+    let sites : c.len.result ≡ length c.self.inside.sites.items =
+    omega (arith, c.len.ensures, c.self.inside.sites.ok.0) in
+    (put_done c.args.x c.args.y c.words_for-width.result c.self.inside.labels.len
+    c.self.inside.words.len c.index.result.now c.self.inside.labels.items _ c.release.new.labels
+    c.self.inside.sites.items c.self.inside.words.items _ c.copy.new.words c.args.self.now
+    c.self.view_is c.deref_mut.ensures.value c.deref_mut-2.ensures.value
+    (c.words_for-width.ensures ∙ ap words_for sites) (omega (arith, c.self.inside.labels.ok.0))
+    (omega (arith, c.self.inside.words.ok.0)) c.requires.element c.requires.not_here
+    c.requires.other c.if-x-y.false c.self.invariant c.release.ensures c.index.ensures
+    c.copy.ensures).1

@@ -1,11 +1,11 @@
 //! A state through each operation, with answers worked out by hand.
 ghost use Rattle.std.specs.Prelude.{◌≡◌, ◌∷◌, [], ◌<◌, length, IfOk};
 
-use crate::Partition;
 use std::alloc::{AllocError, Global};
 use std::marker::Brand;
 use std::sync::ledger::{Blank, Ledger};
 use std::test::Fail;
+use sw_partition::Partition;
 use sw_solve::{Lattice, Steps};
 
 /// `Here` and elements 1 to 5, with the sites 10, 20 and 30.

@@ -1,12 +1,13 @@
-//! The solver and a plain program, which sweeps over all points until nothing changes, on small flows.
+//! The solver and a plain program, which sweeps over all points until nothing changes, on small
+//! flows.
 ghost use Rattle.std.specs.Prelude.{◌≡◌, ◌<◌, ◌≤◌, ◌^◌, length, vec_len, IfOk};
 
-use crate::{Flow, Lattice, Steps, solve};
 use smallvec::SmallVec;
 use std::alloc::{AllocError, Global};
 use std::marker::Brand;
 use std::sync::ledger::{Blank, Ledger};
 use std::test::Fail;
+use sw_solve::{Flow, Lattice, Steps, solve};
 
 /// A number; the least upper bound is the greater one.
 #[derive(Drop)]
@@ -74,7 +75,8 @@ struct Chart<'a> {
 }
 
 impl<'a> Flow for Chart<'a> {
-    ghost use Rattle.std.specs.Prelude.{◌≡◌, ◌≤◌, ◌%◌, [], ◌∷◌, Some, None, min, max, length, slice_get};
+    ghost use Rattle.std.specs.Prelude.{◌≡◌, ◌≤◌, ◌%◌, [], ◌∷◌, Some, None, min, max, length};
+    ghost use Rattle.std.specs.Prelude.{slice_get};
     ghost use Rattle.std.specs.Option.{IsSomeAnd, option_map_or};
     ghost use Rattle.std.proofs.Common.{arith};
 
@@ -86,9 +88,12 @@ impl<'a> Flow for Chart<'a> {
 
     ghost enters = { λ chart fact. fact.level ≡ chart.start };
 
-    ghost leads = { λ chart p before after. IsSomeAnd (slice_get chart.nodes.now p) (λ node. after.level ≡ min (max before.level node.low) node.high) };
+    ghost leads = { λ chart p before after. IsSomeAnd (slice_get chart.nodes.now p)
+        (λ node. after.level ≡ min (max before.level node.low) node.high) };
 
-    ghost successors = { λ chart p. option_map_or (λ node. node.first % length chart.nodes.now ∷ node.second % length chart.nodes.now ∷ []) (slice_get chart.nodes.now p) [] };
+    ghost successors = { λ chart p. option_map_or
+        (λ node. node.first % length chart.nodes.now ∷ node.second % length chart.nodes.now ∷ [])
+        (slice_get chart.nodes.now p) [] };
 
     fn points(&self) -> u32 {
         self.nodes.len() as u32
@@ -113,10 +118,14 @@ impl<'a> Flow for Chart<'a> {
 
     ghost one_entry = { λ chart a b first second. Prim.omega arith };
 
-    ghost monotone = { λ chart p a b c d size_a size_b below first second. (elim (slice_get chart.nodes.now p) as (λ o. IsSomeAnd o (λ node. c.level ≡ min (max a.level node.low) node.high) → IsSomeAnd o (λ node. d.level ≡ min (max b.level node.low) node.high) → min c.level 255 ≤ min d.level 255) [
-      | None ↦ λ one other. absurd one
-      | Some node ↦ λ one other. Prim.omega (arith, below, one, other)
-    ]) first second };
+    ghost monotone = { λ chart p a b c d size_a size_b below first second.
+        (elim (slice_get chart.nodes.now p) as
+        (λ o. IsSomeAnd o (λ node. c.level ≡ min (max a.level node.low) node.high)
+        → IsSomeAnd o (λ node. d.level ≡ min (max b.level node.low) node.high)
+        → min c.level 255 ≤ min d.level 255) [
+          | None ↦ λ one other. absurd one
+          | Some node ↦ λ one other. Prim.omega (arith, below, one, other)
+        ]) first second };
 }
 
 /// One pass of the plain program over all points; answers whether some value rose.

@@ -1,13 +1,13 @@
 //! Two rings whose facts count their own joins.
 ghost use Rattle.std.specs.Prelude.{◌≡◌, ◌<◌, ◌↔◌, IsTrue, IfOk};
 
-use crate::{Flow, Lattice, Solution, Steps, solve};
 use smallvec::SmallVec;
 use std::alloc::{AllocError, Global};
 use std::cell::Cell;
 use std::marker::Brand;
 use std::sync::ledger::{Blank, Ledger};
 use std::test::Fail;
+use sw_solve::{Flow, Lattice, Solution, Steps, solve};
 
 /// A truth value that counts its joins in a cell of its flow.
 #[derive(Drop)]
@@ -82,7 +82,9 @@ impl<'a> Flow for Ring<'a> {
 
     ghost leads = { λ _ p before after. after.is_set ≡ before.is_set };
 
-    ghost successors = { λ ring p. (if ring.is_down then (if p == 0 then 63 else p - 1) else (if p == 63 then 0 else p + 1)) ∷ [] };
+    ghost successors = { λ ring p.
+        (if ring.is_down then (if p == 0 then 63 else p - 1) else (if p == 63 then 0 else p + 1)) ∷
+        [] };
 
     fn points(&self) -> u32 {
         64
@@ -119,7 +121,8 @@ impl<'a> Flow for Ring<'a> {
 
     ghost one_entry = { λ ring a b first second h. second };
 
-    ghost monotone = { λ ring p a b c d size_a size_b below first second h. Prim.grind (arith, rules, below) };
+    ghost monotone = { λ ring p a b c d size_a size_b below first second h. Prim.grind
+        (arith, rules, below) };
 }
 
 /// How many joins `solve` makes on the ring, and how many of its points end with a set mark.
