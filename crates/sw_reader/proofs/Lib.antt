@@ -1,0 +1,13 @@
+pub mod ReaderLaws
+pub mod LoopLaws
+pub mod SetLemmas
+pub mod FormLemmas
+pub mod ShortSpellings
+pub mod FormLaws
+pub mod DepthLaws
+pub mod Rising
+pub mod WholeLaws
+pub mod SetLaws
+pub mod CursorSteps
+pub mod TokensSpelled
+pub mod ItemLoops

@@ -1,0 +1,83 @@
+-- Spellings: lists of tokens by their texts, apart from any one source.
+use Rattle.std.specs.Prelude.{◌≡◌, ◌≤◌, ℕ, ◌==◌, Bool, false, ◌&&◌, ◌||◌, IsTrue, List, [], ◌∷◌, map, slice_range, All, codes, bytes_eq, refl}
+use Rattle.std.specs.List.{list_any, list_all}
+use Rattle.std.specs.Coded.{Coded, code_by, coded_list, coded_ℕ, coded_bool, coded×}
+use Rattle.std.specs.List.Sorted.{IsStrictlyIncreasing}
+use Rattle.std.specs.Str.{IsCharBoundary}
+use Rattle.sw_token.specs.declared.Fixity.{Fixity}
+use Rattle.sw_token.specs.declared.Token.{Token}
+use Rattle.sw_token.specs.contracts.Fixity as fixity
+use Rattle.sw_bytes.specs.Classes.{is_digit}
+use Rattle.sw_token.specs.Bytes.{is_word_start, is_word_byte}
+use Rattle.sw_token.specs.Kinds.{marks, kind_of}
+
+-- A token of a spelling. Its kind, and the value of an integer literal, are those of its text.
+pub record Spelled : Type 0 where
+  pub text : List ℕ
+  -- the byte offset at which it begins
+  pub at : ℕ
+  pub fixity : Fixity
+  -- whether it is the first on its line
+  pub first : Bool
+
+-- a token of a source
+abbrev pub spelled : List ℕ → Token → Spelled
+spelled source token = record {
+  text = slice_range source token.span.start token.span.end;
+  at = token.span.start;
+  fixity = token.fixity;
+  first = token.first;
+}
+
+-- the tokens of a source
+abbrev pub spelling_of : List ℕ → List Token → List Spelled
+spelling_of source tokens = map (spelled source) tokens
+
+-- all operators
+abbrev pub operators : List (List ℕ)
+operators =
+    codes "+" ∷ codes "-" ∷ codes "*" ∷ codes "/" ∷ codes "%" ∷ codes "!" ∷ codes "=" ∷ codes "=="
+    ∷ codes "!=" ∷ codes "<" ∷ codes "<=" ∷ codes ">" ∷ codes ">=" ∷ codes "&&" ∷ codes "||"
+    ∷ codes "+=" ∷ codes "-=" ∷ codes "*=" ∷ codes "/=" ∷ codes "%=" ∷ codes "->" ∷ []
+
+-- a letter or `_`, then letters, digits and `_`
+abbrev pub is_word : List ℕ → Bool
+is_word [] = false
+is_word (byte ∷ more) = is_word_start byte && list_all is_word_byte more
+
+-- an `@` and a word
+abbrev pub is_at_word : List ℕ → Bool
+is_at_word [] = false
+is_at_word (byte ∷ more) = byte == 64 && is_word more
+
+-- digits
+abbrev pub is_number : List ℕ → Bool
+is_number [] = false
+is_number (byte ∷ more) = is_digit byte && list_all is_digit more
+
+-- The text is that of a token: a word, a number, an `@` with a word, an operator or a mark.
+abbrev pub is_token_text : List ℕ → Bool
+is_token_text text =
+    is_word text || is_number text || is_at_word text || list_any (bytes_eq text) operators
+    || list_any (λ mark. bytes_eq text (mark ∷ [])) marks
+
+-- What may be a spelling of something: tokens, each with the text of a token, at rising positions.
+-- How an operator stands and which token is first on its line are free.
+pub record IsSpelling (tokens : List Spelled) : Type 0 where
+  pub texts : All (λ token. IsTrue (is_token_text token.text)) tokens
+  pub rising : IsStrictlyIncreasing (map (λ token. token.at) tokens)
+
+-- The token can be read in the source: its span is a part of it that cuts no character in two, and its
+-- kind is that of its text.
+pub record IsReadable (source : List ℕ) (token : Token) : Type 0 where
+  pub ordered : token.span.start ≤ token.span.end
+  pub start : IsCharBoundary source token.span.start
+  pub end : IsCharBoundary source token.span.end
+  pub kind : token.kind ≡ kind_of (slice_range source token.span.start token.span.end)
+
+-- how a token of a spelling may be a part of a value of a type of the code
+abbrev pub coded_spelled : Coded Spelled
+coded_spelled = code_by (List ℕ × (ℕ × (Fixity × Bool)))
+    (coded× (coded_list coded_ℕ) (coded× coded_ℕ (coded× fixity.the_row.coded coded_bool)))
+    (λ s. (s.text, (s.at, (s.fixity, s.first))))
+    (λ p. record { text = p.0; at = p.1.0; fixity = p.1.1.0; first = p.1.1.1 }) (λ s. refl)
