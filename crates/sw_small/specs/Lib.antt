@@ -1,7 +1,4 @@
+pub mod Grammar
 pub mod Lower
-pub mod Outcome
-pub mod Reader
+pub mod Reading
 pub mod Small
-pub mod SmallReading
-pub mod SpelledCode
-pub mod Spelling

@@ -2,15 +2,15 @@ ghost use Rattle.std.specs.Prelude.{◌≡◌, ◌⊎◌, ℕ, List};
 ghost use Rattle.sw_graph.specs.declared.graph.Graph.{Graph};
 ghost use Rattle.sw_small.specs.declared.tree.Small.{Small};
 ghost use Rattle.sw_small.specs.Lower.{IsLowered};
-ghost use Rattle.sw_small.specs.Small.{IsSmall, IsSmallPlace, Spells};
-ghost use Rattle.sw_small.specs.Spelling.{IsSpelling, Spelled};
+ghost use Rattle.sw_small.specs.Small.{IsSmall, IsUnexpected, Spells};
+ghost use Rattle.sw_token.specs.Spelling.{IsSpelling, Spelled};
 
-/// A list of tokens with their texts spells one program or has one place of a fault, and never both.
+/// A list of tokens with their texts spells one program or has one unexpected token, and never both.
 pub fn spellings_have_one_meaning()
-    ensures decided { (tokens : List Spelled) → IsSpelling tokens → IsSmall tokens ⊎ ((place : ℕ) × IsSmallPlace tokens place) }
-    ensures never_both { (tokens : List Spelled) (place : ℕ) → IsSmall tokens → ¬ (IsSmallPlace tokens place) }
+    ensures decided { (tokens : List Spelled) → IsSpelling tokens → IsSmall tokens ⊎ ((n : ℕ) × IsUnexpected tokens n) }
+    ensures never_both { (tokens : List Spelled) (n : ℕ) → IsSmall tokens → ¬ (IsUnexpected tokens n) }
     ensures one_program { (tokens : List Spelled) (a b : Small) → Spells a tokens → Spells b tokens → a ≡ b }
-    ensures one_place { (tokens : List Spelled) (a b : ℕ) → IsSmallPlace tokens a → IsSmallPlace tokens b → a ≡ b }
+    ensures one_unexpected { (tokens : List Spelled) (a b : ℕ) → IsUnexpected tokens a → IsUnexpected tokens b → a ≡ b }
 {}
 
 /// Every program has one graph. So what is said of some graph that is lowered from it holds of each.

@@ -2,13 +2,10 @@
 //! spellings as tokens, the parser and the control-flow graphs. It knows nothing of files, of breaches or of the machine.
 #![tactic(auto)]
 
-mod cursor;
 mod fault;
 mod laws;
 mod lowering;
 mod parser;
-#[cfg(test)]
-mod tests;
 mod tree;
 
 pub use fault::ParseFault;

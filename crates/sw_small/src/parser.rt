@@ -2,26 +2,29 @@
 
 ghost use Rattle.std.specs.Prelude.{◌≡◌, IfOk, IfErr};
 ghost use Rattle.sw_token.specs.Tokens.{IsTokens};
-ghost use Rattle.sw_small.specs.Spelling.{spelling_of};
-ghost use Rattle.sw_small.specs.Small.{Spells};
-ghost use Rattle.sw_small.specs.SmallReading.{show, each, task, item, block, signature, entry, small, whole};
-ghost use Rattle.sw_small.specs.Outcome.{Gives, Explains};
+ghost use Rattle.sw_token.specs.Spelling.{spelling_of};
+ghost use Rattle.sw_reader.specs.Outcome.{Gives};
+ghost use Rattle.sw_reader.specs.Relations.{head};
+ghost use Rattle.sw_reader.specs.Sets.{starts};
+ghost use Rattle.sw_small.specs.Grammar.{show, task, item_first, item, block, signature, entry, small};
+ghost use Rattle.sw_small.specs.Reading.{read, read_items, whole_small};
+ghost use Rattle.sw_small.specs.Small.{Spells, Explains};
 
-use super::cursor::Cursor;
-use super::fault::{ParseFault, Stop};
+use super::fault::ParseFault;
 use super::tree::{Item, ItemList, Show, ShowList, Small};
 use std::alloc::Global;
 use sw_list::ListOf;
+use sw_reader::{Cursor, Stop};
 use sw_text::Source;
 use sw_token::Token;
 
 /// `print(7)`.
-#[tactic(auto, unfolding(crate::specs::SmallReading::show))]
+#[tactic(auto, unfolding(crate::specs::Grammar::show, sw_reader::specs::Terminals::literal))]
 fn show(tokens: &mut Cursor<'_>) -> Result<Show, Stop>
-    ensures { Gives (show tokens.old) result tokens.new }
+    ensures { Gives (read show tokens.old) result tokens.new }
 {
     let at = tokens.expect("print")?;
-    tokens.expect_within_line("(")?;
+    tokens.expect_on_line("(")?;
     let (value_at, value) = tokens.integer()?;
     tokens.expect(")")?;
     Ok(Show {
@@ -33,12 +36,12 @@ fn show(tokens: &mut Cursor<'_>) -> Result<Show, Stop>
 
 /// The prints of a block, up to its `}`.
 fn shows(alloc: Global, tokens: &mut Cursor<'_>) -> Result<ShowList, Stop>
-    ensures { Gives (each show tokens.old) result tokens.new }
+    ensures { Gives (read_items show tokens.old) result tokens.new }
 {
     let mut shows = Vec::new(alloc);
     let mut ended = true;
-    while !tokens.sees("}") {
-        tokens.begin(ended)?;
+    while tokens.sees("print") {
+        tokens.start(!ended)?;
         shows.push(show(tokens)?)?;
         ended = tokens.skip(";");
     }
@@ -46,9 +49,9 @@ fn shows(alloc: Global, tokens: &mut Cursor<'_>) -> Result<ShowList, Stop>
 }
 
 /// `Task.detached { .. }`.
-#[tactic(auto, unfolding(crate::specs::SmallReading::task))]
+#[tactic(auto, unfolding(crate::specs::Grammar::task))]
 fn task(alloc: Global, tokens: &mut Cursor<'_>) -> Result<Item, Stop>
-    ensures { Gives (task tokens.old) result tokens.new }
+    ensures { Gives (read task tokens.old) result tokens.new }
 {
     let at = tokens.expect("Task")?;
     tokens.expect(".")?;
@@ -60,9 +63,9 @@ fn task(alloc: Global, tokens: &mut Cursor<'_>) -> Result<Item, Stop>
 }
 
 /// An item of `main`.
-#[tactic(auto, unfolding(crate::specs::SmallReading::item, crate::specs::SmallReading::printed))]
+#[tactic(auto, unfolding(crate::specs::Grammar::item, crate::specs::Grammar::printed))]
 fn item(alloc: Global, tokens: &mut Cursor<'_>) -> Result<Item, Stop>
-    ensures { Gives (item tokens.old) result tokens.new }
+    ensures { Gives (read item tokens.old) result tokens.new }
 {
     if tokens.sees("Task") {
         return task(alloc, tokens);
@@ -70,14 +73,21 @@ fn item(alloc: Global, tokens: &mut Cursor<'_>) -> Result<Item, Stop>
     Ok(Item::Show(show(tokens)?))
 }
 
+/// Whether an item begins with the next token.
+fn begins_item(tokens: &Cursor<'_>) -> bool
+    ensures { result ≡ starts item_first (head tokens.now) }
+{
+    tokens.sees("Task") || tokens.sees("print")
+}
+
 /// The items of `main`, up to its `}`.
 fn items(alloc: Global, tokens: &mut Cursor<'_>) -> Result<ItemList, Stop>
-    ensures { Gives (each item tokens.old) result tokens.new }
+    ensures { Gives (read_items item tokens.old) result tokens.new }
 {
     let mut items = Vec::new(alloc);
     let mut ended = true;
-    while !tokens.sees("}") {
-        tokens.begin(ended)?;
+    while begins_item(tokens) {
+        tokens.start(!ended)?;
         items.push(item(alloc, tokens)?)?;
         ended = tokens.skip(";");
     }
@@ -85,9 +95,9 @@ fn items(alloc: Global, tokens: &mut Cursor<'_>) -> Result<ItemList, Stop>
 }
 
 /// The block of `main`, and what may end the member.
-#[tactic(auto, unfolding(crate::specs::SmallReading::block))]
+#[tactic(auto, unfolding(crate::specs::Grammar::block))]
 fn block(alloc: Global, tokens: &mut Cursor<'_>) -> Result<ItemList, Stop>
-    ensures { Gives (block tokens.old) result tokens.new }
+    ensures { Gives (read block tokens.old) result tokens.new }
 {
     tokens.expect("{")?;
     let items = items(alloc, tokens)?;
@@ -97,9 +107,9 @@ fn block(alloc: Global, tokens: &mut Cursor<'_>) -> Result<ItemList, Stop>
 }
 
 /// `static func main()`; gives the position of `main`.
-#[tactic(auto, unfolding(crate::specs::SmallReading::signature))]
+#[tactic(auto, unfolding(crate::specs::Grammar::signature))]
 fn signature(tokens: &mut Cursor<'_>) -> Result<u32, Stop>
-    ensures { Gives (signature tokens.old) result tokens.new }
+    ensures { Gives (read signature tokens.old) result tokens.new }
 {
     tokens.expect("static")?;
     tokens.expect("func")?;
@@ -110,21 +120,20 @@ fn signature(tokens: &mut Cursor<'_>) -> Result<u32, Stop>
 }
 
 /// `@main struct NAME {`.
-#[tactic(auto, unfolding(crate::specs::SmallReading::entry))]
-fn entry(tokens: &mut Cursor<'_>) -> Result<(), Stop>
-    ensures { Gives (entry tokens.old) result tokens.new }
+#[tactic(auto, unfolding(crate::specs::Grammar::entry, sw_reader::specs::Terminals::name))]
+fn entry(tokens: &mut Cursor<'_>) -> Result<u32, Stop>
+    ensures { Gives (read entry tokens.old) result tokens.new }
 {
     tokens.expect("@main")?;
     tokens.expect("struct")?;
     tokens.word()?;
-    tokens.expect("{")?;
-    Ok(())
+    tokens.expect("{")
 }
 
 /// A small program, and what may end its declaration.
-#[tactic(auto, unfolding(crate::specs::SmallReading::small))]
+#[tactic(auto, unfolding(crate::specs::Grammar::small))]
 fn small(alloc: Global, tokens: &mut Cursor<'_>) -> Result<Small, Stop>
-    ensures { Gives (small tokens.old) result tokens.new }
+    ensures { Gives (read small tokens.old) result tokens.new }
 {
     entry(tokens)?;
     let main = signature(tokens)?;
@@ -135,9 +144,8 @@ fn small(alloc: Global, tokens: &mut Cursor<'_>) -> Result<Small, Stop>
 }
 
 /// A small program and no more.
-#[tactic(auto, unfolding(crate::specs::SmallReading::whole))]
 fn whole(alloc: Global, tokens: &mut Cursor<'_>) -> Result<Small, Stop>
-    ensures { Gives (whole tokens.old) result tokens.new }
+    ensures { Gives (whole_small tokens.old) result tokens.new }
 {
     let program = small(alloc, tokens)?;
     tokens.finish()?;
@@ -150,7 +158,7 @@ pub fn parse(alloc: Global, source: &Source, tokens: &[Token]) -> Result<Small, 
     ensures found { IfOk result (λ program. Spells program (spelling_of source.now tokens.now)) }
     ensures fault { IfErr result (λ fault. Explains fault (spelling_of source.now tokens.now)) }
 {
-    // No text has more tokens than bytes, so each place in the list fits.
+    // No text has more tokens than bytes, so each index in the list fits.
     let bytes = source.len() as usize;
     prove!(tokens.len() <= bytes);
     match whole(alloc, &mut Cursor::new(source, tokens)) {
