@@ -15,13 +15,13 @@ use Rattle.sw_breach.specs.declared.Breach.{Breach}
 use Rattle.sw_breach.specs.Codes.{IsCode, text_of, texts}
 use Rattle.sw_small.specs.declared.tree.Small.{Small}
 use Rattle.sw_small.specs.Lower.{IsLowered, size_of}
-use Rattle.sw_small.specs.Small.{SpellsSmall, small, Spells, IsSmallPlace}
-use Rattle.sw_small.specs.Spelling.{Spelled, spelled as spell, spelling_of}
+use Rattle.sw_small.specs.Small.{Spells, IsUnexpected}
+use Rattle.sw_token.specs.Spelling.{spelled as spell, spelling_of}
 use Rattle.sw_small.proofs.OneGraph.{some_graph, one_graph}
 use Rattle.sw_small.proofs.Runnable.{lowered_runnable}
-use Rattle.sw_small.proofs.SmallLaws.{program_or_place, no_place, one_program, one_place}
-use Rattle.sw_small.proofs.SmallSize.{size_of-spelled}
-use Rattle.sw_small.proofs.TokensSpelled.{tokens_spelled}
+use Rattle.sw_small.proofs.SmallLaws.{decided as program_or_unexpected, never_both as no_unexpected, one_program, one_unexpected as one_unexpected_token}
+use Rattle.sw_small.proofs.SmallSize.{size_of-spelled, some_tokens as some_spelled}
+use Rattle.sw_reader.proofs.TokensSpelled.{tokens_spelled}
 use Rattle.sw_text.specs.declared.TheConstants.{MAX_LENGTH}
 use Rattle.sw_verdict.specs.Phases.{Phase, Encoding, Lexis, Entry, SmallForm, all_phases, EncodingFinds, is_utf8, not_utf8, LexisFinds, has_tokens, has_fault, EntryFinds, some_token, no_token, SmallFormFinds, spelled, unexpected, Finds, breach_at, unexpected_token, not_one_entry, position_of, token_position}
 use Rattle.sw_verdict.specs.Verdict.{Breaches, none, first, later, Accepts, Refuses, IsProgram, IsGraphOf}
@@ -46,9 +46,9 @@ entry_one text _ _ (some_token tokens are some) (no_token empty) = absurd (some 
 entry_one text _ _ (no_token empty) (some_token tokens are some) = absurd (some (one_tokens text tokens [] are empty))
 entry_one text _ _ (no_token _) (no_token _) = refl
 
-spelled_or_not : (text : List ℕ) (a b : List Token) (program : Small) (n : ℕ) → IsTokens text a → Spells program (spelling_of text a) → IsTokens text b → IsSmallPlace (spelling_of text b) n → ⊥
+spelled_or_not : (text : List ℕ) (a b : List Token) (program : Small) (n : ℕ) → IsTokens text a → Spells program (spelling_of text a) → IsTokens text b → IsUnexpected (spelling_of text b) n → ⊥
 spelled_or_not text a b program n are_a spells are_b place =
-    no_place (spelling_of text b) n (program, subst (λ tokens. Spells program (spelling_of text tokens)) (one_tokens text a b are_a are_b) spells) place
+    no_unexpected (spelling_of text b) n (program, subst (λ tokens. Spells program (spelling_of text tokens)) (one_tokens text a b are_a are_b) spells) place
 
 small_form_one : (text : List ℕ) (a b : List Breach) → SmallFormFinds text a → SmallFormFinds text b → a ≡ b
 small_form_one text _ _ (spelled _ _ _ _) (spelled _ _ _ _) = refl
@@ -56,7 +56,7 @@ small_form_one text _ _ (spelled a program are_a spells) (unexpected b n are_b p
 small_form_one text _ _ (unexpected b n are_b place) (spelled a program are_a spells) = absurd (spelled_or_not text a b program n are_a spells are_b place)
 small_form_one text _ _ (unexpected a n are_a place_a) (unexpected b m are_b place_b) =
     let tokens : a ≡ b = one_tokens text a b are_a are_b in
-    let same : n ≡ m = one_place (spelling_of text b) n m (subst (λ tokens. IsSmallPlace (spelling_of text tokens) n) tokens place_a) place_b in
+    let same : n ≡ m = one_unexpected_token (spelling_of text b) n m (subst (λ tokens. IsUnexpected (spelling_of text tokens) n) tokens place_a) place_b in
     ap (λ at. breach_at unexpected_token at) (ap (λ tokens. token_position text tokens n) tokens ∙ ap (token_position text b) same)
 
 one_found : (phase : Phase) (text : List ℕ) (a b : List Breach) → Finds phase text a → Finds phase text b → a ≡ b
@@ -122,7 +122,7 @@ some_list text = by_encoding (test_utf8 text) refl where
   in_form utf8 tokens are some (breach ∷ others) found =
       (_, later Encoding _ text _ (is_utf8 utf8) (later Lexis _ text _ (has_tokens tokens are) (later Entry _ text _ (some_token tokens are some) (first SmallForm [] text breach others found))))
 
-  by_form : IsUtf8 text → (tokens : List Token) → IsTokens text tokens → tokens ≢ [] → ((program : Small) × Spells program (spelling_of text tokens)) ⊎ ((n : ℕ) × IsSmallPlace (spelling_of text tokens) n) → (list : List Breach) × Breaches all_phases text list
+  by_form : IsUtf8 text → (tokens : List Token) → IsTokens text tokens → tokens ≢ [] → ((program : Small) × Spells program (spelling_of text tokens)) ⊎ ((n : ℕ) × IsUnexpected (spelling_of text tokens) n) → (list : List Breach) × Breaches all_phases text list
   by_form utf8 tokens are some (inl (program, spells)) = in_form utf8 tokens are some _ (spelled tokens program are spells)
   by_form utf8 tokens are some (inr (n, place)) = in_form utf8 tokens are some _ (unexpected tokens n are place)
 
@@ -130,7 +130,7 @@ some_list text = by_encoding (test_utf8 text) refl where
   by_tokens utf8 (Err fault) place = (_, later Encoding _ text _ (is_utf8 utf8) (first Lexis _ text _ [] (has_fault fault place)))
   by_tokens utf8 (Ok []) are = (_, later Encoding _ text _ (is_utf8 utf8) (later Lexis _ text _ (has_tokens [] are) (first Entry _ text _ [] (no_token are))))
   by_tokens utf8 (Ok (token ∷ tokens)) are =
-      by_form utf8 (token ∷ tokens) are (λ e. cc) (program_or_place (spelling_of text (token ∷ tokens)) (tokens_spelled text (token ∷ tokens) are))
+      by_form utf8 (token ∷ tokens) are (λ e. cc) (program_or_unexpected (spelling_of text (token ∷ tokens)) (tokens_spelled text (token ∷ tokens) are))
 
   by_encoding : (test : Bool) → test_utf8 text ≡ test → (list : List Breach) × Breaches all_phases text list
   by_encoding false is = (_, first Encoding _ text _ [] (not_utf8 (λ utf8. cc (is_utf8-from_IsUtf8 text utf8, is))))
@@ -159,12 +159,9 @@ some_graph_of text accepts =
     (graph, record { program = program; of_text = is; lowered = lowered })
 
 -- a program has a token
-form_has_tokens : (program : Small) (tokens : List Spelled) → SpellsSmall program tokens → 0 < length tokens
-form_has_tokens program tokens (small _ _ _ _ _ _ _ _ _ _ _ _ _ _ _ _ _ _ _ _ _ _ _ _ _ _ _ _ _ _ _ _ _) = omega arith
-
 spelled_has_tokens : (text : List ℕ) (tokens : List Token) (program : Small) → Spells program (spelling_of text tokens) → tokens ≢ []
 spelled_has_tokens text tokens program spells empty =
-    let some : 0 < length (spelling_of text tokens) = form_has_tokens program (spelling_of text tokens) spells.form in
+    let some : 0 < length (spelling_of text tokens) = some_spelled spells in
     omega (arith, ap (λ ts. length (spelling_of text ts)) empty)
 
 pub program_accepted : (text : List ℕ) (program : Small) → IsProgram text program → Accepts text

@@ -9,8 +9,8 @@ use Rattle.sw_token.specs.declared.LexFault.TheVariants.{Unclosed, TooBig, BadCh
 use Rattle.sw_token.specs.Tokens.{IsTokens, IsLexicalFault}
 use Rattle.sw_breach.specs.declared.Breach.{Breach}
 use Rattle.sw_small.specs.declared.tree.Small.{Small}
-use Rattle.sw_small.specs.Spelling.{spelling_of}
-use Rattle.sw_small.specs.Small.{Spells, IsSmallPlace}
+use Rattle.sw_token.specs.Spelling.{spelling_of}
+use Rattle.sw_small.specs.Small.{Spells, IsUnexpected}
 
 pub data Phase : Type 0 where
   -- the text is UTF-8
@@ -69,7 +69,7 @@ token_position text tokens n = option_map_or (λ token. token.span.start) (slice
 pub data SmallFormFinds (text : List ℕ) : List Breach → Type 0 where
   spelled : (tokens : List Token) (program : Small) → IsTokens text tokens → Spells program (spelling_of text tokens)
       → SmallFormFinds text []
-  unexpected : (tokens : List Token) (n : ℕ) → IsTokens text tokens → IsSmallPlace (spelling_of text tokens) n
+  unexpected : (tokens : List Token) (n : ℕ) → IsTokens text tokens → IsUnexpected (spelling_of text tokens) n
       → SmallFormFinds text (breach_at unexpected_token (token_position text tokens n))
 
 -- `Finds phase text list`: where the phases before it find no breach in the text, this one finds these.

@@ -7,7 +7,7 @@ use Rattle.sw_graph.specs.declared.graph.Graph.{Graph}
 use Rattle.sw_breach.specs.declared.Breach.{Breach}
 use Rattle.sw_small.specs.declared.tree.Small.{Small}
 use Rattle.sw_small.specs.Lower.{IsLowered}
-use Rattle.sw_small.specs.Spelling.{spelling_of}
+use Rattle.sw_token.specs.Spelling.{spelling_of}
 use Rattle.sw_small.specs.Small.{Spells}
 use Rattle.sw_verdict.specs.Phases.{Phase, all_phases, Finds}
 

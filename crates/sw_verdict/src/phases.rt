@@ -2,7 +2,7 @@
 
 ghost use Rattle.std.specs.Prelude.{◌≡◌, ◌≢◌, ◌≤◌, ℕ, List, IfOk, OnOk, length};
 ghost use Rattle.sw_token.specs.Tokens.{IsTokens};
-ghost use Rattle.sw_small.specs.Spelling.{spelling_of};
+ghost use Rattle.sw_token.specs.Spelling.{spelling_of};
 ghost use Rattle.sw_small.specs.Small.{Spells};
 ghost use Rattle.sw_verdict.specs.Phases.{Encoding, Entry, Lexis, SmallForm, Finds, breach_at, position_of, token_position, unexpected_token};
 ghost use Rattle.sw_verdict.specs.Found.{Found};

@@ -1,6 +1,6 @@
 use Rattle.std.proofs.Common.{sym, subst}
-use Rattle.sw_small.specs.Outcome.{Explains}
-use Rattle.sw_small.specs.Spelling.{spelling_of}
+use Rattle.sw_small.specs.Small.{Explains}
+use Rattle.sw_token.specs.Spelling.{spelling_of}
 use Rattle.sw_verdict.specs.Phases.{SmallFormFinds, spelled, unexpected, unexpected_token, breach_at}
 use Rattle.sw_verdict.proofs.Finding.{found_breach}
 use Rattle.sw_verdict.proofs.phases.small_form.Goals as goal
