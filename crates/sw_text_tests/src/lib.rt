@@ -16,3 +16,5 @@ mod memory_tests;
 mod text_tests;
 #[cfg(test)]
 mod token_tests;
+#[cfg(test)]
+mod tree_tests;

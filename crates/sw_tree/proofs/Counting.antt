@@ -83,7 +83,7 @@ module _ {X : Type 0} (w : X → Weight) where
     in_all-option f None k = refl
     in_all-option f (Some y) k = refl
 
-hits_same : (at : ℕ) → hits at at ≡ 1
+pub hits_same : (at : ℕ) → hits at at ≡ 1
 unfolding hits
 hits_same at = grind (arith, common_steps)
 

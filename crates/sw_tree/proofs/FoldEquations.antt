@@ -238,8 +238,7 @@ module _ (steps : Steps) where
         mark = mark;
         captures = captures;
         params = params;
-        result =
-            result;
+        result = result;
         body = body;
       })) ≡ steps.closure
       (record {
@@ -247,8 +246,7 @@ module _ (steps : Steps) where
         mark = mark;
         captures = captures;
         params = params;
-        result =
-            result;
+        result = result;
         body = fold_block steps body;
       })
   fold_closure-roll at mark captures params result body =
@@ -259,8 +257,7 @@ module _ (steps : Steps) where
         mark = mark;
         captures = captures;
         params = params;
-        result =
-            result;
+        result = result;
         body = body;
       })
 
@@ -269,11 +266,9 @@ module _ (steps : Steps) where
       (record {
         at = (out-Closure closure).at;
         mark = (out-Closure closure).mark;
-        captures =
-            (out-Closure closure).captures;
+        captures = (out-Closure closure).captures;
         params = (out-Closure closure).params;
-        result =
-            (out-Closure closure).result;
+        result = (out-Closure closure).result;
         body = fold_block steps (out-Closure closure).body;
       })
   fold_closure-out closure =
@@ -294,8 +289,7 @@ module _ (steps : Steps) where
       (record {
         op = (out-Link link).op;
         at = (out-Link link).at;
-        operand =
-            fold_expr steps (out-Link link).operand;
+        operand = fold_expr steps (out-Link link).operand;
       })
   fold_link-out link = folds.fold_out-Link steps.E steps.S steps.A steps.C steps.L steps.B steps.K
       steps.I steps.expr steps.stmt steps.arg steps.closure steps.link steps.block steps.case_arm
@@ -328,8 +322,7 @@ module _ (steps : Steps) where
       → fold_case_arm steps case_arm ≡ steps.case_arm
       (record {
         name = (out-CaseArm case_arm).name;
-        patterns =
-            (out-CaseArm case_arm).patterns;
+        patterns = (out-CaseArm case_arm).patterns;
         body = fold_block steps (out-CaseArm case_arm).body;
       })
   fold_case_arm-out case_arm =
@@ -349,10 +342,8 @@ module _ (steps : Steps) where
       → fold_if_arm steps if_arm ≡ steps.if_arm
       (record {
         at = (out-IfArm if_arm).at;
-        cond =
-            fold_expr steps (out-IfArm if_arm).cond;
-        body =
-            fold_block steps (out-IfArm if_arm).body;
+        cond = fold_expr steps (out-IfArm if_arm).cond;
+        body = fold_block steps (out-IfArm if_arm).body;
       })
   fold_if_arm-out if_arm = folds.fold_out-IfArm steps.E steps.S steps.A steps.C steps.L steps.B
       steps.K steps.I steps.expr steps.stmt steps.arg steps.closure steps.link steps.block

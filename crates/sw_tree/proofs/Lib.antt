@@ -6,4 +6,5 @@ pub mod NameCounts
 pub mod NameEquations
 pub mod NamesLemmas
 pub mod NodeKeyLemmas
+pub mod OwnKeys
 pub mod TreeInduction

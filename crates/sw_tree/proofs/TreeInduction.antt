@@ -85,8 +85,7 @@ pub record Cases (P : Claims) : Type 0 where
         mark = mark;
         captures = captures;
         params = params;
-        result =
-            result;
+        result = result;
         body = body;
       }))
   pub link : (op : InfixOp) (at : ℕ) (operand : Expr) → P.expr operand

@@ -13,7 +13,16 @@ abbrev pub expr_layer : layer.Expr-F Bool Nothing Nothing Nothing Nothing Nothin
 expr_layer (layer.Use name) = true
 expr_layer (layer.Me at) = true
 expr_layer (layer.Member base name) = base
-expr_layer _ = false
+expr_layer (layer.Int at value) = false
+expr_layer (layer.Bool at value) = false
+expr_layer (layer.Call name args) = false
+expr_layer (layer.Method base name args) = false
+expr_layer (layer.Chain first rest) = false
+expr_layer (layer.Prefix op at inner) = false
+expr_layer (layer.Await at inner) = false
+expr_layer (layer.Fun closure) = false
+expr_layer (layer.Spawn at detached body) = false
+expr_layer (layer.Yield at) = false
 
 abbrev pub place_steps : Steps
 place_steps = record {

@@ -18,7 +18,7 @@ pub use decl::{
     ParamTree, PropList, PropTree, Written,
 };
 pub use expr::{Arg, ArgList, Closure, ClosureParam, ClosureParamList, Expr, Link, LinkList};
-pub use laws::ids_name_texts;
+pub use laws::{ids_name_texts, keys_are_in_trees};
 pub use name::{Name, NameList};
 pub use names::Names;
 pub use operator::{AssignOp, InfixOp, PrefixOp};
