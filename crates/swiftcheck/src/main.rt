@@ -1,6 +1,10 @@
-//! The command `swiftcheck`: it answers the words behind its name over the system's files and
-//! standard output.
+//! The command `swiftcheck`: it runs the words after its name over the system's files and standard
+//! output. It knows the runtime and nothing of the words.
 #![tactic(auto)]
+
+ghost use Rattle.std.specs.Prelude.{◌≡◌};
+ghost use Rattle.std.specs.IoError.{error_kind};
+ghost use Rattle.swiftcheck.specs.Arguments.{arguments_status};
 
 use std::env;
 use std::io::{self, Error, ErrorKind};
@@ -9,17 +13,19 @@ use std::rt::Env;
 use sw_check::{Exit, run_words};
 use sw_outside::{FileShelf, StdSink};
 
-/// The status where the arguments can't be taken, for another cause than memory.
+/// The status where the arguments can't be read, for another cause than memory.
 const NO_ARGUMENTS: u8 = 14;
 
-/// The arguments behind the program's name.
+/// The arguments after the program's name.
 fn words<R: Env + AllocGlobal>(rt: &R) -> io::Result<Vec<String>> {
     let words = env::args(rt)?.skip(1).collect(rt.alloc())?;
     Ok(words)
 }
 
-/// The status of a call whose arguments can't be taken.
-fn status_of(error: &Error) -> u8 {
+/// The status of a call whose arguments can't be read.
+fn status_of(error: &Error) -> u8
+    ensures { result ≡ arguments_status (error_kind error.now) }
+{
     match error.kind() {
         ErrorKind::OutOfMemory => Exit::Memory.status(),
         _ => NO_ARGUMENTS,
@@ -36,16 +42,4 @@ fn main(rt: HostRuntime) -> ExitCode {
         Err(error) => status_of(&error),
     };
     ExitCode::from(status)
-}
-
-#[cfg(test)]
-mod tests {
-    use super::status_of;
-    use std::io::{Error, ErrorKind};
-
-    #[test]
-    fn arguments_that_cannot_be_taken(rt: HostRuntime) {
-        assert_eq!(rt; status_of(&Error::from(ErrorKind::OutOfMemory)), 6);
-        assert_eq!(rt; status_of(&Error::from(ErrorKind::InvalidData)), 14);
-    }
 }
