@@ -90,7 +90,7 @@ pub reply_says : (files : List ℕ → List ℕ) (command : Option Command) (rea
 reply_says files command reads outcome of_files (at_end ended) = says files command reads (Ok outcome) of_files ended
 reply_says files command reads outcome of_files (before_end ended) = says files command reads (Err outcome) of_files ended
 
--- an exit that tells no refusal of the program says that it passes
+-- an exit that isn't that of a refused program or of a file that is too long says that the program passes
 passes_at : (files : List ℕ → List ℕ) (command : Command) (exit : Exit) → SaysOf files command exit → exit ≢ Breached → exit ≢ TooLong → Passes files command
 passes_at files command Done says _ _ = says.0
 passes_at files command Breached says not _ = absurd (not refl)

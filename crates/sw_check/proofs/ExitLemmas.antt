@@ -26,7 +26,7 @@ use Rattle.sw_verdict.proofs.Verdicts.{graph_runs}
 use Rattle.sw_check.specs.Reply.{usage, accepted, end_outcome, Answers, Judged, passes, breached, Scheduled, has_fault, Replayed, ends, course_of, Reply, at_end, before_end, exits_of}
 use Rattle.sw_check.specs.Words.{Command, Check, Run}
 
--- a reply that has one of these exits: none tells a failure, and nothing is written where the exit says so
+-- a reply that has one of these exits: it reports no failure, and nothing is written where the exit says so
 record HasExit (among : List Exit) (outcome : Outcome) : Type 0 where
   exit : IsOneOf among outcome.exit
   plain : is_failure outcome.exit ≡ false

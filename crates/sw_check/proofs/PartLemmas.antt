@@ -13,12 +13,12 @@ use Rattle.sw_course.specs.declared.stop.Stop.{Stop}
 use Rattle.sw_course.specs.Leaves.{Seen, Does, Decides}
 use Rattle.sw_course.proofs.Doing.{does_alone}
 use Rattle.sw_verdict.specs.Phases.{Phase}
-use Rattle.sw_verdict.specs.Verdict.{Judges}
+use Rattle.sw_verdict.specs.Verdict.{IsVerdict}
 use Rattle.sw_replay.specs.Replay.{IsReplay}
 use Rattle.sw_check.specs.Words.{Command}
 use Rattle.sw_check.specs.Reply.{usage, course_of, Answers, refusal, bad_schedule_outcome, replay_outcome, Judged, breached, Scheduled, has_fault, Replayed, ends}
 
-pub judged_refused : (phases : List Phase) (text : List ℕ) (breaches : List Breach) (outcome : Outcome) → outcome ≡ refusal text breaches → Judges phases text (Err breaches) → Judged phases text (Err outcome) × (outcome.exit ≢ TooLong)
+pub judged_refused : (phases : List Phase) (text : List ℕ) (breaches : List Breach) (outcome : Outcome) → outcome ≡ refusal text breaches → IsVerdict phases text (Err breaches) → Judged phases text (Err outcome) × (outcome.exit ≢ TooLong)
 judged_refused phases text breaches outcome is judges =
     subst (λ outcome. Judged phases text (Err outcome) × (outcome.exit ≢ TooLong)) (sym is) (breached breaches judges, λ e. cc)
 
@@ -26,9 +26,9 @@ pub scheduled_refused : (text : List ℕ) (fault : SchedFault) (outcome : Outcom
 scheduled_refused text fault outcome (not, is) bad =
     subst (λ outcome. Scheduled text (Err outcome) × (outcome.exit ≢ TooLong)) (sym is) (has_fault fault (bad not), λ e. cc)
 
-pub replay_told : (text : List ℕ) (graph : Graph) (items : List ℕ) (replay : Replay) (answer : Result Outcome AllocError) → IsReplay graph items replay → IfOk answer (λ outcome. outcome ≡ replay_outcome text replay) → IfOk answer (λ outcome. Replayed text graph items (Ok outcome))
-replay_told text graph items replay (Ok outcome) is told = subst (λ outcome. Replayed text graph items (Ok outcome)) (sym told) (ends replay is)
-replay_told text graph items replay (Err error) is told = tt
+pub replay_answered : (text : List ℕ) (graph : Graph) (items : List ℕ) (replay : Replay) (answer : Result Outcome AllocError) → IsReplay graph items replay → IfOk answer (λ outcome. outcome ≡ replay_outcome text replay) → IfOk answer (λ outcome. Replayed text graph items (Ok outcome))
+replay_answered text graph items replay (Ok outcome) is same = subst (λ outcome. Replayed text graph items (Ok outcome)) (sym same) (ends replay is)
+replay_answered text graph items replay (Err error) is same = tt
 
 -- words of no form
 pub no_form : {command : Option Command} {shelf : Seen} → None ≡ command → (result : Result Outcome Stop) → Decides (Answers usage) result → Does (course_of command) shelf result shelf

@@ -65,7 +65,7 @@ abbrev pub ScheduleIsBad : (List ℕ → List ℕ) → Command → Type 0
 ScheduleIsBad files (Check file) = ⊥
 ScheduleIsBad files (Run file schedule_file) = (fault : SchedFault) × IsFirstFault (files schedule_file) fault
 
--- What an exit says of a command and its files. The exits that tell a failure say nothing of them; they are no exits of a reply.
+-- What an exit says of a command and its files. Those that report a failure say nothing of them; they are no exits of a reply.
 abbrev pub SaysOf : (List ℕ → List ℕ) → Command → Exit → Type 0
 SaysOf files command Done = Passes files command × Ends ends.Ran files command
 SaysOf files command Breached = Refuses (phases_of command) (program_of files command)

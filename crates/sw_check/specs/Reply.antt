@@ -15,7 +15,7 @@ use Rattle.sw_course.specs.declared.outcome.Outcome.{Outcome}
 use Rattle.sw_course.specs.declared.TheConstants.{PROGRAM_LIMIT}
 use Rattle.sw_course.specs.Course.{Read, Ended, Part, Alone, Fetched, ◌>>=◌}
 use Rattle.sw_verdict.specs.Phases.{Phase, all_phases}
-use Rattle.sw_verdict.specs.Verdict.{Judges}
+use Rattle.sw_verdict.specs.Verdict.{IsVerdict}
 use Rattle.sw_replay.specs.Replay.{IsReplay}
 use Rattle.sw_check.specs.Lines.{summary, trap_line, race_lines, schedule_line}
 use Rattle.sw_check.specs.Words.{Command, Check, Run}
@@ -36,7 +36,7 @@ refusal text breaches = record { exit = exits.Breached; bytes = verdict_text tex
 abbrev pub bad_schedule_outcome : List ℕ → SchedFault → Outcome
 bad_schedule_outcome schedule fault = record { exit = exits.BadSchedule; bytes = schedule_line schedule fault }
 
--- how a replay ends, where these lines were printed and of so many jobs so many ended
+-- how a replay ends, after these lines were printed, `ended` of `jobs` jobs have ended
 abbrev pub end_outcome : List ℕ → List ℕ → ℕ → ℕ → End → Outcome
 end_outcome text lines ended jobs Ran = record { exit = exits.Done; bytes = lines ++ summary ended jobs }
 end_outcome text lines ended jobs (Trapped kind at) = record { exit = exits.Trapped; bytes = lines ++ trap_line text kind at }
@@ -52,8 +52,8 @@ Answers outcome result = result ≡ Ok outcome
 
 -- A program is judged by these phases: it has a graph, or it is refused.
 pub data Judged (phases : List Phase) (text : List ℕ) : Result Graph Outcome → Type 0 where
-  passes : (graph : Graph) → Judges phases text (Ok graph) → Judged phases text (Ok graph)
-  breached : (breaches : List Breach) → Judges phases text (Err breaches) → Judged phases text (Err (refusal text breaches))
+  passes : (graph : Graph) → IsVerdict phases text (Ok graph) → Judged phases text (Ok graph)
+  breached : (breaches : List Breach) → IsVerdict phases text (Err breaches) → Judged phases text (Err (refusal text breaches))
 
 -- The text of a schedule has items, or a fault.
 pub data Scheduled (schedule : List ℕ) : Result (List ℕ) Outcome → Type 0 where

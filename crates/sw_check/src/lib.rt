@@ -36,7 +36,7 @@ pub fn run_words<S: Shelf, K: Sink>(
     shelf: &mut S,
     out: &mut K,
 ) -> Exit
-    // An exit that tells no failure is that of the reply, and the whole reply was written.
+    // An exit that reports no failure is that of the reply, and the whole reply was written.
     ensures replied { IsFalse (is_failure result) → Replied (command_in words.now.items) result
         (S.known shelf.old) (S.known shelf.new) (K.written out.old) (K.written out.new) }
     // Where neither the outside nor memory failed, the exit is that of the reply.

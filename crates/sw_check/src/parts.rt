@@ -69,8 +69,8 @@ pub fn scheduled(alloc: Global, text: &[u8]) -> Result<Schedule, Stop>
     }
 }
 
-/// The reply to a replay.
-fn told(alloc: Global, text: &[u8], replay: Replay) -> Result<Outcome, AllocError>
+/// The reply about a replay.
+fn ending(alloc: Global, text: &[u8], replay: Replay) -> Result<Outcome, AllocError>
     requires { length text.now ≤ PROGRAM_LIMIT }
     ensures { IfOk result (λ outcome. outcome ≡ replay_outcome text.now replay) }
 {
@@ -108,5 +108,5 @@ pub fn replayed(
     ensures { IfOk result (λ outcome. Replayed text.now graph.now items.now (Ok outcome)) }
 {
     let replay = replay(alloc, graph, items)?;
-    told(alloc, text, replay)
+    ending(alloc, text, replay)
 }

@@ -23,7 +23,7 @@ pub enum NoReply {
 pub fn reply<S: Shelf>(alloc: Global, words: &[String], shelf: &mut S) -> Result<Outcome, NoReply>
     ensures answered { IfOk result (λ outcome. Answered (command_of (map string_bytes words.now)) (S.known shelf.old) outcome (S.known shelf.new)) }
     ensures exits { IfOk result (λ outcome. IsOneOf (exits_of (command_of (map string_bytes words.now))) outcome.exit) }
-    ensures tells_none { IfOk result (λ outcome. IsFalse (is_failure outcome.exit)) }
+    ensures no_failure { IfOk result (λ outcome. IsFalse (is_failure outcome.exit)) }
     ensures not_read { IsErrOf result NoReply.NotRead → Unanswered (command_of (map string_bytes words.now)) 1 (S.known shelf.old) (S.known shelf.new) }
     ensures no_memory { IsErrOf result NoReply.Memory → Unanswered (command_of (map string_bytes words.now)) 0 (S.known shelf.old) (S.known shelf.new) }
     ensures long { IfOk result (λ outcome. outcome.exit ≡ Exit.TooLong → IfNone (S.known shelf.old) (PROGRAM_LIMIT < S.received shelf.new)) }

@@ -24,7 +24,7 @@ fn is_file_name(word: &str) -> bool
     }
 }
 
-/// Reads the words behind the program's name; `None` where they have no form.
+/// Reads the words after the program's name; `None` where they have no form.
 #[tactic(auto, unfolding(crate::specs::Words::command_of))]
 pub fn read(words: &[String]) -> Option<Command<'_>>
     ensures { option_map command result ≡ command_of (map string_bytes words.now) }

@@ -1,4 +1,4 @@
--- How a part came to its end.
+-- How a part has ended.
 use Rattle.std.proofs.Common.{◌<◌, ◌≤◌, ℕ, List, length, Result, Ok, Err, subst}
 use Rattle.sw_course.specs.declared.outcome.Outcome.{Outcome}
 use Rattle.sw_course.specs.Course.{Read, AreOf, Ended, Part, Alone, decided, Fetched, within, above, too_long_file, Then, refused, goes_on}

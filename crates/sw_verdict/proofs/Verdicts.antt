@@ -170,7 +170,7 @@ program_accepted text program is =
     (later Entry _ text [] (some_token is.tokens is.are_tokens (spelled_has_tokens text is.tokens program is.spells))
     (later SmallForm [] text [] (spelled is.tokens program is.are_tokens is.spells) (none text))))
 
-one_text_program : (text : List ℕ) (a b : Small) → IsProgram text a → IsProgram text b → a ≡ b
+pub one_text_program : (text : List ℕ) (a b : Small) → IsProgram text a → IsProgram text b → a ≡ b
 one_text_program text a b is_a is_b =
     one_program (spelling_of text is_b.tokens) a b
     (subst (λ tokens. Spells a (spelling_of text tokens)) (one_tokens text is_a.tokens is_b.tokens is_a.are_tokens is_b.are_tokens) is_a.spells) is_b.spells

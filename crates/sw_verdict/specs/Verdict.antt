@@ -41,7 +41,7 @@ pub record IsGraphOf (text : List ℕ) (graph : Graph) : Type 0 where
   pub of_text : IsProgram text program
   pub lowered : IsLowered program graph
 
--- What these phases say of a text: its graph, where none of them finds a breach, or else what the first finds that does.
-abbrev pub Judges : List Phase → List ℕ → Result Graph (List Breach) → Type 0
-Judges phases text (Ok graph) = Breaches phases text [] × IsGraphOf text graph
-Judges phases text (Err list) = (list ≢ []) × Breaches phases text list
+-- The verdict of these phases on a text: its graph, where none of them finds a breach, or else what the first finds that does.
+abbrev pub IsVerdict : List Phase → List ℕ → Result Graph (List Breach) → Type 0
+IsVerdict phases text (Ok graph) = Breaches phases text [] × IsGraphOf text graph
+IsVerdict phases text (Err list) = (list ≢ []) × Breaches phases text list

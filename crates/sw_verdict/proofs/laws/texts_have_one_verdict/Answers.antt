@@ -28,3 +28,6 @@ returns-clause-runs c = verdicts.graph_runs
 
 pub returns-clause-codes : goal.returns-clause-codes
 returns-clause-codes c = verdicts.have_codes
+
+pub returns-clause-one_program : goal.returns-clause-one_program
+returns-clause-one_program c = verdicts.one_text_program
