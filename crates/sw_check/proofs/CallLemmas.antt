@@ -17,33 +17,71 @@ use Rattle.sw_check.proofs.ClaimLemmas.{reply_says, says_no_race, says_breached,
 use Rattle.sw_check.proofs.Courses.{one_reply}
 
 -- the words as the call has them
-pub of_words : (words lent : List (String Global)) {before after : Option Known} {outcome : Outcome} → lent ≡ words → Answered (command_of (map string_bytes lent)) before outcome after → Answered (command_in words) before outcome after
-of_words words lent {before} {after} {outcome} same answered = subst (λ words. Answered (command_in words) before outcome after) same answered
+pub of_words : (words lent : List (String Global)) {before after : Option Known} {outcome : Outcome}
+    → lent ≡ words → Answered (command_of (map string_bytes lent)) before outcome after
+    → Answered (command_in words) before outcome after
+of_words words lent {before} {after} {outcome} same answered =
+    subst (λ words. Answered (command_in words) before outcome after) same answered
 
 -- where the files are known, the reply is one over them
-reads_of : {command : Option Command} {before after : Option Known} {outcome : Outcome} (answered : Answered command before outcome after) (known : Known) → before ≡ Some known → AreOf (file_of known.files) answered.reads
-reads_of answered known is = subst (λ shelf. IfSome shelf (λ known. AreOf (file_of known.files) answered.reads)) is answered.has_read.of_files
+reads_of : {command : Option Command} {before after : Option Known} {outcome : Outcome}
+    (answered : Answered command before outcome after) (known : Known) → before ≡ Some known
+    → AreOf (file_of known.files) answered.reads
+reads_of answered known is =
+    subst (λ shelf. IfSome shelf (λ known. AreOf (file_of known.files) answered.reads)) is
+    answered.has_read.of_files
 
-pub answer_says : {command : Option Command} {before after : Option Known} {outcome : Outcome} → Answered command before outcome after → IfSome before (λ known. Says (file_of known.files) command outcome.exit)
-answer_says {command} {before} {after} {outcome} answered = by before answered.has_read.of_files where
-  by : (shelf : Option Known) → IfSome shelf (λ known. AreOf (file_of known.files) answered.reads) → IfSome shelf (λ known. Says (file_of known.files) command outcome.exit)
-  by None of_files = tt
-  by (Some known) of_files = reply_says (file_of known.files) command answered.reads outcome of_files answered.reply
+pub answer_says : {command : Option Command} {before after : Option Known} {outcome : Outcome}
+    → Answered command before outcome after
+    → IfSome before (λ known. Says (file_of known.files) command outcome.exit)
+answer_says {command} {before} {after} {outcome} answered =
+    by before answered.has_read.of_files where
+      by : (shelf : Option Known)
+          → IfSome shelf (λ known. AreOf (file_of known.files) answered.reads)
+          → IfSome shelf (λ known. Says (file_of known.files) command outcome.exit)
+      by None of_files = tt
+      by (Some known) of_files =
+          reply_says (file_of known.files) command answered.reads outcome of_files answered.reply
 
-answer_says_of : {command : Option Command} {before after : Option Known} {outcome : Outcome} → Answered command before outcome after → (known : Known) (given : Command) → before ≡ Some known → command ≡ Some given → Says (file_of known.files) (Some given) outcome.exit
+answer_says_of : {command : Option Command} {before after : Option Known} {outcome : Outcome}
+    → Answered command before outcome after → (known : Known) (given : Command)
+    → before ≡ Some known → command ≡ Some given
+    → Says (file_of known.files) (Some given) outcome.exit
 answer_says_of {command} {before} {after} {outcome} answered known given is same =
     subst (λ command. Says (file_of known.files) command outcome.exit) same
-    (reply_says (file_of known.files) command answered.reads outcome (reads_of answered known is) answered.reply)
+    (reply_says (file_of known.files) command answered.reads outcome
+    (reads_of answered known is) answered.reply)
 
-pub answer_no_race : {command : Option Command} {before after : Option Known} {outcome : Outcome} → Answered command before outcome after → (known : Known) (given : Command) → before ≡ Some known → command ≡ Some given → phases_of given ≡ all_phases → outcome.exit ≢ Breached → outcome.exit ≢ TooLong → NeverRaces (program_of (file_of known.files) given)
-answer_no_race {outcome = outcome} answered known given is same all = says_no_race (file_of known.files) given outcome.exit (answer_says_of answered known given is same) all
+pub answer_no_race : {command : Option Command} {before after : Option Known} {outcome : Outcome}
+    → Answered command before outcome after → (known : Known) (given : Command)
+    → before ≡ Some known → command ≡ Some given → phases_of given ≡ all_phases
+    → outcome.exit ≢ Breached → outcome.exit ≢ TooLong
+    → NeverRaces (program_of (file_of known.files) given)
+answer_no_race {outcome = outcome} answered known given is same all =
+    says_no_race (file_of known.files) given outcome.exit
+    (answer_says_of answered known given is same) all
 
-pub answer_exact : {command : Option Command} {before after : Option Known} {outcome : Outcome} → Answered command before outcome after → (known : Known) (reads : List Read) (other : Outcome) → before ≡ Some known → AreOf (file_of known.files) reads → Reply command reads other → outcome.exit ≡ other.exit
+pub answer_exact : {command : Option Command} {before after : Option Known} {outcome : Outcome}
+    → Answered command before outcome after → (known : Known) (reads : List Read) (other : Outcome)
+    → before ≡ Some known → AreOf (file_of known.files) reads → Reply command reads other
+    → outcome.exit ≡ other.exit
 answer_exact {command} {outcome = outcome} answered known reads other is of_files reply =
-    ap (λ o. o.exit) (one_reply command (file_of known.files) answered.reads reads outcome other (reads_of answered known is) of_files answered.reply reply).1
+    ap (λ o. o.exit) (one_reply command (file_of known.files) answered.reads reads outcome other
+    (reads_of answered known is) of_files answered.reply reply).1
 
-pub answer_breached : {command : Option Command} {before after : Option Known} {outcome : Outcome} → Answered command before outcome after → (known : Known) (given : Command) → before ≡ Some known → command ≡ Some given → length (program_of (file_of known.files) given) ≤ PROGRAM_LIMIT → Refuses (phases_of given) (program_of (file_of known.files) given) → outcome.exit ≡ Breached
-answer_breached {outcome = outcome} answered known given is same = says_breached (file_of known.files) given outcome.exit (answer_says_of answered known given is same)
+pub answer_breached : {command : Option Command} {before after : Option Known} {outcome : Outcome}
+    → Answered command before outcome after → (known : Known) (given : Command)
+    → before ≡ Some known → command ≡ Some given
+    → length (program_of (file_of known.files) given) ≤ PROGRAM_LIMIT
+    → Refuses (phases_of given) (program_of (file_of known.files) given) → outcome.exit ≡ Breached
+answer_breached {outcome = outcome} answered known given is same =
+    says_breached (file_of known.files) given outcome.exit
+    (answer_says_of answered known given is same)
 
-pub answer_accepted : {command : Option Command} {before after : Option Known} {outcome : Outcome} → Answered command before outcome after → (known : Known) (file : List ℕ) → before ≡ Some known → command ≡ Some (Check file) → length (file_of known.files file) ≤ PROGRAM_LIMIT → Accepts (file_of known.files file) → outcome.exit ≡ Done
-answer_accepted {outcome = outcome} answered known file is same = says_accepted (file_of known.files) file outcome.exit (answer_says_of answered known (Check file) is same)
+pub answer_accepted : {command : Option Command} {before after : Option Known} {outcome : Outcome}
+    → Answered command before outcome after → (known : Known) (file : List ℕ) → before ≡ Some known
+    → command ≡ Some (Check file) → length (file_of known.files file) ≤ PROGRAM_LIMIT
+    → Accepts (file_of known.files file) → outcome.exit ≡ Done
+answer_accepted {outcome = outcome} answered known file is same =
+    says_accepted (file_of known.files) file outcome.exit
+    (answer_says_of answered known (Check file) is same)

@@ -1,5 +1,6 @@
 -- What the functions of the parts decide.
-use Rattle.std.proofs.Common.{◌≡◌, ◌≢◌, ◌<◌, ℕ, List, [], ◌∷◌, length, Option, None, Result, Ok, Err, IfOk, refl, sym, subst, arith}
+use Rattle.std.proofs.Common.{◌≡◌, ◌≢◌, ◌<◌, ℕ, List, [], ◌∷◌, length, Option, None, Result, Ok}
+use Rattle.std.proofs.Common.{Err, IfOk, refl, sym, subst, arith}
 use Rattle.std.specs.declared.alloc.AllocError.{AllocError}
 use Rattle.sw_graph.specs.declared.graph.Graph.{Graph}
 use Rattle.sw_breach.specs.declared.Breach.{Breach}
@@ -16,23 +17,39 @@ use Rattle.sw_verdict.specs.Phases.{Phase}
 use Rattle.sw_verdict.specs.Verdict.{IsVerdict}
 use Rattle.sw_replay.specs.Replay.{IsReplay}
 use Rattle.sw_check.specs.Words.{Command}
-use Rattle.sw_check.specs.Reply.{usage, course_of, Answers, refusal, bad_schedule_outcome, replay_outcome, Judged, breached, Scheduled, has_fault, Replayed, ends}
+use Rattle.sw_check.specs.Reply.{usage, course_of, Answers, refusal, bad_schedule_outcome}
+use Rattle.sw_check.specs.Reply.{replay_outcome, Judged, breached, Scheduled, has_fault, Replayed}
+use Rattle.sw_check.specs.Reply.{ends}
 
-pub judged_refused : (phases : List Phase) (text : List ℕ) (breaches : List Breach) (outcome : Outcome) → outcome ≡ refusal text breaches → IsVerdict phases text (Err breaches) → Judged phases text (Err outcome) × (outcome.exit ≢ TooLong)
+pub judged_refused : (phases : List Phase) (text : List ℕ) (breaches : List Breach)
+    (outcome : Outcome) → outcome ≡ refusal text breaches → IsVerdict phases text (Err breaches)
+    → Judged phases text (Err outcome) × (outcome.exit ≢ TooLong)
 judged_refused phases text breaches outcome is judges =
-    subst (λ outcome. Judged phases text (Err outcome) × (outcome.exit ≢ TooLong)) (sym is) (breached breaches judges, λ e. cc)
+    subst (λ outcome. Judged phases text (Err outcome) × (outcome.exit ≢ TooLong)) (sym is)
+    (breached breaches judges, λ e. cc)
 
-pub scheduled_refused : (text : List ℕ) (fault : SchedFault) (outcome : Outcome) → (fault ≢ Memory) × (outcome ≡ bad_schedule_outcome text fault) → (fault ≢ Memory → IsFirstFault text fault) → Scheduled text (Err outcome) × (outcome.exit ≢ TooLong)
+pub scheduled_refused : (text : List ℕ) (fault : SchedFault) (outcome : Outcome) → (fault ≢ Memory)
+    × (outcome ≡ bad_schedule_outcome text fault) → (fault ≢ Memory → IsFirstFault text fault)
+    → Scheduled text (Err outcome) × (outcome.exit ≢ TooLong)
 scheduled_refused text fault outcome (not, is) bad =
-    subst (λ outcome. Scheduled text (Err outcome) × (outcome.exit ≢ TooLong)) (sym is) (has_fault fault (bad not), λ e. cc)
+    subst (λ outcome. Scheduled text (Err outcome) × (outcome.exit ≢ TooLong)) (sym is)
+    (has_fault fault (bad not), λ e. cc)
 
-pub replay_answered : (text : List ℕ) (graph : Graph) (items : List ℕ) (replay : Replay) (answer : Result Outcome AllocError) → IsReplay graph items replay → IfOk answer (λ outcome. outcome ≡ replay_outcome text replay) → IfOk answer (λ outcome. Replayed text graph items (Ok outcome))
-replay_answered text graph items replay (Ok outcome) is same = subst (λ outcome. Replayed text graph items (Ok outcome)) (sym same) (ends replay is)
+pub replay_answered : (text : List ℕ) (graph : Graph) (items : List ℕ) (replay : Replay)
+    (answer : Result Outcome AllocError) → IsReplay graph items replay
+    → IfOk answer (λ outcome. outcome ≡ replay_outcome text replay)
+    → IfOk answer (λ outcome. Replayed text graph items (Ok outcome))
+replay_answered text graph items replay (Ok outcome) is same =
+    subst (λ outcome. Replayed text graph items (Ok outcome)) (sym same) (ends replay is)
 replay_answered text graph items replay (Err error) is same = tt
 
 -- words of no form
-pub no_form : {command : Option Command} {shelf : Seen} → None ≡ command → (result : Result Outcome Stop) → Decides (Answers usage) result → Does (course_of command) shelf result shelf
-no_form {shelf = shelf} is result decides = subst (λ command. Does (course_of command) shelf result shelf) is (does_alone (Answers usage) result decides)
+pub no_form : {command : Option Command} {shelf : Seen} → None ≡ command
+    → (result : Result Outcome Stop) → Decides (Answers usage) result
+    → Does (course_of command) shelf result shelf
+no_form {shelf = shelf} is result decides =
+    subst (λ command. Does (course_of command) shelf result shelf) is
+    (does_alone (Answers usage) result decides)
 
 -- what is answered has a breach
 pub some_breach : (breaches : List Breach) → breaches ≢ [] → 0 < length breaches

@@ -10,27 +10,32 @@ use Rattle.sw_check.specs.Reply.{Reply, course_of}
 use Rattle.sw_check.specs.Words.{Command}
 
 -- the outcome is the reply to the words over the files that were read, and no others were read
-pub record Answered (command : Option Command) (before : Option Known) (outcome : Outcome) (after : Option Known) : Type 0 where
+pub record Answered (command : Option Command) (before : Option Known) (outcome : Outcome)
+    (after : Option Known) : Type 0 where
   pub reads : List Read
   pub reply : Reply command reads outcome
   pub has_read : HasRead reads before after
 
--- There is no reply. The command is under way, and for it these files were read, n at least, and no others.
-pub record Unanswered (command : Option Command) (n : ℕ) (before after : Option Known) : Type 0 where
+-- There is no reply. The command is under way, and for it these files were read, n at least, and no
+-- others.
+pub record Unanswered (command : Option Command) (n : ℕ)
+    (before after : Option Known) : Type 0 where
   pub reads : List Read
   pub so_far : course_of command reads Underway
   pub at_least : n ≤ length reads
   pub has_read : HasRead reads before after
 
 -- the exit is that of the reply, and the whole reply was written
-pub record Replied (command : Option Command) (exit : Exit) (known known_after : Option Known) (written written_after : Option (List ℕ)) : Type 0 where
+pub record Replied (command : Option Command) (exit : Exit) (known known_after : Option Known)
+    (written written_after : Option (List ℕ)) : Type 0 where
   pub outcome : Outcome
   pub answered : Answered command known outcome known_after
   pub exit_is : exit ≡ outcome.exit
   pub bytes : Appended outcome.bytes written written_after
 
 -- there is a reply, and a prefix of it was written
-pub record Interrupted (command : Option Command) (known known_after : Option Known) (written written_after : Option (List ℕ)) : Type 0 where
+pub record Interrupted (command : Option Command) (known known_after : Option Known)
+    (written written_after : Option (List ℕ)) : Type 0 where
   pub outcome : Outcome
   pub answered : Answered command known outcome known_after
   pub bytes : IsPrefixWritten outcome.bytes written written_after

@@ -12,7 +12,9 @@ use Rattle.sw_replay.specs.declared.output.End.TheVariants as ends
 use Rattle.sw_replay.specs.declared.output.Replay.{Replay}
 use Rattle.sw_replay.specs.Items.{IsItems, IsFirstFault}
 use Rattle.sw_course.specs.declared.exit.Exit.{Exit}
-use Rattle.sw_course.specs.declared.exit.Exit.TheVariants.{Done, Breached, Usage, NotRead, TooLong, NotWritten, Memory, Trapped, BadSchedule, Raced}
+use Rattle.sw_course.specs.declared.exit.Exit.TheVariants.{Done, Breached, Usage, NotRead, TooLong}
+use Rattle.sw_course.specs.declared.exit.Exit.TheVariants.{NotWritten, Memory, Trapped, BadSchedule}
+use Rattle.sw_course.specs.declared.exit.Exit.TheVariants.{Raced}
 use Rattle.sw_course.specs.declared.TheConstants.{PROGRAM_LIMIT}
 use Rattle.sw_verdict.specs.Phases.{Phase, all_phases}
 use Rattle.sw_verdict.specs.Verdict.{Breaches, Refuses, IsGraphOf}
@@ -63,16 +65,21 @@ SecondIsLong files (Run file schedule_file) = SCHEDULE_LIMIT < length (files sch
 -- the schedule of a command has a fault
 abbrev pub ScheduleIsBad : (List ℕ → List ℕ) → Command → Type 0
 ScheduleIsBad files (Check file) = ⊥
-ScheduleIsBad files (Run file schedule_file) = (fault : SchedFault) × IsFirstFault (files schedule_file) fault
+ScheduleIsBad files (Run file schedule_file) = (fault : SchedFault)
+    × IsFirstFault (files schedule_file) fault
 
--- What an exit says of a command and its files. Those that report a failure say nothing of them; they are no exits of a reply.
+-- What an exit says of a command and its files. Those that report a failure say nothing of them;
+-- they are no exits of a reply.
 abbrev pub SaysOf : (List ℕ → List ℕ) → Command → Exit → Type 0
 SaysOf files command Done = Passes files command × Ends ends.Ran files command
 SaysOf files command Breached = Refuses (phases_of command) (program_of files command)
-SaysOf files command TooLong = (PROGRAM_LIMIT < length (program_of files command)) ⊎ (Passes files command × SecondIsLong files command)
-SaysOf files command Trapped = Passes files command × (kind : TrapKind) × (at : ℕ) × Ends (ends.Trapped kind at) files command
+SaysOf files command TooLong = (PROGRAM_LIMIT < length (program_of files command))
+    ⊎ (Passes files command × SecondIsLong files command)
+SaysOf files command Trapped = Passes files command × (kind : TrapKind) × (at : ℕ)
+    × Ends (ends.Trapped kind at) files command
 SaysOf files command BadSchedule = Passes files command × ScheduleIsBad files command
-SaysOf files command Raced = Passes files command × (race : Race) × Ends (ends.Raced race) files command
+SaysOf files command Raced = Passes files command × (race : Race)
+    × Ends (ends.Raced race) files command
 SaysOf files command Usage = ⊥
 SaysOf files command NotRead = ⊥
 SaysOf files command NotWritten = ⊥

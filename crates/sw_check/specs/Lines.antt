@@ -13,7 +13,8 @@ use Rattle.sw_replay.specs.Items.{position_of}
 
 -- `done D of J jobs`: how many jobs have ended, of how many there are
 unfoldable pub summary : ℕ → ℕ → List ℕ
-summary ended jobs = codes "done " ++ (decimal ended ++ (codes " of " ++ (decimal jobs ++ (codes " jobs" ++ line_feed))))
+summary ended jobs = codes "done "
+    ++ (decimal ended ++ (codes " of " ++ (decimal jobs ++ (codes " jobs" ++ line_feed))))
 
 -- what halted the machine
 abbrev pub trap_text : TrapKind → List ℕ
@@ -24,15 +25,18 @@ trap_text Jobs = codes "too many jobs"
 
 -- `LINE:COLUMN: trap: TEXT`
 unfoldable pub trap_line : List ℕ → TrapKind → ℕ → List ℕ
-trap_line text kind at = shown_position text at ++ (codes ": trap: " ++ (trap_text kind ++ line_feed))
+trap_line text kind at = shown_position text at
+    ++ (codes ": trap: " ++ (trap_text kind ++ line_feed))
 
 -- what a job is about to do: `job J writes`, or `job J reads`
 unfoldable pub deed : ℕ → Bool → List ℕ
-deed job writes = codes "job " ++ (decimal job ++ (if writes then codes " writes" else codes " reads"))
+deed job writes = codes "job "
+    ++ (decimal job ++ (if writes then codes " writes" else codes " reads"))
 
 -- `LINE:COLUMN: race: job J writes`
 unfoldable pub access_line : List ℕ → Access → List ℕ
-access_line text access = shown_position text access.at ++ (codes ": race: " ++ (deed access.job access.writes ++ line_feed))
+access_line text access = shown_position text access.at
+    ++ (codes ": race: " ++ (deed access.job access.writes ++ line_feed))
 
 -- the lines of the two accesses, the lower job's first
 unfoldable pub race_lines : List ℕ → Race → List ℕ
@@ -47,4 +51,5 @@ schedule_text Memory = codes "out of memory"
 
 -- `LINE:COLUMN: schedule: TEXT`
 unfoldable pub schedule_line : List ℕ → SchedFault → List ℕ
-schedule_line text fault = shown_position text (position_of fault) ++ (codes ": schedule: " ++ (schedule_text fault ++ line_feed))
+schedule_line text fault = shown_position text (position_of fault)
+    ++ (codes ": schedule: " ++ (schedule_text fault ++ line_feed))

@@ -1,5 +1,6 @@
 -- What the tool answers. Each command is a sequence of parts, and the first that refuses decides.
-use Rattle.std.specs.Prelude.{◌≡◌, ℕ, List, [], ◌∷◌, ◌++◌, Option, Some, None, Result, Ok, Err, codes}
+use Rattle.std.specs.Prelude.{◌≡◌, ℕ, List, [], ◌∷◌, ◌++◌, Option, Some, None, Result, Ok, Err}
+use Rattle.std.specs.Prelude.{codes}
 use Rattle.sw_graph.specs.declared.graph.Graph.{Graph}
 use Rattle.sw_replay.specs.declared.text.TheConstants.{SCHEDULE_LIMIT}
 use Rattle.sw_replay.specs.declared.text.SchedFault.{SchedFault}
@@ -22,7 +23,11 @@ use Rattle.sw_check.specs.Words.{Command, Check, Run}
 
 -- the one line about words that have no form
 abbrev pub usage : Outcome
-usage = record { exit = exits.Usage; bytes = codes "usage: swiftcheck COMMAND FILE [SCHEDULE]" ++ line_feed }
+usage = record {
+  exit = exits.Usage;
+  bytes = codes "usage: swiftcheck COMMAND FILE [SCHEDULE]"
+      ++ line_feed;
+}
 
 -- a program is accepted
 abbrev pub accepted : Outcome
@@ -34,13 +39,17 @@ refusal text breaches = record { exit = exits.Breached; bytes = verdict_text tex
 
 -- the text of a schedule has a fault
 abbrev pub bad_schedule_outcome : List ℕ → SchedFault → Outcome
-bad_schedule_outcome schedule fault = record { exit = exits.BadSchedule; bytes = schedule_line schedule fault }
+bad_schedule_outcome schedule fault =
+    record { exit = exits.BadSchedule; bytes = schedule_line schedule fault }
 
 -- how a replay ends, after these lines were printed, `ended` of `jobs` jobs have ended
 abbrev pub end_outcome : List ℕ → List ℕ → ℕ → ℕ → End → Outcome
-end_outcome text lines ended jobs Ran = record { exit = exits.Done; bytes = lines ++ summary ended jobs }
-end_outcome text lines ended jobs (Trapped kind at) = record { exit = exits.Trapped; bytes = lines ++ trap_line text kind at }
-end_outcome text lines ended jobs (Raced race) = record { exit = exits.Raced; bytes = lines ++ race_lines text race }
+end_outcome text lines ended jobs Ran =
+    record { exit = exits.Done; bytes = lines ++ summary ended jobs }
+end_outcome text lines ended jobs (Trapped kind at) =
+    record { exit = exits.Trapped; bytes = lines ++ trap_line text kind at }
+end_outcome text lines ended jobs (Raced race) =
+    record { exit = exits.Raced; bytes = lines ++ race_lines text race }
 
 -- the lines that are printed, and then how the replay ends
 abbrev pub replay_outcome : List ℕ → Replay → Outcome
@@ -53,16 +62,20 @@ Answers outcome result = result ≡ Ok outcome
 -- A program is judged by these phases: it has a graph, or it is refused.
 pub data Judged (phases : List Phase) (text : List ℕ) : Result Graph Outcome → Type 0 where
   passes : (graph : Graph) → IsVerdict phases text (Ok graph) → Judged phases text (Ok graph)
-  breached : (breaches : List Breach) → IsVerdict phases text (Err breaches) → Judged phases text (Err (refusal text breaches))
+  breached : (breaches : List Breach) → IsVerdict phases text (Err breaches)
+      → Judged phases text (Err (refusal text breaches))
 
 -- The text of a schedule has items, or a fault.
 pub data Scheduled (schedule : List ℕ) : Result (List ℕ) Outcome → Type 0 where
   has_items : (items : List ℕ) → IsItems schedule items → Scheduled schedule (Ok items)
-  has_fault : (fault : SchedFault) → IsFirstFault schedule fault → Scheduled schedule (Err (bad_schedule_outcome schedule fault))
+  has_fault : (fault : SchedFault) → IsFirstFault schedule fault
+      → Scheduled schedule (Err (bad_schedule_outcome schedule fault))
 
 -- The graph of a program is replayed by items.
-pub data Replayed (text : List ℕ) (graph : Graph) (items : List ℕ) : Result Outcome Outcome → Type 0 where
-  ends : (replay : Replay) → IsReplay graph items replay → Replayed text graph items (Ok (replay_outcome text replay))
+pub data Replayed (text : List ℕ) (graph : Graph) (items : List ℕ) : Result Outcome Outcome
+    → Type 0 where
+  ends : (replay : Replay) → IsReplay graph items replay
+      → Replayed text graph items (Ok (replay_outcome text replay))
 
 -- the parts of each command
 abbrev pub course_of : Option Command → Part Outcome
@@ -78,7 +91,8 @@ course_of (Some (Run file schedule_file)) = do
   items ← Alone (Scheduled schedule)
   Alone (Replayed text graph items)
 
--- `Reply command reads outcome`: this is answered to the words, where exactly these files are read for it, in this order.
+-- `Reply command reads outcome`: this is answered to the words, where exactly these files are read
+-- for it, in this order.
 pub data Reply (command : Option Command) (reads : List Read) (outcome : Outcome) : Type 0 where
   at_end : course_of command reads (Ended (Ok outcome)) → Reply command reads outcome
   before_end : course_of command reads (Ended (Err outcome)) → Reply command reads outcome
@@ -87,4 +101,5 @@ pub data Reply (command : Option Command) (reads : List Read) (outcome : Outcome
 abbrev pub exits_of : Option Command → List Exit
 exits_of None = exits.Usage ∷ []
 exits_of (Some (Check file)) = exits.TooLong ∷ exits.Breached ∷ exits.Done ∷ []
-exits_of (Some (Run file schedule_file)) = exits.TooLong ∷ exits.Breached ∷ exits.BadSchedule ∷ exits.Done ∷ exits.Trapped ∷ []
+exits_of (Some (Run file schedule_file)) =
+    exits.TooLong ∷ exits.Breached ∷ exits.BadSchedule ∷ exits.Done ∷ exits.Trapped ∷ []

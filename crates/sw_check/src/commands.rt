@@ -1,7 +1,7 @@
 //! The commands. Each does its parts in order.
 
 ghost use Rattle.std.specs.Prelude.{Some, map, string_bytes};
-ghost use Rattle.sw_course.specs.Leaves.{Does};
+ghost use Rattle.sw_course.specs.Leaves.{Does, seen};
 ghost use Rattle.sw_check.specs.Reply.{course_of};
 ghost use Rattle.sw_check.specs.Words.{Check, Run, command_of};
 
@@ -15,8 +15,8 @@ use sw_replay::SCHEDULE_LIMIT;
 /// `check FILE`.
 fn check<S: Shelf>(alloc: Global, file: &str, shelf: &mut S) -> Result<Outcome, Stop>
     ensures { Does (course_of (Some (Check file.now)))
-        (record { known = S.known shelf.old; received = S.received shelf.old; faults = S.faults shelf.old }) result
-        (record { known = S.known shelf.new; received = S.received shelf.new; faults = S.faults shelf.new }) }
+        (seen S.known S.received S.faults shelf.old) result
+        (seen S.known S.received S.faults shelf.new) }
 {
     let text = fetch(alloc, file, PROGRAM_LIMIT, shelf)?;
     let _graph = judged(alloc, text.as_slice())?;
@@ -31,8 +31,8 @@ fn run<S: Shelf>(
     shelf: &mut S,
 ) -> Result<Outcome, Stop>
     ensures { Does (course_of (Some (Run file.now schedule_file.now)))
-        (record { known = S.known shelf.old; received = S.received shelf.old; faults = S.faults shelf.old }) result
-        (record { known = S.known shelf.new; received = S.received shelf.new; faults = S.faults shelf.new }) }
+        (seen S.known S.received S.faults shelf.old) result
+        (seen S.known S.received S.faults shelf.new) }
 {
     let text = fetch(alloc, file, PROGRAM_LIMIT, shelf)?;
     let graph = judged(alloc, text.as_slice())?;
@@ -44,8 +44,8 @@ fn run<S: Shelf>(
 /// The command of the words after the program's name.
 pub fn answer<S: Shelf>(alloc: Global, words: &[String], shelf: &mut S) -> Result<Outcome, Stop>
     ensures { Does (course_of (command_of (map string_bytes words.now)))
-        (record { known = S.known shelf.old; received = S.received shelf.old; faults = S.faults shelf.old }) result
-        (record { known = S.known shelf.new; received = S.received shelf.new; faults = S.faults shelf.new }) }
+        (seen S.known S.received S.faults shelf.old) result
+        (seen S.known S.received S.faults shelf.new) }
 {
     match words::read(words) {
         None => Ok(lines(

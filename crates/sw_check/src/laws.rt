@@ -12,18 +12,25 @@ use crate::PROGRAM_LIMIT;
 /// Over any files the words have one reply, and the same files are read for it.
 pub fn words_have_one_reply()
     ensures some_reply { (command : Option Command) (files : List ℕ → List ℕ)
-        → (reads : List Read) × (outcome : Outcome) × AreOf files reads × Reply command reads outcome }
-    ensures one_reply { (command : Option Command) (files : List ℕ → List ℕ) (reads others : List Read) (a b : Outcome)
-        → AreOf files reads → AreOf files others → Reply command reads a → Reply command others b → (reads ≡ others) × (a ≡ b) }
+        → (reads : List Read) × (outcome : Outcome) × AreOf files reads
+        × Reply command reads outcome }
+    ensures one_reply { (command : Option Command) (files : List ℕ → List ℕ)
+        (reads others : List Read) (a b : Outcome)
+        → AreOf files reads → AreOf files others → Reply command reads a → Reply command others b
+        → (reads ≡ others) × (a ≡ b) }
     // What was read before there is a reply is a prefix of what is read for it.
-    ensures read_in_order { (command : Option Command) (files : List ℕ → List ℕ) (reads others : List Read) (outcome : Outcome)
-        → AreOf files reads → AreOf files others → course_of command reads Underway → Reply command others outcome
+    ensures read_in_order { (command : Option Command) (files : List ℕ → List ℕ)
+        (reads others : List Read) (outcome : Outcome)
+        → AreOf files reads → AreOf files others → course_of command reads Underway
+        → Reply command others outcome
         → IsPrefixOf reads others }
     // Whatever was read, there may be a reply.
-    ensures goes_on { (command : Option Command) (reads : List Read) → course_of command reads Underway
+    ensures goes_on { (command : Option Command) (reads : List Read)
+        → course_of command reads Underway
         → (others : List Read) × (outcome : Outcome) × Reply command (reads ++ others) outcome }
     // A replay of a program by a schedule ends in one way.
-    ensures one_end { (text schedule : List ℕ) (a b : End) → EndsSo a text schedule → EndsSo b text schedule → a ≡ b }
+    ensures one_end { (text schedule : List ℕ) (a b : End) → EndsSo a text schedule
+        → EndsSo b text schedule → a ≡ b }
 {}
 
 /// The limit that the definitions of replies take from here.

@@ -2,7 +2,8 @@
 
 ghost use Rattle.std.specs.Prelude.{◌≡◌, ◌<◌, IfOk, length, string_bytes};
 ghost use Rattle.sw_replay.specs.Items.{position_of};
-ghost use Rattle.sw_check.specs.Lines.{access_line, deed, race_lines, schedule_line, schedule_text, summary, trap_line, trap_text};
+ghost use Rattle.sw_check.specs.Lines.{access_line, deed, race_lines, schedule_line, schedule_text};
+ghost use Rattle.sw_check.specs.Lines.{summary, trap_line, trap_text};
 
 use std::alloc::{AllocError, Global};
 use sw_replay::SchedFault;

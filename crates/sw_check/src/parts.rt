@@ -7,7 +7,8 @@ ghost use Rattle.sw_breach.specs.Codes.{IsCode};
 ghost use Rattle.sw_course.specs.Leaves.{Decides};
 ghost use Rattle.sw_verdict.specs.Phases.{all_phases};
 ghost use Rattle.sw_check.specs.Lines.{schedule_line};
-ghost use Rattle.sw_check.specs.Reply.{Judged, Replayed, Scheduled, bad_schedule_outcome, refusal, replay_outcome};
+ghost use Rattle.sw_check.specs.Reply.{Judged, Replayed, Scheduled, bad_schedule_outcome, refusal};
+ghost use Rattle.sw_check.specs.Reply.{replay_outcome};
 
 use crate::lines::{race_lines, schedule_line, summary, trap_line};
 use std::alloc::{AllocError, Global};
@@ -49,7 +50,8 @@ pub fn judged(alloc: Global, text: &[u8]) -> Result<Graph, Stop>
 /// The reply about the text of a schedule that has a fault.
 fn bad_schedule(alloc: Global, text: &[u8], fault: SchedFault) -> Result<Outcome, AllocError>
     requires { length text.now ≤ SCHEDULE_LIMIT }
-    ensures outcome { IfOk result (λ outcome. (fault ≢ SchedFault.Memory) × (outcome ≡ bad_schedule_outcome text.now fault)) }
+    ensures outcome { IfOk result (λ outcome. (fault ≢ SchedFault.Memory)
+        × (outcome ≡ bad_schedule_outcome text.now fault)) }
 {
     if let SchedFault::Memory = fault {
         return Err(AllocError);

@@ -1,4 +1,5 @@
--- A command is a sequence of parts. What a part may come to depends on the files that are read for it.
+-- A command is a sequence of parts. What a part may come to depends on the files that are read for
+-- it.
 use Rattle.std.specs.Prelude.{◌≡◌, ◌<◌, ◌≤◌, ℕ, List, [], ◌∷◌, ◌++◌, length, Result, Ok, Err}
 use Rattle.std.specs.List.{AllByRecursion}
 use Rattle.sw_course.specs.declared.exit.Exit.TheVariants as exits
@@ -16,13 +17,14 @@ read name text = record { name = name; text = text }
 abbrev pub AreOf : (List ℕ → List ℕ) → List Read → Type 0
 AreOf files reads = AllByRecursion (λ one. one.text ≡ files one.name) reads
 
--- How far a part has come. It is under way, or it has ended: with a value for the next part, or with the reply, where it
--- refuses to go on.
+-- How far a part has come. It is under way, or it has ended: with a value for the next part, or
+-- with the reply, where it refuses to go on.
 pub data Course (A : Type 0) : Type 0 where
   Underway : Course A
   Ended : Result A Outcome → Course A
 
--- `part reads course`: where exactly these files are read, in this order, the part may have come so far.
+-- `part reads course`: where exactly these files are read, in this order, the part may have come so
+-- far.
 abbrev pub Part : Type 0 → Type 1
 Part A = List Read → Course A → Type 0
 
@@ -40,15 +42,19 @@ pub data Fetched (name : List ℕ) (limit : ℕ) : List Read → Course (List �
   to_fetch : Fetched name limit [] Underway
   -- the fetch failed, and the text is what it would have given
   fetching : (text : List ℕ) → Fetched name limit (read name text ∷ []) Underway
-  within : (text : List ℕ) → length text ≤ limit → Fetched name limit (read name text ∷ []) (Ended (Ok text))
-  above : (text : List ℕ) → limit < length text → Fetched name limit (read name text ∷ []) (Ended (Err too_long_file))
+  within : (text : List ℕ) → length text ≤ limit
+      → Fetched name limit (read name text ∷ []) (Ended (Ok text))
+  above : (text : List ℕ) → limit < length text
+      → Fetched name limit (read name text ∷ []) (Ended (Err too_long_file))
 
 -- one part, and after it another that takes its value
-pub data Then {A B : Type 0} (first : Part A) (second : A → Part B) : List Read → Course B → Type 0 where
+pub data Then {A B : Type 0} (first : Part A) (second : A → Part B) : List Read → Course B
+    → Type 0 where
   in_first : (reads : List Read) → first reads Underway → Then first second reads Underway
   refused : (reads : List Read) (outcome : Outcome) → first reads (Ended (Err outcome))
       → Then first second reads (Ended (Err outcome))
-  goes_on : (reads others : List Read) (value : A) (course : Course B) → first reads (Ended (Ok value))
+  goes_on : (reads others : List Read) (value : A) (course : Course B)
+      → first reads (Ended (Ok value))
       → second value others course → Then first second (reads ++ others) course
 
 infixl 10 ◌>>=◌

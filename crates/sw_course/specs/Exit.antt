@@ -1,7 +1,9 @@
 -- The exit statuses of the program.
 use Rattle.std.specs.Prelude.{◌≡◌, ◌⊎◌, ℕ, Bool, true, false, List, [], ◌∷◌}
 use Rattle.sw_course.specs.declared.exit.Exit.{Exit}
-use Rattle.sw_course.specs.declared.exit.Exit.TheVariants.{Done, Breached, Usage, NotRead, TooLong, NotWritten, Memory, Trapped, BadSchedule, Raced}
+use Rattle.sw_course.specs.declared.exit.Exit.TheVariants.{Done, Breached, Usage, NotRead, TooLong}
+use Rattle.sw_course.specs.declared.exit.Exit.TheVariants.{NotWritten, Memory, Trapped, BadSchedule}
+use Rattle.sw_course.specs.declared.exit.Exit.TheVariants.{Raced}
 
 abbrev pub status_of : Exit → ℕ
 status_of Done = 0

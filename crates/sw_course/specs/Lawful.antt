@@ -1,11 +1,12 @@
--- What holds of every part of a command: it can always come to an end, over given files it comes to one end, and what is read
--- on the way is a prefix of what is read in all.
+-- What holds of every part of a command: it can always come to an end, over given files it comes to
+-- one end, and what is read on the way is a prefix of what is read in all.
 use Rattle.std.specs.Prelude.{◌≡◌, ℕ, List, [], ◌++◌, Result, Err}
 use Rattle.sw_course.specs.declared.outcome.Outcome.{Outcome}
 use Rattle.sw_course.specs.Course.{Read, AreOf, Underway, Ended, Part}
 
 -- The part, which has read these files, ends after it has read some more, which have these texts.
-pub record Completes {A : Type 0} (part : Part A) (files : List ℕ → List ℕ) (reads : List Read) : Type 0 where
+pub record Completes {A : Type 0} (part : Part A) (files : List ℕ → List ℕ)
+    (reads : List Read) : Type 0 where
   pub others : List Read
   pub of_files : AreOf files others
   pub result : Result A Outcome
@@ -19,11 +20,16 @@ pub record IsPrefixOf (reads others : List Read) : Type 0 where
 pub record IsLawful {A : Type 0} (part : Part A) : Type 0 where
   pub begins : part [] Underway
   -- whatever texts the files that are still to be read have
-  pub completes : (files : List ℕ → List ℕ) (reads : List Read) → part reads Underway → Completes part files reads
-  pub one_end : (files : List ℕ → List ℕ) (reads others : List Read) (a b : Result A Outcome) → AreOf files reads
-      → AreOf files others → part reads (Ended a) → part others (Ended b) → (reads ≡ others) × (a ≡ b)
-  pub read_in_order : (files : List ℕ → List ℕ) (reads others : List Read) (result : Result A Outcome) → AreOf files reads
-      → AreOf files others → part reads Underway → part others (Ended result) → IsPrefixOf reads others
+  pub completes : (files : List ℕ → List ℕ) (reads : List Read) → part reads Underway
+      → Completes part files reads
+  pub one_end : (files : List ℕ → List ℕ) (reads others : List Read) (a b : Result A Outcome)
+      → AreOf files reads
+      → AreOf files others → part reads (Ended a) → part others (Ended b) → (reads ≡ others)
+      × (a ≡ b)
+  pub read_in_order : (files : List ℕ → List ℕ) (reads others : List Read)
+      (result : Result A Outcome) → AreOf files reads
+      → AreOf files others → part reads Underway → part others (Ended result)
+      → IsPrefixOf reads others
 
 -- what holds of the rule of a part that reads no file: it says of one result that it ends so
 pub record IsRule {A : Type 0} (Rule : Result A Outcome → Type 0) : Type 0 where
@@ -32,4 +38,5 @@ pub record IsRule {A : Type 0} (Rule : Result A Outcome → Type 0) : Type 0 whe
 
 -- each reply with which the part refuses is so
 abbrev pub RefusesBy : {A : Type 0} → (Outcome → Type 0) → Part A → Type 0
-RefusesBy Q part = (reads : List Read) (outcome : Outcome) → part reads (Ended (Err outcome)) → Q outcome
+RefusesBy Q part = (reads : List Read) (outcome : Outcome) → part reads (Ended (Err outcome))
+    → Q outcome

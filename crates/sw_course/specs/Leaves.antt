@@ -1,5 +1,7 @@
--- What a function that does a part of a command leaves: how far the part has come, and what the shelf shows.
-use Rattle.std.specs.Prelude.{◌≡◌, ◌<◌, ◌≤◌, ℕ, List, ◌++◌, length, map, Option, option_map, IfSome, IfNone, Result, Ok, Err}
+-- What a function that does a part of a command leaves: how far the part has come, and what the
+-- shelf shows.
+use Rattle.std.specs.Prelude.{◌≡◌, ◌<◌, ◌≤◌, ℕ, List, ◌++◌, length, map, Option, option_map, IfSome}
+use Rattle.std.specs.Prelude.{IfNone, Result, Ok, Err}
 use Rattle.sw_outside.specs.Rise.{Rose}
 use Rattle.sw_outside.specs.Shelf.{Known, file_of}
 use Rattle.sw_course.specs.declared.exit.Exit.TheVariants.{TooLong}
@@ -15,9 +17,15 @@ pub record Seen : Type 0 where
   pub received : ℕ
   pub faults : ℕ
 
+-- what they see of this shelf
+abbrev pub seen : {S : Type 0} → (S → Option Known) → (S → ℕ) → (S → ℕ) → S → Seen
+seen known received faults shelf =
+    record { known = known shelf; received = received shelf; faults = faults shelf }
+
 -- these names were requested too, in this order
 abbrev pub with_requests : List Read → Known → Known
-with_requests reads known = record known { requested = known.requested ++ map (λ one. one.name) reads }
+with_requests reads known =
+    record known { requested = known.requested ++ map (λ one. one.name) reads }
 
 -- exactly these files were read, where the shelf's contents are known
 pub record HasRead (reads : List Read) (before after : Option Known) : Type 0 where
@@ -38,16 +46,19 @@ Counts (Err (stops.Refused outcome)) reads before after = after ≡ before
 Counts (Err stops.NotRead) reads before after = (1 ≤ length reads) × Rose before after
 Counts (Err stops.Memory) reads before after = after ≡ before
 
--- Where the shelf's contents are unknown, a file was too long only where more bytes were received than a program may have.
+-- Where the shelf's contents are unknown, a file was too long only where more bytes were received
+-- than a program may have.
 abbrev pub ReceivedLong : {A : Type 0} → Result A Stop → Seen → Seen → Type 0
 ReceivedLong (Ok value) before after = Unit {0}
-ReceivedLong (Err (stops.Refused outcome)) before after = outcome.exit ≡ TooLong → IfNone before.known (PROGRAM_LIMIT < after.received)
+ReceivedLong (Err (stops.Refused outcome)) before after = outcome.exit ≡ TooLong
+    → IfNone before.known (PROGRAM_LIMIT < after.received)
 ReceivedLong (Err stops.NotRead) before after = Unit {0}
 ReceivedLong (Err stops.Memory) before after = Unit {0}
 
--- `Does part before result after`: the function did this part, as far as its result says, over a shelf that was seen so before
--- and so after.
-pub record Does {A : Type 0} (part : Part A) (before : Seen) (result : Result A Stop) (after : Seen) : Type 0 where
+-- `Does part before result after`: the function did this part, as far as its result says, over a
+-- shelf that was seen so before and so after.
+pub record Does {A : Type 0} (part : Part A) (before : Seen) (result : Result A Stop)
+    (after : Seen) : Type 0 where
   pub reads : List Read
   pub so_far : part reads (progress_of result)
   pub has_read : HasRead reads before.known after.known

@@ -1,4 +1,5 @@
-/// How a call ends. The numbers are the program's exit statuses, from 0 in the order of the variants.
+/// How a call ends. The numbers are the program's exit statuses, from 0 in the order of the
+/// variants.
 #[derive(Clone, Copy, Debug, PartialEq, Eq)]
 pub enum Exit {
     /// The reply was written: `accepted`, or a replay that ran to the end of its schedule.

@@ -1,6 +1,6 @@
 ghost use Rattle.std.specs.Prelude.{◌≤◌, IfOk, length};
 ghost use Rattle.sw_course.specs.Course.{Fetched};
-ghost use Rattle.sw_course.specs.Leaves.{Does};
+ghost use Rattle.sw_course.specs.Leaves.{Does, seen};
 
 use crate::PROGRAM_LIMIT;
 use crate::outcome::too_long;
@@ -18,8 +18,8 @@ pub fn fetch<S: Shelf>(
 ) -> Result<ListOf<u8>, Stop>
     requires { PROGRAM_LIMIT ≤ limit }
     ensures done { Does (Fetched name.now limit)
-        (record { known = S.known shelf.old; received = S.received shelf.old; faults = S.faults shelf.old }) result
-        (record { known = S.known shelf.new; received = S.received shelf.new; faults = S.faults shelf.new }) }
+        (seen S.known S.received S.faults shelf.old) result
+        (seen S.known S.received S.faults shelf.new) }
     ensures within { IfOk result (λ text. length text ≤ limit) }
 {
     match shelf.fetch(alloc, name, limit) {

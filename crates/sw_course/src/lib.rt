@@ -1,6 +1,7 @@
-//! What a command is made of: parts that follow one another, the files that they read, the reply that one of them decides, what
-//! a function that does some of them leaves of a shelf, and the writing of the reply. It knows of exits and of limits of
-//! files, and nothing of programs, schedules or the words of the command line.
+//! What a command is made of: parts that follow one another, the files that they read, the reply
+//! that one of them decides, what a function that does some of them leaves of a shelf, and the
+//! writing of the reply. It knows of exits and of limits of files, and nothing of programs,
+//! schedules or the words of the command line.
 #![tactic(auto)]
 
 mod exit;

@@ -34,7 +34,8 @@ pub fn too_long(alloc: Global) -> Outcome
 
 /// A reply of the lines that a program printed and one more.
 pub fn with_last_line(exit: Exit, printed: ListOf<u8>, last: &str) -> Result<Outcome, AllocError>
-    ensures { IfOk result (λ outcome. outcome ≡ record { exit = exit; bytes = printed ++ last.now }) }
+    ensures { IfOk result (λ outcome.
+        outcome ≡ record { exit = exit; bytes = printed ++ last.now }) }
 {
     let mut bytes = printed.into_vec();
     bytes.extend_from_slice(last.as_bytes())?;

@@ -7,7 +7,8 @@ use sw_outside::{Sink, SinkFault};
 /// Hands the bytes to the sink, piece by piece, until all are written or a put fails.
 pub fn write_all<K: Sink>(out: &mut K, bytes: &[u8]) -> Result<(), SinkFault>
     ensures whole { OnOk result (Appended bytes.now (K.written out.old) (K.written out.new)) }
-    ensures prefix { OnErr result (IsPrefixWritten bytes.now (K.written out.old) (K.written out.new)) }
+    ensures prefix { OnErr result
+        (IsPrefixWritten bytes.now (K.written out.old) (K.written out.new)) }
     ensures steady { OnOk result (K.faults out.new ≡ K.faults out.old) }
     ensures failed { OnErr result (Rose (K.faults out.old) (K.faults out.new)) }
 {

@@ -7,25 +7,38 @@ use Rattle.sw_token.specs.Tokens.{IsTokens, IsLexicalFault}
 use Rattle.sw_breach.specs.declared.Breach.{Breach}
 use Rattle.sw_verdict.specs.declared.phases.Refusal.{Refusal}
 use Rattle.sw_verdict.specs.declared.phases.Refusal.TheVariants.{Breached, Memory}
-use Rattle.sw_verdict.specs.Phases.{breach_at, position_of, unexpected_token, not_one_entry, LexisFinds, has_fault, EntryFinds, some_token, no_token}
+use Rattle.sw_verdict.specs.Phases.{breach_at, position_of, unexpected_token, not_one_entry}
+use Rattle.sw_verdict.specs.Phases.{LexisFinds, has_fault, EntryFinds, some_token, no_token}
 use Rattle.sw_verdict.specs.Found.{FoundBy}
 
 -- one breach, unless memory ran out
-pub found_breach : (Finding : List Breach → Type 0) (code at : ℕ) (refusal : Refusal) → (refusal ≢ Memory → refusal ≡ Breached (breach_at code at)) → Finding (breach_at code at) → FoundBy Finding refusal
+pub found_breach : (Finding : List Breach → Type 0) (code at : ℕ) (refusal : Refusal)
+    → (refusal ≢ Memory → refusal ≡ Breached (breach_at code at)) → Finding (breach_at code at)
+    → FoundBy Finding refusal
 found_breach Finding code at Memory is finding = tt
 found_breach Finding code at (Breached list) is finding =
     let same : list ≡ breach_at code at = cc (is (λ e. cc)) in
     ((λ none. cc), subst Finding (sym same) finding)
 
-pub found_fault : (text : List ℕ) (fault : LexFault) (refusal : Refusal) → (fault ≢ faults.Memory → IsLexicalFault text fault) → (refusal ≢ Memory → (fault ≢ faults.Memory) × (refusal ≡ Breached (breach_at unexpected_token (position_of fault)))) → FoundBy (LexisFinds text) refusal
+pub found_fault : (text : List ℕ) (fault : LexFault) (refusal : Refusal)
+    → (fault ≢ faults.Memory → IsLexicalFault text fault)
+    → (refusal ≢ Memory → (fault ≢ faults.Memory)
+    × (refusal ≡ Breached (breach_at unexpected_token (position_of fault))))
+    → FoundBy (LexisFinds text) refusal
 found_fault text fault Memory place is = tt
 found_fault text fault (Breached list) place is =
     let why = is (λ e. cc) in
-    found_breach (LexisFinds text) unexpected_token (position_of fault) (Breached list) (λ _. why.1) (has_fault fault (place why.0))
+    found_breach (LexisFinds text) unexpected_token (position_of fault) (Breached list) (λ _. why.1)
+    (has_fault fault (place why.0))
 
-pub found_no_token : (text : List ℕ) (tokens : List Token) (refusal : Refusal) → length tokens ≡ 0 → (refusal ≢ Memory → refusal ≡ Breached (breach_at not_one_entry 0)) → IsTokens text tokens → FoundBy (EntryFinds text) refusal
-found_no_token text [] refusal none is are = found_breach (EntryFinds text) not_one_entry 0 refusal is (no_token are)
+pub found_no_token : (text : List ℕ) (tokens : List Token) (refusal : Refusal) → length tokens ≡ 0
+    → (refusal ≢ Memory → refusal ≡ Breached (breach_at not_one_entry 0)) → IsTokens text tokens
+    → FoundBy (EntryFinds text) refusal
+found_no_token text [] refusal none is are =
+    found_breach (EntryFinds text) not_one_entry 0 refusal is (no_token are)
 found_no_token text (token ∷ tokens) refusal none is are = absurd (omega arith)
 
-pub found_some_token : (text : List ℕ) (tokens : List Token) → length tokens ≢ 0 → IsTokens text tokens → EntryFinds text []
-found_some_token text tokens some are = some_token tokens are (λ none. some (subst (λ tokens. length tokens ≡ 0) (sym none) refl))
+pub found_some_token : (text : List ℕ) (tokens : List Token) → length tokens ≢ 0
+    → IsTokens text tokens → EntryFinds text []
+found_some_token text tokens some are =
+    some_token tokens are (λ none. some (subst (λ tokens. length tokens ≡ 0) (sym none) refl))

@@ -1,4 +1,5 @@
--- The phases of the verdict. Each says which breaches it finds in a text in which the phases before it find none.
+-- The phases of the verdict. Each says which breaches it finds in a text in which the phases before
+-- it find none.
 use Rattle.std.specs.Prelude.{◌≢◌, ℕ, List, [], ◌∷◌, length, slice_get, None}
 use Rattle.std.specs.Option.{option_map_or}
 use Rattle.std.specs.Str.{IsUtf8}
@@ -54,7 +55,8 @@ position_of Memory = 0
 -- The breach is at the first byte that no token can take.
 pub data LexisFinds (text : List ℕ) : List Breach → Type 0 where
   has_tokens : (tokens : List Token) → IsTokens text tokens → LexisFinds text []
-  has_fault : (fault : LexFault) → IsLexicalFault text fault → LexisFinds text (breach_at unexpected_token (position_of fault))
+  has_fault : (fault : LexFault) → IsLexicalFault text fault
+      → LexisFinds text (breach_at unexpected_token (position_of fault))
 
 -- A text without tokens has no entry.
 pub data EntryFinds (text : List ℕ) : List Breach → Type 0 where
@@ -63,16 +65,20 @@ pub data EntryFinds (text : List ℕ) : List Breach → Type 0 where
 
 -- where the token after the first n begins; the end of the text where there are no more
 abbrev pub token_position : List ℕ → List Token → ℕ → ℕ
-token_position text tokens n = option_map_or (λ token. token.span.start) (slice_get tokens n) (length text)
+token_position text tokens n =
+    option_map_or (λ token. token.span.start) (slice_get tokens n) (length text)
 
 -- The breach is at the first token that can't stand where it does in any program.
 pub data SmallFormFinds (text : List ℕ) : List Breach → Type 0 where
-  spelled : (tokens : List Token) (program : Small) → IsTokens text tokens → Spells program (spelling_of text tokens)
+  spelled : (tokens : List Token) (program : Small) → IsTokens text tokens
+      → Spells program (spelling_of text tokens)
       → SmallFormFinds text []
-  unexpected : (tokens : List Token) (n : ℕ) → IsTokens text tokens → IsUnexpected (spelling_of text tokens) n
+  unexpected : (tokens : List Token) (n : ℕ) → IsTokens text tokens
+      → IsUnexpected (spelling_of text tokens) n
       → SmallFormFinds text (breach_at unexpected_token (token_position text tokens n))
 
--- `Finds phase text list`: where the phases before it find no breach in the text, this one finds these.
+-- `Finds phase text list`: where the phases before it find no breach in the text, this one finds
+-- these.
 abbrev pub Finds : Phase → List ℕ → List Breach → Type 0
 Finds Encoding text list = EncodingFinds text list
 Finds Lexis text list = LexisFinds text list

@@ -11,11 +11,12 @@ use Rattle.sw_token.specs.Spelling.{spelling_of}
 use Rattle.sw_small.specs.Small.{Spells}
 use Rattle.sw_verdict.specs.Phases.{Phase, all_phases, Finds}
 
--- `Breaches phases text list`: the first of these phases that finds breaches in the text decides, and these are what it finds.
--- The list is empty where none of them finds any.
+-- `Breaches phases text list`: the first of these phases that finds breaches in the text decides,
+-- and these are what it finds. The list is empty where none of them finds any.
 pub data Breaches : List Phase → List ℕ → List Breach → Type 0 where
   none : (text : List ℕ) → Breaches [] text []
-  first : (phase : Phase) (phases : List Phase) (text : List ℕ) (breach : Breach) (others : List Breach)
+  first : (phase : Phase) (phases : List Phase) (text : List ℕ) (breach : Breach)
+      (others : List Breach)
       → Finds phase text (breach ∷ others) → Breaches (phase ∷ phases) text (breach ∷ others)
   later : (phase : Phase) (phases : List Phase) (text : List ℕ) (list : List Breach)
       → Finds phase text [] → Breaches phases text list → Breaches (phase ∷ phases) text list
@@ -41,7 +42,8 @@ pub record IsGraphOf (text : List ℕ) (graph : Graph) : Type 0 where
   pub of_text : IsProgram text program
   pub lowered : IsLowered program graph
 
--- The verdict of these phases on a text: its graph, where none of them finds a breach, or else what the first finds that does.
+-- The verdict of these phases on a text: its graph, where none of them finds a breach, or else what
+-- the first finds that does.
 abbrev pub IsVerdict : List Phase → List ℕ → Result Graph (List Breach) → Type 0
 IsVerdict phases text (Ok graph) = Breaches phases text [] × IsGraphOf text graph
 IsVerdict phases text (Err list) = (list ≢ []) × Breaches phases text list

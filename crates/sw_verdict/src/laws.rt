@@ -10,20 +10,26 @@ ghost use Rattle.sw_verdict.specs.Verdict.{Accepts, Breaches, IsGraphOf, IsProgr
 
 use sw_text::MAX_LENGTH;
 
-/// Every text is accepted or refused, and never both. A text has one list of breaches, each with the code of
-/// a text, one program and one graph; it has a graph exactly where it is accepted.
+/// Every text is accepted or refused, and never both. A text has one list of breaches, each with
+/// the code of a text, one program and one graph; it has a graph exactly where it is accepted.
 pub fn texts_have_one_verdict()
     ensures decided { (text : List ℕ) → Accepts text ⊎ Refuses all_phases text }
     ensures never_both { (text : List ℕ) → Accepts text → ¬ (Refuses all_phases text) }
-    ensures one_list { (phases : List Phase) (text : List ℕ) (a b : List Breach) → Breaches phases text a
+    ensures one_list { (phases : List Phase) (text : List ℕ) (a b : List Breach)
+        → Breaches phases text a
         → Breaches phases text b → a ≡ b }
-    ensures one_breach { (text : List ℕ) (list : List Breach) → Breaches all_phases text list → length list ≤ 1 }
-    ensures codes { (phases : List Phase) (text : List ℕ) (list : List Breach) → Breaches phases text list
+    ensures one_breach { (text : List ℕ) (list : List Breach) → Breaches all_phases text list
+        → length list ≤ 1 }
+    ensures codes { (phases : List Phase) (text : List ℕ) (list : List Breach)
+        → Breaches phases text list
         → AllByRecursion (λ breach. IsCode breach.code) list }
     ensures some_graph { (text : List ℕ) → Accepts text → (graph : Graph) × IsGraphOf text graph }
     ensures graph_accepted { (text : List ℕ) (graph : Graph) → IsGraphOf text graph → Accepts text }
-    ensures one_program { (text : List ℕ) (a b : Small) → IsProgram text a → IsProgram text b → a ≡ b }
-    ensures one_graph { (text : List ℕ) (a b : Graph) → IsGraphOf text a → IsGraphOf text b → a ≡ b }
+    ensures one_program { (text : List ℕ) (a b : Small) → IsProgram text a → IsProgram text b
+        → a ≡ b }
+    ensures one_graph { (text : List ℕ) (a b : Graph) → IsGraphOf text a → IsGraphOf text b
+        → a ≡ b }
     // The machine runs the graph of a text within the limit.
-    ensures runs { (text : List ℕ) (graph : Graph) → length text ≤ MAX_LENGTH → IsGraphOf text graph → IsRunnable graph }
+    ensures runs { (text : List ℕ) (graph : Graph) → length text ≤ MAX_LENGTH → IsGraphOf text graph
+        → IsRunnable graph }
 {}

@@ -4,7 +4,8 @@ ghost use Rattle.std.specs.Prelude.{◌≡◌, ◌≢◌, ◌≤◌, ℕ, List, 
 ghost use Rattle.sw_token.specs.Tokens.{IsTokens};
 ghost use Rattle.sw_token.specs.Spelling.{spelling_of};
 ghost use Rattle.sw_small.specs.Small.{Spells};
-ghost use Rattle.sw_verdict.specs.Phases.{Encoding, Entry, Lexis, SmallForm, Finds, breach_at, position_of, token_position, unexpected_token};
+ghost use Rattle.sw_verdict.specs.Phases.{Encoding, Entry, Lexis, SmallForm, Finds, breach_at};
+ghost use Rattle.sw_verdict.specs.Phases.{position_of, token_position, unexpected_token};
 ghost use Rattle.sw_verdict.specs.Found.{Found};
 
 use std::alloc::{AllocError, Global};
@@ -70,7 +71,8 @@ pub fn encoding(alloc: Global, text: &[u8]) -> Result<Source, Refusal>
 
 /// The refusal for a fault of the tokens.
 fn lexical_refusal(alloc: Global, fault: LexFault) -> Refusal
-    ensures { result ≢ Refusal.Memory → (fault ≢ LexFault.Memory) × (result ≡ Refusal.Breached (breach_at unexpected_token (position_of fault))) }
+    ensures { result ≢ Refusal.Memory → (fault ≢ LexFault.Memory)
+        × (result ≡ Refusal.Breached (breach_at unexpected_token (position_of fault))) }
 {
     match fault {
         LexFault::Unclosed { at }

@@ -1,6 +1,7 @@
 use Rattle.std.proofs.Common.{subst}
 use Rattle.sw_course.specs.Written.{Appended}
-use Rattle.sw_check.proofs.CallLemmas.{of_words, answer_says, answer_no_race, answer_exact, answer_breached, answer_accepted}
+use Rattle.sw_check.proofs.CallLemmas.{of_words, answer_says, answer_no_race, answer_exact}
+use Rattle.sw_check.proofs.CallLemmas.{answer_breached, answer_accepted}
 use Rattle.sw_check.proofs.ExitLemmas.{silent_written}
 use Rattle.sw_check.proofs.run_words.Goals as goal
 
@@ -8,24 +9,31 @@ pub returns-in-Ok-write_all-clause-silent : goal.returns-in-Ok-write_all-clause-
 returns-in-Ok-write_all-clause-silent g c silent =
     let a = c.in-Ok.ensures.answered in
     silent_written _ a.reads c.in-Ok.outcome _ _ a.reply
-    (subst (λ bytes. Appended bytes (g.K.Sink.written c.args.out.now) (g.K.Sink.written c.write_all.new.out)) c.as_slice.ensures c.in-Ok-write_all.ensures.whole) silent
+    (subst (λ bytes. Appended bytes (g.K.Sink.written c.args.out.now)
+    (g.K.Sink.written c.write_all.new.out)) c.as_slice.ensures c.in-Ok-write_all.ensures.whole)
+    silent
 
 pub returns-in-Ok-write_all-clause-says : goal.returns-in-Ok-write_all-clause-says
 returns-in-Ok-write_all-clause-says g c _ =
-    answer_says (of_words c.args.words.now.items c.deref.result.now c.deref.ensures.value c.in-Ok.ensures.answered)
+    answer_says (of_words c.args.words.now.items c.deref.result.now c.deref.ensures.value
+    c.in-Ok.ensures.answered)
 
 pub returns-in-Ok-write_all-clause-no_race : goal.returns-in-Ok-write_all-clause-no_race
 returns-in-Ok-write_all-clause-no_race g c known command is same all _ not_breached not_long =
-    answer_no_race (of_words c.args.words.now.items c.deref.result.now c.deref.ensures.value c.in-Ok.ensures.answered) known command is same all not_breached not_long
+    answer_no_race (of_words c.args.words.now.items c.deref.result.now c.deref.ensures.value
+    c.in-Ok.ensures.answered) known command is same all not_breached not_long
 
 pub returns-in-Ok-write_all-clause-exact : goal.returns-in-Ok-write_all-clause-exact
 returns-in-Ok-write_all-clause-exact g c known reads outcome is of_files reply _ =
-    answer_exact (of_words c.args.words.now.items c.deref.result.now c.deref.ensures.value c.in-Ok.ensures.answered) known reads outcome is of_files reply
+    answer_exact (of_words c.args.words.now.items c.deref.result.now c.deref.ensures.value
+    c.in-Ok.ensures.answered) known reads outcome is of_files reply
 
 pub returns-in-Ok-write_all-clause-breached : goal.returns-in-Ok-write_all-clause-breached
 returns-in-Ok-write_all-clause-breached g c known command is same short refused _ =
-    answer_breached (of_words c.args.words.now.items c.deref.result.now c.deref.ensures.value c.in-Ok.ensures.answered) known command is same short refused
+    answer_breached (of_words c.args.words.now.items c.deref.result.now c.deref.ensures.value
+    c.in-Ok.ensures.answered) known command is same short refused
 
 pub returns-in-Ok-write_all-clause-accepted : goal.returns-in-Ok-write_all-clause-accepted
 returns-in-Ok-write_all-clause-accepted g c known file is same short accepts _ =
-    answer_accepted (of_words c.args.words.now.items c.deref.result.now c.deref.ensures.value c.in-Ok.ensures.answered) known file is same short accepts
+    answer_accepted (of_words c.args.words.now.items c.deref.result.now c.deref.ensures.value
+    c.in-Ok.ensures.answered) known file is same short accepts

@@ -13,16 +13,22 @@ returns-in-Ok c = passes c.in-Ok.graph c.in-Ok.ensures.graph
 
 pub returns-in_ok-refusal-in-Err-Breached : goal.returns-in_ok-refusal-in-Err-Breached
 returns-in_ok-refusal-in-Err-Breached c =
-    judged_refused all_phases c.args.text.now c.in-Err-Breached.breaches _ (c.in_ok-refusal-in-Err-Breached.ensures ∙ ap (refusal c.args.text.now) c.as_slice.ensures)
-    (c.in-Err-Breached.ensures.breaches c.in-Err-Breached.breaches (ap Err c.in-Err-Breached.field-0-is))
+    judged_refused all_phases c.args.text.now c.in-Err-Breached.breaches _
+    (c.in_ok-refusal-in-Err-Breached.ensures ∙ ap (refusal c.args.text.now) c.as_slice.ensures)
+    (c.in-Err-Breached.ensures.breaches c.in-Err-Breached.breaches
+    (ap Err c.in-Err-Breached.field-0-is))
 
 pub refusal-requires-clause-some : goal.refusal-requires-clause-some
 refusal-requires-clause-some c =
-    let judges = c.in-Err-Breached.ensures.breaches c.in-Err-Breached.breaches (ap Err c.in-Err-Breached.field-0-is) in
-    subst (λ (list : List Breach). 0 < length list) (sym c.as_slice.ensures) (some_breach c.in-Err-Breached.breaches judges.0)
+    let judges = c.in-Err-Breached.ensures.breaches c.in-Err-Breached.breaches
+    (ap Err c.in-Err-Breached.field-0-is) in
+    subst (λ (list : List Breach). 0 < length list) (sym c.as_slice.ensures)
+    (some_breach c.in-Err-Breached.breaches judges.0)
 
 pub refusal-requires-clause-codes : goal.refusal-requires-clause-codes
 refusal-requires-clause-codes c =
-    let judges = c.in-Err-Breached.ensures.breaches c.in-Err-Breached.breaches (ap Err c.in-Err-Breached.field-0-is) in
-    subst (λ (list : List Breach). AllByRecursion (λ breach. IsCode breach.code) list) (sym c.as_slice.ensures)
+    let judges = c.in-Err-Breached.ensures.breaches c.in-Err-Breached.breaches
+    (ap Err c.in-Err-Breached.field-0-is) in
+    subst (λ (list : List Breach). AllByRecursion (λ breach. IsCode breach.code) list)
+    (sym c.as_slice.ensures)
     (have_codes all_phases c.args.text.now c.in-Err-Breached.breaches judges.1)

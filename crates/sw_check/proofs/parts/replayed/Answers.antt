@@ -2,4 +2,5 @@ use Rattle.sw_check.proofs.PartLemmas.{replay_answered}
 use Rattle.sw_check.proofs.parts.replayed.Goals as goal
 
 pub returns : goal.returns
-returns c = replay_answered c.args.text.now c.args.graph.now c.args.items.now c.in_ok-replay.replay _ c.in_ok-replay.ensures c.ending.ensures
+returns c = replay_answered c.args.text.now c.args.graph.now c.args.items.now c.in_ok-replay.replay
+    _ c.in_ok-replay.ensures c.ending.ensures

@@ -8,6 +8,9 @@ returns-in-Ok-clause-found c = is_utf8 c.in-Ok.ensures.utf8
 
 pub returns-in-Err-NotUtf8-clause-found : goal.returns-in-Err-NotUtf8-clause-found
 returns-in-Err-NotUtf8-clause-found c =
-    let why = (c.in-Err-NotUtf8.ensures.not_utf8 c.in-Err-NotUtf8.at).0 (ap Err c.in-Err-NotUtf8.field-0-is) in
-    found_breach (EncodingFinds c.args.text.now) unexpected_token c.in-Err-NotUtf8.at _ c.refused.ensures
-    (subst (λ at. EncodingFinds c.args.text.now (breach_at unexpected_token at)) (sym why.1) (not_utf8 why.0))
+    let why = (c.in-Err-NotUtf8.ensures.not_utf8 c.in-Err-NotUtf8.at).0
+    (ap Err c.in-Err-NotUtf8.field-0-is) in
+    found_breach (EncodingFinds c.args.text.now) unexpected_token c.in-Err-NotUtf8.at _
+    c.refused.ensures
+    (subst (λ at. EncodingFinds c.args.text.now (breach_at unexpected_token at)) (sym why.1)
+    (not_utf8 why.0))
