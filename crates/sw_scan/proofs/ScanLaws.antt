@@ -9,12 +9,12 @@ use Rattle.sw_scan.specs.Scan as scans
 use Rattle.sw_scan.specs.Reading.{StepOf, with_prefix, past_step, read, scan}
 use Rattle.sw_scan.proofs.Agreement.{StepHolds, Agrees}
 
-fewer_left : (front after : List ℕ) (turns : ℕ) → 0 < length front
-    → length (front ++ after) ≤ suc turns → length after ≤ turns
-fewer_left front after turns some few = omega (arith, length-append front after)
+fewer_left : (passed after : List ℕ) (turns : ℕ) → 0 < length passed
+    → length (passed ++ after) ≤ suc turns → length after ≤ turns
+fewer_left passed after turns some few = omega (arith, length-append passed after)
 
-none_left : (front after : List ℕ) → 0 < length front → length (front ++ after) ≤ zero → ⊥
-none_left front after some few = omega (arith, length-append front after)
+none_left : (passed after : List ℕ) → 0 < length passed → length (passed ++ after) ≤ zero → ⊥
+none_left passed after some few = omega (arith, length-append passed after)
 
 take_within : (n : ℕ) (bytes : List ℕ) → length (take n bytes) ≡ n → n ≤ length bytes
 take_within n bytes long = omega (

@@ -21,10 +21,10 @@ with_prefix-nil : {T F : Type 0} (outcome : Result (List T) F) → with_prefix [
 with_prefix-nil (Ok items) = refl
 with_prefix-nil (Err fault) = refl
 
-with_prefix-append : {T F : Type 0} (front more : List T) (outcome : Result (List T) F)
-    → with_prefix front (with_prefix more outcome) ≡ with_prefix (front ++ more) outcome
-with_prefix-append front more (Ok items) = ap Ok (sym (append_assoc front more items))
-with_prefix-append front more (Err fault) = refl
+with_prefix-append : {T F : Type 0} (passed more : List T) (outcome : Result (List T) F)
+    → with_prefix passed (with_prefix more outcome) ≡ with_prefix (passed ++ more) outcome
+with_prefix-append passed more (Ok items) = ap Ok (sym (append_assoc passed more items))
+with_prefix-append passed more (Err fault) = refl
 
 module _ {B T F : Type 0} {form : Form B T F} {IsSound : List ℕ → Type 0} {step : StepOf B F}
     (agrees : Agrees form IsSound step) where

@@ -67,7 +67,7 @@ impl Piece {
         Ok(())
     }
 
-    /// Lowers a task, and its body behind the bodies before it.
+    /// Lowers a task, and its body after the bodies before it.
     fn task(
         &mut self,
         alloc: Global,
