@@ -13,12 +13,18 @@ pub record IsStep (x y site : ℕ) (before after : Regions) : Type 0 where
   pub is_joined : IsJoined x y copied joined
   pub is_given : IsGiven x site joined after
 
-pub step_monotone : (x y site : ℕ) (a b c d : Regions) → IsWithin a b → IsStep x y site a c → IsStep x y site b d → IsWithin c d
+pub step_monotone : (x y site : ℕ) (a b c d : Regions) → IsWithin a b → IsStep x y site a c
+    → IsStep x y site b d → IsWithin c d
 step_monotone x y site a b c d below first second =
-    let copies : IsWithin first.copied second.copied = within_trans first.copied a second.copied (same_within a first.copied first.is_copy).1 (within_trans a b second.copied below (same_within b second.copied second.is_copy).0) in
-    give_monotone x site first.joined second.joined c d (join_monotone x y first.copied second.copied first.joined second.joined copies first.is_joined second.is_joined) first.is_given second.is_given
+    let copies : IsWithin first.copied second.copied =
+    within_trans first.copied a second.copied (same_within a first.copied first.is_copy).1
+    (within_trans a b second.copied below (same_within b second.copied second.is_copy).0) in
+    give_monotone x site first.joined second.joined c d
+    (join_monotone x y first.copied second.copied first.joined second.joined copies
+    first.is_joined second.is_joined) first.is_given second.is_given
 
-pub blank_within : (elements : ℕ) (sites : List ℕ) (a b : Regions) → IsBlank elements sites a → IsBlank elements sites b → IsWithin a b
+pub blank_within : (elements : ℕ) (sites : List ℕ) (a b : Regions) → IsBlank elements sites a
+    → IsBlank elements sites b → IsWithin a b
 blank_within elements sites a b first second = record {
   together = λ x y t. (second.alone x y).1 ((first.alone x y).0 t);
   pairs = λ x site has. absurd (first.no_pairs x site has);

@@ -31,7 +31,8 @@ pub struct Counted<'a> {
 impl<'a> Lattice for Counted<'a> {
     ghost use Rattle.sw_partition.specs.Regions.{size_of, IsWithin, IsSameState};
     ghost use Rattle.sw_partition.specs.Rank.{rank_of, height_of};
-    ghost use Rattle.sw_partition.specs.Laws.{within_refl, within_trans, within_both, same_within, rank_rises, rank_bound};
+    ghost use Rattle.sw_partition.specs.Laws.{within_refl, within_trans, within_both, same_within};
+    ghost use Rattle.sw_partition.specs.Laws.{rank_rises, rank_bound};
 
     ghost size = { λ a. size_of a.state };
 
@@ -83,7 +84,8 @@ pub struct Graph<'a> {
 }
 
 impl<'a> Flow for Graph<'a> {
-    ghost use Rattle.std.specs.Prelude.{◌≡◌, ◌+◌, ◌*◌, ◌%◌, ◌&&◌, nat_lt, if◌then◌else◌, [], ◌∷◌, ◌++◌, slice_index};
+    ghost use Rattle.std.specs.Prelude.{◌≡◌, ◌+◌, ◌*◌, ◌%◌, ◌&&◌, nat_lt, if◌then◌else◌, [], ◌∷◌};
+    ghost use Rattle.std.specs.Prelude.{◌++◌, slice_index};
     ghost use Rattle.sw_partition.specs.Effects.{IsBlank};
     ghost use Rattle.sw_partition.specs.Laws.{within_trans};
     ghost use Rattle.bench_solve.specs.Bench.{IsStep, step_monotone, blank_within};

@@ -1,5 +1,6 @@
 -- A search through rows of any type, and the search through their codes and texts.
-use Rattle.std.proofs.Common.{◌≡◌, ◌==◌, ℕ, Bool, true, false, cond, List, [], ◌∷◌, Option, Some, None, IsSome, find, map, option_map, refl}
+use Rattle.std.proofs.Common.{◌≡◌, ◌==◌, ℕ, Bool, true, false, cond, List, [], ◌∷◌, Option, Some}
+use Rattle.std.proofs.Common.{None, IsSome, find, map, option_map, refl}
 use Rattle.sw_breach.specs.Codes.{text_in}
 
 pub text_in-map : {Row : Type 0} (rows : List Row) (number : Row → ℕ) (text : Row → List ℕ)

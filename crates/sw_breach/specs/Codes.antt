@@ -1,5 +1,6 @@
 -- The codes of breaches, and their texts.
-use Rattle.std.specs.Prelude.{ℕ, ◌==◌, List, [], ◌∷◌, Option, Some, None, IsSome, codes, if◌then◌else◌}
+use Rattle.std.specs.Prelude.{ℕ, ◌==◌, List, [], ◌∷◌, Option, Some, None, IsSome, codes}
+use Rattle.std.specs.Prelude.{if◌then◌else◌}
 
 -- the text of each code
 unfoldable pub texts : List (ℕ × List ℕ)

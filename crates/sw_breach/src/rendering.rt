@@ -1,7 +1,8 @@
 ghost use Rattle.std.specs.Prelude.{◌≡◌, ◌++◌, ◌<◌, length, IfOk, OnOk, string_bytes};
 ghost use Rattle.std.specs.List.{AllByRecursion};
 ghost use Rattle.sw_breach.specs.Codes.{IsCode};
-ghost use Rattle.sw_breach.specs.Lines.{breach_line, count_line, note_line, note_lines, shown_note, verdict_text};
+ghost use Rattle.sw_breach.specs.Lines.{breach_line, count_line, note_line, note_lines, shown_note};
+ghost use Rattle.sw_breach.specs.Lines.{verdict_text};
 
 use crate::Breach;
 use crate::codes::text_of;

@@ -1,5 +1,7 @@
 -- The index of a file by its name, and the files after one was added.
-use Rattle.std.proofs.Common.{◌≡◌, ◌≢◌, ℕ, ◌<◌, ◌≤◌, ◌⊎◌, inl, inr, Bool, true, false, cond, ltb, List, [], ◌∷◌, ◌++◌, length, get_or, Option, Some, None, IfSome, IfNone, refl, sym, ap, ◌∙◌, set, arith}
+use Rattle.std.proofs.Common.{◌≡◌, ◌≢◌, ℕ, ◌<◌, ◌≤◌, ◌⊎◌, inl, inr, Bool, true, false, cond, ltb}
+use Rattle.std.proofs.Common.{List, [], ◌∷◌, ◌++◌, length, get_or, Option, Some, None, IfSome}
+use Rattle.std.proofs.Common.{IfNone, refl, sym, ap, ◌∙◌, set, arith}
 use Rattle.std.proofs.lemmas.Bool.Decides.{nat_tests}
 use Rattle.std.proofs.lemmas.Slice.Eq.{bytes_eq-Decides}
 use Rattle.std.specs.Str.{bytes_eq}
@@ -22,7 +24,8 @@ find_file-there (file ∷ files) name d h =
       by : (b : Bool) → bytes_eq file.0 name ≡ b
           → (index files name < length files
           → find_file files name ≡ Some (get_or files (index files name) d).1)
-          → find_file (file ∷ files) name ≡ Some (get_or (file ∷ files) (index (file ∷ files) name) d).1
+          → find_file (file ∷ files) name ≡ Some
+          (get_or (file ∷ files) (index (file ∷ files) name) d).1
       by true e rest = rw e refl
       by false e rest = let k = rw e at h in rw e (rw one-add (rest (omega arith)))
 
@@ -65,10 +68,12 @@ with_file-missing [] name bytes h = refl
 with_file-missing (file ∷ files) name bytes h =
     by (bytes_eq file.0 name) refl (with_file-missing files name bytes) where
       by : (b : Bool) → bytes_eq file.0 name ≡ b
-          → (length files ≤ index files name → with_file name bytes files ≡ files ++ (name, bytes) ∷ [])
+          → (length files ≤ index files name → with_file name bytes files ≡ files
+          ++ (name, bytes) ∷ [])
           → with_file name bytes (file ∷ files) ≡ (file ∷ files) ++ (name, bytes) ∷ []
       by true e rest = let k = rw e at h in absurd (omega arith)
-      by false e rest = let k = rw e at h in rw e (ap (λ (l : Files). file ∷ l) (rest (omega arith)))
+      by false e rest = let k = rw e at h in
+          rw e (ap (λ (l : Files). file ∷ l) (rest (omega arith)))
 
 -- the result of a search by a test
 searched : (o : Option ℕ) (n m : ℕ) → o ≡ cond (ltb n m) (Some n) None

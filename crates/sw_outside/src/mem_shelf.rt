@@ -1,4 +1,6 @@
-ghost use Rattle.std.specs.Prelude.{◌≡◌, ◌≢◌, List, ℕ, Some, None, [], ◌∷◌, ◌++◌, ◌<◌, ◌≤◌, length, slice_index_or, slice_set, position, IfSome, IfNone, IfOk, OnOk, OnErr, IsErrOf, IsTrue};
+ghost use Rattle.std.specs.Prelude.{◌≡◌, ◌≢◌, List, ℕ, Some, None, [], ◌∷◌, ◌++◌, ◌<◌, ◌≤◌, length};
+ghost use Rattle.std.specs.Prelude.{slice_index_or, slice_set, position, IfSome, IfNone, IfOk};
+ghost use Rattle.std.specs.Prelude.{OnOk, OnErr, IsErrOf, IsTrue};
 ghost use Rattle.std.specs.Str.{bytes_eq};
 ghost use Rattle.sw_outside.specs.MemShelf.{ShelfState, fails_at, after_fetch};
 ghost use Rattle.sw_outside.specs.Rise.{Rose, raised};

@@ -1,4 +1,5 @@
-ghost use Rattle.std.specs.Prelude.{◌≡◌, Some, [], ◌++◌, ◌<◌, ◌≤◌, ◌↔◌, length, take, IsTrue, IsErr, IfOk, OnOk, OnErr};
+ghost use Rattle.std.specs.Prelude.{◌≡◌, Some, [], ◌++◌, ◌<◌, ◌≤◌, ◌↔◌, length, take, IsTrue};
+ghost use Rattle.std.specs.Prelude.{IsErr, IfOk, OnOk, OnErr};
 ghost use Rattle.sw_outside.specs.MemSink.{SinkState, put_fails, part_of};
 ghost use Rattle.sw_outside.specs.Rise.{Rose, raised};
 

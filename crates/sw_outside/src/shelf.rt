@@ -1,4 +1,5 @@
-ghost use Rattle.std.specs.Prelude.{◌≡◌, ℕ, Option, ◌<◌, ◌≤◌, length, option_map, IfOk, OnOk, IfSome, IfNone, IsErrOf};
+ghost use Rattle.std.specs.Prelude.{◌≡◌, ℕ, Option, ◌<◌, ◌≤◌, length, option_map, IfOk, OnOk};
+ghost use Rattle.std.specs.Prelude.{IfSome, IfNone, IsErrOf};
 ghost use Rattle.sw_outside.specs.declared.shelf.FetchFault.TheVariants.{Memory};
 ghost use Rattle.sw_outside.specs.Rise.{Rose};
 ghost use Rattle.sw_outside.specs.Shelf.{Known, file_of, with_request};

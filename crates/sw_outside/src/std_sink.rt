@@ -1,4 +1,5 @@
-ghost use Rattle.std.specs.Prelude.{◌≡◌, ℕ, ◌<◌, ◌≤◌, length, IfOk, OnOk, OnErr, option_map, ◌++◌, take};
+ghost use Rattle.std.specs.Prelude.{◌≡◌, ℕ, ◌<◌, ◌≤◌, length, IfOk, OnOk, OnErr, option_map, ◌++◌};
+ghost use Rattle.std.specs.Prelude.{take};
 ghost use Rattle.sw_outside.specs.Rise.{Rose, raised};
 ghost use Rattle.sw_outside.specs.Sink.{unknown};
 

@@ -486,6 +486,7 @@ uniting_ends old other now new x x_is other_length old_labels other_labels apart
           (record {
             each = λ p lt. back.each p (slice_index other p)
                 (omega (arith, lt, new_length, other_length))
-                (omega (arith, other_labels.within p lt, new_length, other_length)) (takes.each p lt);
+                (omega (arith, other_labels.within p lt, new_length, other_length))
+                (takes.each p lt);
           });
     }

@@ -85,7 +85,8 @@ union_least old other new rose filled size u z z_size above_old above_other =
                 (pair_stays x site new old (sym u.united.length_same) (sym u.sites) has was)
             | inr came ↦ above_other.pairs x site
                 (pair_stays x site new other (sym (labels_of_size old other size)
-                ∙ sym u.united.length_same) (sym (sites_of_size old other size) ∙ sym u.sites) has came)
+                ∙ sym u.united.length_same) (sym (sites_of_size old other size)
+                ∙ sym u.sites) has came)
           ];
     }
 

@@ -12,8 +12,8 @@ StepHolds form at before bytes (Ok End) = bytes ≡ []
 StepHolds form at before bytes (Ok (Skip n)) = form.IsPiece (take n bytes) (drop n bytes)
 StepHolds form at before bytes (Ok (Take n)) = form.IsItem before (take n bytes) (drop n bytes)
 
--- The function finds what the form says, at any bytes, and at bytes that are sound, as UTF-8 may be,
--- nothing else.
+-- The function finds what the form says, at any bytes, and at bytes that are sound, as UTF-8 may
+-- be, nothing else.
 pub record Agrees {B T F : Type 0} (form : Form B T F) (IsSound : List ℕ → Type 0)
     (step : StepOf B F) : Type 0 where
   pub ends : (at : ℕ) (before : B) → step at before [] ≡ Ok End

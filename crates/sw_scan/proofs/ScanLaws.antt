@@ -1,6 +1,8 @@
 -- Where a form and a function agree at each step they agree on whole texts: so a text has one list
 -- of items, or one first fault, and never both.
-use Rattle.std.proofs.Common.{◌≡◌, ℕ, zero, suc, ◌+◌, ◌<◌, ◌≤◌, List, [], ◌∷◌, ◌++◌, length, take, drop, Result, Ok, Err, refl, ap, ◌⊎◌, inl, inr, arith, length-append, length-drop}
+use Rattle.std.proofs.Common.{◌≡◌, ℕ, zero, suc, ◌+◌, ◌<◌, ◌≤◌, List, [], ◌∷◌, ◌++◌, length, take}
+use Rattle.std.proofs.Common.{drop, Result, Ok, Err, refl, ap, ◌⊎◌, inl, inr, arith, length-append}
+use Rattle.std.proofs.Common.{length-drop}
 use Rattle.std.proofs.lemmas.List.{take-append-drop, take_at, drop_at}
 use Rattle.sw_scan.specs.declared.Step.{Step}
 use Rattle.sw_scan.specs.declared.Step.TheVariants.{End, Skip, Take}

@@ -1,6 +1,8 @@
 -- The turns of a loop that scans a text: it has taken some items, and the scan of the rest gives
 -- what is left.
-use Rattle.std.proofs.Common.{◌≡◌, ℕ, ◌+◌, ◌<◌, ◌≤◌, List, [], ◌∷◌, ◌++◌, length, take, drop, Result, Ok, Err, refl, sym, ap, ◌∙◌, ◌⊎◌, inl, inr, arith, length-drop}
+use Rattle.std.proofs.Common.{◌≡◌, ℕ, ◌+◌, ◌<◌, ◌≤◌, List, [], ◌∷◌, ◌++◌, length, take, drop}
+use Rattle.std.proofs.Common.{Result, Ok, Err, refl, sym, ap, ◌∙◌, ◌⊎◌, inl, inr, arith}
+use Rattle.std.proofs.Common.{length-drop}
 use Rattle.std.proofs.lemmas.List.{append-nil, append_assoc, drop-drop}
 use Rattle.sw_scan.specs.declared.Step.{Step}
 use Rattle.sw_scan.specs.declared.Step.TheVariants.{End, Skip, Take}
@@ -44,7 +46,8 @@ module _ {B T F : Type 0} {form : Form B T F} {IsSound : List ℕ → Type 0} {s
         ≡ outcome
     goes found e =
         let step_is = scan-step agrees at before (drop at text) is.sound in
-        let past = λ (o : Result Step F). past_step form o (scan form step) at before (drop at text) in
+        let past = λ (o : Result Step F). past_step form o (scan form step) at before
+        (drop at text) in
         ap (λ o. with_prefix items (past o)) (sym e)
         ∙ (ap (with_prefix items) (sym step_is) ∙ is.gives)
 
@@ -56,7 +59,8 @@ module _ {B T F : Type 0} {form : Form B T F} {IsSound : List ℕ → Type 0} {s
 
     -- the piece or the item lies inside the text
     pub ahead : (n : ℕ)
-        → (step at before (drop at text) ≡ Ok (Skip n)) ⊎ (step at before (drop at text) ≡ Ok (Take n))
+        → (step at before (drop at text) ≡ Ok (Skip n))
+        ⊎ (step at before (drop at text) ≡ Ok (Take n))
         → (0 < n) × (at + n ≤ length text) × IsSound (drop (at + n) text)
     ahead n e =
         let found = step_ahead agrees at before (drop at text) is.sound n e in

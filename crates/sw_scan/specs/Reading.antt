@@ -1,5 +1,6 @@
 -- The scan as a function. It asks a function `step` what stands at an offset, and goes on past it.
-use Rattle.std.specs.Prelude.{ℕ, zero, suc, ◌+◌, List, [], ◌∷◌, ◌++◌, length, take, drop, Result, Ok, Err}
+use Rattle.std.specs.Prelude.{ℕ, zero, suc, ◌+◌, List, [], ◌∷◌, ◌++◌, length, take, drop, Result}
+use Rattle.std.specs.Prelude.{Ok, Err}
 use Rattle.sw_scan.specs.declared.Step.{Step}
 use Rattle.sw_scan.specs.declared.Step.TheVariants.{End, Skip, Take}
 use Rattle.sw_scan.specs.Scan.{Form}

@@ -1,7 +1,8 @@
-//! One scan of a whole text: some pieces of it are skipped, others are items, and where neither stands the text has its
-//! first fault. Here are the definitions, the scan as a function, and the laws that both agree and that a text is scanned
-//! in one way. A crate that has a form of texts, as tokens or schedules, says what its pieces, items and faults are, and
-//! writes the loop. Nothing here knows of a particular form.
+//! One scan of a whole text: some pieces of it are skipped, others are items, and where neither
+//! stands the text has its first fault. Here are the definitions, the scan as a function, and the
+//! laws that both agree and that a text is scanned in one way. A crate that has a form of texts, as
+//! tokens or schedules, says what its pieces, items and faults are, and writes the loop. Nothing
+//! here knows of a particular form.
 #![tactic(auto)]
 
 /// What stands at one offset of a text that has no fault there. Lengths are in bytes.

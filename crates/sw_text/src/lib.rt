@@ -2,7 +2,8 @@
 //! positions. The crate knows bytes and characters, and nothing of tokens or of the language.
 #![tactic(auto)]
 
-ghost use Rattle.std.specs.Prelude.{ℕ, ◌≡◌, ◌≤◌, ◌<◌, ◌↔◌, length, slice_range, OnOk, IfOk, IsErrOf};
+ghost use Rattle.std.specs.Prelude.{ℕ, ◌≡◌, ◌≤◌, ◌<◌, ◌↔◌, length, slice_range, OnOk, IfOk};
+ghost use Rattle.std.specs.Prelude.{IsErrOf};
 ghost use Rattle.std.specs.Str.{IsUtf8, IsValidUpTo, IsCharBoundary};
 ghost use Rattle.std.specs.Str.Lossy.{utf8_valid_len};
 ghost use Rattle.sw_text.specs.Text.{line_of, column_of};

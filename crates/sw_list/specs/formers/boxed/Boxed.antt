@@ -1,5 +1,5 @@
--- How a `Boxed` stores its value, so that a type may hold itself through it: its value is the one that the
--- `Box` in its one field points to.
+-- How a `Boxed` stores its value, so that a type may hold itself through it: its value is the one
+-- that the `Box` in its one field points to.
 use mathlib.Core.Path.{refl}
 use mathlib.Core.Former.{Former, this, const, pair, via}
 use base.Stored.{gnil}
@@ -31,8 +31,10 @@ the_weighed weight = weight
 
 -- the fields: a `Box`, which is a pointer and an allocator beside the value
 abbrev fields : Former {0}
-fields = via (pair (const (Ptr × Global)) this) Inside (λ X f. ((f.inner.ptr, f.inner.alloc), f.inner.value))
-    (λ X v. record { inner = record { ptr = v.0.0; alloc = v.0.1; value = v.1 } }) (λ X f. refl) (λ X v. refl)
+fields = via (pair (const (Ptr × Global)) this) Inside
+    (λ X f. ((f.inner.ptr, f.inner.alloc), f.inner.value))
+    (λ X v. record { inner = record { ptr = v.0.0; alloc = v.0.1; value = v.1 } }) (λ X f. refl)
+    (λ X v. refl)
 
 abbrev holding : {X Y : Type 0} → Box X Global → Y → Box Y Global
 holding b y = record { ptr = b.ptr; alloc = b.alloc; value = y }
@@ -44,16 +46,26 @@ module _ (R S : RattleType) (h : R.Denot → S.Denot) where
   box_places : Alike R S h → Alike (box_of R) (box_of S) (λ b. holding b (h b.value))
   unfolding part_of
   box_places alike = record {
-    mir_same = λ i. (box_of (one_value R (alike.mir_same i) (λ _. ftrue) (λ _ _. nothing) gnil)).mir;
-    own_same = λ b i. (box_of (one_value R (alike.mir_same i) (alike.own_same b.value i) (alike.shr_same b.value i) gnil)).own_val (holding b tt);
-    shr_same = λ b i. (box_of (one_value R (alike.mir_same i) (alike.own_same b.value i) (alike.shr_same b.value i) gnil)).shr_at (holding b tt);
+    mir_same = λ i. (box_of (one_value R (alike.mir_same i) (λ _. ftrue)
+        (λ _ _. nothing) gnil)).mir;
+    own_same = λ b i. (box_of
+        (one_value R (alike.mir_same i) (alike.own_same b.value i)
+        (alike.shr_same b.value i) gnil)).own_val (holding b tt);
+    shr_same = λ b i. (box_of
+        (one_value R (alike.mir_same i) (alike.own_same b.value i)
+        (alike.shr_same b.value i) gnil)).shr_at (holding b tt);
   }
 
-  pub the_places : Alike R S h → Alike (contract.the_row R) (contract.the_row S) ((the_former this).map R.Denot S.Denot h)
-  the_places alike = view_places fields this view (λ X Y k u. refl) (λ X u. refl) R.Denot S.Denot h (contract.the_row R).coded (contract.the_row S).coded
-      (invariant R.Denot) (invariant S.Denot) (λ u p q. refl) (λ u p q. refl) (λ u e. tt) (λ u e. tt)
+  pub the_places : Alike R S h
+      → Alike (contract.the_row R) (contract.the_row S) ((the_former this).map R.Denot S.Denot h)
+  the_places alike = view_places fields this view (λ X Y k u. refl) (λ X u. refl) R.Denot S.Denot h
+      (contract.the_row R).coded (contract.the_row S).coded
+      (invariant R.Denot) (invariant S.Denot) (λ u p q. refl) (λ u p q. refl) (λ u e. tt)
+      (λ u e. tt)
       (over (inside.the_row R)) (over (inside.the_row S))
-      (struct_places (inside.the_type R) (inside.the_type S) ((λ b. holding b (h b.value)), tt) _ (λ d. refl) refl (laid _ _ _ (box_places alike), tt))
+      (struct_places (inside.the_type R) (inside.the_type S) ((λ b. holding b (h b.value)), tt) _
+      (λ d. refl) refl (laid _ _ _ (box_places alike), tt))
 
-  pub the_codes_placed : Recodes R S h → Recodes (contract.the_row R) (contract.the_row S) ((the_former this).map R.Denot S.Denot h)
+  pub the_codes_placed : Recodes R S h
+      → Recodes (contract.the_row R) (contract.the_row S) ((the_former this).map R.Denot S.Denot h)
   the_codes_placed same value = same value

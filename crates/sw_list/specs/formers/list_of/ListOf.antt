@@ -1,5 +1,5 @@
--- How a `ListOf` stores its items, so that a type may hold lists of itself: its value is the list alone,
--- and its one field is a `Vec`, whose own file in std says where the items lie.
+-- How a `ListOf` stores its items, so that a type may hold lists of itself: its value is the list
+-- alone, and its one field is a `Vec`, whose own file in std says where the items lie.
 use mathlib.Core.Path.{◌≡◌, refl, sym}
 use mathlib.Core.List.{List, []}
 use mathlib.Core.Former.{Former, this, list, via, children}
@@ -32,19 +32,26 @@ the_empty = []
 abbrev pub the_items : (X : Type 0) → List X → List X
 the_items X items = items
 
-pub the_items_listed : (X : Type 0) (items : List X) → listed _ (children (the_former this) X items) ≡ the_items X items
+pub the_items_listed : (X : Type 0) (items : List X)
+    → listed _ (children (the_former this) X items) ≡ the_items X items
 the_items_listed X items = list-listed X items
 
 -- the fields: a `Vec` of the items
 abbrev fields : Former {0}
-fields = via (vec.the_former this Global) Inside (λ X f. f.items) (λ X v. record { items = v }) (λ X f. refl) (λ X v. refl)
+fields = via (vec.the_former this Global) Inside (λ X f. f.items) (λ X v. record { items = v })
+    (λ X f. refl) (λ X v. refl)
 
 module _ (R S : RattleType) (h : R.Denot → S.Denot) where
-  pub the_places : Alike R S h → Alike (contract.the_row R) (contract.the_row S) ((the_former this).map R.Denot S.Denot h)
-  the_places alike = view_places fields (list this) view (λ X Y k u. refl) (λ X u. refl) R.Denot S.Denot h (contract.the_row R).coded (contract.the_row S).coded
-      (invariant R.Denot) (invariant S.Denot) (λ u p q. refl) (λ u p q. refl) (λ u e. tt) (λ u e. tt)
+  pub the_places : Alike R S h
+      → Alike (contract.the_row R) (contract.the_row S) ((the_former this).map R.Denot S.Denot h)
+  the_places alike = view_places fields (list this) view (λ X Y k u. refl)
+      (λ X u. refl) R.Denot S.Denot h (contract.the_row R).coded (contract.the_row S).coded
+      (invariant R.Denot) (invariant S.Denot) (λ u p q. refl) (λ u p q. refl) (λ u e. tt)
+      (λ u e. tt)
       (over (inside.the_row R)) (over (inside.the_row S))
-      (struct_places (inside.the_type R) (inside.the_type S) (vec.mapped h, tt) _ (λ d. refl) refl (laid _ _ _ (vec.the_places global.the_row ghosts R S h alike), tt))
+      (struct_places (inside.the_type R) (inside.the_type S) (vec.mapped h, tt) _ (λ d. refl) refl
+      (laid _ _ _ (vec.the_places global.the_row ghosts R S h alike), tt))
 
-  pub the_codes_placed : Recodes R S h → Recodes (contract.the_row R) (contract.the_row S) ((the_former this).map R.Denot S.Denot h)
+  pub the_codes_placed : Recodes R S h
+      → Recodes (contract.the_row R) (contract.the_row S) ((the_former this).map R.Denot S.Denot h)
   the_codes_placed same items = sym (code_map R.coded.code S.coded.code h (λ x. sym (same x)) items)

@@ -1,4 +1,5 @@
-use Rattle.sw_outside.proofs.FileLemmas.{find_file-found, find_file-not_found, with_file-found, with_file-not_found}
+use Rattle.sw_outside.proofs.FileLemmas.{find_file-found, find_file-not_found, with_file-found}
+use Rattle.sw_outside.proofs.FileLemmas.{with_file-not_found}
 use Rattle.sw_outside.proofs.mem_shelf.index_of.Goals as goal
 
 pub returns-clause-found : goal.returns-clause-found
