@@ -22,19 +22,24 @@ pub stopped : {A : Type 0} (answer : Answer A) (stop : Stop) (count : ℕ) (left
     → stop ≡ stops.Unexpected count → answer ≡ Err (unexpected count) → Gives answer (Err stop) left
 stopped answer stop count left is e = subst (λ s. Gives answer (Err s) left) (sym is) e
 
-pub next_refuses : {A : Type 0} (t : Terminal A) (ts : List Spelled) → starts t.set (head ts) ≡ false → next t ts ≡ Err (unexpected (length ts))
+pub next_refuses : {A : Type 0} (t : Terminal A) (ts : List Spelled)
+    → starts t.set (head ts) ≡ false → next t ts ≡ Err (unexpected (length ts))
 next_refuses t [] h = refl
 next_refuses t (token ∷ ts) h = ap (λ b. take_if b (t.value token) ts) h
 
 -- of a token whose value is its position
-pub next_takes : (set : Set) (text : List ℕ) (fixity : Fixity) (ts : List Spelled) (at : ℕ) (left : List Spelled)
+pub next_takes : (set : Set) (text : List ℕ) (fixity : Fixity) (ts : List Spelled) (at : ℕ)
+    (left : List Spelled)
     → starts set (head ts) ≡ true → Takes ts at left
-    → next (record { set = set; value = λ token. token.at; text = text; fixity = fixity }) ts ≡ Ok (at, left)
+    → next (record { set = set; value = λ token. token.at; text = text; fixity = fixity }) ts ≡ Ok
+    (at, left)
 next_takes set text fixity [] at left h takes = absurd takes
 next_takes set text fixity (token ∷ ts) at left h takes =
-    ap (λ b. take_if b token.at ts) h ∙ (ap (λ us. Ok (token.at, us)) (sym takes.1) ∙ ap (λ n. Ok (n, left)) (sym takes.0))
+    ap (λ b. take_if b token.at ts) h
+    ∙ (ap (λ us. Ok (token.at, us)) (sym takes.1) ∙ ap (λ n. Ok (n, left)) (sym takes.0))
 
-pub sees_quoted : (text : List ℕ) (token : Option Spelled) → is_quoted text ≡ true → has_text text token ≡ starts (quoted text) token
+pub sees_quoted : (text : List ℕ) (token : Option Spelled) → is_quoted text ≡ true
+    → has_text text token ≡ starts (quoted text) token
 sees_quoted text None h = refl
 sees_quoted text (Some token) h = sym (has-quoted text token h)
 
@@ -42,28 +47,36 @@ pub starts_word : (token : Option Spelled) → names token ≡ starts word token
 starts_word None = refl
 starts_word (Some token) = sym (has-word token)
 
-first_line : (set : Set) (token : Option Spelled) → is_first_on_line token ≡ true → starts (not_first set) token ≡ false
+first_line : (set : Set) (token : Option Spelled) → is_first_on_line token ≡ true
+    → starts (not_first set) token ≡ false
 first_line set None h = refl
-first_line set (Some token) h = has-not_first_is set token ∙ (ap (λ b. has set token && not b) h ∙ never (has set token))
+first_line set (Some token) h = has-not_first_is set token
+    ∙ (ap (λ b. has set token && not b) h ∙ never (has set token))
   where
     never : (b : Bool) → (b && false) ≡ false
     never true = refl
     never false = refl
 
-within_line : (set : Set) (token : Option Spelled) → is_first_on_line token ≡ false → starts (not_first set) token ≡ starts set token
+within_line : (set : Set) (token : Option Spelled) → is_first_on_line token ≡ false
+    → starts (not_first set) token ≡ starts set token
 within_line set None h = refl
-within_line set (Some token) h = has-not_first_is set token ∙ (ap (λ b. has set token && not b) h ∙ same (has set token))
+within_line set (Some token) h = has-not_first_is set token
+    ∙ (ap (λ b. has set token && not b) h ∙ same (has set token))
   where
     same : (b : Bool) → (b && true) ≡ b
     same true = refl
     same false = refl
 
-pub on_line_refuses : (text : List ℕ) (ts : List Spelled) → is_first_on_line (head ts) ≡ true → next (quote_on_line text) ts ≡ Err (unexpected (length ts))
-on_line_refuses text ts h = next_refuses (quote_on_line text) ts (first_line (quoted text) (head ts) h)
+pub on_line_refuses : (text : List ℕ) (ts : List Spelled) → is_first_on_line (head ts) ≡ true
+    → next (quote_on_line text) ts ≡ Err (unexpected (length ts))
+on_line_refuses text ts h =
+    next_refuses (quote_on_line text) ts (first_line (quoted text) (head ts) h)
 
-pub on_line_is : (text : List ℕ) (ts : List Spelled) → is_first_on_line (head ts) ≡ false → next (quote_on_line text) ts ≡ next (quote text) ts
+pub on_line_is : (text : List ℕ) (ts : List Spelled) → is_first_on_line (head ts) ≡ false
+    → next (quote_on_line text) ts ≡ next (quote text) ts
 on_line_is text [] h = refl
-on_line_is text (token ∷ ts) h = ap (λ b. take_if b token.at ts) (within_line (quoted text) (Some token) h)
+on_line_is text (token ∷ ts) h =
+    ap (λ b. take_if b token.at ts) (within_line (quoted text) (Some token) h)
 
 integer_or_none : (kind : Kind) → value_if kind ≡ None → is_integer kind ≡ false
 integer_or_none kinds.Word h = refl
@@ -74,7 +87,8 @@ integer_or_none (kinds.Int _) h = absurd (cc)
 integer_or_none (kinds.Op _) h = refl
 integer_or_none (kinds.Mark _) h = refl
 
-integer_value : (kind : Kind) (value : ℤ) → value_if kind ≡ Some value → (is_integer kind ≡ true) × (int_value kind ≡ value)
+integer_value : (kind : Kind) (value : ℤ) → value_if kind ≡ Some value → (is_integer kind ≡ true)
+    × (int_value kind ≡ value)
 integer_value kinds.Word value h = absurd (cc)
 integer_value kinds.Underscore value h = absurd (cc)
 integer_value (kinds.Key _) value h = absurd (cc)
@@ -83,24 +97,33 @@ integer_value (kinds.Int _) value h = (refl, cc)
 integer_value (kinds.Op _) value h = absurd (cc)
 integer_value (kinds.Mark _) value h = absurd (cc)
 
-pub integer_refuses : (ts : List Spelled) → literal (head ts) ≡ None → next an_integer ts ≡ Err (unexpected (length ts))
+pub integer_refuses : (ts : List Spelled) → literal (head ts) ≡ None
+    → next an_integer ts ≡ Err (unexpected (length ts))
 integer_refuses [] h = refl
-integer_refuses (token ∷ ts) h = next_refuses an_integer (token ∷ ts) (has-integer token ∙ integer_or_none (kind_of token.text) h)
+integer_refuses (token ∷ ts) h =
+    next_refuses an_integer (token ∷ ts)
+    (has-integer token ∙ integer_or_none (kind_of token.text) h)
 
-pub integer_takes : (value : ℤ) (ts : List Spelled) (at : ℕ) (left : List Spelled) → literal (head ts) ≡ Some value → Takes ts at left
+pub integer_takes : (value : ℤ) (ts : List Spelled) (at : ℕ) (left : List Spelled)
+    → literal (head ts) ≡ Some value → Takes ts at left
     → next an_integer ts ≡ Ok ((at, value), left)
 integer_takes value [] at left h takes = absurd takes
 integer_takes value (token ∷ ts) at left h takes =
     let is = integer_value (kind_of token.text) value h in
     ap (λ b. take_if b (token.at, int_value (kind_of token.text)) ts) (has-integer token ∙ is.0)
     ∙ (ap (λ v. Ok ((token.at, v), ts)) is.1
-    ∙ (ap (λ us. Ok ((token.at, value), us)) (sym takes.1) ∙ ap (λ n. Ok ((n, value), left)) (sym takes.0)))
+    ∙ (ap (λ us. Ok ((token.at, value), us)) (sym takes.1)
+    ∙ ap (λ n. Ok ((n, value), left)) (sym takes.0)))
 
-pub skip_takes : (text : List ℕ) (ts : List Spelled) (at : ℕ) (left : List Spelled) → starts (quoted text) (head ts) ≡ true → Takes ts at left
+pub skip_takes : (text : List ℕ) (ts : List Spelled) (at : ℕ) (left : List Spelled)
+    → starts (quoted text) (head ts) ≡ true → Takes ts at left
     → skipping text ts ≡ Ok (true, left)
 skip_takes text ts at left h takes =
     ap (λ b. cond b (then_read (next (quote text)) (λ _. pure true) ts) (Ok (false, ts))) h
-    ∙ ap (λ r. and_then r (λ x. Ok (true, x.1))) (next_takes (quoted text) text fixities.None ts at left h takes)
+    ∙ ap (λ r. and_then r (λ x. Ok (true, x.1)))
+    (next_takes (quoted text) text fixities.None ts at left h takes)
 
-pub skip_passes : (text : List ℕ) (ts : List Spelled) → starts (quoted text) (head ts) ≡ false → skipping text ts ≡ Ok (false, ts)
-skip_passes text ts h = ap (λ b. cond b (then_read (next (quote text)) (λ _. pure true) ts) (Ok (false, ts))) h
+pub skip_passes : (text : List ℕ) (ts : List Spelled) → starts (quoted text) (head ts) ≡ false
+    → skipping text ts ≡ Ok (false, ts)
+skip_passes text ts h = ap
+    (λ b. cond b (then_read (next (quote text)) (λ _. pure true) ts) (Ok (false, ts))) h

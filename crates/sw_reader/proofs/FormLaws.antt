@@ -28,7 +28,8 @@ both_not : (b : Bool) → b ≡ true → b ≡ false → ⊥
 both_not b h k = let clash : true ≡ false = sym h ∙ k in cc
 
 -- A token of the second of two sets apart isn't in the first.
-apart_back : (set other : Set) (token : Spelled) → apart set other ≡ true → has other token ≡ true → has set token ≡ false
+apart_back : (set other : Set) (token : Spelled) → apart set other ≡ true → has other token ≡ true
+    → has set token ≡ false
 apart_back set other token h k = elim (true_or_false (has set token)) [
   | inl is ↦ absurd (both_not (has other token) k (has-apart set other token h is))
   | inr is ↦ is
@@ -38,11 +39,14 @@ or_false : (a b : Bool) → (a || b) ≡ false → (a ≡ false) × (b ≡ false
 or_false true b h = absurd (cc)
 or_false false b h = (refl, h)
 
-outside_parts : (set other : Set) (token : Option Spelled) → Outside (set ++ other) token → Outside set token × Outside other token
+outside_parts : (set other : Set) (token : Option Spelled) → Outside (set ++ other) token
+    → Outside set token × Outside other token
 outside_parts set other None h = (refl, refl)
 outside_parts set other (Some token) h = or_false _ _ (sym (has-append set other token) ∙ h)
 
-outside_within : (set other : Set) (token : Option Spelled) → ((t : Spelled) → has set t ≡ true → has other t ≡ true) → Outside other token → Outside set token
+outside_within : (set other : Set) (token : Option Spelled)
+    → ((t : Spelled) → has set t ≡ true → has other t ≡ true) → Outside other token
+    → Outside set token
 outside_within set other None within h = refl
 outside_within set other (Some token) within h = elim (true_or_false (has set token)) [
   | inl is ↦ absurd (both_not (has other token) (within token is) h)
@@ -50,9 +54,11 @@ outside_within set other (Some token) within h = elim (true_or_false (has set to
 ]
 
 -- what may not follow one form after another
-seq_ext : (b : Bool) (s_ext t_ext : Set) (token : Option Spelled) → Outside (cond b (t_ext ++ s_ext) t_ext) token
+seq_ext : (b : Bool) (s_ext t_ext : Set) (token : Option Spelled)
+    → Outside (cond b (t_ext ++ s_ext) t_ext) token
     → Outside t_ext token × (b ≡ true → Outside s_ext token)
-seq_ext true s_ext t_ext token h = let both = outside_parts t_ext s_ext token h in (both.0, λ _. both.1)
+seq_ext true s_ext t_ext token h = let both = outside_parts t_ext s_ext token h in
+    (both.0, λ _. both.1)
 seq_ext false s_ext t_ext token h = (h, λ k. absurd (let clash : false ≡ true = k in cc))
 
 record ChoiceExt (s t : Shape) (token : Option Spelled) : Type 0 where
@@ -60,21 +66,31 @@ record ChoiceExt (s t : Shape) (token : Option Spelled) : Type 0 where
   right : Outside t.ext token
   not_left : t.nullable ≡ true → Outside s.first token
 
-choice_ext : (s t short : Shape) (token : Option Spelled) → Outside (choice s t short).ext token → ChoiceExt s t token
+choice_ext : (s t short : Shape) (token : Option Spelled) → Outside (choice s t short).ext token
+    → ChoiceExt s t token
 choice_ext s t short token h = by_null t.nullable refl h
   where
-    by_null : (b : Bool) → t.nullable ≡ b → Outside (cond b ((s.ext ++ t.ext) ++ s.first) (s.ext ++ t.ext)) token → ChoiceExt s t token
-    by_null true is h = let outer = outside_parts (s.ext ++ t.ext) s.first token h in let inner = outside_parts s.ext t.ext token outer.0 in
+    by_null : (b : Bool) → t.nullable ≡ b
+        → Outside (cond b ((s.ext ++ t.ext) ++ s.first) (s.ext ++ t.ext)) token
+        → ChoiceExt s t token
+    by_null true is h = let outer = outside_parts (s.ext ++ t.ext) s.first token h in let inner =
+        outside_parts s.ext t.ext token outer.0 in
         record { left = inner.0; right = inner.1; not_left = λ _. outer.1 }
     by_null false is h = let inner = outside_parts s.ext t.ext token h in
-        record { left = inner.0; right = inner.1; not_left = λ k. absurd (both_not t.nullable k is) }
+        record {
+          left = inner.0;
+          right = inner.1;
+          not_left = λ k. absurd (both_not t.nullable k is);
+        }
 
 -- a spelling that isn't empty has a first token, of `first`
-some_first : (s : Shape) (us rest : List Spelled) → s.nullable ≡ false → StartsWith s us → starts s.first (head (us ++ rest)) ≡ true
+some_first : (s : Shape) (us rest : List Spelled) → s.nullable ≡ false → StartsWith s us
+    → starts s.first (head (us ++ rest)) ≡ true
 some_first s [] rest some h = absurd (both_not s.nullable h some)
 some_first s (u ∷ us) rest some h = h
 
-some_head : (s : Shape) (us rest : List Spelled) → s.nullable ≡ false → StartsWith s us → head (us ++ rest) ≡ head us
+some_head : (s : Shape) (us rest : List Spelled) → s.nullable ≡ false → StartsWith s us
+    → head (us ++ rest) ≡ head us
 some_head s [] rest some h = absurd (both_not s.nullable h some)
 some_head s (u ∷ us) rest some h = refl
 
@@ -83,49 +99,72 @@ some_length s [] some h = absurd (both_not s.nullable h some)
 some_length s (u ∷ us) some h = omega arith
 
 -- the tokens after a form, where another follows it
-fits_then : (s t : Shape) (us rest : List Spelled) → apart s.ext t.first ≡ true → StartsWith t us → (t.nullable ≡ true → Outside s.ext (head rest))
+fits_then : (s t : Shape) (us rest : List Spelled) → apart s.ext t.first ≡ true → StartsWith t us
+    → (t.nullable ≡ true → Outside s.ext (head rest))
     → Outside s.ext (head (us ++ rest))
 fits_then s t [] rest far h out = out h
 fits_then s t (u ∷ us) rest far h out = apart_back s.ext t.first u far h
 
 -- the second of two isn't begun by a token of the first
-not_first_of : (set : Set) (t : Shape) (us rest : List Spelled) → apart set t.first ≡ true → StartsWith t us → (t.nullable ≡ true → Outside set (head rest))
+not_first_of : (set : Set) (t : Shape) (us rest : List Spelled) → apart set t.first ≡ true
+    → StartsWith t us → (t.nullable ≡ true → Outside set (head rest))
     → starts set (head (us ++ rest)) ≡ false
 not_first_of set t [] rest far h out = out h
 not_first_of set t (u ∷ us) rest far h out = apart_back set t.first u far h
 
-module _ {N : Type 0} (El : N → Type 0) (shape_of : N → Shape) (body : (n : N) → Form El shape_of (shape_of n) (El n))
+module _ {N : Type 0} (El : N → Type 0) (shape_of : N → Shape)
+    (body : (n : N) → Form El shape_of (shape_of n) (El n))
     (good : (n : N) → (shape_of n).ok ≡ true) where
   abbrev Inside : (n : N) → Relation (El n)
   Inside n x ts = (depth : ℕ) × inside El shape_of body depth n x ts
 
   -- With more nests, more is spelled.
-  inside_deeper : (d e : ℕ) → d ≤ e → (n : N) (x : El n) (ts : List Spelled) → inside El shape_of body d n x ts → inside El shape_of body e n x ts
+  inside_deeper : (d e : ℕ) → d ≤ e → (n : N) (x : El n) (ts : List Spelled)
+      → inside El shape_of body d n x ts → inside El shape_of body e n x ts
   inside_deeper zero e less n x ts h = absurd h
   inside_deeper (suc d) zero less n x ts h = absurd (omega arith)
   inside_deeper (suc d) (suc e) less n x ts h =
-      spelled_more El shape_of (inside El shape_of body d) (inside El shape_of body e) (inside_deeper d e (omega arith)) (body n) x ts h
+      spelled_more El shape_of (inside El shape_of body d) (inside El shape_of body e)
+      (inside_deeper d e (omega arith)) (body n) x ts h
 
-  pub deeper : (d e : ℕ) → d ≤ e → {s : Shape} {A : Type 0} (form : Form El shape_of s A) (a : A) (ts : List Spelled)
+  pub deeper : (d e : ℕ) → d ≤ e → {s : Shape} {A : Type 0} (form : Form El shape_of s A) (a : A)
+      (ts : List Spelled)
       → spells El shape_of body d form a ts → spells El shape_of body e form a ts
   deeper d e less form a ts h =
-      spelled_more El shape_of (inside El shape_of body d) (inside El shape_of body e) (inside_deeper d e less) form a ts h
+      spelled_more El shape_of (inside El shape_of body d) (inside El shape_of body e)
+      (inside_deeper d e less) form a ts h
 
-  fill_inside : (d : ℕ) (n : N) → suc (shape_of n).height ≤ d → (from : ℕ) → Filled (inside El shape_of body d n) [] from
+  fill_inside : (d : ℕ) (n : N) → suc (shape_of n).height ≤ d → (from : ℕ)
+      → Filled (inside El shape_of body d n) [] from
   fill_inside zero n low from = absurd (omega arith)
-  fill_inside (suc d) n low from = fill_form El shape_of d (inside El shape_of body d) (fill_inside d) (body n) (good n) (omega arith) from
+  fill_inside (suc d) n low from = fill_form El shape_of d (inside El shape_of body d)
+      (fill_inside d) (body n) (good n) (omega arith) from
 
   fill_nest : (n : N) (from : ℕ) → Filled (Inside n) [] from
   fill_nest n from = let one = fill_inside (suc (shape_of n).height) n (omega arith) from in
-      record { value = one.value; filler = one.filler; spelled = (suc (shape_of n).height, one.spelled); fills = one.fills }
+      record {
+        value = one.value;
+        filler = one.filler;
+        spelled = (suc (shape_of n).height, one.spelled);
+        fills = one.fills;
+      }
 
-  pub fill_wide : {s : Shape} {A : Type 0} (form : Form El shape_of s A) → s.ok ≡ true → (from : ℕ) → Filled (Wide El shape_of body form) [] from
+  pub fill_wide : {s : Shape} {A : Type 0} (form : Form El shape_of s A) → s.ok ≡ true → (from : ℕ)
+      → Filled (Wide El shape_of body form) [] from
   fill_wide {s} form ok from =
-      let one = fill_form El shape_of s.height (inside El shape_of body s.height) (fill_inside s.height) form ok (omega arith) from in
-      record { value = one.value; filler = one.filler; spelled = (s.height, one.spelled); fills = one.fills }
+      let one = fill_form El shape_of s.height (inside El shape_of body s.height)
+      (fill_inside s.height) form ok (omega arith) from in
+      record {
+        value = one.value;
+        filler = one.filler;
+        spelled = (s.height, one.spelled);
+        fills = one.fills;
+      }
 
-  join_followed : {A B : Type 0} {s t : Shape} (p : Form El shape_of s A) (f : A → Form El shape_of t B) (a : A) (b : B) (us vs : List Spelled)
-      → Wide El shape_of body p a us → Wide El shape_of body (f a) b vs → Wide El shape_of body (forms.followed p f) b (us ++ vs)
+  join_followed : {A B : Type 0} {s t : Shape} (p : Form El shape_of s A)
+      (f : A → Form El shape_of t B) (a : A) (b : B) (us vs : List Spelled)
+      → Wide El shape_of body p a us → Wide El shape_of body (f a) b vs
+      → Wide El shape_of body (forms.followed p f) b (us ++ vs)
   join_followed p f a b us vs h k = (
     max h.0 k.0,
     record {
@@ -139,14 +178,22 @@ module _ {N : Type 0} (El : N → Type 0) (shape_of : N → Shape) (body : (n : 
   )
 
   join_turns : {S : Type 0} {s : Shape} (f : S → Form El shape_of s S) (a b : S) (us : List Spelled)
-      → Turns (λ now. Wide El shape_of body (f now)) a b us → (d : ℕ) × Turns (λ now. spells El shape_of body d (f now)) a b us
+      → Turns (λ now. Wide El shape_of body (f now)) a b us
+      → (d : ℕ) × Turns (λ now. spells El shape_of body d (f now)) a b us
   join_turns f a b us (stop _) = (0, stop a)
-  join_turns {S} f a b us (turn _ mid _ vs ws h rest) = let k = join_turns f mid b ws rest in
-      (max h.0 k.0, turn a mid b vs ws (deeper h.0 (max h.0 k.0) (le-max_left h.0 k.0) (f a) mid vs h.1) (grow k.0 (max h.0 k.0) (le-max_right h.0 k.0) mid b ws k.1))
+  join_turns {S} f a b us (turn _ mid _ vs ws h rest) = let k = join_turns f mid b ws rest in (
+    max h.0 k.0,
+    turn a mid b vs ws
+        (deeper h.0 (max h.0 k.0) (le-max_left h.0 k.0) (f a) mid vs h.1)
+        (grow k.0 (max h.0 k.0) (le-max_right h.0 k.0) mid b ws k.1),
+  )
     where
-      grow : (d e : ℕ) → d ≤ e → (a b : S) (us : List Spelled) → Turns (λ now. spells El shape_of body d (f now)) a b us → Turns (λ now. spells El shape_of body e (f now)) a b us
+      grow : (d e : ℕ) → d ≤ e → (a b : S) (us : List Spelled)
+          → Turns (λ now. spells El shape_of body d (f now)) a b us
+          → Turns (λ now. spells El shape_of body e (f now)) a b us
       grow d e less a b us (stop _) = stop a
-      grow d e less a b us (turn _ mid _ vs ws h rest) = turn a mid b vs ws (deeper d e less (f a) mid vs h) (grow d e less mid b ws rest)
+      grow d e less a b us (turn _ mid _ vs ws h rest) =
+          turn a mid b vs ws (deeper d e less (f a) mid vs h) (grow d e less mid b ws rest)
 
   -- A nest, where no more may be opened
 
@@ -156,7 +203,8 @@ module _ {N : Type 0} (El : N → Type 0) (shape_of : N → Shape) (body : (n : 
   abbrev WideNest : {A : Type 0} → Terminal A → (n : N) → Relation (A × El n)
   WideNest t n = Wide El shape_of body (forms.nest t n)
 
-  fill_opened : {A : Type 0} (t : Terminal A) (n : N) (token : Spelled) → has t.set token ≡ true → (from : ℕ) → Filled (WideNest t n) (token ∷ []) from
+  fill_opened : {A : Type 0} (t : Terminal A) (n : N) (token : Spelled) → has t.set token ≡ true
+      → (from : ℕ) → Filled (WideNest t n) (token ∷ []) from
   fill_opened t n token is from = let one = fill_nest n from in record {
     value = (t.value token, one.value);
     filler = one.filler;
@@ -167,7 +215,14 @@ module _ {N : Type 0} (El : N → Type 0) (shape_of : N → Shape) (body : (n : 
         left = token ∷ [];
         right = one.filler;
         first = record { token = token; member = is; value = refl; alone = refl };
-        second = record { value = one.value; left = one.filler; right = []; first = one.spelled.1; second = (refl, refl); whole = sym (append-nil one.filler) };
+        second = record {
+          value = one.value;
+          left = one.filler;
+          right = [];
+          first = one.spelled.1;
+          second = (refl, refl);
+          whole = sym (append-nil one.filler);
+        };
         whole = refl;
       },
     );
@@ -175,20 +230,33 @@ module _ {N : Type 0} (El : N → Type 0) (shape_of : N → Shape) (body : (n : 
   }
 
   opening_refuses : {A B : Type 0} (t : Terminal A) (f : A → Reader B) (ts : List Spelled)
-      → ((starts t.set (head ts) ≡ true) × (then_read (opening 0 t) f ts ≡ Err (too_deep (length ts))))
+      → ((starts t.set (head ts) ≡ true)
+      × (then_read (opening 0 t) f ts ≡ Err (too_deep (length ts))))
       ⊎ ((starts t.set (head ts) ≡ false) × (then_read (opening 0 t) f ts ≡ refused ts))
   opening_refuses {A} {B} t f ts = by_test (starts t.set (head ts)) refl
     where
       by_test : (b : Bool) → starts t.set (head ts) ≡ b
-          → ((starts t.set (head ts) ≡ true) × (then_read (opening 0 t) f ts ≡ Err (too_deep (length ts))))
+          → ((starts t.set (head ts) ≡ true)
+          × (then_read (opening 0 t) f ts ≡ Err (too_deep (length ts))))
           ⊎ ((starts t.set (head ts) ≡ false) × (then_read (opening 0 t) f ts ≡ refused ts))
-      by_test true is = inl (is, ap (λ b. and_then (cond b (Err (too_deep (length ts))) (refused {A = A} ts)) (λ x. f x.0 x.1)) is)
-      by_test false is = inr (is, ap (λ b. and_then (cond b (Err (too_deep (length ts))) (refused {A = A} ts)) (λ x. f x.0 x.1)) is)
+      by_test true is = inl (
+        is,
+        ap (λ b. and_then (cond b (Err (too_deep (length ts))) (refused {A = A} ts))
+            (λ x. f x.0 x.1)) is,
+      )
+      by_test false is = inr (
+        is,
+        ap (λ b. and_then (cond b (Err (too_deep (length ts))) (refused {A = A} ts))
+            (λ x. f x.0 x.1)) is,
+      )
 
-  no_nest_fails : {A : Type 0} (t : Terminal A) (n : N) (f : A → Reader (A × El n)) → (one t).ok ≡ true → (shape_of n).ok ≡ true → (F : Follow) (ts : List Spelled) (fault : Fault)
+  no_nest_fails : {A : Type 0} (t : Terminal A) (n : N) (f : A → Reader (A × El n))
+      → (one t).ok ≡ true → (shape_of n).ok ≡ true
+      → (F : Follow) (ts : List Spelled) (fault : Fault)
       → then_read (opening 0 t) f ts ≡ Err fault → Failed (Nest 0 t n) (WideNest t n) F ts fault
   no_nest_fails {A} t n f ok ok' F ts fault e = elim (opening_refuses t f ts) [
-    | inl is ↦ (let same : too_deep (length ts) ≡ fault = ap (λ r. elim r [ Ok x ↦ too_deep (length ts) | Err other ↦ other ]) (sym is.1 ∙ e) in
+    | inl is ↦ (let same : too_deep (length ts) ≡ fault = ap
+        (λ r. elim r [ Ok x ↦ too_deep (length ts) | Err other ↦ other ]) (sym is.1 ∙ e) in
         subst (λ k. Failed (Nest 0 t n) (WideNest t n) F ts k) same (too_deep_here ts is.0))
     | inr is ↦ refused_at_once (Nest 0 t n) (WideNest t n) F ts fault (sym is.1 ∙ e)
         (λ a prefix rest more s g same heads. absurd s.second.first)
@@ -198,7 +266,8 @@ module _ {N : Type 0} (El : N → Type 0) (shape_of : N → Shape) (body : (n : 
       ok_both : (a b : Bool) → a ≡ true → b ≡ true → (a && b) ≡ true
       ok_both a b h k = rw (h, k) refl
 
-      too_deep_here : (ts : List Spelled) → starts t.set (head ts) ≡ true → Failed (Nest 0 t n) (WideNest t n) F ts (too_deep (length ts))
+      too_deep_here : (ts : List Spelled) → starts t.set (head ts) ≡ true
+          → Failed (Nest 0 t n) (WideNest t n) F ts (too_deep (length ts))
       too_deep_here [] h = absurd (cc)
       too_deep_here (token ∷ others) h = record {
         before = [];
@@ -210,13 +279,16 @@ module _ {N : Type 0} (El : N → Type 0) (shape_of : N → Shape) (body : (n : 
         begun = fill_opened t n token h;
       }
 
-  no_nest_answers : {A : Type 0} (t : Terminal A) (n : N) (f : A → Reader (A × El n)) (ts : List Spelled) (x : (A × El n) × List Spelled) → then_read (opening 0 t) f ts ≡ Ok x → ⊥
+  no_nest_answers : {A : Type 0} (t : Terminal A) (n : N) (f : A → Reader (A × El n))
+      (ts : List Spelled) (x : (A × El n) × List Spelled) → then_read (opening 0 t) f ts ≡ Ok x → ⊥
   no_nest_answers {A} t n f ts x e = elim (opening_refuses t f ts) [
-    | inl is ↦ (let clash : ◌≡◌ {A = Answer (A × El n)} (Err (too_deep (length ts))) (Ok x) = sym is.1 ∙ e in cc)
+    | inl is ↦ (let clash : ◌≡◌ {A = Answer (A × El n)} (Err (too_deep (length ts)))
+        (Ok x) = sym is.1 ∙ e in cc)
     | inr is ↦ (let clash : ◌≡◌ {A = Answer (A × El n)} (refused ts) (Ok x) = sym is.1 ∙ e in cc)
   ]
 
-  reads_no_nest : {A : Type 0} (t : Terminal A) (n : N) (f : A → Reader (A × El n)) → (one t).ok ≡ true → (shape_of n).ok ≡ true → (F : Follow)
+  reads_no_nest : {A : Type 0} (t : Terminal A) (n : N) (f : A → Reader (A × El n))
+      → (one t).ok ≡ true → (shape_of n).ok ≡ true → (F : Follow)
       → Reads (Nest 0 t n) (WideNest t n) F (then_read (opening 0 t) f)
   reads_no_nest t n f ok ok' F = record {
     wide = λ a ts s. absurd s.second.first;
@@ -239,122 +311,190 @@ module _ {N : Type 0} (El : N → Type 0) (shape_of : N → Shape) (body : (n : 
       record { value = one.value; filler = one.filler; spelled = one.spelled.1; fills = one.fills }
 
   reads_nest : {A : Type 0} (d : ℕ) (t : Terminal A) (n : N) → (one t).ok ≡ true
-      → Reads (inside El shape_of body (suc d) n) (Inside n) (Outside (shape_of n).ext) (read_inside El shape_of body (suc d) n)
-      → Reads (Nest (suc d) t n) (WideNest t n) (Outside (shape_of n).ext) (reads El shape_of body (suc d) (forms.nest t n))
+      → Reads (inside El shape_of body (suc d) n) (Inside n) (Outside (shape_of n).ext)
+      (read_inside El shape_of body (suc d) n)
+      → Reads (Nest (suc d) t n) (WideNest t n) (Outside (shape_of n).ext)
+      (reads El shape_of body (suc d) (forms.nest t n))
   reads_nest {A} d t n ok inner =
       reads_then (WideNest t n) {F = Anything} (reads_next t (fill_one t ok))
       (λ a. reads_then (wide_inside n a) inner (λ x. narrow (reads_pure (a, x)) (λ token g. tt))
-      (λ x y us vs h k. (h.0, record { value = x; left = us; right = vs; first = h.1; second = k; whole = refl }))
-      (λ x y right rest h g. subst (λ us. Outside (shape_of n).ext (head (us ++ rest))) (sym h.1) g))
-      (λ a y us vs h k. (k.0, record { value = a; left = us; right = vs; first = h; second = k.1; whole = refl }))
+      (λ x y us vs h k. (
+        h.0,
+        record {
+          value = x;
+          left = us;
+          right = vs;
+          first = h.1;
+          second = k;
+          whole = refl;
+        },
+      ))
+      (λ x y right rest h g. subst (λ us. Outside (shape_of n).ext (head (us ++ rest)))
+      (sym h.1) g))
+      (λ a y us vs h k. (
+        k.0,
+        record {
+          value = a;
+          left = us;
+          right = vs;
+          first = h;
+          second = k.1;
+          whole = refl;
+        },
+      ))
       (λ a y right rest h g. tt)
 
   -- The law
 
-  module _ (d : ℕ) (inner : (n : N) → Reads (inside El shape_of body d n) (Inside n) (Outside (shape_of n).ext) (read_inside El shape_of body d n)) where
-    abbrev starts_at : {s : Shape} {A : Type 0} (form : Form El shape_of s A) → s.ok ≡ true → (a : A) (ts : List Spelled) → spells El shape_of body d form a ts → StartsWith s ts
+  module _ (d : ℕ) (inner : (n : N) → Reads (inside El shape_of body d n) (Inside n)
+      (Outside (shape_of n).ext) (read_inside El shape_of body d n)) where
+    abbrev starts_at : {s : Shape} {A : Type 0} (form : Form El shape_of s A) → s.ok ≡ true
+        → (a : A) (ts : List Spelled) → spells El shape_of body d form a ts → StartsWith s ts
     starts_at form ok a ts h = starts_form El shape_of (inside El shape_of body d) form ok a ts h
 
-    reads_either : {s t : Shape} {A : Type 0} (short : Shape) (U : Relation A) (p : Form El shape_of s A) (q : Form El shape_of t A) → (choice s t short).ok ≡ true
-        → Reads (spells El shape_of body d p) (Wide El shape_of body p) (Outside s.ext) (reads El shape_of body d p)
-        → Reads (spells El shape_of body d q) (Wide El shape_of body q) (Outside t.ext) (reads El shape_of body d q)
-        → ((a : A) (ts : List Spelled) → Wide El shape_of body p a ts → U a ts) → ((a : A) (ts : List Spelled) → Wide El shape_of body q a ts → U a ts)
-        → Reads (Either (spells El shape_of body d p) (spells El shape_of body d q)) U (Outside (choice s t short).ext)
+    reads_either : {s t : Shape} {A : Type 0} (short : Shape) (U : Relation A)
+        (p : Form El shape_of s A) (q : Form El shape_of t A) → (choice s t short).ok ≡ true
+        → Reads (spells El shape_of body d p) (Wide El shape_of body p) (Outside s.ext)
+        (reads El shape_of body d p)
+        → Reads (spells El shape_of body d q) (Wide El shape_of body q) (Outside t.ext)
+        (reads El shape_of body d q)
+        → ((a : A) (ts : List Spelled) → Wide El shape_of body p a ts → U a ts)
+        → ((a : A) (ts : List Spelled) → Wide El shape_of body q a ts → U a ts)
+        → Reads (Either (spells El shape_of body d p) (spells El shape_of body d q)) U
+        (Outside (choice s t short).ext)
         (choose s.first (reads El shape_of body d p) (reads El shape_of body d q))
     reads_either {s} {t} short U p q ok law_p law_q to_left to_right =
         let is = good_choice s t short ok in
         reads_choose U s.first
-        (narrow law_p (λ token g. (choice_ext s t short token g).left)) (narrow law_q (λ token g. (choice_ext s t short token g).right))
+        (narrow law_p (λ token g. (choice_ext s t short token g).left))
+        (narrow law_q (λ token g. (choice_ext s t short token g).right))
         (λ a prefix rest h g. some_first s prefix rest is.some (starts_at p is.left a prefix h))
-        (λ a prefix rest h g. not_first_of s.first t prefix rest is.apart (starts_at q is.right a prefix h) ((choice_ext s t short (head rest) g).not_left))
+        (λ a prefix rest h g. not_first_of s.first t prefix rest is.apart
+        (starts_at q is.right a prefix h) ((choice_ext s t short (head rest) g).not_left))
         to_left to_right
 
     is_turn : {s : Shape} {S : Type 0} (f : S → Form El shape_of s S) → (star s).ok ≡ true
-        → IsTurn (λ now. spells El shape_of body d (f now)) (Outside s.ext) (Outside (star s).ext) s.first
+        → IsTurn (λ now. spells El shape_of body d (f now)) (Outside s.ext)
+        (Outside (star s).ext) s.first
     is_turn {s} f ok =
-        let two = and_left _ _ ok in let some = not_true _ (and_right _ _ two) in let good_s = and_left _ _ two in
+        let two = and_left _ _ ok in let some = not_true _ (and_right _ _ two) in let good_s =
+        and_left _ _ two in
         record {
           takes = λ a b ts h. some_length s ts some (starts_at (f a) good_s b ts h);
           goes_on = λ a b ts rest h. some_first s ts rest some (starts_at (f a) good_s b ts h);
           ends = λ token g. (outside_parts s.ext s.first token g).1;
           stopped = λ token g. (outside_parts s.ext s.first token g).0;
-          followed = λ a b ts rest h. fits_then s s ts rest (and_right _ _ ok) (starts_at (f a) good_s b ts h) (λ k. absurd (both_not s.nullable k some));
+          followed = λ a b ts rest h. fits_then s s ts rest (and_right _ _ ok)
+              (starts_at (f a) good_s b ts h) (λ k. absurd (both_not s.nullable k some));
         }
 
     law_form : {s : Shape} {A : Type 0} (form : Form El shape_of s A) → s.ok ≡ true
-        → Reads (spells El shape_of body d form) (Wide El shape_of body form) (Outside s.ext) (reads El shape_of body d form)
-    law_form (forms.done value) ok = narrow (widen (reads_pure value) (λ a ts h. (0, h))) (λ token h. tt)
-    law_form (forms.terminal t) ok = narrow (widen (reads_next t (fill_one t ok)) (λ a ts h. (0, h))) (λ token h. tt)
+        → Reads (spells El shape_of body d form) (Wide El shape_of body form) (Outside s.ext)
+        (reads El shape_of body d form)
+    law_form (forms.done value) ok = narrow (widen (reads_pure value) (λ a ts h. (0, h)))
+        (λ token h. tt)
+    law_form (forms.terminal t) ok =
+        narrow (widen (reads_next t (fill_one t ok)) (λ a ts h. (0, h))) (λ token h. tt)
     law_form (forms.followed {s = s} {t = t} p f) ok =
         let three = and_left _ _ ok in let two = and_left _ _ three in
         reads_then (Wide El shape_of body (forms.followed p f)) (law_form p (and_left _ _ two))
-        (λ a. narrow (law_form (f a) (and_right _ _ two)) (λ token g. (seq_ext t.nullable s.ext t.ext token g).0))
+        (λ a. narrow (law_form (f a) (and_right _ _ two))
+        (λ token g. (seq_ext t.nullable s.ext t.ext token g).0))
         (join_followed p f)
-        (λ a b right rest h g. fits_then s t right rest (and_right _ _ three) (starts_at (f a) (and_right _ _ two) b right h) ((seq_ext t.nullable s.ext t.ext (head rest) g).1))
+        (λ a b right rest h g. fits_then s t right rest (and_right _ _ three)
+        (starts_at (f a) (and_right _ _ two) b right h)
+        ((seq_ext t.nullable s.ext t.ext (head rest) g).1))
     law_form (forms.either {s = s} {t = t} p q) ok =
         let is = good_choice s t (cond (is_shorter s t) s t) ok in
-        reads_either (cond (is_shorter s t) s t) (Wide El shape_of body (forms.either p q)) p q ok (law_form p is.left) (law_form q is.right)
+        reads_either (cond (is_shorter s t) s t) (Wide El shape_of body (forms.either p q)) p q ok
+        (law_form p is.left) (law_form q is.right)
         (λ a ts h. (h.0, inl h.1)) (λ a ts h. (h.0, inr h.1))
     law_form (forms.turns {s = s} state f) ok =
         let good_s = and_left _ _ (and_left _ _ ok) in
-        widen (reads_loop s.first (λ now. law_form (f now) good_s) (is_turn f ok) state) (λ a ts h. join_turns f state a ts h)
+        widen (reads_loop s.first (λ now. law_form (f now) good_s) (is_turn f ok) state)
+        (λ a ts h. join_turns f state a ts h)
     law_form (forms.when {s = s} {t = t} is_so p q) ok =
         let good_parts = good_choice s t t ok in
         let law_q = law_form q good_parts.right in
         let U = Wide El shape_of body (forms.when is_so p q) in
-        reads_only is_so (choose s.first (reads El shape_of body d p) (reads El shape_of body d q)) (reads El shape_of body d q)
-        (λ is. reads_either t U p q ok (law_form p good_parts.left) law_q (λ a ts h. (h.0, inl (is, h.1))) (λ a ts h. (h.0, inr h.1)))
-        (narrow (widen law_q (λ a ts h. (h.0, inr h.1))) (λ token g. (choice_ext s t t token g).right))
+        reads_only is_so (choose s.first (reads El shape_of body d p) (reads El shape_of body d q))
+        (reads El shape_of body d q)
+        (λ is. reads_either t U p q ok (law_form p good_parts.left) law_q
+        (λ a ts h. (h.0, inl (is, h.1))) (λ a ts h. (h.0, inr h.1)))
+        (narrow (widen law_q (λ a ts h. (h.0, inr h.1)))
+        (λ token g. (choice_ext s t t token g).right))
     law_form (forms.nest t n) ok = by_depth d inner
       where
-        by_depth : (d : ℕ) → ((n : N) → Reads (inside El shape_of body d n) (Inside n) (Outside (shape_of n).ext) (read_inside El shape_of body d n))
-            → Reads (Nest d t n) (WideNest t n) (Outside (shape_of n).ext) (reads El shape_of body d (forms.nest t n))
-        by_depth zero inner = reads_no_nest t n (λ a. then_read (refused {A = El n}) (λ x. pure (a, x))) (and_left _ _ ok) (and_right _ _ ok) (Outside (shape_of n).ext)
+        by_depth : (d : ℕ) → ((n : N) → Reads (inside El shape_of body d n) (Inside n)
+            (Outside (shape_of n).ext) (read_inside El shape_of body d n))
+            → Reads (Nest d t n) (WideNest t n) (Outside (shape_of n).ext)
+            (reads El shape_of body d (forms.nest t n))
+        by_depth zero inner = reads_no_nest t n
+            (λ a. then_read (refused {A = El n}) (λ x. pure (a, x))) (and_left _ _ ok)
+            (and_right _ _ ok) (Outside (shape_of n).ext)
         by_depth (suc d) inner = reads_nest d t n (and_left _ _ ok) (inner n)
     law_form (forms.line_start {s = s} asked p) ok =
         let two = and_left _ _ ok in let some = not_true _ (and_right _ _ two) in
-        reads_checked (Wide El shape_of body (forms.line_start asked p)) (may_start asked) (law_form p (and_left _ _ two))
-        (λ a prefix rest h. some_head s prefix rest some (starts_at p (and_left _ _ two) a prefix h))
+        reads_checked (Wide El shape_of body (forms.line_start asked p)) (may_start asked)
+        (law_form p (and_left _ _ two))
+        (λ a prefix rest h. some_head s prefix rest some
+        (starts_at p (and_left _ _ two) a prefix h))
         (λ a ts h is. (h.0, (h.1, is))) (fill_wide (forms.line_start asked p) ok)
     law_form (forms.same_line {s = s} p) ok =
         let two = and_left _ _ ok in let some = not_true _ (and_right _ _ two) in
-        reads_checked (Wide El shape_of body (forms.same_line p)) stays (law_form p (and_left _ _ two))
-        (λ a prefix rest h. some_head s prefix rest some (starts_at p (and_left _ _ two) a prefix h))
+        reads_checked (Wide El shape_of body (forms.same_line p)) stays
+        (law_form p (and_left _ _ two))
+        (λ a prefix rest h. some_head s prefix rest some
+        (starts_at p (and_left _ _ two) a prefix h))
         (λ a ts h is. (h.0, (h.1, is))) (fill_wide (forms.same_line p) ok)
     law_form (forms.shaped {s = s} claim p) ok =
         let is = covers s claim ok in
         narrow (law_form p is.ok) (λ token g. outside_within s.ext claim.ext token is.ext g)
 
-  law_inside : (d : ℕ) (n : N) → Reads (inside El shape_of body d n) (Inside n) (Outside (shape_of n).ext) (read_inside El shape_of body d n)
+  law_inside : (d : ℕ) (n : N) → Reads (inside El shape_of body d n) (Inside n)
+      (Outside (shape_of n).ext) (read_inside El shape_of body d n)
   law_inside zero n = record {
     wide = λ x ts h. absurd h;
     sound = λ ts x rest e. absurd (cc);
     complete = λ x prefix rest h g. absurd h;
-    fails = λ ts fault e. refused_at_once (inside El shape_of body 0 n) (Inside n) (Outside (shape_of n).ext) ts fault e (λ x prefix rest more h g same heads. absurd h) (fill_nest n);
+    fails = λ ts fault e. refused_at_once (inside El shape_of body 0 n) (Inside n)
+        (Outside (shape_of n).ext) ts fault e (λ x prefix rest more h g same heads. absurd h)
+        (fill_nest n);
     fill = fill_nest n;
   }
-  law_inside (suc d) n = widen (law_form d (law_inside d) (body n) (good n)) (λ x ts h. (suc h.0, h.1))
+  law_inside (suc d) n = widen (law_form d (law_inside d) (body n) (good n))
+      (λ x ts h. (suc h.0, h.1))
 
   -- The reader of a form, at a depth, reads what the form spells with so many nests open at most; a
   -- token at fault is refused as one that begins no such spelling, and those before it begin one.
   pub law : (d : ℕ) {s : Shape} {A : Type 0} (form : Form El shape_of s A) → s.ok ≡ true
-      → Reads (spells El shape_of body d form) (Wide El shape_of body form) (Outside s.ext) (reads El shape_of body d form)
+      → Reads (spells El shape_of body d form) (Wide El shape_of body form) (Outside s.ext)
+      (reads El shape_of body d form)
   law d form ok = law_form d (law_inside d) form ok
 
   -- What the code's loops need: a loop answers as its next turn and the loop after it.
 
-  pub loop_stops : (d : ℕ) {s : Shape} {S : Type 0} (f : S → Form El shape_of s S) → (star s).ok ≡ true → (state : S) (ts : List Spelled)
-      → starts s.first (head ts) ≡ false → reads El shape_of body d (forms.turns state f) ts ≡ Ok (state, ts)
+  pub loop_stops : (d : ℕ) {s : Shape} {S : Type 0} (f : S → Form El shape_of s S)
+      → (star s).ok ≡ true → (state : S) (ts : List Spelled)
+      → starts s.first (head ts) ≡ false → reads El shape_of body d (forms.turns state f) ts ≡ Ok
+      (state, ts)
   loop_stops d {s} f ok state ts h =
-      loop_ends s.first (λ now. law d (f now) (and_left _ _ (and_left _ _ ok))) (is_turn d (law_inside d) f ok) state ts h
+      loop_ends s.first (λ now. law d (f now) (and_left _ _ (and_left _ _ ok)))
+      (is_turn d (law_inside d) f ok) state ts h
 
-  pub loop_goes_on : (d : ℕ) {s : Shape} {S : Type 0} (f : S → Form El shape_of s S) → (star s).ok ≡ true → (state : S) (ts : List Spelled)
+  pub loop_goes_on : (d : ℕ) {s : Shape} {S : Type 0} (f : S → Form El shape_of s S)
+      → (star s).ok ≡ true → (state : S) (ts : List Spelled)
       → starts s.first (head ts) ≡ true
-      → reads El shape_of body d (forms.turns state f) ts ≡ then_read (reads El shape_of body d (f state)) (λ next. reads El shape_of body d (forms.turns next f)) ts
+      → reads El shape_of body d (forms.turns state f) ts ≡ then_read
+      (reads El shape_of body d (f state)) (λ next. reads El shape_of body d (forms.turns next f))
+      ts
   loop_goes_on d {s} f ok state ts h =
-      loop_turns s.first (λ now. law d (f now) (and_left _ _ (and_left _ _ ok))) (is_turn d (law_inside d) f ok) state ts h
+      loop_turns s.first (λ now. law d (f now) (and_left _ _ (and_left _ _ ok)))
+      (is_turn d (law_inside d) f ok) state ts h
 
-  pub turn_takes : (d : ℕ) {s : Shape} {S : Type 0} (f : S → Form El shape_of s S) → (star s).ok ≡ true → (state next : S) (ts rest : List Spelled)
+  pub turn_takes : (d : ℕ) {s : Shape} {S : Type 0} (f : S → Form El shape_of s S)
+      → (star s).ok ≡ true → (state next : S) (ts rest : List Spelled)
       → reads El shape_of body d (f state) ts ≡ Ok (next, rest) → length rest < length ts
   turn_takes d {s} f ok state next ts rest e =
-      turn_shrinks s.first (λ now. law d (f now) (and_left _ _ (and_left _ _ ok))) (is_turn d (law_inside d) f ok) state next ts rest e
+      turn_shrinks s.first (λ now. law d (f now) (and_left _ _ (and_left _ _ ok)))
+      (is_turn d (law_inside d) f ok) state next ts rest e

@@ -1,4 +1,5 @@
--- What a form's shape says of its spellings: with which tokens they begin, and that there is a short one.
+-- What a form's shape says of its spellings: with which tokens they begin, and that there is a
+-- short one.
 use Rattle.std.proofs.Common.{◌≡◌, ◌≤◌, Bool, true, false, cond, not, ◌||◌, inl, inr, List, [], ◌∷◌, ◌++◌, refl, sym, ◌∙◌, ap, subst}
 use Rattle.std.proofs.lemmas.Bool.{leb-true}
 use Rattle.sw_token.specs.Spelling.{Spelled}
@@ -22,23 +23,28 @@ same_bool true false h = absurd (cc)
 same_bool false true h = absurd (cc)
 same_bool false false h = refl
 
-in_either : (b : Bool) (set other : Set) (token : Spelled) → has set token ≡ true → has (cond b (set ++ other) set) token ≡ true
+in_either : (b : Bool) (set other : Set) (token : Spelled) → has set token ≡ true
+    → has (cond b (set ++ other) set) token ≡ true
 in_either true set other token h = has-append set other token ∙ or_left _ _ h
 in_either false set other token h = h
 
-starts_then : (s t : Shape) (us vs : List Spelled) → StartsWith s us → StartsWith t vs → StartsWith (seq s t) (us ++ vs)
+starts_then : (s t : Shape) (us vs : List Spelled) → StartsWith s us → StartsWith t vs
+    → StartsWith (seq s t) (us ++ vs)
 starts_then s t [] [] h k = and_both _ _ h k
-starts_then s t [] (v ∷ vs) h k = ap (λ b. has (cond b (s.first ++ t.first) s.first) v) h ∙ (has-append s.first t.first v ∙ or_right _ _ k)
+starts_then s t [] (v ∷ vs) h k = ap (λ b. has (cond b (s.first ++ t.first) s.first) v) h
+    ∙ (has-append s.first t.first v ∙ or_right _ _ k)
 starts_then s t (u ∷ us) vs h k = in_either s.nullable s.first t.first u h
 
 clash : (b : Bool) → b ≡ true → b ≡ false → ⊥
 clash b h k = let both : true ≡ false = sym h ∙ k in cc
 
-starts_left : (s t short : Shape) (us : List Spelled) → s.nullable ≡ false → StartsWith s us → StartsWith (choice s t short) us
+starts_left : (s t short : Shape) (us : List Spelled) → s.nullable ≡ false → StartsWith s us
+    → StartsWith (choice s t short) us
 starts_left s t short [] some h = absurd (clash _ h some)
 starts_left s t short (u ∷ us) some h = has-append s.first t.first u ∙ or_left _ _ h
 
-starts_right : (s t short : Shape) (us : List Spelled) → StartsWith t us → StartsWith (choice s t short) us
+starts_right : (s t short : Shape) (us : List Spelled) → StartsWith t us
+    → StartsWith (choice s t short) us
 starts_right s t short [] h = h
 starts_right s t short (u ∷ us) h = has-append s.first t.first u ∙ or_right _ _ h
 
@@ -46,18 +52,17 @@ starts_turns : {S : Type 0} (s : Shape) (Turn : S → Relation S) → s.nullable
     → ((a b : S) (us : List Spelled) → Turn a b us → StartsWith s us)
     → (a b : S) (us : List Spelled) → Turns Turn a b us → StartsWith (star s) us
 starts_turns s Turn some each a b us (stop _) = refl
-starts_turns s Turn some each a b us (turn _ next _ [] vs h rest) = absurd (clash _ (each a next [] h) some)
+starts_turns s Turn some each a b us (turn _ next _ [] vs h rest) =
+    absurd (clash _ (each a next [] h) some)
 starts_turns s Turn some each a b us (turn _ next _ (w ∷ ws) vs h rest) = each a next (w ∷ ws) h
 
-starts_inline : (s : Shape) (us : List Spelled) → s.nullable ≡ false → stays (head us) ≡ true → StartsWith s us → StartsWith (inline s) us
+starts_inline : (s : Shape) (us : List Spelled) → s.nullable ≡ false → stays (head us) ≡ true
+    → StartsWith s us → StartsWith (inline s) us
 starts_inline s [] some calm h = absurd (clash _ h some)
-starts_inline s (u ∷ us) some calm h = has-not_first s.first u (by_first u.first calm) h
-  where
-    by_first : (b : Bool) → elim b [ true ↦ false | false ↦ true ] ≡ true → b ≡ false
-    by_first true k = absurd (cc)
-    by_first false k = refl
+starts_inline s (u ∷ us) some calm h = has-not_first s.first u (not_true u.first calm) h
 
-starts_started : (s : Shape) (us : List Spelled) → s.nullable ≡ false → StartsWith s us → StartsWith (started s) us
+starts_started : (s : Shape) (us : List Spelled) → s.nullable ≡ false → StartsWith s us
+    → StartsWith (started s) us
 starts_started s [] some h = absurd (clash _ h some)
 starts_started s (u ∷ us) some h = h
 
@@ -91,7 +96,8 @@ covers s c h =
       some = and_right _ _ h;
     }
 
-starts_held : (s : Shape) (c : Claim) (us : List Spelled) → Covers s c → StartsWith s us → StartsWith (held s c) us
+starts_held : (s : Shape) (c : Claim) (us : List Spelled) → Covers s c → StartsWith s us
+    → StartsWith (held s c) us
 starts_held s c [] is h = sym is.nullable ∙ h
 starts_held s c (u ∷ us) is h = is.first u h
 
@@ -112,50 +118,63 @@ good_choice s t short h =
       apart = and_right _ _ four;
     }
 
-Turns-map : {S : Type 0} {One Two : S → Relation S} → ((a b : S) (us : List Spelled) → One a b us → Two a b us)
+Turns-map : {S : Type 0} {One Two : S → Relation S}
+    → ((a b : S) (us : List Spelled) → One a b us → Two a b us)
     → (a b : S) (us : List Spelled) → Turns One a b us → Turns Two a b us
 Turns-map {S} {One} {Two} each a b us (stop _) = stop a
-Turns-map {S} {One} {Two} each a b us (turn _ next _ vs ws h rest) = turn a next b vs ws (each a next vs h) (Turns-map each next b ws rest)
+Turns-map {S} {One} {Two} each a b us (turn _ next _ vs ws h rest) =
+    turn a next b vs ws (each a next vs h) (Turns-map each next b ws rest)
 
 module _ {N : Type 0} (El : N → Type 0) (shape_of : N → Shape) where
-  pub starts_form : (inside : (n : N) → Relation (El n)) {s : Shape} {A : Type 0} (form : Form El shape_of s A) → s.ok ≡ true
+  pub starts_form : (inside : (n : N) → Relation (El n)) {s : Shape} {A : Type 0}
+      (form : Form El shape_of s A) → s.ok ≡ true
       → (a : A) (ts : List Spelled) → spelled El shape_of inside form a ts → StartsWith s ts
-  starts_form inside (forms.done value) ok a ts h = subst (λ us. StartsWith forms.empty us) (sym h.1) refl
-  starts_form inside (forms.terminal t) ok a ts h = subst (λ us. StartsWith (one t) us) (sym h.alone) h.member
+  starts_form inside (forms.done value) ok a ts h =
+      subst (λ us. StartsWith forms.empty us) (sym h.1) refl
+  starts_form inside (forms.terminal t) ok a ts h =
+      subst (λ us. StartsWith (one t) us) (sym h.alone) h.member
   starts_form inside (forms.followed {s = s} {t = t} p f) ok b ts h =
       let both = and_left _ _ (and_left _ _ ok) in
       subst (λ us. StartsWith (seq s t) us) (sym h.whole)
-      (starts_then s t h.left h.right (starts_form inside p (and_left _ _ both) h.value h.left h.first)
+      (starts_then s t h.left h.right
+      (starts_form inside p (and_left _ _ both) h.value h.left h.first)
       (starts_form inside (f h.value) (and_right _ _ both) b h.right h.second))
   starts_form inside (forms.either {s = s} {t = t} p q) ok a ts (inl h) =
       let three = and_left _ _ (and_left _ _ ok) in let two = and_left _ _ three in
-      starts_left s t (cond (is_shorter s t) s t) ts (not_true _ (and_right _ _ three)) (starts_form inside p (and_left _ _ two) a ts h)
+      starts_left s t (cond (is_shorter s t) s t) ts (not_true _ (and_right _ _ three))
+      (starts_form inside p (and_left _ _ two) a ts h)
   starts_form inside (forms.either {s = s} {t = t} p q) ok a ts (inr h) =
       let three = and_left _ _ (and_left _ _ ok) in let two = and_left _ _ three in
-      starts_right s t (cond (is_shorter s t) s t) ts (starts_form inside q (and_right _ _ two) a ts h)
+      starts_right s t (cond (is_shorter s t) s t) ts
+      (starts_form inside q (and_right _ _ two) a ts h)
   starts_form inside (forms.turns {s = s} state f) ok a ts h =
       let two = and_left _ _ ok in
       starts_turns s (λ now. spelled El shape_of inside (f now)) (not_true _ (and_right _ _ two))
       (λ now next us k. starts_form inside (f now) (and_left _ _ two) next us k) state a ts h
   starts_form inside (forms.when {s = s} {t = t} is_so p q) ok a ts (inl h) =
       let three = and_left _ _ (and_left _ _ ok) in let two = and_left _ _ three in
-      starts_left s t t ts (not_true _ (and_right _ _ three)) (starts_form inside p (and_left _ _ two) a ts h.1)
+      starts_left s t t ts (not_true _ (and_right _ _ three))
+      (starts_form inside p (and_left _ _ two) a ts h.1)
   starts_form inside (forms.when {s = s} {t = t} is_so p q) ok a ts (inr h) =
       let three = and_left _ _ (and_left _ _ ok) in let two = and_left _ _ three in
       starts_right s t t ts (starts_form inside q (and_right _ _ two) a ts h)
   starts_form inside (forms.nest t n) ok a ts h =
-      subst (λ us. StartsWith (nested t (shape_of n)) us) (sym (h.whole ∙ ap (λ us. us ++ h.right) h.first.alone)) h.first.member
+      subst (λ us. StartsWith (nested t (shape_of n)) us)
+      (sym (h.whole ∙ ap (λ us. us ++ h.right) h.first.alone)) h.first.member
   starts_form inside (forms.line_start {s = s} asked p) ok a ts h =
       let two = and_left _ _ ok in
-      starts_started s ts (not_true _ (and_right _ _ two)) (starts_form inside p (and_left _ _ two) a ts h.0)
+      starts_started s ts (not_true _ (and_right _ _ two))
+      (starts_form inside p (and_left _ _ two) a ts h.0)
   starts_form inside (forms.same_line {s = s} p) ok a ts h =
       let two = and_left _ _ ok in
-      starts_inline s ts (not_true _ (and_right _ _ two)) h.1 (starts_form inside p (and_left _ _ two) a ts h.0)
+      starts_inline s ts (not_true _ (and_right _ _ two)) h.1
+      (starts_form inside p (and_left _ _ two) a ts h.0)
   starts_form inside (forms.shaped {s = s} claim p) ok a ts h =
       let is = covers s claim ok in starts_held s claim ts is (starts_form inside p is.ok a ts h)
 
   -- What is spelled with some nests is spelled where the nests spell more.
-  pub spelled_more : (inside more : (n : N) → Relation (El n)) → ((n : N) (x : El n) (ts : List Spelled) → inside n x ts → more n x ts)
+  pub spelled_more : (inside more : (n : N) → Relation (El n))
+      → ((n : N) (x : El n) (ts : List Spelled) → inside n x ts → more n x ts)
       → {s : Shape} {A : Type 0} (form : Form El shape_of s A) (a : A) (ts : List Spelled)
       → spelled El shape_of inside form a ts → spelled El shape_of more form a ts
   spelled_more inside more grows (forms.done value) a ts h = h
@@ -168,12 +187,16 @@ module _ {N : Type 0} (El : N → Type 0) (shape_of : N → Shape) where
     second = spelled_more inside more grows (f h.value) b h.right h.second;
     whole = h.whole;
   }
-  spelled_more inside more grows (forms.either p q) a ts (inl h) = inl (spelled_more inside more grows p a ts h)
-  spelled_more inside more grows (forms.either p q) a ts (inr h) = inr (spelled_more inside more grows q a ts h)
+  spelled_more inside more grows (forms.either p q) a ts (inl h) =
+      inl (spelled_more inside more grows p a ts h)
+  spelled_more inside more grows (forms.either p q) a ts (inr h) =
+      inr (spelled_more inside more grows q a ts h)
   spelled_more inside more grows (forms.turns state f) a ts h =
       Turns-map (λ now next us k. spelled_more inside more grows (f now) next us k) state a ts h
-  spelled_more inside more grows (forms.when is_so p q) a ts (inl h) = inl (h.0, spelled_more inside more grows p a ts h.1)
-  spelled_more inside more grows (forms.when is_so p q) a ts (inr h) = inr (spelled_more inside more grows q a ts h)
+  spelled_more inside more grows (forms.when is_so p q) a ts (inl h) =
+      inl (h.0, spelled_more inside more grows p a ts h.1)
+  spelled_more inside more grows (forms.when is_so p q) a ts (inr h) =
+      inr (spelled_more inside more grows q a ts h)
   spelled_more inside more grows (forms.nest t n) a ts h = record {
     value = h.value;
     left = h.left;
@@ -189,6 +212,9 @@ module _ {N : Type 0} (El : N → Type 0) (shape_of : N → Shape) where
     };
     whole = h.whole;
   }
-  spelled_more inside more grows (forms.line_start asked p) a ts h = (spelled_more inside more grows p a ts h.0, h.1)
-  spelled_more inside more grows (forms.same_line p) a ts h = (spelled_more inside more grows p a ts h.0, h.1)
-  spelled_more inside more grows (forms.shaped claim p) a ts h = spelled_more inside more grows p a ts h
+  spelled_more inside more grows (forms.line_start asked p) a ts h =
+      (spelled_more inside more grows p a ts h.0, h.1)
+  spelled_more inside more grows (forms.same_line p) a ts h =
+      (spelled_more inside more grows p a ts h.0, h.1)
+  spelled_more inside more grows (forms.shaped claim p) a ts h =
+      spelled_more inside more grows p a ts h

@@ -17,7 +17,8 @@ abbrev pub end_of : ℕ → List Spelled → ℕ
 end_of from [] = from
 end_of from (t ∷ ts) = end_of (suc t.at) ts
 
-Rises-append : (from : ℕ) (us vs : List Spelled) → Rises from us → Rises (end_of from us) vs → Rises from (us ++ vs)
+Rises-append : (from : ℕ) (us vs : List Spelled) → Rises from us → Rises (end_of from us) vs
+    → Rises from (us ++ vs)
 Rises-append from [] vs h k = k
 Rises-append from (u ∷ us) vs h k = (h.0, Rises-append (suc u.at) us vs h.1 k)
 
@@ -27,15 +28,18 @@ Rises-prefix from (u ∷ us) vs h = (h.0, Rises-prefix (suc u.at) us vs h.1)
 
 Rises-fills : (from : ℕ) (ts : List Spelled) → Fills from ts → Rises from ts
 Rises-fills from [] h = tt
-Rises-fills from (t ∷ ts) h = (omega (arith, h.0), subst (λ n. Rises (suc n) ts) (sym h.0) (Rises-fills (suc from) ts h.2))
+Rises-fills from (t ∷ ts) h =
+    (omega (arith, h.0), subst (λ n. Rises (suc n) ts) (sym h.0) (Rises-fills (suc from) ts h.2))
 
-IsStrictlyIncreasing-from_rises : (from : ℕ) (ts : List Spelled) → Rises from ts → IsStrictlyIncreasing (map (λ token. token.at) ts)
+IsStrictlyIncreasing-from_rises : (from : ℕ) (ts : List Spelled) → Rises from ts
+    → IsStrictlyIncreasing (map (λ token. token.at) ts)
 IsStrictlyIncreasing-from_rises from [] h k in' = absurd (omega arith)
 IsStrictlyIncreasing-from_rises from (t ∷ []) h k in' = absurd (omega arith)
 IsStrictlyIncreasing-from_rises from (t ∷ u ∷ ts) h zero in' = h.1.0
 IsStrictlyIncreasing-from_rises from (t ∷ u ∷ ts) h (suc k) in' =
     let here : suc k + 1 ≡ suc (k + 1) = omega arith in
-    subst (λ j. slice_index (map (λ token. token.at) (u ∷ ts)) k < slice_index (map (λ token. token.at) (t ∷ u ∷ ts)) j) (sym here)
+    subst (λ j. slice_index (map (λ token. token.at) (u ∷ ts)) k < slice_index
+    (map (λ token. token.at) (t ∷ u ∷ ts)) j) (sym here)
     (IsStrictlyIncreasing-from_rises (suc t.at) (u ∷ ts) h.1 k (omega arith))
 
 increasing_tail : (x : ℕ) (xs : List ℕ) → IsStrictlyIncreasing (x ∷ xs) → IsStrictlyIncreasing xs
@@ -43,10 +47,14 @@ increasing_tail x xs h k in' =
     let here : suc k + 1 ≡ suc (k + 1) = omega arith in
     subst (λ j. slice_index xs k < slice_index (x ∷ xs) j) here (h (suc k) (omega arith))
 
-Rises-from_increasing : (from : ℕ) (ts : List Spelled) → IsStrictlyIncreasing (from ∷ map (λ token. token.at) ts) → Rises (suc from) ts
+Rises-from_increasing : (from : ℕ) (ts : List Spelled)
+    → IsStrictlyIncreasing (from ∷ map (λ token. token.at) ts) → Rises (suc from) ts
 Rises-from_increasing from [] h = tt
-Rises-from_increasing from (t ∷ ts) h =
-    (h 0 (omega arith), Rises-from_increasing t.at ts (increasing_tail from (t.at ∷ map (λ token. token.at) ts) h))
+Rises-from_increasing from (t ∷ ts) h = (
+  h 0 (omega arith),
+  Rises-from_increasing t.at ts
+      (increasing_tail from (t.at ∷ map (λ token. token.at) ts) h),
+)
 
 rises : (ts : List Spelled) → IsStrictlyIncreasing (map (λ token. token.at) ts) → Rises 0 ts
 rises [] h = tt
@@ -55,11 +63,13 @@ rises (t ∷ ts) h = (omega arith, Rises-from_increasing t.at ts h)
 abbrev pub HasTokenText : Spelled → Type 0
 HasTokenText token = IsTrue (is_token_text token.text)
 
-texts_append : (us vs : List Spelled) → AllByRecursion HasTokenText us → AllByRecursion HasTokenText vs → AllByRecursion HasTokenText (us ++ vs)
+texts_append : (us vs : List Spelled) → AllByRecursion HasTokenText us
+    → AllByRecursion HasTokenText vs → AllByRecursion HasTokenText (us ++ vs)
 texts_append [] vs h k = k
 texts_append (u ∷ us) vs h k = (h.0, texts_append us vs h.1 k)
 
-texts_prefix : (us vs : List Spelled) → AllByRecursion HasTokenText (us ++ vs) → AllByRecursion HasTokenText us
+texts_prefix : (us vs : List Spelled) → AllByRecursion HasTokenText (us ++ vs)
+    → AllByRecursion HasTokenText us
 texts_prefix [] vs h = tt
 texts_prefix (u ∷ us) vs h = (h.0, texts_prefix us vs h.1)
 
@@ -67,11 +77,20 @@ texts_fills : (from : ℕ) (ts : List Spelled) → Fills from ts → AllByRecurs
 texts_fills from [] h = tt
 texts_fills from (t ∷ ts) h = (h.1, texts_fills (suc from) ts h.2)
 
-pub is_spelling : (from : ℕ) (ts : List Spelled) → AllByRecursion HasTokenText ts → Rises from ts → IsSpelling ts
-is_spelling from ts texts rises = record { texts = All-from_recursion HasTokenText ts texts; rising = IsStrictlyIncreasing-from_rises from ts rises }
+pub is_spelling : (from : ℕ) (ts : List Spelled) → AllByRecursion HasTokenText ts → Rises from ts
+    → IsSpelling ts
+is_spelling from ts texts rises =
+    record {
+      texts = All-from_recursion HasTokenText ts texts;
+      rising = IsStrictlyIncreasing-from_rises from ts rises;
+    }
 
 -- The tokens before a fault go on with new tokens to a spelling.
-pub IsSpelling-completed : (before bad filler : List Spelled) → IsSpelling (before ++ bad) → Fills (end_of 0 before) filler → IsSpelling (before ++ filler)
+pub IsSpelling-completed : (before bad filler : List Spelled) → IsSpelling (before ++ bad)
+    → Fills (end_of 0 before) filler → IsSpelling (before ++ filler)
 IsSpelling-completed before bad filler is fills = is_spelling 0 (before ++ filler)
-    (texts_append before filler (texts_prefix before bad (recursion_from_All HasTokenText (before ++ bad) is.texts)) (texts_fills (end_of 0 before) filler fills))
-    (Rises-append 0 before filler (Rises-prefix 0 before bad (rises (before ++ bad) is.rising)) (Rises-fills (end_of 0 before) filler fills))
+    (texts_append before filler
+    (texts_prefix before bad (recursion_from_All HasTokenText (before ++ bad) is.texts))
+    (texts_fills (end_of 0 before) filler fills))
+    (Rises-append 0 before filler (Rises-prefix 0 before bad (rises (before ++ bad) is.rising))
+    (Rises-fills (end_of 0 before) filler fills))

@@ -36,58 +36,75 @@ pub implied : (a b : Bool) → (not a || b) ≡ true → a ≡ true → b ≡ tr
 implied true b h k = h
 implied false b h k = absurd (cc)
 
-pub is_in-append : (set other : Set) (class : ℕ) → is_in (set ++ other) class ≡ (is_in set class || is_in other class)
+pub is_in-append : (set other : Set) (class : ℕ)
+    → is_in (set ++ other) class ≡ (is_in set class || is_in other class)
 is_in-append set other class = list_any-append (λ member. member == class) set other
 
-pub has-append : (set other : Set) (token : Spelled) → has (set ++ other) token ≡ (has set token || has other token)
+pub has-append : (set other : Set) (token : Spelled)
+    → has (set ++ other) token ≡ (has set token || has other token)
 unfolding has
 has-append set other token = is_in-append set other (class_of token.text token.fixity token.first)
 
-is_in-apart : (set other : Set) (class : ℕ) → apart set other ≡ true → is_in set class ≡ true → is_in other class ≡ false
+is_in-apart : (set other : Set) (class : ℕ) → apart set other ≡ true → is_in set class ≡ true
+    → is_in other class ≡ false
 is_in-apart [] other class h k = absurd (cc)
-is_in-apart (x ∷ set) other class h k = by_test (x == class) refl k (is_in-apart set other class (and_right _ _ h))
+is_in-apart (x ∷ set) other class h k =
+    by_test (x == class) refl k (is_in-apart set other class (and_right _ _ h))
   where
     by_test : (b : Bool) → (x == class) ≡ b → (b || list_any (λ member. member == class) set) ≡ true
-        → (list_any (λ member. member == class) set ≡ true → list_any (λ member. member == class) other ≡ false)
+        → (list_any (λ member. member == class) set ≡ true
+        → list_any (λ member. member == class) other ≡ false)
         → list_any (λ member. member == class) other ≡ false
     by_test true is k others = let same : x ≡ class = eqb-true x class is in
         ap (λ c. list_any (λ member. member == c) other) (sym same) ∙ not_true _ (and_left _ _ h)
     by_test false is k others = others k
 
-pub has-apart : (set other : Set) (token : Spelled) → apart set other ≡ true → has set token ≡ true → has other token ≡ false
+pub has-apart : (set other : Set) (token : Spelled) → apart set other ≡ true → has set token ≡ true
+    → has other token ≡ false
 unfolding has
-has-apart set other token h k = is_in-apart set other (class_of token.text token.fixity token.first) h k
+has-apart set other token h k =
+    is_in-apart set other (class_of token.text token.fixity token.first) h k
 
-is_in-within : (set other : Set) (class : ℕ) → within set other ≡ true → is_in set class ≡ true → is_in other class ≡ true
+is_in-within : (set other : Set) (class : ℕ) → within set other ≡ true → is_in set class ≡ true
+    → is_in other class ≡ true
 is_in-within [] other class h k = absurd (cc)
-is_in-within (x ∷ set) other class h k = by_test (x == class) refl k (is_in-within set other class (and_right _ _ h))
+is_in-within (x ∷ set) other class h k =
+    by_test (x == class) refl k (is_in-within set other class (and_right _ _ h))
   where
     by_test : (b : Bool) → (x == class) ≡ b → (b || list_any (λ member. member == class) set) ≡ true
-        → (list_any (λ member. member == class) set ≡ true → list_any (λ member. member == class) other ≡ true)
+        → (list_any (λ member. member == class) set ≡ true
+        → list_any (λ member. member == class) other ≡ true)
         → list_any (λ member. member == class) other ≡ true
     by_test true is k others = let same : x ≡ class = eqb-true x class is in
         ap (λ c. list_any (λ member. member == c) other) (sym same) ∙ and_left _ _ h
     by_test false is k others = others k
 
-pub has-within : (set other : Set) (token : Spelled) → within set other ≡ true → has set token ≡ true → has other token ≡ true
+pub has-within : (set other : Set) (token : Spelled) → within set other ≡ true
+    → has set token ≡ true → has other token ≡ true
 unfolding has
-has-within set other token h k = is_in-within set other (class_of token.text token.fixity token.first) h k
+has-within set other token h k =
+    is_in-within set other (class_of token.text token.fixity token.first) h k
 
-pub is_in-filter : (test : ℕ → Bool) (set : Set) (class : ℕ) → test class ≡ true → is_in set class ≡ true → is_in (filter test set) class ≡ true
+pub is_in-filter : (test : ℕ → Bool) (set : Set) (class : ℕ) → test class ≡ true
+    → is_in set class ≡ true → is_in (filter test set) class ≡ true
 is_in-filter test [] class passes k = absurd (cc)
-is_in-filter test (x ∷ set) class passes k = by_test (x == class) refl k (is_in-filter test set class passes)
+is_in-filter test (x ∷ set) class passes k =
+    by_test (x == class) refl k (is_in-filter test set class passes)
   where
     by_kept : (b : Bool) → list_any (λ member. member == class) (filter test set) ≡ true
-        → list_any (λ member. member == class) (cond b (x ∷ filter test set) (filter test set)) ≡ true
+        → list_any (λ member. member == class) (cond b (x ∷ filter test set) (filter test set))
+        ≡ true
     by_kept true h = or_right _ _ h
     by_kept false h = h
 
     by_test : (b : Bool) → (x == class) ≡ b → (b || list_any (λ member. member == class) set) ≡ true
-        → (list_any (λ member. member == class) set ≡ true → list_any (λ member. member == class) (filter test set) ≡ true)
+        → (list_any (λ member. member == class) set ≡ true
+        → list_any (λ member. member == class) (filter test set) ≡ true)
         → list_any (λ member. member == class) (filter test (x ∷ set)) ≡ true
     by_test true is k others = let same : x ≡ class = eqb-true x class is in
         let kept : test x ≡ true = ap test same ∙ passes in
-        ap (λ b. list_any (λ member. member == class) (cond b (x ∷ filter test set) (filter test set))) kept
+        ap (λ b. list_any (λ member. member == class)
+        (cond b (x ∷ filter test set) (filter test set))) kept
         ∙ ap (λ b. b || list_any (λ member. member == class) (filter test set)) is
     by_test false is k others = by_kept (test x) (others k)
 
@@ -95,11 +112,13 @@ even : (class : ℕ) → ((2 * class + 0) % 2 == 0) ≡ true
 even class = eq-eqb ((2 * class + 0) % 2) 0 (omega arith)
 
 -- A token of the set that isn't the first on its line is of `not_first`.
-pub has-not_first : (set : Set) (token : Spelled) → token.first ≡ false → has set token ≡ true → has (not_first set) token ≡ true
+pub has-not_first : (set : Set) (token : Spelled) → token.first ≡ false → has set token ≡ true
+    → has (not_first set) token ≡ true
 unfolding has
 has-not_first set token stays h =
     is_in-filter (λ class. class % 2 == 0) set _
-    (ap (λ b. (2 * kind_class token.text token.fixity + cond b 1 0) % 2 == 0) stays ∙ even (kind_class token.text token.fixity)) h
+    (ap (λ b. (2 * kind_class token.text token.fixity + cond b 1 0) % 2 == 0) stays
+    ∙ even (kind_class token.text token.fixity)) h
 
 -- The texts of examples are those of tokens.
 
@@ -107,19 +126,24 @@ samples_are_tokens : list_all is_token_text sample_texts ≡ true
 unfolding is_word_start is_word_byte is_digit
 samples_are_tokens = refl
 
-among : (texts : List (List ℕ)) (text : List ℕ) → list_all is_token_text texts ≡ true → list_any (λ sample. bytes_eq sample text) texts ≡ true
+among : (texts : List (List ℕ)) (text : List ℕ) → list_all is_token_text texts ≡ true
+    → list_any (λ sample. bytes_eq sample text) texts ≡ true
     → is_token_text text ≡ true
 among [] text h k = absurd (cc)
 among (x ∷ texts) text h k = by_test (bytes_eq x text) refl k (among texts text (and_right _ _ h))
   where
-    by_test : (b : Bool) → bytes_eq x text ≡ b → (b || list_any (λ sample. bytes_eq sample text) texts) ≡ true
-        → (list_any (λ sample. bytes_eq sample text) texts ≡ true → is_token_text text ≡ true) → is_token_text text ≡ true
-    by_test true is k others = ap is_token_text (sym ((bytes_eq-Decides x text).0 is)) ∙ and_left _ _ h
+    by_test : (b : Bool) → bytes_eq x text ≡ b
+        → (b || list_any (λ sample. bytes_eq sample text) texts) ≡ true
+        → (list_any (λ sample. bytes_eq sample text) texts ≡ true → is_token_text text ≡ true)
+        → is_token_text text ≡ true
+    by_test true is k others = ap is_token_text (sym ((bytes_eq-Decides x text).0 is))
+        ∙ and_left _ _ h
     by_test false is k others = others k
 
 pub sample_is_token : (text : List ℕ) → is_sample text ≡ true → is_token_text text ≡ true
 sample_is_token text h = among sample_texts text samples_are_tokens h
 
-pub starts-append : (set other : Set) (token : Option Spelled) → starts (set ++ other) token ≡ (starts set token || starts other token)
+pub starts-append : (set other : Set) (token : Option Spelled)
+    → starts (set ++ other) token ≡ (starts set token || starts other token)
 starts-append set other None = refl
 starts-append set other (Some token) = has-append set other token

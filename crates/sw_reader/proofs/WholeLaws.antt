@@ -1,5 +1,5 @@
--- Laws of whole lists of tokens: a list is spelled as one value or has one unexpected token, and not
--- both; and the reader finds which.
+-- Laws of whole lists of tokens: a list is spelled as one value or has one unexpected token, and
+-- not both; and the reader finds which.
 use Rattle.std.proofs.Common.{◌≡◌, ℕ, suc, ◌-◌, ◌≤◌, ◌<◌, inl, inr, List, [], ◌∷◌, ◌++◌, length, take, drop, refl, sym, ◌∙◌, ap, subst, append_assoc, arith, length-append}
 use Rattle.std.proofs.lemmas.List.{append-nil, take_at, take-take, take-append-drop}
 use Rattle.std.proofs.lemmas.Bool.{cases_eq}
@@ -18,20 +18,24 @@ use Rattle.sw_reader.proofs.Rising.{end_of, IsSpelling-completed}
 abbrev pub IsEnd : Follow
 IsEnd token = token ≡ None
 
-finish_ok : (ts rest : List Spelled) (a : Unit {0}) → finish ts ≡ Ok (a, rest) → (ts ≡ []) × (rest ≡ [])
+finish_ok : (ts rest : List Spelled) (a : Unit {0}) → finish ts ≡ Ok (a, rest)
+    → (ts ≡ []) × (rest ≡ [])
 finish_ok [] rest a e = (refl, sym (ok_parts e).1)
 finish_ok (t ∷ ts) rest a e = absurd (cc)
 
-finish_stable : (other : List Spelled) (a : Unit {0}) → head other ≡ None → finish other ≡ Ok (a, other)
+finish_stable : (other : List Spelled) (a : Unit {0}) → head other ≡ None
+    → finish other ≡ Ok (a, other)
 finish_stable [] a e = refl
 finish_stable (t ∷ ts) a e = absurd (cc)
 
 fill_nothing : (from : ℕ) → Filled (Nothing (tt {0})) [] from
 fill_nothing from = record { value = tt; filler = []; spelled = (refl, refl); fills = tt }
 
-finish_fails : (ts : List Spelled) (fault : Fault) → finish ts ≡ Err fault → Failed (Nothing (tt {0})) (Nothing (tt {0})) IsEnd ts fault
+finish_fails : (ts : List Spelled) (fault : Fault) → finish ts ≡ Err fault
+    → Failed (Nothing (tt {0})) (Nothing (tt {0})) IsEnd ts fault
 finish_fails [] fault e = absurd (cc)
-finish_fails (t ∷ ts) fault e = refused_at_once (Nothing (tt {0})) (Nothing (tt {0})) IsEnd (t ∷ ts) fault e
+finish_fails (t ∷ ts) fault e = refused_at_once (Nothing (tt {0})) (Nothing (tt {0})) IsEnd
+    (t ∷ ts) fault e
     (λ a prefix rest more s f same heads.
     let first : prefix ++ rest ≡ rest = ap (λ us. us ++ rest) s.1 in
     let chain : None ≡ Some t = sym f ∙ (ap head (sym first ∙ same) ∙ heads) in cc)
@@ -41,26 +45,42 @@ reads_finish : Reads (Nothing (tt {0})) (Nothing (tt {0})) IsEnd finish
 reads_finish = record {
   wide = λ a ts h. h;
   sound = λ ts a rest e. let ends = finish_ok ts rest a e in
-      record { prefix = []; spelled = (refl, refl); split = ends.0 ∙ sym ends.1; stable = λ other heads. finish_stable other a (heads ∙ ap head ends.1) };
+      record {
+        prefix = [];
+        spelled = (refl, refl);
+        split = ends.0 ∙ sym ends.1;
+        stable = λ other heads. finish_stable other a (heads ∙ ap head ends.1);
+      };
   complete = λ a prefix rest s f. ap (λ us. finish (us ++ rest)) s.1 ∙ finish_stable rest a f;
   fails = finish_fails;
   fill = fill_nothing;
 }
 
-module _ {A : Type 0} (R W : Relation A) (ext : Set) (p : Reader A) (reads : Reads R W (Outside ext) p) where
-  whole_there : (a : A) (ts : List Spelled) → Then R (λ x. Then (Nothing (tt {0})) (λ _. Nothing x)) a ts → R a ts
+module _ {A : Type 0} (R W : Relation A) (ext : Set) (p : Reader A)
+    (reads : Reads R W (Outside ext) p) where
+  whole_there : (a : A) (ts : List Spelled)
+      → Then R (λ x. Then (Nothing (tt {0})) (λ _. Nothing x)) a ts → R a ts
   whole_there a ts h =
-      let none : h.right ≡ [] = h.second.whole ∙ (ap (λ us. us ++ h.second.right) h.second.first.1 ∙ h.second.second.1) in
+      let none : h.right ≡ [] = h.second.whole
+      ∙ (ap (λ us. us ++ h.second.right) h.second.first.1 ∙ h.second.second.1) in
       let same : h.left ≡ ts = sym (h.whole ∙ (ap (λ us. h.left ++ us) none ∙ append-nil h.left)) in
       subst (λ x. R x ts) (sym h.second.second.0) (subst (λ us. R h.value us) same h.first)
 
-  whole_back : (a : A) (ts : List Spelled) → R a ts → Then R (λ x. Then (Nothing (tt {0})) (λ _. Nothing x)) a ts
+  whole_back : (a : A) (ts : List Spelled) → R a ts
+      → Then R (λ x. Then (Nothing (tt {0})) (λ _. Nothing x)) a ts
   whole_back a ts h = record {
     value = a;
     left = ts;
     right = [];
     first = h;
-    second = record { value = tt; left = []; right = []; first = (refl, refl); second = (refl, refl); whole = refl };
+    second = record {
+      value = tt;
+      left = [];
+      right = [];
+      first = (refl, refl);
+      second = (refl, refl);
+      whole = refl;
+    };
     whole = sym (append-nil ts);
   }
 
@@ -70,14 +90,16 @@ module _ {A : Type 0} (R W : Relation A) (ext : Set) (p : Reader A) (reads : Rea
       (λ x. reads_then (Nothing x) reads_finish (λ _. narrow (reads_pure x) (λ token f. tt))
       (λ u y us vs h k. (k.0, ap (λ ws. ws ++ vs) h.1 ∙ k.1))
       (λ u y right rest h f. ap (λ us. head (us ++ rest)) h.1 ∙ f))
-      (λ x y us vs h k. subst (λ z. W z (us ++ vs)) (sym k.0) (subst (λ ws. W x ws) (sym (ap (λ ws. us ++ ws) k.1 ∙ append-nil us)) h))
+      (λ x y us vs h k. subst (λ z. W z (us ++ vs)) (sym k.0)
+      (subst (λ ws. W x ws) (sym (ap (λ ws. us ++ ws) k.1 ∙ append-nil us)) h))
       (λ x y right rest h f.
       let none : right ≡ [] = h.whole ∙ (ap (λ us. us ++ h.right) h.first.1 ∙ h.second.1) in
       subst (λ token. Outside ext token) (sym (ap (λ us. head (us ++ rest)) none ∙ f)) refl))
       whole_there whole_back
 
   -- The reader leaves nothing.
-  whole_ends : (ts : List Spelled) (a : A) (rest : List Spelled) → whole p ts ≡ Ok (a, rest) → rest ≡ []
+  whole_ends : (ts : List Spelled) (a : A) (rest : List Spelled) → whole p ts ≡ Ok (a, rest)
+      → rest ≡ []
   whole_ends ts a rest e =
       let one = bind_ok (p ts) (λ x. and_then (finish x.1) (λ y. Ok (x.0, y.1))) (a, rest) e in
       let two = bind_ok (finish one.0.1) (λ y. Ok (one.0.0, y.1)) (a, rest) one.2 in
@@ -88,34 +110,43 @@ module _ {A : Type 0} (R W : Relation A) (ext : Set) (p : Reader A) (reads : Rea
   whole_reads a ts h = ap (whole p) (sym (append-nil ts)) ∙ reads_whole.complete a ts [] h refl
 
   -- What is read is spelled.
-  pub whole_spells : (ts : List Spelled) (a : A) (rest : List Spelled) → whole p ts ≡ Ok (a, rest) → R a ts
+  pub whole_spells : (ts : List Spelled) (a : A) (rest : List Spelled) → whole p ts ≡ Ok (a, rest)
+      → R a ts
   whole_spells ts a rest e =
       let found = reads_whole.sound ts a rest e in
-      let text : ts ≡ found.prefix = found.split ∙ (ap (λ us. found.prefix ++ us) (whole_ends ts a rest e) ∙ append-nil found.prefix) in
+      let text : ts ≡ found.prefix = found.split
+      ∙ (ap (λ us. found.prefix ++ us) (whole_ends ts a rest e) ∙ append-nil found.prefix) in
       subst (λ us. R a us) (sym text) found.spelled
 
-  pub whole_fails : (ts : List Spelled) (fault : Fault) → whole p ts ≡ Err fault → Failed R W IsEnd ts fault
+  pub whole_fails : (ts : List Spelled) (fault : Fault) → whole p ts ≡ Err fault
+      → Failed R W IsEnd ts fault
   whole_fails ts fault e = reads_whole.fails ts fault e
 
 -- The tokens before a fault
 
-some_bad : (ts before bad : List Spelled) → ts ≡ before ++ bad → length before < length ts → (t : Spelled) × (others : List Spelled) × (bad ≡ t ∷ others)
+some_bad : (ts before bad : List Spelled) → ts ≡ before ++ bad → length before < length ts
+    → (t : Spelled) × (others : List Spelled) × (bad ≡ t ∷ others)
 some_bad ts before [] split less = absurd (omega (arith, ap length split, length-append before []))
 some_bad ts before (t ∷ others) split less = (t, others, refl)
 
 no_bad : (ts before bad : List Spelled) → ts ≡ before ++ bad → length before ≡ length ts → bad ≡ []
 no_bad ts before [] split same = refl
-no_bad ts before (t ∷ others) split same = absurd (omega (arith, ap length split, length-append before (t ∷ others)))
+no_bad ts before (t ∷ others) split same =
+    absurd (omega (arith, ap length split, length-append before (t ∷ others)))
 
 take_before : (ts before bad : List Spelled) → ts ≡ before ++ bad → take (length before) ts ≡ before
-take_before ts before bad split = ap (λ us. take (length before) us) split ∙ take_at before bad (length before) refl
+take_before ts before bad split = ap (λ us. take (length before) us) split
+    ∙ take_at before bad (length before) refl
 
-take_one_more : (ts before others : List Spelled) (t : Spelled) → ts ≡ before ++ (t ∷ others) → take (suc (length before)) ts ≡ before ++ (t ∷ [])
+take_one_more : (ts before others : List Spelled) (t : Spelled) → ts ≡ before ++ (t ∷ others)
+    → take (suc (length before)) ts ≡ before ++ (t ∷ [])
 take_one_more ts before others t split =
     ap (λ us. take (suc (length before)) us) (split ∙ sym (append_assoc before (t ∷ []) others))
-    ∙ take_at (before ++ (t ∷ [])) others (suc (length before)) (omega (arith, length-append before (t ∷ [])))
+    ∙ take_at (before ++ (t ∷ [])) others (suc (length before))
+    (omega (arith, length-append before (t ∷ [])))
 
-unexpected_at : {A : Type 0} (R : Relation A) (ts : List Spelled) (left : ℕ) → IsSpelling ts → (bad : Failed R R IsEnd ts (unexpected left))
+unexpected_at : {A : Type 0} (R : Relation A) (ts : List Spelled) (left : ℕ) → IsSpelling ts
+    → (bad : Failed R R IsEnd ts (unexpected left))
     → IsUnexpectedIn R ts (length bad.before)
 unexpected_at R ts left is bad = record {
   within = omega (arith, ap length bad.split, length-append bad.before bad.bad);
@@ -125,16 +156,20 @@ unexpected_at R ts left is bad = record {
         one.value,
         one.filler,
         record {
-          spelling = IsSpelling-completed bad.before bad.bad one.filler (subst IsSpelling bad.split is) one.fills;
+          spelling = IsSpelling-completed bad.before bad.bad one.filler
+              (subst IsSpelling bad.split is) one.fills;
           form = subst (λ us. R one.value (us ++ one.filler)) same one.spelled;
         },
       );
   refused = λ less begins.
       let first = some_bad ts bad.before bad.bad bad.split less in
-      let split : ts ≡ bad.before ++ (first.0 ∷ first.1) = bad.split ∙ ap (λ us. bad.before ++ us) first.2 in
+      let split : ts ≡ bad.before ++ (first.0 ∷ first.1) = bad.split
+      ∙ ap (λ us. bad.before ++ us) first.2 in
       let begins' = subst (Begins R) (take_one_more ts bad.before first.1 first.0 split) begins in
-      bad.none begins'.0 ((bad.before ++ (first.0 ∷ [])) ++ begins'.1) [] (first.0 ∷ begins'.1) begins'.2.form refl
-      (append-nil ((bad.before ++ (first.0 ∷ [])) ++ begins'.1) ∙ append_assoc bad.before (first.0 ∷ []) begins'.1)
+      bad.none begins'.0 ((bad.before ++ (first.0 ∷ [])) ++ begins'.1) []
+      (first.0 ∷ begins'.1) begins'.2.form refl
+      (append-nil ((bad.before ++ (first.0 ∷ [])) ++ begins'.1)
+      ∙ append_assoc bad.before (first.0 ∷ []) begins'.1)
       (ap head (sym first.2));
   unfinished = λ same spelled.
       let nothing = no_bad ts bad.before bad.bad bad.split same in
@@ -143,38 +178,52 @@ unexpected_at R ts left is bad = record {
 }
 
 -- A fault says which token is unexpected.
-pub unexpected_token : {A : Type 0} (R : Relation A) (ts : List Spelled) → IsSpelling ts → (left : ℕ) → Failed R R IsEnd ts (unexpected left)
+pub unexpected_token : {A : Type 0} (R : Relation A) (ts : List Spelled) → IsSpelling ts
+    → (left : ℕ) → Failed R R IsEnd ts (unexpected left)
     → IsUnexpectedIn R ts (length ts - left)
 unexpected_token R ts is left bad =
-    let same : length bad.before ≡ length ts - left = omega (arith, ap length bad.split, length-append bad.before bad.bad, bad.count) in
+    let same : length bad.before ≡ length ts - left =
+    omega (arith, ap length bad.split, length-append bad.before bad.bad, bad.count) in
     subst (λ n. IsUnexpectedIn R ts n) same (unexpected_at R ts left is bad)
 
 -- A fault is at a token or the end.
-pub fault_within : {A : Type 0} (R W : Relation A) (F : Follow) (ts : List Spelled) (left : ℕ) → Failed R W F ts (unexpected left) → left ≤ length ts
-fault_within R W F ts left bad = omega (arith, ap length bad.split, length-append bad.before bad.bad, bad.count)
+pub fault_within : {A : Type 0} (R W : Relation A) (F : Follow) (ts : List Spelled) (left : ℕ)
+    → Failed R W F ts (unexpected left) → left ≤ length ts
+fault_within R W F ts left bad =
+    omega (arith, ap length bad.split, length-append bad.before bad.bad, bad.count)
 
 -- A list that is spelled has no unexpected token.
-pub none_unexpected : {A : Type 0} (R : Relation A) (ts : List Spelled) (n : ℕ) → IsSpelled R ts → ¬ IsUnexpectedIn R ts n
+pub none_unexpected : {A : Type 0} (R : Relation A) (ts : List Spelled) (n : ℕ) → IsSpelled R ts
+    → ¬ IsUnexpectedIn R ts n
 none_unexpected R ts n h k = elim (cases_eq n (length ts)) [
   | inl same ↦ k.unfinished same h
   | inr differs ↦ (let within : n ≤ length ts = k.within in
-      k.refused (omega arith) (h.0, drop (suc n) ts, subst (IsSpelledAs R h.0) (sym (take-append-drop (suc n) ts)) h.1))
+      k.refused (omega arith) (
+        h.0,
+        drop (suc n) ts,
+        subst (IsSpelledAs R h.0) (sym (take-append-drop (suc n) ts)) h.1,
+      ))
 ]
 
-no_earlier : {A : Type 0} (R : Relation A) (ts : List Spelled) (j k : ℕ) → IsUnexpectedIn R ts j → IsUnexpectedIn R ts k → j < k → ⊥
+no_earlier : {A : Type 0} (R : Relation A) (ts : List Spelled) (j k : ℕ) → IsUnexpectedIn R ts j
+    → IsUnexpectedIn R ts k → j < k → ⊥
 no_earlier R ts j k h h' less =
     let within : k ≤ length ts = h'.within in
     let begun = h'.begun in
     let split : take k ts ≡ take (suc j) ts ++ drop (suc j) (take k ts)
-    = sym (take-append-drop (suc j) (take k ts)) ∙ ap (λ us. us ++ drop (suc j) (take k ts)) (take-take (suc j) k ts less) in
+    = sym (take-append-drop (suc j) (take k ts)) ∙ ap (λ us. us ++ drop (suc j) (take k ts))
+    (take-take (suc j) k ts less) in
     h.refused (omega arith) (
       begun.0,
       drop (suc j) (take k ts) ++ begun.1,
-      subst (IsSpelledAs R begun.0) (ap (λ us. us ++ begun.1) split ∙ append_assoc (take (suc j) ts) (drop (suc j) (take k ts)) begun.1) begun.2,
+      subst (IsSpelledAs R begun.0)
+          (ap (λ us. us ++ begun.1) split
+          ∙ append_assoc (take (suc j) ts) (drop (suc j) (take k ts)) begun.1) begun.2,
     )
 
 -- There is one unexpected token.
-pub one_unexpected : {A : Type 0} (R : Relation A) (ts : List Spelled) (j k : ℕ) → IsUnexpectedIn R ts j → IsUnexpectedIn R ts k → j ≡ k
+pub one_unexpected : {A : Type 0} (R : Relation A) (ts : List Spelled) (j k : ℕ)
+    → IsUnexpectedIn R ts j → IsUnexpectedIn R ts k → j ≡ k
 one_unexpected R ts j k h h' =
     let not_before = no_earlier R ts j k h h' in
     let not_after = no_earlier R ts k j h' h in

@@ -1,6 +1,6 @@
--- Grammars as data: a form says how the spellings of a value are put together. Its index, the shape,
--- says what may come first and what may come after; `ok` in it is the condition under which one token
--- decides each choice, computed along with the form.
+-- Grammars as data: a form says how the spellings of a value are put together. Its index, the
+-- shape, says what may come first and what may come after; `ok` in it is the condition under which
+-- one token decides each choice, computed along with the form.
 use Rattle.std.specs.Prelude.{ℕ, suc, nat_le, max, Bool, true, false, not, ◌&&◌, ◌||◌, if◌then◌else◌, List, [], ◌++◌}
 use Rattle.sw_token.specs.declared.Fixity.{Fixity}
 use Rattle.sw_token.specs.Spelling.{Spelled}
@@ -154,7 +154,8 @@ held s t = record {
   nullable = t.nullable;
   first = t.first;
   ext = t.ext;
-  ok = s.ok && (if s.nullable then t.nullable else not t.nullable) && within s.first t.first && within s.ext t.ext
+  ok = s.ok && (if s.nullable then t.nullable else not t.nullable) && within s.first t.first
+      && within s.ext t.ext
       && nat_le s.height t.height && (not t.begins_line || s.begins_line)
       && (not t.stays_on_line || s.stays_on_line) && (t.begins_line || t.stays_on_line);
   height = t.height;
@@ -174,8 +175,8 @@ solid first ext height = record {
   stays_on_line = true;
 }
 
--- `N` names the nests: what stands after a token that opens one, up to the token that closes it. `El`
--- gives the values of a nest, and `shape_of` its shape.
+-- `N` names the nests: what stands after a token that opens one, up to the token that closes it.
+-- `El` gives the values of a nest, and `shape_of` its shape.
 module _ {N : Type 0} (El : N → Type 0) (shape_of : N → Shape) where
   pub data Form : Shape → Type 0 → Type 1 where
     -- no token; the value is this

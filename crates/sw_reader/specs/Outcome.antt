@@ -17,7 +17,8 @@ Gives answer (Ok value) left = answer ≡ Ok (value, left)
 Gives answer (Err (stops.Unexpected count)) left = answer ≡ Err (unexpected count)
 Gives answer (Err stops.Memory) left = Unit {0}
 
--- The first of these tokens is taken, which is the second argument; and these are left.
+-- `Takes tokens at left`: the first of the tokens, which stands at the position `at`, is taken, and
+-- these are left.
 abbrev pub Takes : List Spelled → ℕ → List Spelled → Type 0
 Takes [] at left = ⊥
 Takes (first ∷ others) at left = (at ≡ first.at) × (left ≡ others)

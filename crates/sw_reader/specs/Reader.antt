@@ -1,6 +1,6 @@
--- Readers: functions that read a value off the beginning of a list of tokens, from left to right, and
--- the reader of a form. A fault says how many tokens are left from the one at fault on, so that it
--- doesn't change when readers are put together; 0 is the end.
+-- Readers: functions that read a value off the beginning of a list of tokens, from left to right,
+-- and the reader of a form. A fault says how many tokens are left from the one at fault on, so that
+-- it doesn't change when readers are put together; 0 is the end.
 use Rattle.std.specs.Prelude.{ℕ, zero, suc, Bool, true, false, if◌then◌else◌, List, [], ◌∷◌, length, Option, Result, Ok, Err}
 use Rattle.sw_token.specs.Spelling.{Spelled}
 use Rattle.sw_reader.specs.Sets.{Set, has, starts, quoted}
@@ -90,7 +90,8 @@ finish (token ∷ others) = Err (unexpected (suc (length others)))
 abbrev pub whole : {A : Type 0} → Reader A → Reader A
 whole reader = then_read reader (λ value. then_read finish (λ _. pure value))
 
--- The reader of a form, where `depth` more nests may be opened and `inside` reads what stands in them.
+-- The reader of a form, where `depth` more nests may be opened and `inside` reads what stands in
+-- them.
 abbrev pub reading : {N : Type 0} (El : N → Type 0) (shape_of : N → Shape)
     → ℕ → ((n : N) → Reader (El n)) → {s : Shape} {A : Type 0} → Form El shape_of s A → Reader A
 reading El shape_of depth inside (forms.done value) = pure value
@@ -102,11 +103,13 @@ reading El shape_of depth inside (forms.either {s = s} p q) =
 reading El shape_of depth inside (forms.turns {s = s} state f) =
     loop s.first (λ now. reading El shape_of depth inside (f now)) state
 reading El shape_of depth inside (forms.when {s = s} is_so p q) =
-    only_if is_so (choose s.first (reading El shape_of depth inside p) (reading El shape_of depth inside q))
+    only_if is_so (choose s.first (reading El shape_of depth inside p)
+    (reading El shape_of depth inside q))
     (reading El shape_of depth inside q)
 reading El shape_of depth inside (forms.nest t n) =
     then_read (opening depth t) (λ a. then_read (inside n) (λ x. pure (a, x)))
 reading El shape_of depth inside (forms.line_start asked p) =
     checked (may_start asked) (reading El shape_of depth inside p)
-reading El shape_of depth inside (forms.same_line p) = checked stays (reading El shape_of depth inside p)
+reading El shape_of depth inside (forms.same_line p) =
+    checked stays (reading El shape_of depth inside p)
 reading El shape_of depth inside (forms.shaped claim p) = reading El shape_of depth inside p

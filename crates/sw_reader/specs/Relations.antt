@@ -1,5 +1,5 @@
 -- Relations between values and the tokens that spell them, and how a form puts them together.
-use Rattle.std.specs.Prelude.{◌≡◌, ◌⊎◌, Bool, true, false, IsTrue, List, [], ◌∷◌, ◌++◌, Option, Some, None}
+use Rattle.std.specs.Prelude.{◌≡◌, ◌⊎◌, Bool, true, false, not, IsTrue, List, [], ◌∷◌, ◌++◌, Option, Some, None}
 use Rattle.sw_token.specs.Spelling.{Spelled}
 use Rattle.sw_reader.specs.Sets.{has}
 use Rattle.sw_reader.specs.Form.{Shape, Terminal, Form}
@@ -26,7 +26,8 @@ pub record One {A : Type 0} (t : Terminal A) (a : A) (tokens : List Spelled) : T
   pub value : a ≡ t.value token
   pub alone : tokens ≡ token ∷ []
 
-pub record Then {A B : Type 0} (P : Relation A) (Q : A → Relation B) (b : B) (tokens : List Spelled) : Type 0 where
+pub record Then {A B : Type 0} (P : Relation A) (Q : A → Relation B) (b : B)
+    (tokens : List Spelled) : Type 0 where
   pub value : A
   pub left : List Spelled
   pub right : List Spelled
@@ -50,17 +51,15 @@ pub data Turns {S : Type 0} (One : S → Relation S) : S → S → List Spelled 
 abbrev pub Passing : {A : Type 0} → (Option Spelled → Bool) → Relation A → Relation A
 Passing test P a tokens = P a tokens × IsTrue (test (head tokens))
 
+-- whether the next token is the first on its line, where that is asked for
 abbrev pub may_start : Bool → Option Spelled → Bool
 may_start true token = is_first_on_line token
 may_start false token = true
 
+-- whether the next token isn't the first on its line
 abbrev pub stays : Option Spelled → Bool
 stays None = true
-stays (Some token) = if_first token.first
-  where
-    if_first : Bool → Bool
-    if_first true = false
-    if_first false = true
+stays (Some token) = not token.first
 
 -- What a form spells, where `inside` says what the nests do.
 abbrev pub spelled : {N : Type 0} (El : N → Type 0) (shape_of : N → Shape)
@@ -75,7 +74,8 @@ spelled El shape_of inside (forms.turns state f) =
     Turns (λ s. spelled El shape_of inside (f s)) state
 spelled El shape_of inside (forms.when is_so p q) =
     Either (Only is_so (spelled El shape_of inside p)) (spelled El shape_of inside q)
-spelled El shape_of inside (forms.nest t n) = Then (One t) (λ a. Then (inside n) (λ x. Nothing (a, x)))
+spelled El shape_of inside (forms.nest t n) =
+    Then (One t) (λ a. Then (inside n) (λ x. Nothing (a, x)))
 spelled El shape_of inside (forms.line_start asked p) =
     Passing (may_start asked) (spelled El shape_of inside p)
 spelled El shape_of inside (forms.same_line p) = Passing stays (spelled El shape_of inside p)

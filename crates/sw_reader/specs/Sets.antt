@@ -1,6 +1,6 @@
--- Sets of tokens. Each token is of one class, which its text, its fixity and whether it is the first
--- on its line decide; a set is a list of classes. So whether two sets have a token in common is a
--- computation.
+-- Sets of tokens. Each token is of one class, which its text, its fixity and whether it is the
+-- first on its line decide; a set is a list of classes. So whether two sets have a token in common
+-- is a computation.
 use Rattle.std.specs.Prelude.{ℕ, ◌+◌, ◌*◌, ◌%◌, ◌==◌, nat_lt, Bool, true, false, not, if◌then◌else◌, List, [], ◌∷◌, ◌++◌, length, filter, codes, bytes_eq, Option, Some, None}
 use Rattle.std.specs.List.{list_any, list_all, position_or_len}
 use Rattle.sw_token.specs.declared.Fixity.{Fixity}
@@ -61,8 +61,8 @@ is_integer (kinds.Int _) = true
 is_integer _ = false
 
 -- a number for each text that is quoted, and for each kind of the others
-abbrev pub number_of : List ℕ → ℕ
-number_of text =
+abbrev pub text_number : List ℕ → ℕ
+text_number text =
     let index = index_of text in
     if is_quoted text then index else index + sort_of (kind_of text)
 
@@ -75,7 +75,7 @@ fixity_number fixities.None = 3
 -- the class of a token, apart from whether it is the first on its line
 abbrev pub kind_class : List ℕ → Fixity → ℕ
 kind_class text fixity =
-    let number = number_of text in
+    let number = text_number text in
     4 * number + (if nat_lt number (length operators) then fixity_number fixity else 0)
 
 -- the class of a token: even, where it isn't the first on its line

@@ -47,7 +47,8 @@ an_integer = record {
 
 -- one form after another, as the blocks of `do` are written
 infixl 10 ◌>>=◌
-abbrev pub ◌>>=◌ : {N : Type 0} {El : N → Type 0} {shape_of : N → Shape} {A B : Type 0} {s t : Shape}
+abbrev pub ◌>>=◌ : {N : Type 0} {El : N → Type 0} {shape_of : N → Shape} {A B : Type 0}
+    {s t : Shape}
     → Form El shape_of s A → (A → Form El shape_of t B) → Form El shape_of (seq s t) B
 p >>= f = forms.followed p f
 
@@ -77,11 +78,12 @@ abbrev pub skip : {N : Type 0} {El : N → Type 0} {shape_of : N → Shape} (tex
     → Form El shape_of (alt (seq (one (quote text)) empty) empty) Bool
 skip text = forms.either (expect text >>= λ _. forms.done true) (forms.done false)
 
--- one more item after those read so far, and whether a `;` ends it; where the item before isn't ended
--- so, it begins a line
+-- one more item after those read so far, and whether a `;` ends it; where the item before isn't
+-- ended so, it begins a line
 abbrev pub one_more : {N : Type 0} {El : N → Type 0} {shape_of : N → Shape} {A : Type 0} {s : Shape}
     → Form El shape_of s A → List A × Bool
-    → Form El shape_of (seq (started s) (seq (alt (seq (one (quote (codes ";"))) empty) empty) empty)) (List A × Bool)
+    → Form El shape_of (seq (started s)
+    (seq (alt (seq (one (quote (codes ";"))) empty) empty) empty)) (List A × Bool)
 one_more item state = do
   x ← forms.line_start (not state.1) item
   ended ← skip (codes ";")
@@ -89,13 +91,16 @@ one_more item state = do
 
 -- items after those of the state, each of which a `;` or the end of a line ends; and whether a `;`
 -- ends the last
-abbrev pub more_items : {N : Type 0} {El : N → Type 0} {shape_of : N → Shape} {A : Type 0} {s : Shape}
+abbrev pub more_items : {N : Type 0} {El : N → Type 0} {shape_of : N → Shape} {A : Type 0}
+    {s : Shape}
     → Form El shape_of s A → List A × Bool
-    → Form El shape_of (star (seq (started s) (seq (alt (seq (one (quote (codes ";"))) empty) empty) empty))) (List A × Bool)
+    → Form El shape_of (star (seq (started s)
+    (seq (alt (seq (one (quote (codes ";"))) empty) empty) empty))) (List A × Bool)
 more_items item state = forms.turns state (one_more item)
 
 -- the items of a list; before the first, none has to begin a line
 abbrev pub items : {N : Type 0} {El : N → Type 0} {shape_of : N → Shape} {A : Type 0} {s : Shape}
     → Form El shape_of s A
-    → Form El shape_of (star (seq (started s) (seq (alt (seq (one (quote (codes ";"))) empty) empty) empty))) (List A × Bool)
+    → Form El shape_of (star (seq (started s)
+    (seq (alt (seq (one (quote (codes ";"))) empty) empty) empty))) (List A × Bool)
 items item = more_items item ([], true)

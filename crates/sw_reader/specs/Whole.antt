@@ -4,7 +4,8 @@ use Rattle.sw_token.specs.Spelling.{Spelled, IsSpelling}
 use Rattle.sw_reader.specs.Relations.{Relation}
 
 -- The tokens are a spelling, and the relation gives the value for them.
-pub record IsSpelledAs {A : Type 0} (R : Relation A) (value : A) (tokens : List Spelled) : Type 0 where
+pub record IsSpelledAs {A : Type 0} (R : Relation A) (value : A)
+    (tokens : List Spelled) : Type 0 where
   pub spelling : IsSpelling tokens
   pub form : R value tokens
 
@@ -16,9 +17,10 @@ IsSpelled {A} R tokens = (value : A) × IsSpelledAs R value tokens
 abbrev pub Begins : {A : Type 0} → Relation A → List Spelled → Type 0
 Begins {A} R tokens = (value : A) × (others : List Spelled) × IsSpelledAs R value (tokens ++ others)
 
--- The first `n` tokens begin a spelling. With the next they begin none; where there is no next, they
--- are none themselves.
-pub record IsUnexpectedIn {A : Type 0} (R : Relation A) (tokens : List Spelled) (n : ℕ) : Type 0 where
+-- The first `n` tokens begin a spelling. With the next they begin none; where there is no next,
+-- they are none themselves.
+pub record IsUnexpectedIn {A : Type 0} (R : Relation A) (tokens : List Spelled)
+    (n : ℕ) : Type 0 where
   pub within : n ≤ length tokens
   pub begun : Begins R (take n tokens)
   pub refused : n < length tokens → ¬ Begins R (take (suc n) tokens)

@@ -19,35 +19,47 @@ use Rattle.sw_small.specs.Small.{SpellsSmall, Spells, IsSmall, IsUnexpected}
 use Rattle.sw_small.proofs.SmallLoops.{good}
 
 -- With no nests, a depth changes nothing.
-any_depth : (program : Small) (ts : List Spelled) → Wide in_nest shape_of body small program ts → SpellsSmall program ts
+any_depth : (program : Small) (ts : List Spelled) → Wide in_nest shape_of body small program ts
+    → SpellsSmall program ts
 any_depth program ts h =
-    spelled_more in_nest shape_of (inside in_nest shape_of body h.0) (inside in_nest shape_of body 0) (λ nest x us k. absurd nest) small program ts h.1
+    spelled_more in_nest shape_of (inside in_nest shape_of body h.0)
+    (inside in_nest shape_of body 0) (λ nest x us k. absurd nest) small program ts h.1
 
 reads_small : Reads SpellsSmall SpellsSmall (Outside (quoted (codes ";"))) (read small)
 reads_small = widen (law in_nest shape_of body good 0 small refl) any_depth
 
-pub only_small : (program : Small) (ts : List Spelled) → Spells program ts → whole_small ts ≡ Ok (program, [])
-only_small program ts h = wholes.whole_reads SpellsSmall SpellsSmall (quoted (codes ";")) (read small) reads_small program ts h.form
+pub only_small : (program : Small) (ts : List Spelled) → Spells program ts
+    → whole_small ts ≡ Ok (program, [])
+only_small program ts h = wholes.whole_reads SpellsSmall SpellsSmall (quoted (codes ";"))
+    (read small) reads_small program ts h.form
 
-pub read_small : (ts : List Spelled) → IsSpelling ts → (program : Small) (rest : List Spelled) → whole_small ts ≡ Ok (program, rest) → Spells program ts
+pub read_small : (ts : List Spelled) → IsSpelling ts → (program : Small) (rest : List Spelled)
+    → whole_small ts ≡ Ok (program, rest) → Spells program ts
 read_small ts is program rest e = record {
   spelling = is;
-  form = wholes.whole_spells SpellsSmall SpellsSmall (quoted (codes ";")) (read small) reads_small ts program rest e;
+  form = wholes.whole_spells SpellsSmall SpellsSmall (quoted (codes ";"))
+      (read small) reads_small ts program rest e;
 }
 
-failed : (ts : List Spelled) (left : ℕ) → whole_small ts ≡ Err (unexpected left) → Failed SpellsSmall SpellsSmall wholes.IsEnd ts (unexpected left)
-failed ts left e = wholes.whole_fails SpellsSmall SpellsSmall (quoted (codes ";")) (read small) reads_small ts (unexpected left) e
+failed : (ts : List Spelled) (left : ℕ) → whole_small ts ≡ Err (unexpected left)
+    → Failed SpellsSmall SpellsSmall wholes.IsEnd ts (unexpected left)
+failed ts left e = wholes.whole_fails SpellsSmall SpellsSmall (quoted (codes ";"))
+    (read small) reads_small ts (unexpected left) e
 
-pub read_unexpected : (ts : List Spelled) → IsSpelling ts → (left : ℕ) → whole_small ts ≡ Err (unexpected left) → IsUnexpected ts (length ts - left)
+pub read_unexpected : (ts : List Spelled) → IsSpelling ts → (left : ℕ)
+    → whole_small ts ≡ Err (unexpected left) → IsUnexpected ts (length ts - left)
 read_unexpected ts is left e = wholes.unexpected_token SpellsSmall ts is left (failed ts left e)
 
 -- A fault is at a token or the end.
-pub fault_within : (ts : List Spelled) (left : ℕ) → whole_small ts ≡ Err (unexpected left) → left ≤ length ts
-fault_within ts left e = wholes.fault_within SpellsSmall SpellsSmall wholes.IsEnd ts left (failed ts left e)
+pub fault_within : (ts : List Spelled) (left : ℕ) → whole_small ts ≡ Err (unexpected left)
+    → left ≤ length ts
+fault_within ts left e = wholes.fault_within SpellsSmall SpellsSmall wholes.IsEnd ts left
+    (failed ts left e)
 
 -- No nest is too deep, as there is none.
 pub never_deep : (ts : List Spelled) (left : ℕ) → whole_small ts ≡ Err (too_deep left) → ⊥
-never_deep ts left e = depths.never_deep in_nest shape_of body (λ nest. absurd nest) 0 small ts left e
+never_deep ts left e = depths.never_deep in_nest shape_of body (λ nest. absurd nest) 0 small ts left
+    e
 
 -- Tokens have one meaning.
 pub one_program : (ts : List Spelled) (p q : Small) → Spells p ts → Spells q ts → p ≡ q

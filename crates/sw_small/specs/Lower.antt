@@ -1,5 +1,6 @@
--- The control-flow graph of a small program. Functions are numbered by key: the entry, then the tasks' bodies. A function's
--- registers are numbered in the order of making, a result's after those of its operands.
+-- The control-flow graph of a small program. Functions are numbered by key: the entry, then the
+-- tasks' bodies. A function's registers are numbered in the order of making, a result's after those
+-- of its operands.
 use Rattle.std.specs.Prelude.{◌≡◌, ℕ, ◌+◌, Bool, true, false, List, [], ◌∷◌, ◌++◌, map, length, sum_by, None}
 use Rattle.sw_types.specs.declared.ty.Ty.TheVariants.{Int, Unit as Void, Task as TaskOf}
 use Rattle.sw_types.specs.declared.isolation.Iso.TheVariants.{Free}
@@ -17,14 +18,15 @@ use Rattle.sw_small.specs.declared.tree.Show.{Show}
 use Rattle.sw_small.specs.declared.tree.Small.{Small}
 use Rattle.sw_small.specs.declared.lowering.Piece.{Piece}
 
--- A form's piece, by how many functions, and registers of its own function, were made before it.
+-- A form's piece, where so many functions and so many registers of its own function have been made
+-- before it.
 abbrev pub Plan : Type 0
 Plan = ℕ → ℕ → Piece
 
 abbrev pub nothing : Piece
 nothing = record { instrs = []; regs = []; bodies = [] }
 
--- one piece after another
+-- one piece behind another
 abbrev pub joined : Piece → Piece → Piece
 joined first second = record {
   instrs = first.instrs ++ second.instrs;
@@ -39,7 +41,8 @@ in_order (plan ∷ plans) functions registers =
     let piece = plan functions registers in
     joined piece (in_order plans (functions + length piece.bodies) (registers + length piece.regs))
 
--- what was made, and a form's piece after it, where the first closure's function has the number `first`
+-- what was made, and a form's piece behind it, where the first closure's function has the number
+-- `first`
 abbrev pub extended : ℕ → Piece → Plan → Piece
 extended first made plan = joined made (plan (first + length made.bodies) (length made.regs))
 
@@ -57,7 +60,7 @@ function_of key is_async instrs regs = record {
   blocks = record { instrs = instrs; last = Return None } ∷ [];
 }
 
--- A body is its function, and after it the functions of the closures inside it.
+-- A body is its function, and behind it the functions of the closures inside it.
 abbrev pub body_of : ℕ → Bool → List Plan → ℕ → List Function
 body_of key is_async plans functions =
     let inside = in_order plans (functions + 1) 0 in
@@ -66,12 +69,14 @@ body_of key is_async plans functions =
 -- `print(7)`: the literal, and the call, which gives `Void`
 abbrev pub show_plan : Show → Plan
 show_plan show functions registers = record {
-  instrs = Const show.value_at registers (IntOf show.value) ∷ Print show.at (registers + 1) (record { reg = registers; at = show.value_at } ∷ []) ∷ [];
+  instrs = Const show.value_at registers (IntOf show.value) ∷ Print show.at (registers + 1)
+      (record { reg = registers; at = show.value_at } ∷ []) ∷ [];
   regs = Plain Int ∷ Plain Void ∷ [];
   bodies = [];
 }
 
--- `Task.detached { .. }`: a task without captures. Its body is asynchronous, and the brace that opens it is its key.
+-- `Task.detached { .. }`: a task without captures. Its body is asynchronous, and the brace that
+-- opens it is its key.
 abbrev pub item_plan : Item → Plan
 item_plan (Shows show) functions registers = show_plan show functions registers
 item_plan (Task at body shows) functions registers = record {

@@ -67,8 +67,8 @@ pub record IsSpelling (tokens : List Spelled) : Type 0 where
   pub texts : All (λ token. IsTrue (is_token_text token.text)) tokens
   pub rising : IsStrictlyIncreasing (map (λ token. token.at) tokens)
 
--- The token can be read in the source: its span is a part of it that cuts no character in two, and its
--- kind is that of its text.
+-- The token can be read in the source: its span is a part of it that cuts no character in two, and
+-- its kind is that of its text.
 pub record IsReadable (source : List ℕ) (token : Token) : Type 0 where
   pub ordered : token.span.start ≤ token.span.end
   pub start : IsCharBoundary source token.span.start

@@ -13,7 +13,25 @@ loop-item-preserved c =
     let same = ap item_size here in
     let regs = ap (λ piece. length piece.regs) c.in_ok-item.ensures.ok in
     let bodies = ap (λ piece. length piece.bodies) c.in_ok-item.ensures.ok in (
-      omega (arith, regs, size, same, c.loop-item.invariant.0, length-append c.loop-item.piece.regs, item_registers item (1 + length c.loop-item.piece.bodies) (length c.loop-item.piece.regs)),
-      omega (arith, bodies, size, same, c.loop-item.invariant.1, length-append c.loop-item.piece.bodies, item_bodies item (1 + length c.loop-item.piece.bodies) (length c.loop-item.piece.regs)),
-      completed_item item_plan _ _ item c.loop-item.piece _ _ 1 inside here c.loop-item.invariant.2 c.in_ok-item.ensures.ok,
+      omega (
+        arith,
+        regs,
+        size,
+        same,
+        c.loop-item.invariant.0,
+        length-append c.loop-item.piece.regs,
+        item_registers item (1 + length c.loop-item.piece.bodies)
+            (length c.loop-item.piece.regs),
+      ),
+      omega (
+        arith,
+        bodies,
+        size,
+        same,
+        c.loop-item.invariant.1,
+        length-append c.loop-item.piece.bodies,
+        item_bodies item (1 + length c.loop-item.piece.bodies) (length c.loop-item.piece.regs),
+      ),
+      completed_item item_plan _ _ item c.loop-item.piece _ _ 1 inside here c.loop-item.invariant.2
+          c.in_ok-item.ensures.ok,
     )

@@ -7,4 +7,5 @@ abbrev pub invariant-loop-item : goal.invariant-loop-item
 invariant-loop-item l =
     (length l.piece.regs ≤ 2 * sum_by item_size (take l.item-index l.items))
     × (length l.piece.bodies ≤ sum_by item_size (take l.item-index l.items))
-    × (completed l.piece 1 (map item_plan (drop l.item-index l.items)) ≡ in_order (map item_plan l.items) 1 0)
+    × (completed l.piece 1 (map item_plan (drop l.item-index l.items)) ≡ in_order
+    (map item_plan l.items) 1 0)

@@ -13,31 +13,39 @@ use Rattle.sw_small.proofs.parser.parse.Goals as goal
 use Rattle.sw_small.proofs.parser.parse.Goals.{In-Err-Unexpected}
 
 pub prove-unreachable-requires : goal.prove-unreachable-requires
-prove-unreachable-requires c = omega (arith, IsTokens-few c.args.source.now c.args.tokens.now c.requires)
+prove-unreachable-requires c =
+    omega (arith, IsTokens-few c.args.source.now c.args.tokens.now c.requires)
 
 pub new-requires : goal.new-requires
-new-requires c = tokens_readable c.args.source.now c.args.tokens.now c.len-bytes.ensures.utf8 c.requires
+new-requires c = tokens_readable c.args.source.now c.args.tokens.now c.len-bytes.ensures.utf8
+    c.requires
 
 -- what the call answered, of the tokens of the source
 failed : (c : goal.In-Err-Unexpected)
-    → whole_small (spelling_of c.args.source.now c.args.tokens.now) ≡ Err (unexpected c.in-Err-Unexpected.left)
+    → whole_small (spelling_of c.args.source.now c.args.tokens.now) ≡ Err
+    (unexpected c.in-Err-Unexpected.left)
 failed c = ap whole_small (sym c.new.ensures)
-    ∙ subst (λ stop. Gives (whole_small c.new.result) (Err stop) c.whole.new.tokens) c.in-Err-Unexpected.field-0-is c.in-Err-Unexpected.ensures
+    ∙ subst (λ stop. Gives (whole_small c.new.result) (Err stop) c.whole.new.tokens)
+    c.in-Err-Unexpected.field-0-is c.in-Err-Unexpected.ensures
 
 pub overflow_sub-result : goal.overflow_sub-result
 overflow_sub-result c = omega (
   arith,
   length-map c.args.tokens.now (spelled c.args.source.now),
-  fault_within (spelling_of c.args.source.now c.args.tokens.now) c.in-Err-Unexpected.left (failed c),
+  fault_within (spelling_of c.args.source.now c.args.tokens.now) c.in-Err-Unexpected.left
+      (failed c),
 )
 
 pub returns-in-Ok-clause-found : goal.returns-in-Ok-clause-found
 returns-in-Ok-clause-found c =
-    read_small (spelling_of c.args.source.now c.args.tokens.now) (tokens_spelled c.args.source.now c.args.tokens.now c.requires) c.in-Ok.program _
+    read_small (spelling_of c.args.source.now c.args.tokens.now)
+    (tokens_spelled c.args.source.now c.args.tokens.now c.requires) c.in-Ok.program _
     (ap whole_small (sym c.new.ensures) ∙ c.in-Ok.ensures)
 
 pub returns-in-Err-Unexpected-clause-fault : goal.returns-in-Err-Unexpected-clause-fault
 returns-in-Err-Unexpected-clause-fault c =
-    subst (λ n. IsUnexpected (spelling_of c.args.source.now c.args.tokens.now) (n - c.in-Err-Unexpected.left)) (length-map c.args.tokens.now (spelled c.args.source.now))
-    (read_unexpected (spelling_of c.args.source.now c.args.tokens.now) (tokens_spelled c.args.source.now c.args.tokens.now c.requires) c.in-Err-Unexpected.left
+    subst (λ n. IsUnexpected (spelling_of c.args.source.now c.args.tokens.now)
+    (n - c.in-Err-Unexpected.left)) (length-map c.args.tokens.now (spelled c.args.source.now))
+    (read_unexpected (spelling_of c.args.source.now c.args.tokens.now)
+    (tokens_spelled c.args.source.now c.args.tokens.now c.requires) c.in-Err-Unexpected.left
     (failed (goal.at.returns-in-Err-Unexpected-clause-fault c).In-Err-Unexpected))
