@@ -12,7 +12,8 @@ same_frame e f = λ i. record { job = e i; depth = f i }
 pub cases_frame : (p q : Frame) → (p ≡ q) ⊎ (p ≢ q)
 cases_frame p q = by (cases_eq p.job q.job) (cases_eq p.depth q.depth)
   where
-    by : (p.job ≡ q.job) ⊎ (p.job ≢ q.job) → (p.depth ≡ q.depth) ⊎ (p.depth ≢ q.depth) → (p ≡ q) ⊎ (p ≢ q)
+    by : (p.job ≡ q.job) ⊎ (p.job ≢ q.job) → (p.depth ≡ q.depth) ⊎ (p.depth ≢ q.depth) → (p ≡ q)
+        ⊎ (p ≢ q)
     by (inl e) (inl f) = inl (same_frame e f)
     by (inl e) (inr n) = inr λ h. n (ap (λ (f : Frame). f.depth) h)
     by (inr n) f = inr λ h. n (ap (λ (f : Frame). f.job) h)
@@ -49,7 +50,8 @@ pub below_trans : {o p q : Frame} → IsBelow o p → IsBelow p q → IsBelow o 
 below_trans a b = (a.0 ∙ b.0, omega (arith, a.1, b.1))
 
 -- a frame of the top frame's job is that frame, or below it
-pub top_or_below : (w : View) (p q : Frame) → IsTop w q → p.job ≡ q.job → IsFrame w p → (p ≡ q) ⊎ IsBelow p q
+pub top_or_below : (w : View) (p q : Frame) → IsTop w q → p.job ≡ q.job → IsFrame w p → (p ≡ q)
+    ⊎ IsBelow p q
 top_or_below w p q top e f = by (cases_eq p.depth q.depth)
   where
     by : (p.depth ≡ q.depth) ⊎ (p.depth ≢ q.depth) → (p ≡ q) ⊎ IsBelow p q
@@ -64,11 +66,18 @@ cases_crossing true = inl refl
 cases_crossing false = inr refl
 
 -- a frame that stands on an actor is one of a function isolated to it, or lies above one
-pub anchored : (w : View) → IsStacked w → (a : Actor) (j d : ℕ) → IsFrame w (record { job = j; depth = d })
+pub anchored : (w : View) → IsStacked w → (a : Actor) (j d : ℕ)
+    → IsFrame w (record { job = j; depth = d })
     → (w.shape (record { job = j; depth = d })).executor ≡ On a
     → (o : Frame) × (o.job ≡ j) × (o.depth ≤ d) × ((w.shape o).isolation ≡ IsolatedTo a)
-anchored w stacked a j zero f on = (record { job = j; depth = zero }, refl, omega arith, stacked.entered (record { job = j; depth = zero }) f (inl refl) on)
-anchored w stacked a j (suc d) f on = by (cases_crossing (w.shape q).crossing) (anchored w stacked a j d (frame_below w p f))
+anchored w stacked a j zero f on = (
+  record { job = j; depth = zero },
+  refl,
+  omega arith,
+  stacked.entered (record { job = j; depth = zero }) f (inl refl) on,
+)
+anchored w stacked a j (suc d) f on = by (cases_crossing (w.shape q).crossing)
+    (anchored w stacked a j d (frame_below w p f))
   where
     p : Frame
     p = record { job = j; depth = d }
@@ -77,7 +86,9 @@ anchored w stacked a j (suc d) f on = by (cases_crossing (w.shape q).crossing) (
     q = record { job = j; depth = suc d }
 
     by : ((w.shape q).crossing ≡ true) ⊎ ((w.shape q).crossing ≡ false)
-        → ((w.shape p).executor ≡ On a → (o : Frame) × (o.job ≡ j) × (o.depth ≤ d) × ((w.shape o).isolation ≡ IsolatedTo a))
+        → ((w.shape p).executor ≡ On a → (o : Frame) × (o.job ≡ j) × (o.depth ≤ d)
+        × ((w.shape o).isolation ≡ IsolatedTo a))
         → (o : Frame) × (o.job ≡ j) × (o.depth ≤ suc d) × ((w.shape o).isolation ≡ IsolatedTo a)
     by (inl crosses) below = (q, refl, omega arith, stacked.entered q f (inr crosses) on)
-    by (inr stays) below = let found = below (sym (stacked.inherited p f stays) ∙ on) in (found.0, found.1, omega (arith, found.2), found.3)
+    by (inr stays) below = let found = below (sym (stacked.inherited p f stays) ∙ on) in
+        (found.0, found.1, omega (arith, found.2), found.3)

@@ -7,3 +7,8 @@ pub mod PushedLemmas
 pub mod CallLemmas
 pub mod ReturnedLemmas
 pub mod OwnerLemmas
+pub mod SketchLemmas
+pub mod ExampleTools
+pub mod ExampleViews
+pub mod Examples
+pub mod PremiseLemmas

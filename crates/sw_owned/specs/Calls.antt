@@ -11,9 +11,11 @@ pub record Pushed (old new : View) (q : Frame) : Type 0 where
   pub heights : (j : ℕ) → j ≢ q.job → new.height j ≡ old.height j
   pub running : (j : ℕ) → IsTrue (new.running j) → IsTrue (old.running j)
   -- elements of the new frame that share a colour are in one region
-  pub together : {x y : Element} {c : Colour} → HoldsLive new q x c → HoldsLive new q y c → Together new q x y
+  pub together : {x y : Element} {c : Colour} → HoldsLive new q x c → HoldsLive new q y c
+      → Together new q x y
 
--- Frame p calls. What the callee holds has the colour of its `Here`, or was sent to it: then nothing else holds it.
+-- Frame p calls. What the callee holds has the colour of its `Here`, or was sent to it: then
+-- nothing else holds it.
 pub record Called (old new : View) (p : Frame) : Type 0 where
   pub pushed : Pushed old new (above p)
   pub not_closing : (old.shape p).closing ≡ false
@@ -24,7 +26,8 @@ pub record Called (old new : View) (p : Frame) : Type 0 where
 
 -- The result register, if the callee has one, is with what x was with.
 abbrev pub ResultWith : View → View → Frame → Element → Type 0
-ResultWith old new p x = (r : ℕ) → (new.shape (above p)).result ≡ Some r → (y : Element) (c : Colour) → HoldsLive new p y c
+ResultWith old new p x = (r : ℕ) → (new.shape (above p)).result ≡ Some r
+    → (y : Element) (c : Colour) → HoldsLive new p y c
     → Together old p y x → Together new p y (Register r)
 
 -- The callee's `Here` takes the colour of argument s, with which the result register is.
@@ -32,15 +35,18 @@ pub record SharesArgument (old new : View) (p : Frame) (s : Element) : Type 0 wh
   pub colour : HoldsLive old p s (new.here (above p))
   pub result : ResultWith old new p s
 
--- A nonisolated callee, or a closure, runs where its caller does (SE-0461; so does each synchronous one).
+-- A nonisolated callee, or a closure, runs where its caller does (SE-0461; so does each synchronous
+-- one).
 pub record CalledPlain (old new : View) (p : Frame) : Type 0 where
   pub called : Called old new p
   pub stays : (new.shape (above p)).crossing ≡ false
   pub executor : (new.shape (above p)).executor ≡ (new.shape p).executor
   -- an isolated closure has its actor's colour
-  pub isolated : (a : Actor) → (new.shape (above p)).isolation ≡ IsolatedTo a → new.here (above p) ≡ OfActor a
+  pub isolated : (a : Actor) → (new.shape (above p)).isolation ≡ IsolatedTo a
+      → new.here (above p) ≡ OfActor a
   pub no_initialiser : (new.shape (above p)).isolation ≢ MakesActor
-  pub here : ((s : Element) × SharesArgument old new p s) ⊎ IsDisconnected old p.job (new.here (above p))
+  pub here : ((s : Element) × SharesArgument old new p s)
+      ⊎ IsDisconnected old p.job (new.here (above p))
 
 -- A callee that is isolated as its caller.
 pub record CalledSame (old new : View) (p : Frame) (a : Actor) : Type 0 where
@@ -58,9 +64,11 @@ pub record CalledWeak (old new : View) (p : Frame) : Type 0 where
   pub crosses : (new.shape (above p)).crossing ≡ true
   pub executor : (new.shape (above p)).executor ≡ Generic
   pub isolation : (new.shape (above p)).isolation ≡ Nonisolated
-  pub here : ((s : Element) × SharesArgument old new p s × (¬ (Together old p s Here))) ⊎ IsDisconnected old p.job (new.here (above p))
+  pub here : ((s : Element) × SharesArgument old new p s × (¬ (Together old p s Here)))
+      ⊎ IsDisconnected old p.job (new.here (above p))
 
--- The frame of a function that is isolated to an actor stands on it, and its `Here` has the actor's colour.
+-- The frame of a function that is isolated to an actor stands on it, and its `Here` has the actor's
+-- colour.
 pub record IsOnActor (w : View) (p : Frame) (a : Actor) : Type 0 where
   pub isolation : (w.shape p).isolation ≡ IsolatedTo a
   pub executor : (w.shape p).executor ≡ On a
@@ -103,21 +111,21 @@ pub record Popped (old new : View) (q : Frame) : Type 0 where
   pub heights : (j : ℕ) → j ≢ q.job → new.height j ≡ old.height j
   pub running : (j : ℕ) → IsTrue (new.running j) → IsTrue (old.running j)
 
--- The value whose colour register r gets at a return: that of a call whose result may be in a region of the
--- caller's, or a value that is free (a `sending` result, SE-0430).
+-- The value whose colour register r gets at a return: that of a call whose result may be in a
+-- region of the caller's, or a value that is free (a `sending` result, SE-0430).
 pub record Handed (old : View) (p : Frame) (r : ℕ) (c : Colour) : Type 0 where
   pub value : Element
   pub holds : HoldsLive old (above p) value c
   pub allowed : ((old.shape (above p)).result ≡ Some r) ⊎ (¬ (Together old (above p) value Here))
 
--- The frame above p returns; register r of p gets the result, if p has such a register. Where the callee came from
--- elsewhere, the job leaves the executor.
+-- The frame above p returns; register r of p gets the result, if p has such a register. Where the
+-- callee came from elsewhere, the job leaves the executor.
 pub record Returned (old new : View) (p : Frame) (r : ℕ) : Type 0 where
   pub popped : Popped old new (above p)
   pub leaves : (old.shape (above p)).crossing ≡ true → new.running p.job ≡ false
   pub shape : new.shape p ≡ old.shape p
-  pub here : new.here p ≡ old.here p
-  pub held : {x : Element} {c : Colour} → HoldsLive new p x c → HoldsLive old p x c ⊎ ((x ≡ Register r) × Handed old p r c)
+  pub held : {x : Element} {c : Colour} → HoldsLive new p x c → HoldsLive old p x c
+      ⊎ ((x ≡ Register r) × Handed old p r c)
   pub together : {x y : Element} → Together old p x y → Together new p x y
   pub others : (f : Frame) → IsFrame new f → f ≢ p → Kept old new f
 

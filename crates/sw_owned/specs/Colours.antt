@@ -6,8 +6,8 @@ pub data Actor : Type 0 where
   Instance : (cell : ℕ) → Actor
   GlobalActor : (number : ℕ) → Actor
 
--- A colour marks memory that one owner may reach. It names its owner: a job has many colours, and each actor
--- has one.
+-- A colour marks memory that one owner may reach. It names its owner: a job has many colours, and
+-- each actor has one.
 pub data Colour : Type 0 where
   OfJob : (job number : ℕ) → Colour
   OfActor : (actor : Actor) → Colour

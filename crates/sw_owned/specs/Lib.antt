@@ -3,3 +3,5 @@ pub mod View
 pub mod Owned
 pub mod Within
 pub mod Calls
+pub mod Sketch
+pub mod Premises

@@ -1,5 +1,5 @@
--- What ownership knows of a running program: the frames of the jobs, the regions in each frame (SE-0414), and
--- the colours that each element holds.
+-- What ownership knows of a running program: the frames of the jobs, the regions in each frame
+-- (SE-0414), and the colours that each element holds.
 use Rattle.std.specs.Prelude.{◌≡◌, ℕ, zero, suc, ◌<◌, Bool, false, IsTrue, Option, List, Contains, ⊤}
 use Rattle.sw_owned.specs.Colours.{Actor, Colour, OfJob, Executor, On}
 
@@ -23,7 +23,8 @@ pub data Element : Type 0 where
   Here : Element
   Register : (r : ℕ) → Element
 
--- What a function is isolated to. The initialiser of an actor stands for itself: its actor isn't there yet.
+-- What a function is isolated to. The initialiser of an actor stands for itself: its actor isn't
+-- there yet.
 pub data Isolation : Type 0 where
   Nonisolated : Isolation
   IsolatedTo : (actor : Actor) → Isolation
@@ -37,8 +38,9 @@ pub record Shape : Type 0 where
   pub crossing : Bool
   -- an initialiser of an actor, or of a class with a global actor, of which only the return is left
   pub closing : Bool
-  -- the register of the frame below that the result goes to, where the result can be in a region of that frame:
-  -- it is not Sendable and not `sending`, and the call is not one that gives its arguments away
+  -- the register of the frame below that the result goes to, where the result can be in a region of
+  -- that frame: it is not Sendable and not `sending`, and the call is not one that gives its
+  -- arguments away
   pub result : Option ℕ
 
 pub record View : Type 0 where
@@ -48,8 +50,8 @@ pub record View : Type 0 where
   pub shape : Frame → Shape
   -- the colour of `Here`
   pub here : Frame → Colour
-  -- Whether a register can still be used. Of a frame that waits for a call, the state is that after the call's
-  -- operations, without the register that waits for the result.
+  -- Whether a register can still be used. Of a frame that waits for a call, the state is that after
+  -- the call's operations, without the register that waits for the result.
   pub live : Frame → ℕ → Bool
   -- the number of the region that an element lies in
   pub region : Frame → Element → ℕ

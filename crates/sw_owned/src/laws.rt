@@ -1,18 +1,21 @@
-//! The laws of ownership. Each move of a running program keeps the invariant, and the invariant keeps jobs apart.
+//! The laws of ownership. Each move of a running program keeps the invariant, and the invariant
+//! keeps jobs apart.
 ghost use Rattle.std.specs.Prelude.{◌≡◌, ◌≢◌, ◌⊎◌, ℕ, List, false, IsTrue};
 ghost use Rattle.sw_owned.specs.Colours.{Actor, Colour, OfJob, OfActor, On};
 ghost use Rattle.sw_owned.specs.View.{Frame, Element, View, IsBelow, IsFrame, IsTop, IsolatedTo, MakesActor, HoldsLive, IsUnheld, IsDisconnected};
 ghost use Rattle.sw_owned.specs.Owned.{IsOwned, IsSound};
-ghost use Rattle.sw_owned.specs.Within.{Kept, Within, Comes, Weakened, Freshened, Merged, Recoloured, Given, Closed, Dispatched};
+ghost use Rattle.sw_owned.specs.Within.{Kept, Within, Comes, put_with, without, Weakened, Freshened, Merged, Recoloured, Given, Closed, Dispatched};
 ghost use Rattle.sw_owned.specs.Calls.{CalledPlain, CalledSame, CalledWeak, CalledStrong, CalledMake, Spawned, Returned, Ended};
 
-/// Who holds one colour: frames of one job, or frames that stand on the actor that owns it. So of the jobs that run,
-/// one at most holds it live in its top frame, which is the frame that reads and writes.
+/// Who holds one colour: frames of one job, or frames that stand on the actor that owns it. So of
+/// the jobs that run, one at most holds it live in its top frame, which is the frame that reads and
+/// writes.
 pub fn colours_have_one_owner()
     ensures one_owner { (w : View) → IsOwned w → (p q : Frame) (x y : Element) (c : Colour)
         → HoldsLive w p x c → HoldsLive w q y c
         → (p.job ≡ q.job)
-        ⊎ ((a : Actor) × (c ≡ OfActor a) × ((w.shape p).executor ≡ On a) × ((w.shape q).executor ≡ On a)) }
+        ⊎ ((a : Actor) × (c ≡ OfActor a) × ((w.shape p).executor ≡ On a)
+        × ((w.shape q).executor ≡ On a)) }
     ensures one_runner { (w : View) → IsOwned w → (p q : Frame) (x y : Element) (c : Colour)
         → IsTrue (w.running p.job) → IsTrue (w.running q.job) → IsTop w p → IsTop w q
         → HoldsLive w p x c → HoldsLive w q y c → p.job ≡ q.job }
@@ -23,7 +26,8 @@ pub fn no_frames_are_sound()
     ensures { (w : View) → ((j : ℕ) → w.height j ≡ 0) → IsSound w }
 {}
 
-/// What changes inside the top frame of a job; and what only ends, as when a job leaves its executor.
+/// What changes inside the top frame of a job; and what only ends, as when a job leaves its
+/// executor.
 pub fn changes_keep_soundness()
     ensures within { (old new : View) (q : Frame) (origin : Element → Element)
         → IsSound old → Within old new q origin → IsSound new }
@@ -34,23 +38,38 @@ pub fn changes_keep_soundness()
         → IsSound old → Freshened old new q r number → IsSound new }
 {}
 
+/// The operations of a region state (SE-0414), as such changes: `put r y`, after which register r
+/// holds no more than y; `join`, and `need` and `free`, which change nothing; and `fresh r` of a
+/// register that gets no colour.
+pub fn operations_keep_soundness()
+    ensures put { (old new : View) (q : Frame) (r : ℕ) (y : Element)
+        → IsSound old → Within old new q (put_with r y) → IsSound new }
+    ensures join { (old new : View) (q : Frame)
+        → IsSound old → Within old new q (λ x. x) → IsSound new }
+    ensures fresh { (old new : View) (q : Frame) (r : ℕ)
+        → IsSound old → Comes old new q (without r) → IsSound new }
+{}
+
 /// Two colours become one.
 pub fn merging_keeps_soundness()
     ensures { (old new : View) (q : Frame) (x y : Element) (number : ℕ) (kept : Colour)
         → IsSound old → Merged old new q x y number kept → IsSound new }
 {}
 
-/// What is given away is disconnected: nothing live holds its colours, and they may get another owner.
+/// What is given away is disconnected: nothing live holds its colours, and they may get another
+/// owner.
 pub fn giving_keeps_soundness()
     ensures given { (old new : View) (q : Frame) (x : Element)
         → IsSound old → Given old new q x → IsSound new }
     ensures disconnected { (old new : View) (q : Frame) (x : Element) (c : Colour)
         → IsSound old → Given old new q x → HoldsLive old q x c → IsDisconnected new q.job c }
     ensures unheld { (old new : View) (j number : ℕ) (kept : Colour)
-        → IsSound old → IsUnheld old (OfJob j number) → Recoloured old new j number kept → IsSound new }
+        → IsSound old → IsUnheld old (OfJob j number) → Recoloured old new j number kept
+        → IsSound new }
 {}
 
-/// An initialiser has only its return left. What an actor's initialiser held by then may become the actor's.
+/// An initialiser has only its return left. What an actor's initialiser held by then may become the
+/// actor's.
 pub fn closing_keeps_soundness()
     ensures closed { (old new : View) (q : Frame) → IsSound old → Closed old new q → IsSound new }
     ensures disconnected { (old new : View) (q : Frame) (x : Element) (c : Colour)
@@ -60,10 +79,13 @@ pub fn closing_keeps_soundness()
 
 /// Each kind of call.
 pub fn calls_keep_soundness()
-    ensures plain { (old new : View) (p : Frame) → IsSound old → CalledPlain old new p → IsSound new }
-    ensures same { (old new : View) (p : Frame) (a : Actor) → IsSound old → CalledSame old new p a → IsSound new }
+    ensures plain { (old new : View) (p : Frame) → IsSound old → CalledPlain old new p
+        → IsSound new }
+    ensures same { (old new : View) (p : Frame) (a : Actor) → IsSound old → CalledSame old new p a
+        → IsSound new }
     ensures weak { (old new : View) (p : Frame) → IsSound old → CalledWeak old new p → IsSound new }
-    ensures strong { (old new : View) (p : Frame) (a : Actor) → IsSound old → CalledStrong old new p a → IsSound new }
+    ensures strong { (old new : View) (p : Frame) (a : Actor) → IsSound old
+        → CalledStrong old new p a → IsSound new }
     ensures make { (old new : View) (p : Frame) → IsSound old → CalledMake old new p → IsSound new }
 {}
 
@@ -74,7 +96,8 @@ pub fn tasks_keep_soundness()
 
 /// The return of a call, and of the last frame of a job.
 pub fn returns_keep_soundness()
-    ensures returned { (old new : View) (p : Frame) (r : ℕ) → IsSound old → Returned old new p r → IsSound new }
+    ensures returned { (old new : View) (p : Frame) (r : ℕ) → IsSound old → Returned old new p r
+        → IsSound new }
     ensures ended { (old new : View) (j : ℕ) → IsSound old → Ended old new j → IsSound new }
 {}
 
@@ -83,19 +106,22 @@ pub fn dispatch_keeps_soundness()
     ensures { (old new : View) (j : ℕ) → IsSound old → Dispatched old new j → IsSound new }
 {}
 
-/// What other jobs do to colours leaves a job's frames as they are, whether it runs or is suspended, and whatever
-/// actor its frames stand on meanwhile.
+/// What other jobs do to colours leaves a job's frames as they are, whether it runs or is
+/// suspended, and whatever actor its frames stand on meanwhile.
 pub fn suspended_frames_stay()
     ensures merged { (old new : View) (q : Frame) (x y : Element) (number : ℕ) (kept : Colour)
         → IsSound old → Merged old new q x y number kept
-        → (p : Frame) → p.job ≢ q.job → IsFrame old p → (old.shape p).closing ≡ false → Kept old new p }
+        → (p : Frame) → p.job ≢ q.job → IsFrame old p → (old.shape p).closing ≡ false
+        → Kept old new p }
     ensures unheld { (old new : View) (j number : ℕ) (kept : Colour)
         → IsUnheld old (OfJob j number) → Recoloured old new j number kept
         → (p : Frame) → IsFrame old p → (old.shape p).closing ≡ false → Kept old new p }
 {}
 
-/// A frame that stands on an actor is one of a function isolated to it, or lies above such a frame of its job.
+/// A frame that stands on an actor is one of a function isolated to it, or lies above such a frame
+/// of its job.
 pub fn actors_are_anchored()
-    ensures { (w : View) (p : Frame) (a : Actor) → IsSound w → IsFrame w p → (w.shape p).executor ≡ On a
+    ensures { (w : View) (p : Frame) (a : Actor) → IsSound w → IsFrame w p
+        → (w.shape p).executor ≡ On a
         → (o : Frame) × ((o ≡ p) ⊎ IsBelow o p) × ((w.shape o).isolation ≡ IsolatedTo a) }
 {}

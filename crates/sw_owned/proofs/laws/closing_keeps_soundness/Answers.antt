@@ -5,4 +5,5 @@ pub returns-clause-closed : goal.returns-clause-closed
 returns-clause-closed c = closed
 
 pub returns-clause-disconnected : goal.returns-clause-disconnected
-returns-clause-disconnected c = λ old new q x colour sound m makes h. closed_is_disconnected old new q sound m makes x colour h
+returns-clause-disconnected c = λ old new q x colour sound m makes h. closed_is_disconnected old new
+    q sound m makes x colour h

@@ -5,7 +5,8 @@ pub returns-clause-given : goal.returns-clause-given
 returns-clause-given c = given
 
 pub returns-clause-disconnected : goal.returns-clause-disconnected
-returns-clause-disconnected c = λ old new q x colour sound m h. given_is_disconnected old new q x sound m colour h
+returns-clause-disconnected c = λ old new q x colour sound m h. given_is_disconnected old new q x
+    sound m colour h
 
 pub returns-clause-unheld : goal.returns-clause-unheld
 returns-clause-unheld c = unheld

@@ -1,0 +1,6 @@
+pub mod Inside
+pub mod Colours
+pub mod Calls
+pub mod Crossings
+pub mod Returns
+pub mod Unreached
