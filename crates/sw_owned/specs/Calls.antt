@@ -119,7 +119,7 @@ pub record Handed (old : View) (p : Frame) (r : ℕ) (c : Colour) : Type 0 where
   pub allowed : ((old.shape (above p)).result ≡ Some r) ⊎ (¬ (Together old (above p) value Here))
 
 -- The frame above p returns; register r of p gets the result, if p has such a register. Where the
--- callee came from elsewhere, the job leaves the executor.
+-- callee was entered from elsewhere, the job leaves the executor.
 pub record Returned (old new : View) (p : Frame) (r : ℕ) : Type 0 where
   pub popped : Popped old new (above p)
   pub leaves : (old.shape (above p)).crossing ≡ true → new.running p.job ≡ false

@@ -19,7 +19,7 @@ pub(crate) fn sink(labels: &mut [u32])
 }
 
 /// Puts the classes of the two elements together (Rem's algorithm; Dijkstra, A Discipline of
-/// Programming, 1976). The links on the way are shortened, so many calls take about as many steps
+/// Programming, 1976). The links on the way are shortened, so that many calls take about as many steps
 /// as there are calls and elements.
 pub(crate) fn link(links: &mut [u32], x: usize, y: usize)
     requires x { x < length links.old }

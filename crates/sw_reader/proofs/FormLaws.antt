@@ -465,7 +465,7 @@ module _ {N : Type 0} (El : N → Type 0) (shape_of : N → Shape)
   law_inside (suc d) n = widen (law_form d (law_inside d) (body n) (good n))
       (λ x ts h. (suc h.0, h.1))
 
-  -- The reader of a form, at a depth, reads what the form spells with so many nests open at most; a
+  -- The reader of a form, at a depth, reads what the form spells with at most that many nests open; a
   -- token at fault is refused as one that begins no such spelling, and those before it begin one.
   pub law : (d : ℕ) {s : Shape} {A : Type 0} (form : Form El shape_of s A) → s.ok ≡ true
       → Reads (spells El shape_of body d form) (Wide El shape_of body form) (Outside s.ext)

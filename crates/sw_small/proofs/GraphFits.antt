@@ -26,16 +26,16 @@ use Rattle.sw_small.specs.Lower.{Plan, in_order, function_of, body_of, functions
 use Rattle.sw_small.proofs.SmallFunctions.{IsSmallFunction, AreSmall, program_small}
 use Rattle.sw_graph.specs.WellFormed.{type_in, InstrFits, BlockFits, FunctionFits, IsWellFormed}
 
--- the element behind a front
-at_seam : {X : Type 0} (front : List X) (x : X) (back : List X)
-    → slice_get (front ++ (x ∷ back)) (length front) ≡ Some x
-at_seam [] x back = refl
-at_seam (y ∷ front) x back = at_seam front x back
+-- the element after some others
+at_seam : {X : Type 0} (earlier : List X) (x : X) (later : List X)
+    → slice_get (earlier ++ (x ∷ later)) (length earlier) ≡ Some x
+at_seam [] x later = refl
+at_seam (y ∷ earlier) x later = at_seam earlier x later
 
-register_at : (regs front : List RegKind) (kind : RegKind) (back : List RegKind) (r : ℕ)
-    → regs ≡ front ++ (kind ∷ back) → r ≡ length front → slice_get regs r ≡ Some kind
-register_at regs front kind back r is at = ap (λ rs. slice_get rs r) is
-    ∙ ap (λ n. slice_get (front ++ (kind ∷ back)) n) at ∙ at_seam front kind back
+register_at : (regs earlier : List RegKind) (kind : RegKind) (later : List RegKind) (r : ℕ)
+    → regs ≡ earlier ++ (kind ∷ later) → r ≡ length earlier → slice_get regs r ≡ Some kind
+register_at regs earlier kind later r is at = ap (λ rs. slice_get rs r) is
+    ∙ ap (λ n. slice_get (earlier ++ (kind ∷ later)) n) at ∙ at_seam earlier kind later
 
 same_inside : {X : Type 0} (x y : X) → Some x ≡ Some y → x ≡ y
 same_inside x y e = cc
@@ -58,9 +58,9 @@ IsWithin kind = IsTrue (is_within 0 (type_in kind))
 
 -- What a plan makes fits among these functions, wherever its registers stand.
 record PlanFits (functions : List Function) (plan : Plan) : Type 0 where
-  instrs : (function : Function) (front back : List RegKind) (number registers : ℕ)
-      → registers ≡ length front → number + length (plan number registers).bodies ≤ length functions
-      → function.regs ≡ front ++ ((plan number registers).regs ++ back)
+  instrs : (function : Function) (earlier later : List RegKind) (number registers : ℕ)
+      → registers ≡ length earlier → number + length (plan number registers).bodies ≤ length functions
+      → function.regs ≡ earlier ++ ((plan number registers).regs ++ later)
       → All (InstrFits [] [] functions function) (plan number registers).instrs
   types : (number registers : ℕ) → All IsWithin (plan number registers).regs
   bodies : (number registers : ℕ)
@@ -68,28 +68,28 @@ record PlanFits (functions : List Function) (plan : Plan) : Type 0 where
       → All (FunctionFits [] [] functions) (plan number registers).bodies
 
 joined_instrs : (functions : List Function) (plan next : Plan) → PlanFits functions plan
-    → PlanFits functions next → (function : Function) (front back : List RegKind)
+    → PlanFits functions next → (function : Function) (earlier later : List RegKind)
     (number registers : ℕ) → let piece = plan number registers in let rest =
     next (number + length piece.bodies) (registers + length piece.regs) in
-    registers ≡ length front → number + length (piece.bodies ++ rest.bodies) ≤ length functions
-    → function.regs ≡ front ++ ((piece.regs ++ rest.regs) ++ back)
+    registers ≡ length earlier → number + length (piece.bodies ++ rest.bodies) ≤ length functions
+    → function.regs ≡ earlier ++ ((piece.regs ++ rest.regs) ++ later)
     → All (InstrFits [] [] functions function) (piece.instrs ++ rest.instrs)
-joined_instrs functions plan next one other function front back number registers at enough regs =
+joined_instrs functions plan next one other function earlier later number registers at enough regs =
     let piece = plan number registers in
     let rest = next (number + length piece.bodies) (registers + length piece.regs) in
-    let apart : function.regs ≡ front ++ (piece.regs ++ (rest.regs ++ back)) =
-    regs ∙ ap (λ rs. front ++ rs) (append_assoc piece.regs rest.regs back) in
+    let apart : function.regs ≡ earlier ++ (piece.regs ++ (rest.regs ++ later)) =
+    regs ∙ ap (λ rs. earlier ++ rs) (append_assoc piece.regs rest.regs later) in
     let count = length-append piece.bodies rest.bodies in
     All-append (InstrFits [] [] functions function) piece.instrs rest.instrs
-    (one.instrs function front (rest.regs ++ back) number registers at (omega arith) apart)
-    (other.instrs function (front ++ piece.regs) back (number + length piece.bodies)
-    (registers + length piece.regs) (omega (arith, length-append front piece.regs)) (omega arith)
-    (apart ∙ sym (append_assoc front piece.regs (rest.regs ++ back))))
+    (one.instrs function earlier (rest.regs ++ later) number registers at (omega arith) apart)
+    (other.instrs function (earlier ++ piece.regs) later (number + length piece.bodies)
+    (registers + length piece.regs) (omega (arith, length-append earlier piece.regs)) (omega arith)
+    (apart ∙ sym (append_assoc earlier piece.regs (rest.regs ++ later))))
 
 in_order_fits : (functions : List Function) (plans : List Plan) → All (PlanFits functions) plans
     → PlanFits functions (in_order plans)
 in_order_fits functions [] each = record {
-  instrs = λ function front back number registers at enough regs. All-nil
+  instrs = λ function earlier later number registers at enough regs. All-nil
       (InstrFits [] [] functions function);
   types = λ number registers. All-nil IsWithin;
   bodies = λ number registers enough. All-nil (FunctionFits [] [] functions);
@@ -189,15 +189,15 @@ show_instrs functions function show number registers room literal shown =
 
 show_fits : (functions : List Function) (show : Show) → PlanFits functions (show_plan show)
 show_fits functions show = record {
-  instrs = λ function front back number registers at enough regs.
-      let apart : function.regs ≡ (front ++ (Plain Int ∷ [])) ++ (Plain Void ∷ back) =
-      regs ∙ sym (append_assoc front (Plain Int ∷ []) (Plain Void ∷ back)) in
+  instrs = λ function earlier later number registers at enough regs.
+      let apart : function.regs ≡ (earlier ++ (Plain Int ∷ [])) ++ (Plain Void ∷ later) =
+      regs ∙ sym (append_assoc earlier (Plain Int ∷ []) (Plain Void ∷ later)) in
       let count = ap length regs in
       show_instrs functions function show number registers
-      (omega (arith, count, length-append front (Plain Int ∷ (Plain Void ∷ back))))
-      (register_at function.regs front (Plain Int) (Plain Void ∷ back) registers regs at)
-      (register_at function.regs (front ++ (Plain Int ∷ [])) (Plain Void) back (registers + 1) apart
-      (omega (arith, length-append front (Plain Int ∷ []))));
+      (omega (arith, count, length-append earlier (Plain Int ∷ (Plain Void ∷ later))))
+      (register_at function.regs earlier (Plain Int) (Plain Void ∷ later) registers regs at)
+      (register_at function.regs (earlier ++ (Plain Int ∷ [])) (Plain Void) later (registers + 1) apart
+      (omega (arith, length-append earlier (Plain Int ∷ []))));
   types = λ number registers. All-from_recursion IsWithin (Plain Int ∷ (Plain Void ∷ []))
       (int_is_within, (void_is_within, tt));
   bodies = λ number registers enough. All-nil (FunctionFits [] [] functions);
@@ -232,11 +232,11 @@ item_fits : (functions : List Function) (item : Item) → AreSmall functions
     → PlanFits functions (item_plan item)
 item_fits functions (Shows show) small = show_fits functions show
 item_fits functions (Task at body shows) small = record {
-  instrs = λ function front back number registers start enough regs.
+  instrs = λ function earlier later number registers start enough regs.
       let count = ap length regs in
       task_instrs functions function at number registers small (omega arith)
-      (omega (arith, count, length-append front (Plain (TaskOf Void) ∷ back)))
-      (register_at function.regs front (Plain (TaskOf Void)) back registers regs start);
+      (omega (arith, count, length-append earlier (Plain (TaskOf Void) ∷ later)))
+      (register_at function.regs earlier (Plain (TaskOf Void)) later registers regs start);
   types = λ number registers. All-from_recursion IsWithin (Plain (TaskOf Void) ∷ [])
       (task_is_within, tt);
   bodies = λ number registers enough.

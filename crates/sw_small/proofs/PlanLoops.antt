@@ -9,7 +9,7 @@ use Rattle.sw_small.specs.declared.tree.Item.{Item}
 use Rattle.sw_small.specs.declared.tree.Item.TheVariants.{Show as Shows, Task}
 use Rattle.sw_small.specs.Lower.{Plan, joined, in_order, function_of, body_of, show_plan, item_plan, item_size}
 
--- What was made, and behind it what the rest makes with the numbers that follow.
+-- What was made, and after it what the rest makes with the numbers that follow.
 abbrev pub completed : Piece → ℕ → List Plan → Piece
 completed made first plans =
     joined made (in_order plans (first + length made.bodies) (length made.regs))
@@ -74,7 +74,7 @@ pub shows_bodies : (shows : List Show) (functions registers : ℕ)
 shows_bodies [] functions registers = refl
 shows_bodies (show ∷ shows) functions registers = shows_bodies shows (functions + 0) (registers + 2)
 
--- a task's body has no function behind it
+-- a task's body has no function after it
 body_of-shows : (key : ℕ) (is_async : Bool) (shows : List Show) (functions : ℕ) (inside : Piece)
     (function : Function) → inside ≡ in_order (map show_plan shows) 0 0
     → function ≡ function_of key is_async inside.instrs inside.regs

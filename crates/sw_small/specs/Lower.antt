@@ -18,7 +18,7 @@ use Rattle.sw_small.specs.declared.tree.Show.{Show}
 use Rattle.sw_small.specs.declared.tree.Small.{Small}
 use Rattle.sw_small.specs.declared.lowering.Piece.{Piece}
 
--- A form's piece, where so many functions and so many registers of its own function have been made
+-- A form's piece, by the number of functions, and of registers of its own function, that were made
 -- before it.
 abbrev pub Plan : Type 0
 Plan = ℕ → ℕ → Piece
@@ -26,7 +26,7 @@ Plan = ℕ → ℕ → Piece
 abbrev pub nothing : Piece
 nothing = record { instrs = []; regs = []; bodies = [] }
 
--- one piece behind another
+-- one piece after another
 abbrev pub joined : Piece → Piece → Piece
 joined first second = record {
   instrs = first.instrs ++ second.instrs;
@@ -41,7 +41,7 @@ in_order (plan ∷ plans) functions registers =
     let piece = plan functions registers in
     joined piece (in_order plans (functions + length piece.bodies) (registers + length piece.regs))
 
--- what was made, and a form's piece behind it, where the first closure's function has the number
+-- what was made, and a form's piece after it, where the first closure's function has the number
 -- `first`
 abbrev pub extended : ℕ → Piece → Plan → Piece
 extended first made plan = joined made (plan (first + length made.bodies) (length made.regs))
@@ -60,7 +60,7 @@ function_of key is_async instrs regs = record {
   blocks = record { instrs = instrs; last = Return None } ∷ [];
 }
 
--- A body is its function, and behind it the functions of the closures inside it.
+-- A body is its function, and after it the functions of the closures inside it.
 abbrev pub body_of : ℕ → Bool → List Plan → ℕ → List Function
 body_of key is_async plans functions =
     let inside = in_order plans (functions + 1) 0 in

@@ -114,7 +114,7 @@ module _ (of_token : Spelled → Weight) where
     pub own_turns : (s : S) → Owns (w s) (Turns One s) w
     own_turns s = record { owns = λ last tokens all. turned s last tokens all }
 
-  -- a nest: a token and what stands behind it
+  -- a nest: a token and what stands after it
   pub own_nest : {A B : Type 0} {base : Weight} {P : Relation A} {Q : Relation B}
       {w : A × B → Weight} (u : A → Weight) (v : B → Weight) → Owns none P u → Owns none Q v
       → ((a : A) (b : B) (k : ℕ) → w (a, b) k ≤ base k + u a k + v b k)
