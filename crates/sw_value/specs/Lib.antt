@@ -5,6 +5,7 @@ pub mod Executor
 pub mod Frame
 pub mod Job
 pub mod Lists
+pub mod Machine
 pub mod Printed
 pub mod Racing
 pub mod Reach

@@ -13,6 +13,7 @@ use crate::frame::Frame;
 use crate::job::{Job, JobList, Status};
 use crate::value::{Value, ValueSlots};
 use std::alloc::{AllocError, Global};
+use std::marker::Model;
 
 /// What halts the machine.
 #[derive(Clone, Copy, Debug, PartialEq, Eq)]
@@ -26,7 +27,7 @@ pub enum TrapKind {
     Jobs,
 }
 
-/// A state of the machine.
+/// A state of the machine. Contracts see it as a `Machine` with these fields.
 #[derive(Debug, Drop)]
 pub struct State {
     pub cells: CellList,
@@ -34,6 +35,21 @@ pub struct State {
     pub jobs: JobList,
     /// The trap that halted the machine, and the byte offset of its instruction.
     pub halted: Option<(TrapKind, u32)>,
+}
+
+impl Model for State {
+    ghost use Rattle.sw_value.specs.Machine.{Machine, machine_code};
+
+    ghost Value = { Machine };
+
+    ghost coded = { machine_code };
+
+    ghost view = { λ s. record {
+      cells = s.cells;
+      globals = s.globals;
+      jobs = s.jobs;
+      halted = s.halted;
+    } };
 }
 
 /// Changes of one job of the state.
