@@ -1,3 +1,4 @@
+pub mod Views
 pub mod Inside
 pub mod Colours
 pub mod Calls

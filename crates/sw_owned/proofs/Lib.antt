@@ -7,8 +7,6 @@ pub mod PushedLemmas
 pub mod CallLemmas
 pub mod ReturnedLemmas
 pub mod OwnerLemmas
-pub mod SketchLemmas
-pub mod ExampleTools
-pub mod ExampleViews
+pub mod Sketches
 pub mod Examples
 pub mod PremiseLemmas

@@ -60,9 +60,6 @@ module _ (old new : View) (q : Frame) (sound : IsSound old) (m : Entered old new
           )
       by (inr other) = omega (arith, f, m.pushed.heights p.job other)
 
-  is_frame : IsFrame new q
-  is_frame = top_is_frame new q m.pushed.height
-
   kept : (p : Frame) → p ≢ q → IsFrame new p → KeptLive old new p
   kept p n f = m.others p (other_frame p n f)
 

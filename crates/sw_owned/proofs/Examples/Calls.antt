@@ -6,9 +6,10 @@ use Rattle.sw_owned.specs.View.{Element, Here, Register, Nonisolated, IsolatedTo
 use Rattle.sw_owned.specs.Calls.{SharesArgument}
 use Rattle.sw_owned.specs.Sketch.{Slot, Row, Job, view_of}
 use Rattle.sw_owned.specs.Premises.{IsNeeded, IsPossible, StaysSound, PlainPremise, plain_says, Before, Height, Heights, Running, Fits, NotClosing, CallerShape, CallerHeld, CallerJoined, Others, Sent, SharesPremise, shares_says, Plain, Colours, Calls, Stays, SameExecutor, Isolated, NoInitialiser, HereColour, SamePremise, same_says, IsIsolated, CallerHere, Result}
-use Rattle.sw_owned.proofs.SketchLemmas.{sound_view}
-use Rattle.sw_owned.proofs.ExampleTools.{there, calls, result_with, no_result, disconnected, heights_but, running, fits_new, held_by, live_joined, kept_but, sent}
-use Rattle.sw_owned.proofs.ExampleViews.{bank, banks, mine, yours, nobodys, main, callee, last, task, called, free, on_bank, slot, dead, row, runs, waits, left, caller, bank_caller, alone, with_callee, and_rogue}
+use Rattle.sw_owned.proofs.Sketches.Tests.{sound_view}
+use Rattle.sw_owned.proofs.Sketches.Reading.{there, heights_but, running, held_by, kept_but}
+use Rattle.sw_owned.proofs.Sketches.Moves.{calls, result_with, no_result, disconnected, fits_new, live_joined, sent}
+use Rattle.sw_owned.proofs.Examples.Views.{bank, banks, mine, yours, nobodys, main, callee, last, task, called, free, on_bank, slot, dead, row, runs, waits, left, caller, bank_caller, alone, with_callee, and_rogue}
 
 -- ---- a call that shares its argument
 abbrev plainly : Shape

@@ -6,9 +6,10 @@ use Rattle.sw_owned.specs.View.{Frame, Here, Register, Isolation, Nonisolated, I
 use Rattle.sw_owned.specs.Within.{Closed}
 use Rattle.sw_owned.specs.Sketch.{Slot, Row, Job, view_of}
 use Rattle.sw_owned.specs.Premises.{IsNeeded, IsPossible, StaysSound, LeavesNothing, MergedPremise, merged_says, Top, HoldsLost, HoldsKept, Recolours, Joined, UnheldPremise, unheld_says, Unheld, SameShape, HereTurns, Held, GivenPremise, given_says, Weakens, Free, Gone, ClosedPremise, closed_says, Jobs, NewShape, SameHere, Others, HandsOver, HandsOverPremise, hands_over_says, Closes, Makes, DispatchedPremise, dispatched_says, Heights, Running, Frames, Exclusive}
-use Rattle.sw_owned.proofs.SketchLemmas.{sound_view}
-use Rattle.sw_owned.proofs.ExampleTools.{there, recoloured, all_shapes, all_turn, all_turned, all_joined, same_heights, fewer_run, all_kept_but, weakens, kept, kept_but, same_jobs, is_unheld, heights, running_but}
-use Rattle.sw_owned.proofs.ExampleViews.{bank, banks, mine, yours, nobodys, main, callee, task, called, free, on_bank, slot, dead, row, runs, waits}
+use Rattle.sw_owned.proofs.Sketches.Tests.{sound_view}
+use Rattle.sw_owned.proofs.Sketches.Reading.{there, same_heights, fewer_run, all_kept_but, kept, kept_but, heights, running_but}
+use Rattle.sw_owned.proofs.Sketches.Moves.{recoloured, all_shapes, all_turn, all_turned, all_joined, weakens, same_jobs, is_unheld}
+use Rattle.sw_owned.proofs.Examples.Views.{bank, banks, mine, yours, nobodys, main, callee, task, called, free, on_bank, slot, dead, row, runs, waits}
 
 -- ---- two colours become one
 -- one frame with two registers: their regions and colours

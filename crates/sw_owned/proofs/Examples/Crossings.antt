@@ -5,9 +5,10 @@ use Rattle.sw_owned.specs.Colours.{Colour, Executor, Generic, On}
 use Rattle.sw_owned.specs.View.{Here, Register, Nonisolated, IsolatedTo, MakesActor, Shape}
 use Rattle.sw_owned.specs.Sketch.{Row, Job, view_of}
 use Rattle.sw_owned.specs.Premises.{IsNeeded, IsPossible, StaysSound, WeakPremise, weak_says, Calls, Crosses, NoExecutor, NotIsolated, Colours, Result, Free, StrongPremise, strong_says, Leaves, IsIsolated, OnActor, HereColour, NoResult, MakePremise, make_says, Stays, SameExecutor, Makes, SpawnedPremise, spawned_says, Pushes, Others, Ready, Held, Stands}
-use Rattle.sw_owned.proofs.SketchLemmas.{sound_view}
-use Rattle.sw_owned.proofs.ExampleTools.{there, calls, result_with, no_result, disconnected, pushed, kept, holds_here}
-use Rattle.sw_owned.proofs.ExampleViews.{bank, banks, mine, yours, nobodys, main, callee, task, called, free, on_bank, slot, dead, row, runs, waits, left, caller, bank_caller, alone, with_callee, and_rogue}
+use Rattle.sw_owned.proofs.Sketches.Tests.{sound_view}
+use Rattle.sw_owned.proofs.Sketches.Reading.{there, kept}
+use Rattle.sw_owned.proofs.Sketches.Moves.{calls, result_with, no_result, disconnected, pushed, holds_here}
+use Rattle.sw_owned.proofs.Examples.Views.{bank, banks, mine, yours, nobodys, main, callee, task, called, free, on_bank, slot, dead, row, runs, waits, left, caller, bank_caller, alone, with_callee, and_rogue}
 
 -- ---- a call that leaves its caller's actor
 abbrev weakly : Shape

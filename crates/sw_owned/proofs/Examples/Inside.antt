@@ -7,9 +7,11 @@ use Rattle.sw_owned.specs.Colours.{Colour, Generic, On}
 use Rattle.sw_owned.specs.View.{Element, Here, Register, Nonisolated, IsolatedTo, View, HoldsLive, Together}
 use Rattle.sw_owned.specs.Sketch.{Job, row_at, view_of}
 use Rattle.sw_owned.specs.Premises.{IsNeeded, IsPossible, StaysSound, WithinPremise, within_says, Change, Held, Joined, ComesPremise, comes_says, FreshenedPremise, freshened_says, Fresh, NewColour, WeakenedPremise, weakened_says, Top, Jobs, SameShape, SameHere, Others, Heights, Running}
-use Rattle.sw_owned.proofs.SketchLemmas.{sound_view, holders, held_in, in_all, implies, implied, same_colour, same_colour_true}
-use Rattle.sw_owned.proofs.ExampleTools.{there, joined, all_shapes, all_heres, all_lesser, all_joined, holds_live, still_joined, same_element, same_element_true, held_by, for_holders, kept_but, same_jobs, changes_top, is_unheld, heights, running}
-use Rattle.sw_owned.proofs.ExampleViews.{bank, banks, mine, yours, nobodys, main, callee, task, called, free, on_bank, slot, dead, row, runs, waits}
+use Rattle.sw_owned.proofs.Sketches.Same.{same_colour, same_colour_true}
+use Rattle.sw_owned.proofs.Sketches.Tests.{sound_view, holders, held_in, in_all, implies, implied}
+use Rattle.sw_owned.proofs.Sketches.Reading.{there, joined, holds_live, still_joined, held_by, for_holders, kept_but, heights, running}
+use Rattle.sw_owned.proofs.Sketches.Moves.{all_shapes, all_heres, all_lesser, all_joined, same_element, same_element_true, same_jobs, changes_top, is_unheld}
+use Rattle.sw_owned.proofs.Examples.Views.{bank, banks, mine, yours, nobodys, main, callee, task, called, free, on_bank, slot, dead, row, runs, waits}
 
 -- one frame with two registers
 abbrev two : List Job
@@ -231,9 +233,6 @@ within_needed Joined = record {
 }
 
 -- ---- several sources
-one_of : Element → List Element
-one_of x = x ∷ []
-
 only : {x y : Element} → Contains (x ∷ []) y → x ≡ y
 only {x} {y} h = go h.0 h.1 h.2
   where

@@ -6,9 +6,9 @@ use Rattle.sw_owned.specs.View.{Element, Here, Register, Nonisolated, HoldsLive}
 use Rattle.sw_owned.specs.Calls.{Handed}
 use Rattle.sw_owned.specs.Sketch.{Slot, Row, Job, row_at, view_of}
 use Rattle.sw_owned.specs.Premises.{IsNeeded, IsPossible, StaysSound, ReturnedPremise, returned_says, Top, Leaves, SameShape, Held, Joined, Others, EndedPremise, ended_says, Height, Heights, Running}
-use Rattle.sw_owned.proofs.SketchLemmas.{sound_view, holders}
-use Rattle.sw_owned.proofs.ExampleTools.{there, AllHold, holds_live, running, joined, for_holders, kept, kept_but, heights_but, running_but}
-use Rattle.sw_owned.proofs.ExampleViews.{bank, banks, mine, yours, nobodys, main, callee, task, called, free, on_bank, slot, dead, row, runs, waits}
+use Rattle.sw_owned.proofs.Sketches.Tests.{sound_view, holders}
+use Rattle.sw_owned.proofs.Sketches.Reading.{there, AllHold, holds_live, running, joined, for_holders, kept, kept_but, heights_but, running_but}
+use Rattle.sw_owned.proofs.Examples.Views.{bank, banks, mine, yours, nobodys, main, callee, task, called, free, on_bank, slot, dead, row, runs, waits}
 
 -- a caller whose second register waits, or has the result: its colour and its region
 abbrev waiting : Row

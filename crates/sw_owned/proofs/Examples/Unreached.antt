@@ -9,10 +9,11 @@ use Rattle.sw_owned.specs.Within.{Kept, Merged, Recoloured, Closed}
 use Rattle.sw_owned.specs.Calls.{Returned}
 use Rattle.sw_owned.specs.Sketch.{Job, view_of}
 use Rattle.sw_owned.specs.Premises.{WaitsOn}
-use Rattle.sw_owned.proofs.SketchLemmas.{sound_view, owned_view, stacked_view, returns_view, initialisers_view}
+use Rattle.sw_owned.proofs.Sketches.Tests.{sound_view, owned_view, stacked_view, returns_view, initialisers_view}
+use Rattle.sw_owned.proofs.Sketches.Reading.{there, joined, for_holders, held_by, kept_but}
+use Rattle.sw_owned.proofs.Sketches.Moves.{popped, same_jobs, recoloured}
 use Rattle.sw_owned.proofs.MergedLemmas.{others_stay}
-use Rattle.sw_owned.proofs.ExampleTools.{there, popped, joined, for_holders, held_by, kept_but, same_jobs, recoloured}
-use Rattle.sw_owned.proofs.ExampleViews.{bank, banks, mine, yours, main, callee, task, called, free, on_bank, slot, dead, row, runs, waits}
+use Rattle.sw_owned.proofs.Examples.Views.{bank, banks, mine, yours, main, callee, task, called, free, on_bank, slot, dead, row, runs, waits}
 
 -- `let z = Cell(); let a = Cell(); let r = pick(a)`, where `pick` has z in its register
 abbrev picking : List Job

@@ -1,64 +1,14 @@
 -- A test of small views: where it passes, the view is sound.
-use Rattle.std.specs.Prelude.{◌≡◌, ◌⊎◌, ℕ, zero, suc, ◌+◌, ◌<◌, Bool, true, false, not, ◌&&◌, ◌||◌, ◌==◌, if◌then◌else◌, Option, Some, None, List, [], ◌∷◌, ◌++◌, length, Contains, slice_index_or, refl}
-use Rattle.std.specs.List.{list_all}
 use Rattle.std.proofs.Common.{sym, subst, ap, ◌∙◌, inl, inr, arith}
-use Rattle.std.proofs.lemmas.Bool.{cases_eq, and_parts, or_cases, or_right, not-true, eqb-true, eq-eqb}
-use Rattle.sw_owned.specs.Colours.{Actor, Instance, GlobalActor, Colour, OfJob, OfActor, Executor, Generic, On, IsOwnedBy}
-use Rattle.sw_owned.specs.View.{Frame, above, IsBelow, Element, Here, Register, Isolation, Nonisolated, IsolatedTo, MakesActor, Shape, View, IsFrame, HoldsLive, Together, RunsOn}
+use Rattle.std.proofs.lemmas.Bool.{and_parts, or_cases, not-true, eqb-true, cases_eq, or_right}
+use Rattle.std.specs.List.{list_all}
+use Rattle.std.specs.Prelude.{◌≡◌, ◌⊎◌, ℕ, zero, suc, ◌+◌, ◌<◌, Bool, true, false, not, ◌&&◌, ◌||◌, ◌==◌, if◌then◌else◌, Option, Some, None, List, [], ◌∷◌, length, Contains, refl, ◌++◌, slice_index_or}
+use Rattle.sw_owned.specs.Colours.{Actor, Colour, OfJob, OfActor, Executor, Generic, On, IsOwnedBy}
 use Rattle.sw_owned.specs.Owned.{IsOwned, IsStacked, IsReturnLinked, IsInitialiserLinked, IsSound}
+use Rattle.sw_owned.specs.Sketch.{Slot, Row, Job, item, no_slot, no_job, rows_of, row_at, region_in, view_of, no_row}
+use Rattle.sw_owned.specs.View.{Frame, above, Element, Here, Register, Isolation, Nonisolated, IsolatedTo, MakesActor, Shape, IsFrame, HoldsLive, Together, IsBelow, View, RunsOn}
 use Rattle.sw_owned.proofs.FrameLemmas.{top_is_frame}
-use Rattle.sw_owned.specs.Sketch.{Slot, Row, Job, item, no_slot, no_row, no_job, rows_of, row_at, region_in, view_of}
-
--- ---- tests of equality
-abbrev pub same_actor : Actor → Actor → Bool
-same_actor (Instance a) (Instance b) = a == b
-same_actor (GlobalActor a) (GlobalActor b) = a == b
-same_actor _ _ = false
-
-pub same_actor_true : (a b : Actor) → same_actor a b ≡ true → a ≡ b
-same_actor_true (Instance a) (Instance b) e = ap Instance (eqb-true a b e)
-same_actor_true (GlobalActor a) (GlobalActor b) e = ap GlobalActor (eqb-true a b e)
-same_actor_true (Instance a) (GlobalActor b) e = absurd (cc (e))
-same_actor_true (GlobalActor a) (Instance b) e = absurd (cc (e))
-
-same_actor_refl : (a : Actor) → same_actor a a ≡ true
-same_actor_refl (Instance a) = eq-eqb a a refl
-same_actor_refl (GlobalActor a) = eq-eqb a a refl
-
-abbrev pub same_colour : Colour → Colour → Bool
-same_colour (OfJob i n) (OfJob j m) = (i == j) && (n == m)
-same_colour (OfActor a) (OfActor b) = same_actor a b
-same_colour _ _ = false
-
-pub same_colour_true : (c d : Colour) → same_colour c d ≡ true → c ≡ d
-same_colour_true (OfJob i n) (OfJob j m) e = let both = and_parts (i == j) (n == m) e in
-    ap (λ i. OfJob i n) (eqb-true i j both.0) ∙ ap (OfJob j) (eqb-true n m both.1)
-same_colour_true (OfActor a) (OfActor b) e = ap OfActor (same_actor_true a b e)
-same_colour_true (OfJob i n) (OfActor b) e = absurd (cc (e))
-same_colour_true (OfActor a) (OfJob j m) e = absurd (cc (e))
-
-pub same_colour_refl : (c : Colour) → same_colour c c ≡ true
-same_colour_refl (OfJob i n) = ap (λ b. b && (n == n)) (eq-eqb i i refl) ∙ eq-eqb n n refl
-same_colour_refl (OfActor a) = same_actor_refl a
-
-abbrev pub stands_on : Executor → Actor → Bool
-stands_on Generic a = false
-stands_on (On b) a = same_actor b a
-
-stands_on_true : (e : Executor) (a : Actor) → stands_on e a ≡ true → e ≡ On a
-stands_on_true Generic a t = absurd (cc (t))
-stands_on_true (On b) a t = ap On (same_actor_true b a t)
-
-abbrev pub same_executor : Executor → Executor → Bool
-same_executor Generic Generic = true
-same_executor (On a) (On b) = same_actor a b
-same_executor _ _ = false
-
-pub same_executor_true : (d e : Executor) → same_executor d e ≡ true → d ≡ e
-same_executor_true Generic Generic t = refl
-same_executor_true (On a) (On b) t = ap On (same_actor_true a b t)
-same_executor_true Generic (On b) t = absurd (cc (t))
-same_executor_true (On a) Generic t = absurd (cc (t))
+use Rattle.sw_owned.proofs.Sketches.Same.{same_actor, same_actor_refl, same_actor_true, same_colour, same_colour_refl, same_colour_true, same_executor, same_executor_true, stands_on, stands_on_true}
 
 -- ---- tests of all numbers below one, and of all items
 abbrev pub all_below : ℕ → (ℕ → Bool) → Bool
@@ -84,12 +34,12 @@ in_all test x (y ∷ ys) e (inl is) = ap test is ∙ (and_parts (test y) (list_a
 in_all test x (y ∷ ys) e (inr later) = in_all test x ys (and_parts (test y) (list_all test ys) e).1
     later
 
-in_left : {A : Type 0} (x : A) (xs ys : List A) → In x xs → In x (xs ++ ys)
+pub in_left : {A : Type 0} (x : A) (xs ys : List A) → In x xs → In x (xs ++ ys)
 in_left x [] ys h = absurd h
 in_left x (y ∷ xs) ys (inl e) = inl e
 in_left x (y ∷ xs) ys (inr h) = inr (in_left x xs ys h)
 
-in_right : {A : Type 0} (x : A) (xs ys : List A) → In x ys → In x (xs ++ ys)
+pub in_right : {A : Type 0} (x : A) (xs ys : List A) → In x ys → In x (xs ++ ys)
 in_right x [] ys h = h
 in_right x (y ∷ xs) ys h = inr (in_right x xs ys h)
 
@@ -98,13 +48,13 @@ abbrev pub marked : ℕ → List Colour → List (Element × Colour)
 marked n [] = []
 marked n (c ∷ cs) = (Register n, c) ∷ marked n cs
 
-in_from : {A : Type 0} (x : A) (xs : List A) (k : ℕ) → k < length xs → slice_index_or xs k x ≡ x
+pub in_from : {A : Type 0} (x : A) (xs : List A) (k : ℕ) → k < length xs → slice_index_or xs k x ≡ x
     → In x xs
 in_from x [] k lt e = absurd (omega arith)
 in_from x (y ∷ xs) zero lt e = inl (sym e)
 in_from x (y ∷ xs) (suc k) lt e = inr (in_from x xs k (omega arith) e)
 
-marked_in : (n : ℕ) (c : Colour) (cs : List Colour) → In c cs → In (Register n, c) (marked n cs)
+pub marked_in : (n : ℕ) (c : Colour) (cs : List Colour) → In c cs → In (Register n, c) (marked n cs)
 marked_in n c [] h = absurd h
 marked_in n c (d ∷ cs) (inl e) = inl (ap (λ c. (Register n, c)) e)
 marked_in n c (d ∷ cs) (inr h) = inr (marked_in n c cs h)
@@ -113,7 +63,7 @@ abbrev pub slot_holders : ℕ → List Slot → List (Element × Colour)
 slot_holders n [] = []
 slot_holders n (s ∷ ss) = (if s.live then marked n s.colours else []) ++ slot_holders (suc n) ss
 
-slot_in : (n r : ℕ) (c : Colour) (ss : List Slot) → (item no_slot ss r).live ≡ true
+pub slot_in : (n r : ℕ) (c : Colour) (ss : List Slot) → (item no_slot ss r).live ≡ true
     → Contains (item no_slot ss r).colours c
     → In (Register (n + r), c) (slot_holders n ss)
 slot_in n r c [] live h = absurd (omega (arith, h.1))
@@ -158,7 +108,7 @@ abbrev pub owned_by : ℕ → Executor → Colour → Bool
 owned_by job executor (OfJob j n) = j == job
 owned_by job executor (OfActor a) = stands_on executor a
 
-owned_by_true : (job : ℕ) (executor : Executor) (c : Colour) → owned_by job executor c ≡ true
+pub owned_by_true : (job : ℕ) (executor : Executor) (c : Colour) → owned_by job executor c ≡ true
     → IsOwnedBy job executor c
 owned_by_true job executor (OfJob j n) e = eqb-true j job e
 owned_by_true job executor (OfActor a) e = stands_on_true executor a e
@@ -177,7 +127,7 @@ is_isolated Nonisolated a = false
 is_isolated (IsolatedTo b) a = same_actor b a
 is_isolated MakesActor a = false
 
-is_isolated_true : (i : Isolation) (a : Actor) → is_isolated i a ≡ true → i ≡ IsolatedTo a
+pub is_isolated_true : (i : Isolation) (a : Actor) → is_isolated i a ≡ true → i ≡ IsolatedTo a
 is_isolated_true Nonisolated a e = absurd (cc (e))
 is_isolated_true (IsolatedTo b) a e = ap IsolatedTo (same_actor_true b a e)
 is_isolated_true MakesActor a e = absurd (cc (e))
@@ -298,7 +248,7 @@ each_job jobs = all_below (length jobs)
     (item no_job jobs j)))
 
 -- ---- where the tests pass
-job_bound : (jobs : List Job) (j d : ℕ) → d < length (rows_of jobs j) → j < length jobs
+pub job_bound : (jobs : List Job) (j d : ℕ) → d < length (rows_of jobs j) → j < length jobs
 job_bound [] j d f = absurd (omega arith)
 job_bound (job ∷ jobs) zero d f = omega arith
 job_bound (job ∷ jobs) (suc j) d f = omega (arith, job_bound jobs j d f)

@@ -1,0 +1,4 @@
+pub mod Same
+pub mod Tests
+pub mod Reading
+pub mod Moves
