@@ -50,9 +50,18 @@ pub fn operations_keep_soundness()
         → IsSound old → Comes old new q (without r) → IsSound new }
 {}
 
-/// Two colours become one.
+/// Two colours become one. Of two colours that a frame holds one can go, since it is the job's. The
+/// one that is kept is the job's too, or that of the actor whose colour `Here` has: no other owner
+/// takes over what a frame holds.
 pub fn merging_keeps_soundness()
-    ensures { (old new : View) (q : Frame) (x y : Element) (number : ℕ) (kept : Colour)
+    ensures one_can_go { (w : View) (p : Frame) (x y : Element) (c d : Colour)
+        → IsOwned w → HoldsLive w p x c → HoldsLive w p y d
+        → (c ≡ d) ⊎ ((n : ℕ) × ((c ≡ OfJob p.job n) ⊎ (d ≡ OfJob p.job n))) }
+    ensures owner { (old new : View) (q : Frame) (x y : Element) (number : ℕ) (kept : Colour)
+        → IsOwned old → Merged old new q x y number kept
+        → ((n : ℕ) × (kept ≡ OfJob q.job n))
+        ⊎ ((a : Actor) × (kept ≡ OfActor a) × (old.here q ≡ OfActor a)) }
+    ensures kept { (old new : View) (q : Frame) (x y : Element) (number : ℕ) (kept : Colour)
         → IsSound old → Merged old new q x y number kept → IsSound new }
 {}
 
