@@ -63,32 +63,36 @@ shares_in : (old new : List Job) → HoldsLive (view_of old) main (Register 0)
     ⊎ IsDisconnected (view_of old) 0 ((view_of new).here callee)
 shares_in old new colour result = inl (Register 0, record { colour = colour; result = result })
 
+-- the caller before the call: its second register is live, in a region of its own
+abbrev asking : Row
+asking = row free (mine 0) (slot 1 (mine 1 ∷ []) ∷ slot 7 (mine 7 ∷ []) ∷ [])
+
 pub plain_possible : IsPossible plain_says
 plain_possible = record {
-  old = view_of (alone caller);
+  old = view_of (alone asking);
   new = view_of (with_callee caller plainly (mine 1));
   at = main;
-  sound = sound_view (alone caller) refl;
+  sound = sound_view (alone asking) refl;
   all = elim [
     | Before ↦ refl
     | Height ↦ refl
-    | Heights ↦ heights_but 0 (alone caller) (with_callee caller plainly (mine 1)) refl
-    | Running ↦ running (alone caller) (with_callee caller plainly (mine 1)) refl
+    | Heights ↦ heights_but 0 (alone asking) (with_callee caller plainly (mine 1)) refl
+    | Running ↦ running (alone asking) (with_callee caller plainly (mine 1)) refl
     | Fits ↦ fits_new (with_callee caller plainly (mine 1)) callee refl
     | NotClosing ↦ refl
     | CallerShape ↦ refl
-    | CallerHeld ↦ held_by (alone caller) (with_callee caller plainly (mine 1)) main (λ x. x) refl
-    | CallerJoined ↦ live_joined (alone caller) (with_callee caller plainly (mine 1)) main refl
-    | Others ↦ kept_but main (alone caller) (alone caller) (with_callee caller plainly (mine 1))
+    | CallerHeld ↦ held_by (alone asking) (with_callee caller plainly (mine 1)) main (λ x. x) refl
+    | CallerJoined ↦ live_joined (alone asking) (with_callee caller plainly (mine 1)) main refl
+    | Others ↦ kept_but main (alone asking) (alone asking) (with_callee caller plainly (mine 1))
         refl
-    | Sent ↦ sent (alone caller) (with_callee caller plainly (mine 1)) main refl
+    | Sent ↦ sent (alone asking) (with_callee caller plainly (mine 1)) main refl
     | Stays ↦ refl
     | SameExecutor ↦ refl
     | Isolated ↦ λ a e. absurd (cc (e))
     | NoInitialiser ↦ λ e. cc (e)
-    | HereColour ↦ inl (shares caller (with_callee caller plainly (mine 1)) (Register 0)
-        (there (alone caller) main (Register 0) (mine 1) refl)
-        (result_with (alone caller) (with_callee caller plainly (mine 1)) main 1 (Register 0) refl
+    | HereColour ↦ inl (shares asking (with_callee caller plainly (mine 1)) (Register 0)
+        (there (alone asking) main (Register 0) (mine 1) refl)
+        (result_with (alone asking) (with_callee caller plainly (mine 1)) main 1 (Register 0) refl
         refl refl))
   ];
 }
