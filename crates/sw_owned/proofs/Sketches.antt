@@ -2,3 +2,4 @@ pub mod Same
 pub mod Tests
 pub mod Reading
 pub mod Moves
+pub mod Premises

@@ -1,14 +1,15 @@
 -- What a call needs that stays on its caller's executor.
-use Rattle.std.specs.Prelude.{◌≡◌, ◌⊎◌, ℕ, Bool, true, false, Some, None, List, [], ◌∷◌, refl}
-use Rattle.std.proofs.Common.{inl, inr, arith}
+use Rattle.std.specs.Prelude.{◌≡◌, ℕ, Bool, true, false, Some, None, List, [], ◌∷◌, refl}
+use Rattle.std.proofs.Common.{inr, arith}
 use Rattle.sw_owned.specs.Colours.{Instance, Colour, Generic, On}
-use Rattle.sw_owned.specs.View.{Element, Here, Register, Nonisolated, IsolatedTo, MakesActor, Shape, HoldsLive, IsDisconnected, Together}
+use Rattle.sw_owned.specs.View.{Element, Here, Register, Nonisolated, IsolatedTo, MakesActor, Shape, HoldsLive, Together}
 use Rattle.sw_owned.specs.Calls.{SharesArgument}
 use Rattle.sw_owned.specs.Sketch.{Slot, Row, Job, view_of}
 use Rattle.sw_owned.specs.Premises.{IsNeeded, IsPossible, StaysSound, PlainPremise, plain_says, Before, Height, Heights, Running, Fits, NotClosing, CallerShape, CallerHeld, CallerJoined, Others, Sent, SharesPremise, shares_says, Plain, Colours, Calls, Stays, SameExecutor, Isolated, NoInitialiser, HereColour, SamePremise, same_says, IsIsolated, CallerHere, Result}
 use Rattle.sw_owned.proofs.Sketches.Tests.{sound_view}
-use Rattle.sw_owned.proofs.Sketches.Reading.{there, heights_but, running, held_by, kept_but}
-use Rattle.sw_owned.proofs.Sketches.Moves.{calls, result_with, no_result, disconnected, fits_new, live_joined, sent}
+use Rattle.sw_owned.proofs.Sketches.Reading.{there, running}
+use Rattle.sw_owned.proofs.Sketches.Moves.{result_with}
+use Rattle.sw_owned.proofs.Sketches.Premises.{plain_by, same_by, runs_by}
 use Rattle.sw_owned.proofs.Examples.Views.{bank, banks, mine, yours, nobodys, main, callee, last, task, called, free, on_bank, slot, dead, row, runs, waits, left, caller, bank_caller, alone, with_callee, and_rogue}
 
 -- ---- a call that shares its argument
@@ -54,14 +55,18 @@ abbrev deep_call : List Row → List Job
 deep_call rows = runs (bank_caller ∷ row (called Nonisolated (On bank) None) (mine 1) [] ∷ rows) ∷
     bank_job true ∷ []
 
-shares_in : (old new : List Job) → HoldsLive (view_of old) main (Register 0)
-    ((view_of new).here callee)
-    → ((r : ℕ) → ((view_of new).shape callee).result ≡ Some r → (y : Element) (c : Colour)
-    → HoldsLive (view_of new) main y c
-    → Together (view_of old) main y (Register 0) → Together (view_of new) main y (Register r))
-    → ((s : Element) × SharesArgument (view_of old) (view_of new) main s)
-    ⊎ IsDisconnected (view_of old) 0 ((view_of new).here callee)
-shares_in old new colour result = inl (Register 0, record { colour = colour; result = result })
+-- a callee with one colour in two regions
+abbrev torn_callee : List Job
+torn_callee = beside (caller ∷ row plainly (mine 1)
+    (slot 0 (mine 1 ∷ []) ∷ slot 3 (mine 1 ∷ []) ∷ []) ∷ []) []
+
+-- a call of a frame that is closing
+abbrev closing_caller : List Job
+closing_caller = beside (ending ∷ row (called Nonisolated Generic None) (mine 2) [] ∷ []) []
+
+-- a callee that holds what nobody sent it
+abbrev foreign_callee : List Job
+foreign_callee = beside (caller ∷ row plainly (mine 1) (slot 0 (nobodys ∷ []) ∷ []) ∷ []) []
 
 -- the caller before the call: its second register is live, in a region of its own
 abbrev asking : Row
@@ -74,26 +79,8 @@ plain_possible = record {
   at = main;
   sound = sound_view (alone asking) refl;
   all = elim [
-    | Before ↦ refl
-    | Height ↦ refl
-    | Heights ↦ heights_but 0 (alone asking) (with_callee caller plainly (mine 1)) refl
-    | Running ↦ running (alone asking) (with_callee caller plainly (mine 1)) refl
-    | Fits ↦ fits_new (with_callee caller plainly (mine 1)) callee refl
-    | NotClosing ↦ refl
-    | CallerShape ↦ refl
-    | CallerHeld ↦ held_by (alone asking) (with_callee caller plainly (mine 1)) main (λ x. x) refl
-    | CallerJoined ↦ live_joined (alone asking) (with_callee caller plainly (mine 1)) main refl
-    | Others ↦ kept_but main (alone asking) (alone asking) (with_callee caller plainly (mine 1))
-        refl
-    | Sent ↦ sent (alone asking) (with_callee caller plainly (mine 1)) main refl
-    | Stays ↦ refl
-    | SameExecutor ↦ refl
-    | Isolated ↦ λ a e. absurd (cc (e))
-    | NoInitialiser ↦ λ e. cc (e)
-    | HereColour ↦ inl (shares asking (with_callee caller plainly (mine 1)) (Register 0)
-        (there (alone asking) main (Register 0) (mine 1) refl)
-        (result_with (alone asking) (with_callee caller plainly (mine 1)) main 1 (Register 0) refl
-        refl refl))
+    | Before ↦ plain_by (alone asking) (with_callee caller plainly (mine 1)) main Before refl
+    | other ↦ plain_by (alone asking) (with_callee caller plainly (mine 1)) main other refl
   ];
 }
 
@@ -105,33 +92,10 @@ plain_needed Before = record {
   sound = sound_view (deep_call (row free (mine 0) [] ∷ [])) refl;
   others = elim [
     | Before ↦ λ n. absurd (n refl)
-    | Height ↦ λ _. refl
-    | Heights ↦ λ _. heights_but 0 (deep_call (row free (mine 0) [] ∷ [])) (deep_call []) refl
-    | Running ↦ λ _. running (deep_call (row free (mine 0) [] ∷ [])) (deep_call []) refl
-    | Fits ↦ λ _. fits_new (deep_call []) callee refl
-    | NotClosing ↦ λ _. refl
-    | CallerShape ↦ λ _. refl
-    | CallerHeld ↦ λ _. held_by (deep_call (row free (mine 0) [] ∷ [])) (deep_call []) main (λ x. x)
-        refl
-    | CallerJoined ↦ λ _. live_joined (deep_call (row free (mine 0) [] ∷ [])) (deep_call []) main
-        refl
-    | Others ↦ λ _. kept_but main (deep_call (row free (mine 0) [] ∷ []))
-        (deep_call (row free (mine 0) [] ∷ [])) (deep_call []) refl
-    | Sent ↦ λ _. sent (deep_call (row free (mine 0) [] ∷ [])) (deep_call []) main refl
-    | Stays ↦ λ _. refl
-    | SameExecutor ↦ λ _. refl
-    | Isolated ↦ λ _ a e. absurd (cc (e))
-    | NoInitialiser ↦ λ _ e. cc (e)
-    | HereColour ↦ λ _. shares_in (deep_call (row free (mine 0) [] ∷ [])) (deep_call [])
-        (there (deep_call (row free (mine 0) [] ∷ [])) main (Register 0) (mine 1) refl)
-        (no_result (deep_call (row free (mine 0) [] ∷ [])) (deep_call []) main (Register 0) refl)
+    | other ↦ λ _. plain_by (deep_call (row free (mine 0) [] ∷ [])) (deep_call []) main other refl
   ];
-  fails = λ s. cc (s.owned.exclusive {p = callee} {q = task} {a = bank}
-      (record { running = refl; top = refl; executor = refl }) (record {
-        running = refl;
-        top = refl;
-        executor = refl;
-      }));
+  fails = λ s. cc (s.owned.exclusive (runs_by (deep_call []) callee bank refl)
+      (runs_by (deep_call []) task bank refl));
 }
 plain_needed Height = record {
   old = view_of (alone caller);
@@ -139,32 +103,9 @@ plain_needed Height = record {
   at = main;
   sound = sound_view (alone caller) refl;
   others = elim [
-    | Before ↦ λ _. refl
     | Height ↦ λ n. absurd (n refl)
-    | Heights ↦ λ _. heights_but 0 (alone caller)
-        (beside (caller ∷ callee_row ∷ row free nobodys [] ∷ []) []) refl
-    | Running ↦ λ _. running (alone caller) (beside (caller ∷ callee_row ∷ row free nobodys [] ∷ [])
-        []) refl
-    | Fits ↦ λ _. fits_new (beside (caller ∷ callee_row ∷ row free nobodys [] ∷ []) []) callee refl
-    | NotClosing ↦ λ _. refl
-    | CallerShape ↦ λ _. refl
-    | CallerHeld ↦ λ _. held_by (alone caller)
-        (beside (caller ∷ callee_row ∷ row free nobodys [] ∷ []) []) main (λ x. x) refl
-    | CallerJoined ↦ λ _. live_joined (alone caller)
-        (beside (caller ∷ callee_row ∷ row free nobodys [] ∷ []) []) main refl
-    | Others ↦ λ _. kept_but main (alone caller) (alone caller)
-        (beside (caller ∷ callee_row ∷ row free nobodys [] ∷ []) []) refl
-    | Sent ↦ λ _. sent (alone caller) (beside (caller ∷ callee_row ∷ row free nobodys [] ∷ []) [])
-        main refl
-    | Stays ↦ λ _. refl
-    | SameExecutor ↦ λ _. refl
-    | Isolated ↦ λ _ a e. absurd (cc (e))
-    | NoInitialiser ↦ λ _ e. cc (e)
-    | HereColour ↦ λ _. shares_in (alone caller)
-        (beside (caller ∷ callee_row ∷ row free nobodys [] ∷ []) [])
-        (there (alone caller) main (Register 0) (mine 1) refl)
-        (result_with (alone caller) (beside (caller ∷ callee_row ∷ row free nobodys [] ∷ []) [])
-        main 1 (Register 0) refl refl refl)
+    | other ↦ λ _. plain_by (alone caller)
+        (beside (caller ∷ callee_row ∷ row free nobodys [] ∷ []) []) main other refl
   ];
   fails = λ s. cc (s.owned.owned (there (beside (caller ∷ callee_row ∷ row free nobodys [] ∷ []) [])
       last Here nobodys refl));
@@ -175,34 +116,9 @@ plain_needed Heights = record {
   at = main;
   sound = sound_view (alone caller) refl;
   others = elim [
-    | Before ↦ λ _. refl
-    | Height ↦ λ _. refl
     | Heights ↦ λ n. absurd (n refl)
-    | Running ↦ λ _. running (alone caller)
-        (beside (caller ∷ callee_row ∷ []) (waits (row free (mine 0) [] ∷ []) ∷ [])) refl
-    | Fits ↦ λ _. fits_new
-        (beside (caller ∷ callee_row ∷ []) (waits (row free (mine 0) [] ∷ []) ∷ [])) callee refl
-    | NotClosing ↦ λ _. refl
-    | CallerShape ↦ λ _. refl
-    | CallerHeld ↦ λ _. held_by (alone caller)
-        (beside (caller ∷ callee_row ∷ []) (waits (row free (mine 0) [] ∷ []) ∷ [])) main (λ x. x)
-        refl
-    | CallerJoined ↦ λ _. live_joined (alone caller)
-        (beside (caller ∷ callee_row ∷ []) (waits (row free (mine 0) [] ∷ []) ∷ [])) main refl
-    | Others ↦ λ _. kept_but main (alone caller) (alone caller)
-        (beside (caller ∷ callee_row ∷ []) (waits (row free (mine 0) [] ∷ []) ∷ [])) refl
-    | Sent ↦ λ _. sent (alone caller)
-        (beside (caller ∷ callee_row ∷ []) (waits (row free (mine 0) [] ∷ []) ∷ [])) main refl
-    | Stays ↦ λ _. refl
-    | SameExecutor ↦ λ _. refl
-    | Isolated ↦ λ _ a e. absurd (cc (e))
-    | NoInitialiser ↦ λ _ e. cc (e)
-    | HereColour ↦ λ _. shares_in (alone caller)
-        (beside (caller ∷ callee_row ∷ []) (waits (row free (mine 0) [] ∷ []) ∷ []))
-        (there (alone caller) main (Register 0) (mine 1) refl)
-        (result_with (alone caller)
-        (beside (caller ∷ callee_row ∷ []) (waits (row free (mine 0) [] ∷ []) ∷ [])) main 1
-        (Register 0) refl refl refl)
+    | other ↦ λ _. plain_by (alone caller)
+        (beside (caller ∷ callee_row ∷ []) (waits (row free (mine 0) [] ∷ []) ∷ [])) main other refl
   ];
   fails = λ s. cc (s.owned.owned
       (there (beside (caller ∷ callee_row ∷ []) (waits (row free (mine 0) [] ∷ []) ∷ [])) task Here
@@ -214,122 +130,40 @@ plain_needed Running = record {
   at = main;
   sound = sound_view (beside (caller ∷ []) (bank_job false ∷ bank_job true ∷ [])) refl;
   others = elim [
-    | Before ↦ λ _. refl
-    | Height ↦ λ _. refl
-    | Heights ↦ λ _. heights_but 0 (beside (caller ∷ []) (bank_job false ∷ bank_job true ∷ []))
-        (beside (caller ∷ callee_row ∷ []) (bank_job true ∷ bank_job true ∷ [])) refl
     | Running ↦ λ n. absurd (n refl)
-    | Fits ↦ λ _. fits_new (beside (caller ∷ callee_row ∷ []) (bank_job true ∷ bank_job true ∷ []))
-        callee refl
-    | NotClosing ↦ λ _. refl
-    | CallerShape ↦ λ _. refl
-    | CallerHeld ↦ λ _. held_by (beside (caller ∷ []) (bank_job false ∷ bank_job true ∷ []))
-        (beside (caller ∷ callee_row ∷ []) (bank_job true ∷ bank_job true ∷ [])) main (λ x. x) refl
-    | CallerJoined ↦ λ _. live_joined (beside (caller ∷ []) (bank_job false ∷ bank_job true ∷ []))
-        (beside (caller ∷ callee_row ∷ []) (bank_job true ∷ bank_job true ∷ [])) main refl
-    | Others ↦ λ _. kept_but main (beside (caller ∷ []) (bank_job false ∷ bank_job true ∷ []))
-        (beside (caller ∷ []) (bank_job false ∷ bank_job true ∷ []))
-        (beside (caller ∷ callee_row ∷ []) (bank_job true ∷ bank_job true ∷ [])) refl
-    | Sent ↦ λ _. sent (beside (caller ∷ []) (bank_job false ∷ bank_job true ∷ []))
-        (beside (caller ∷ callee_row ∷ []) (bank_job true ∷ bank_job true ∷ [])) main refl
-    | Stays ↦ λ _. refl
-    | SameExecutor ↦ λ _. refl
-    | Isolated ↦ λ _ a e. absurd (cc (e))
-    | NoInitialiser ↦ λ _ e. cc (e)
-    | HereColour ↦ λ _. shares_in (beside (caller ∷ []) (bank_job false ∷ bank_job true ∷ []))
-        (beside (caller ∷ callee_row ∷ []) (bank_job true ∷ bank_job true ∷ []))
-        (there (beside (caller ∷ []) (bank_job false ∷ bank_job true ∷ [])) main (Register 0)
-        (mine 1) refl)
-        (result_with (beside (caller ∷ []) (bank_job false ∷ bank_job true ∷ []))
-        (beside (caller ∷ callee_row ∷ []) (bank_job true ∷ bank_job true ∷ [])) main 1
-        (Register 0) refl refl refl)
+    | other ↦ λ _. plain_by (beside (caller ∷ []) (bank_job false ∷ bank_job true ∷ []))
+        (beside (caller ∷ callee_row ∷ []) (bank_job true ∷ bank_job true ∷ [])) main other refl
   ];
-  fails = λ s. cc (s.owned.exclusive {p = task} {q = record { job = 2; depth = 0 }} {a = bank}
-      (record { running = refl; top = refl; executor = refl }) (record {
-        running = refl;
-        top = refl;
-        executor = refl;
-      }));
+  fails = λ s. cc (s.owned.exclusive
+      (runs_by (beside (caller ∷ callee_row ∷ []) (bank_job true ∷ bank_job true ∷ [])) task bank
+      refl)
+      (runs_by (beside (caller ∷ callee_row ∷ []) (bank_job true ∷ bank_job true ∷ []))
+      (record { job = 2; depth = 0 }) bank refl));
 }
 plain_needed Fits = record {
   old = view_of (alone caller);
-  new = view_of (beside
-      (caller ∷ row plainly (mine 1) (slot 0 (mine 1 ∷ []) ∷ slot 3 (mine 1 ∷ []) ∷ []) ∷ []) []);
+  new = view_of torn_callee;
   at = main;
   sound = sound_view (alone caller) refl;
   others = elim [
-    | Before ↦ λ _. refl
-    | Height ↦ λ _. refl
-    | Heights ↦ λ _. heights_but 0 (alone caller)
-        (beside (caller ∷ row plainly (mine 1) (slot 0 (mine 1 ∷ []) ∷ slot 3 (mine 1 ∷ []) ∷ []) ∷
-        []) []) refl
-    | Running ↦ λ _. running (alone caller)
-        (beside (caller ∷ row plainly (mine 1) (slot 0 (mine 1 ∷ []) ∷ slot 3 (mine 1 ∷ []) ∷ []) ∷
-        []) []) refl
     | Fits ↦ λ n. absurd (n refl)
-    | NotClosing ↦ λ _. refl
-    | CallerShape ↦ λ _. refl
-    | CallerHeld ↦ λ _. held_by (alone caller)
-        (beside (caller ∷ row plainly (mine 1) (slot 0 (mine 1 ∷ []) ∷ slot 3 (mine 1 ∷ []) ∷ []) ∷
-        []) []) main (λ x. x) refl
-    | CallerJoined ↦ λ _. live_joined (alone caller)
-        (beside (caller ∷ row plainly (mine 1) (slot 0 (mine 1 ∷ []) ∷ slot 3 (mine 1 ∷ []) ∷ []) ∷
-        []) []) main refl
-    | Others ↦ λ _. kept_but main (alone caller) (alone caller)
-        (beside (caller ∷ row plainly (mine 1) (slot 0 (mine 1 ∷ []) ∷ slot 3 (mine 1 ∷ []) ∷ []) ∷
-        []) []) refl
-    | Sent ↦ λ _. sent (alone caller)
-        (beside (caller ∷ row plainly (mine 1) (slot 0 (mine 1 ∷ []) ∷ slot 3 (mine 1 ∷ []) ∷ []) ∷
-        []) []) main refl
-    | Stays ↦ λ _. refl
-    | SameExecutor ↦ λ _. refl
-    | Isolated ↦ λ _ a e. absurd (cc (e))
-    | NoInitialiser ↦ λ _ e. cc (e)
-    | HereColour ↦ λ _. shares_in (alone caller)
-        (beside (caller ∷ row plainly (mine 1) (slot 0 (mine 1 ∷ []) ∷ slot 3 (mine 1 ∷ []) ∷ []) ∷
-        []) []) (there (alone caller) main (Register 0) (mine 1) refl)
-        (result_with (alone caller)
-        (beside (caller ∷ row plainly (mine 1)
-        (slot 0 (mine 1 ∷ []) ∷ slot 3 (mine 1 ∷ []) ∷ []) ∷ []) []) main 1 (Register 0) refl
-        refl refl)
+    | other ↦ λ _. plain_by (alone caller)
+        torn_callee main other refl
   ];
   fails = λ s. cc (s.owned.together
-      (there (beside (caller ∷ row plainly (mine 1)
-      (slot 0 (mine 1 ∷ []) ∷ slot 3 (mine 1 ∷ []) ∷ []) ∷ []) []) callee (Register 0) (mine 1)
-      refl) (there (beside (caller ∷ row plainly (mine 1)
-      (slot 0 (mine 1 ∷ []) ∷ slot 3 (mine 1 ∷ []) ∷ []) ∷ []) []) callee (Register 1) (mine 1)
+      (there torn_callee callee (Register 0) (mine 1)
+      refl) (there torn_callee callee (Register 1) (mine 1)
       refl));
 }
 plain_needed NotClosing = record {
   old = view_of (alone ending);
-  new = view_of (beside (ending ∷ row (called Nonisolated Generic None) (mine 2) [] ∷ []) []);
+  new = view_of closing_caller;
   at = main;
   sound = sound_view (alone ending) refl;
   others = elim [
-    | Before ↦ λ _. refl
-    | Height ↦ λ _. refl
-    | Heights ↦ λ _. heights_but 0 (alone ending)
-        (beside (ending ∷ row (called Nonisolated Generic None) (mine 2) [] ∷ []) []) refl
-    | Running ↦ λ _. running (alone ending)
-        (beside (ending ∷ row (called Nonisolated Generic None) (mine 2) [] ∷ []) []) refl
-    | Fits ↦ λ _. fits_new (beside (ending ∷ row (called Nonisolated Generic None) (mine 2) [] ∷ [])
-        []) callee refl
     | NotClosing ↦ λ n. absurd (n refl)
-    | CallerShape ↦ λ _. refl
-    | CallerHeld ↦ λ _. held_by (alone ending)
-        (beside (ending ∷ row (called Nonisolated Generic None) (mine 2) [] ∷ []) []) main (λ x. x)
-        refl
-    | CallerJoined ↦ λ _. live_joined (alone ending)
-        (beside (ending ∷ row (called Nonisolated Generic None) (mine 2) [] ∷ []) []) main refl
-    | Others ↦ λ _. kept_but main (alone ending) (alone ending)
-        (beside (ending ∷ row (called Nonisolated Generic None) (mine 2) [] ∷ []) []) refl
-    | Sent ↦ λ _. sent (alone ending)
-        (beside (ending ∷ row (called Nonisolated Generic None) (mine 2) [] ∷ []) []) main refl
-    | Stays ↦ λ _. refl
-    | SameExecutor ↦ λ _. refl
-    | Isolated ↦ λ _ a e. absurd (cc (e))
-    | NoInitialiser ↦ λ _ e. cc (e)
-    | HereColour ↦ λ _. inr (disconnected (alone ending) 0 (mine 2) refl)
+    | other ↦ λ _. plain_by (alone ending)
+        closing_caller main other refl
   ];
   fails = λ s. cc (s.stacked.waiting main (omega arith));
 }
@@ -340,43 +174,10 @@ plain_needed CallerShape = record {
   at = main;
   sound = sound_view (alone caller) refl;
   others = elim [
-    | Before ↦ λ _. refl
-    | Height ↦ λ _. refl
-    | Heights ↦ λ _. heights_but 0 (alone caller)
-        (beside (row on_bank (mine 0) (slot 1 (mine 1 ∷ []) ∷ dead 1 ∷ []) ∷ row
-        (called Nonisolated (On bank) (Some 1)) (mine 1) [] ∷ []) []) refl
-    | Running ↦ λ _. running (alone caller)
-        (beside (row on_bank (mine 0) (slot 1 (mine 1 ∷ []) ∷ dead 1 ∷ []) ∷ row
-        (called Nonisolated (On bank) (Some 1)) (mine 1) [] ∷ []) []) refl
-    | Fits ↦ λ _. fits_new
-        (beside (row on_bank (mine 0) (slot 1 (mine 1 ∷ []) ∷ dead 1 ∷ []) ∷ row
-        (called Nonisolated (On bank) (Some 1)) (mine 1) [] ∷ []) []) callee refl
-    | NotClosing ↦ λ _. refl
     | CallerShape ↦ λ n. absurd (n refl)
-    | CallerHeld ↦ λ _. held_by (alone caller)
+    | other ↦ λ _. plain_by (alone caller)
         (beside (row on_bank (mine 0) (slot 1 (mine 1 ∷ []) ∷ dead 1 ∷ []) ∷ row
-        (called Nonisolated (On bank) (Some 1)) (mine 1) [] ∷ []) []) main (λ x. x) refl
-    | CallerJoined ↦ λ _. live_joined (alone caller)
-        (beside (row on_bank (mine 0) (slot 1 (mine 1 ∷ []) ∷ dead 1 ∷ []) ∷ row
-        (called Nonisolated (On bank) (Some 1)) (mine 1) [] ∷ []) []) main refl
-    | Others ↦ λ _. kept_but main (alone caller) (alone caller)
-        (beside (row on_bank (mine 0) (slot 1 (mine 1 ∷ []) ∷ dead 1 ∷ []) ∷ row
-        (called Nonisolated (On bank) (Some 1)) (mine 1) [] ∷ []) []) refl
-    | Sent ↦ λ _. sent (alone caller)
-        (beside (row on_bank (mine 0) (slot 1 (mine 1 ∷ []) ∷ dead 1 ∷ []) ∷ row
-        (called Nonisolated (On bank) (Some 1)) (mine 1) [] ∷ []) []) main refl
-    | Stays ↦ λ _. refl
-    | SameExecutor ↦ λ _. refl
-    | Isolated ↦ λ _ a e. absurd (cc (e))
-    | NoInitialiser ↦ λ _ e. cc (e)
-    | HereColour ↦ λ _. shares_in (alone caller)
-        (beside (row on_bank (mine 0) (slot 1 (mine 1 ∷ []) ∷ dead 1 ∷ []) ∷ row
-        (called Nonisolated (On bank) (Some 1)) (mine 1) [] ∷ []) [])
-        (there (alone caller) main (Register 0) (mine 1) refl)
-        (result_with (alone caller)
-        (beside (row on_bank (mine 0) (slot 1 (mine 1 ∷ []) ∷ dead 1 ∷ []) ∷ row
-        (called Nonisolated (On bank) (Some 1)) (mine 1) [] ∷ []) []) main 1 (Register 0) refl
-        refl refl)
+        (called Nonisolated (On bank) (Some 1)) (mine 1) [] ∷ []) []) main other refl
   ];
   fails = λ s. cc (s.owned.isolated {a = bank} main (omega arith) refl);
 }
@@ -386,35 +187,9 @@ plain_needed CallerHeld = record {
   at = main;
   sound = sound_view (beside (asker free (slot 3 (mine 3 ∷ []) ∷ []) ∷ []) []) refl;
   others = elim [
-    | Before ↦ λ _. refl
-    | Height ↦ λ _. refl
-    | Heights ↦ λ _. heights_but 0 (beside (asker free (slot 3 (mine 3 ∷ []) ∷ []) ∷ []) [])
-        (beside (asker free (slot 3 (nobodys ∷ []) ∷ []) ∷ callee_row ∷ []) []) refl
-    | Running ↦ λ _. running (beside (asker free (slot 3 (mine 3 ∷ []) ∷ []) ∷ []) [])
-        (beside (asker free (slot 3 (nobodys ∷ []) ∷ []) ∷ callee_row ∷ []) []) refl
-    | Fits ↦ λ _. fits_new (beside (asker free (slot 3 (nobodys ∷ []) ∷ []) ∷ callee_row ∷ []) [])
-        callee refl
-    | NotClosing ↦ λ _. refl
-    | CallerShape ↦ λ _. refl
     | CallerHeld ↦ λ n. absurd (n refl)
-    | CallerJoined ↦ λ _. live_joined (beside (asker free (slot 3 (mine 3 ∷ []) ∷ []) ∷ []) [])
-        (beside (asker free (slot 3 (nobodys ∷ []) ∷ []) ∷ callee_row ∷ []) []) main refl
-    | Others ↦ λ _. kept_but main (beside (asker free (slot 3 (mine 3 ∷ []) ∷ []) ∷ []) [])
-        (beside (asker free (slot 3 (mine 3 ∷ []) ∷ []) ∷ []) [])
-        (beside (asker free (slot 3 (nobodys ∷ []) ∷ []) ∷ callee_row ∷ []) []) refl
-    | Sent ↦ λ _. sent (beside (asker free (slot 3 (mine 3 ∷ []) ∷ []) ∷ []) [])
-        (beside (asker free (slot 3 (nobodys ∷ []) ∷ []) ∷ callee_row ∷ []) []) main refl
-    | Stays ↦ λ _. refl
-    | SameExecutor ↦ λ _. refl
-    | Isolated ↦ λ _ a e. absurd (cc (e))
-    | NoInitialiser ↦ λ _ e. cc (e)
-    | HereColour ↦ λ _. shares_in (beside (asker free (slot 3 (mine 3 ∷ []) ∷ []) ∷ []) [])
-        (beside (asker free (slot 3 (nobodys ∷ []) ∷ []) ∷ callee_row ∷ []) [])
-        (there (beside (asker free (slot 3 (mine 3 ∷ []) ∷ []) ∷ []) []) main (Register 0) (mine 1)
-        refl)
-        (result_with (beside (asker free (slot 3 (mine 3 ∷ []) ∷ []) ∷ []) [])
-        (beside (asker free (slot 3 (nobodys ∷ []) ∷ []) ∷ callee_row ∷ []) []) main 1
-        (Register 0) refl refl refl)
+    | other ↦ λ _. plain_by (beside (asker free (slot 3 (mine 3 ∷ []) ∷ []) ∷ []) [])
+        (beside (asker free (slot 3 (nobodys ∷ []) ∷ []) ∷ callee_row ∷ []) []) main other refl
   ];
   fails = λ s. cc (s.owned.owned
       (there (beside (asker free (slot 3 (nobodys ∷ []) ∷ []) ∷ callee_row ∷ []) []) main
@@ -428,47 +203,11 @@ plain_needed CallerJoined = record {
   sound = sound_view (beside (asker free (slot 3 (mine 3 ∷ []) ∷ slot 3 (mine 3 ∷ []) ∷ []) ∷ [])
       []) refl;
   others = elim [
-    | Before ↦ λ _. refl
-    | Height ↦ λ _. refl
-    | Heights ↦ λ _. heights_but 0
-        (beside (asker free (slot 3 (mine 3 ∷ []) ∷ slot 3 (mine 3 ∷ []) ∷ []) ∷ []) [])
-        (beside (asker free (slot 3 (mine 3 ∷ []) ∷ slot 4 (mine 3 ∷ []) ∷ []) ∷ row
-        (called Nonisolated Generic None) (mine 1) [] ∷ []) []) refl
-    | Running ↦ λ _. running
-        (beside (asker free (slot 3 (mine 3 ∷ []) ∷ slot 3 (mine 3 ∷ []) ∷ []) ∷ []) [])
-        (beside (asker free (slot 3 (mine 3 ∷ []) ∷ slot 4 (mine 3 ∷ []) ∷ []) ∷ row
-        (called Nonisolated Generic None) (mine 1) [] ∷ []) []) refl
-    | Fits ↦ λ _. fits_new
-        (beside (asker free (slot 3 (mine 3 ∷ []) ∷ slot 4 (mine 3 ∷ []) ∷ []) ∷ row
-        (called Nonisolated Generic None) (mine 1) [] ∷ []) []) callee refl
-    | NotClosing ↦ λ _. refl
-    | CallerShape ↦ λ _. refl
-    | CallerHeld ↦ λ _. held_by
-        (beside (asker free (slot 3 (mine 3 ∷ []) ∷ slot 3 (mine 3 ∷ []) ∷ []) ∷ []) [])
-        (beside (asker free (slot 3 (mine 3 ∷ []) ∷ slot 4 (mine 3 ∷ []) ∷ []) ∷ row
-        (called Nonisolated Generic None) (mine 1) [] ∷ []) []) main (λ x. x) refl
     | CallerJoined ↦ λ n. absurd (n refl)
-    | Others ↦ λ _. kept_but main
-        (beside (asker free (slot 3 (mine 3 ∷ []) ∷ slot 3 (mine 3 ∷ []) ∷ []) ∷ []) [])
-        (beside (asker free (slot 3 (mine 3 ∷ []) ∷ slot 3 (mine 3 ∷ []) ∷ []) ∷ []) [])
+    | other ↦ λ _. plain_by (beside
+        (asker free (slot 3 (mine 3 ∷ []) ∷ slot 3 (mine 3 ∷ []) ∷ []) ∷ []) [])
         (beside (asker free (slot 3 (mine 3 ∷ []) ∷ slot 4 (mine 3 ∷ []) ∷ []) ∷ row
-        (called Nonisolated Generic None) (mine 1) [] ∷ []) []) refl
-    | Sent ↦ λ _. sent (beside (asker free (slot 3 (mine 3 ∷ []) ∷ slot 3 (mine 3 ∷ []) ∷ []) ∷ [])
-        []) (beside (asker free (slot 3 (mine 3 ∷ []) ∷ slot 4 (mine 3 ∷ []) ∷ []) ∷ row
-        (called Nonisolated Generic None) (mine 1) [] ∷ []) []) main refl
-    | Stays ↦ λ _. refl
-    | SameExecutor ↦ λ _. refl
-    | Isolated ↦ λ _ a e. absurd (cc (e))
-    | NoInitialiser ↦ λ _ e. cc (e)
-    | HereColour ↦ λ _. shares_in
-        (beside (asker free (slot 3 (mine 3 ∷ []) ∷ slot 3 (mine 3 ∷ []) ∷ []) ∷ []) [])
-        (beside (asker free (slot 3 (mine 3 ∷ []) ∷ slot 4 (mine 3 ∷ []) ∷ []) ∷ row
-        (called Nonisolated Generic None) (mine 1) [] ∷ []) [])
-        (there (beside (asker free (slot 3 (mine 3 ∷ []) ∷ slot 3 (mine 3 ∷ []) ∷ []) ∷ []) []) main
-        (Register 0) (mine 1) refl)
-        (no_result (beside (asker free (slot 3 (mine 3 ∷ []) ∷ slot 3 (mine 3 ∷ []) ∷ []) ∷ []) [])
-        (beside (asker free (slot 3 (mine 3 ∷ []) ∷ slot 4 (mine 3 ∷ []) ∷ []) ∷ row
-        (called Nonisolated Generic None) (mine 1) [] ∷ []) []) main (Register 0) refl)
+        (called Nonisolated Generic None) (mine 1) [] ∷ []) []) main other refl
   ];
   fails = λ s. cc (s.owned.together
       (there (beside (asker free (slot 3 (mine 3 ∷ []) ∷ slot 4 (mine 3 ∷ []) ∷ []) ∷ row
@@ -482,73 +221,25 @@ plain_needed Others = record {
   at = main;
   sound = sound_view (beside (caller ∷ []) (task_of (yours 0))) refl;
   others = elim [
-    | Before ↦ λ _. refl
-    | Height ↦ λ _. refl
-    | Heights ↦ λ _. heights_but 0 (beside (caller ∷ []) (task_of (yours 0)))
-        (beside (caller ∷ callee_row ∷ []) (task_of nobodys)) refl
-    | Running ↦ λ _. running (beside (caller ∷ []) (task_of (yours 0)))
-        (beside (caller ∷ callee_row ∷ []) (task_of nobodys)) refl
-    | Fits ↦ λ _. fits_new (beside (caller ∷ callee_row ∷ []) (task_of nobodys)) callee refl
-    | NotClosing ↦ λ _. refl
-    | CallerShape ↦ λ _. refl
-    | CallerHeld ↦ λ _. held_by (beside (caller ∷ []) (task_of (yours 0)))
-        (beside (caller ∷ callee_row ∷ []) (task_of nobodys)) main (λ x. x) refl
-    | CallerJoined ↦ λ _. live_joined (beside (caller ∷ []) (task_of (yours 0)))
-        (beside (caller ∷ callee_row ∷ []) (task_of nobodys)) main refl
     | Others ↦ λ n. absurd (n refl)
-    | Sent ↦ λ _. sent (beside (caller ∷ []) (task_of (yours 0)))
-        (beside (caller ∷ callee_row ∷ []) (task_of nobodys)) main refl
-    | Stays ↦ λ _. refl
-    | SameExecutor ↦ λ _. refl
-    | Isolated ↦ λ _ a e. absurd (cc (e))
-    | NoInitialiser ↦ λ _ e. cc (e)
-    | HereColour ↦ λ _. shares_in (beside (caller ∷ []) (task_of (yours 0)))
-        (beside (caller ∷ callee_row ∷ []) (task_of nobodys))
-        (there (beside (caller ∷ []) (task_of (yours 0))) main (Register 0) (mine 1) refl)
-        (result_with (beside (caller ∷ []) (task_of (yours 0)))
-        (beside (caller ∷ callee_row ∷ []) (task_of nobodys)) main 1 (Register 0) refl refl
-        refl)
+    | other ↦ λ _. plain_by (beside (caller ∷ []) (task_of (yours 0)))
+        (beside (caller ∷ callee_row ∷ []) (task_of nobodys)) main other refl
   ];
   fails = λ s. cc (s.owned.owned (there (beside (caller ∷ callee_row ∷ []) (task_of nobodys)) task
       Here nobodys refl));
 }
 plain_needed Sent = record {
   old = view_of (alone caller);
-  new = view_of (beside (caller ∷ row plainly (mine 1) (slot 0 (nobodys ∷ []) ∷ []) ∷ []) []);
+  new = view_of foreign_callee;
   at = main;
   sound = sound_view (alone caller) refl;
   others = elim [
-    | Before ↦ λ _. refl
-    | Height ↦ λ _. refl
-    | Heights ↦ λ _. heights_but 0 (alone caller)
-        (beside (caller ∷ row plainly (mine 1) (slot 0 (nobodys ∷ []) ∷ []) ∷ []) []) refl
-    | Running ↦ λ _. running (alone caller)
-        (beside (caller ∷ row plainly (mine 1) (slot 0 (nobodys ∷ []) ∷ []) ∷ []) []) refl
-    | Fits ↦ λ _. fits_new (beside (caller ∷ row plainly (mine 1) (slot 0 (nobodys ∷ []) ∷ []) ∷ [])
-        []) callee refl
-    | NotClosing ↦ λ _. refl
-    | CallerShape ↦ λ _. refl
-    | CallerHeld ↦ λ _. held_by (alone caller)
-        (beside (caller ∷ row plainly (mine 1) (slot 0 (nobodys ∷ []) ∷ []) ∷ []) []) main (λ x. x)
-        refl
-    | CallerJoined ↦ λ _. live_joined (alone caller)
-        (beside (caller ∷ row plainly (mine 1) (slot 0 (nobodys ∷ []) ∷ []) ∷ []) []) main refl
-    | Others ↦ λ _. kept_but main (alone caller) (alone caller)
-        (beside (caller ∷ row plainly (mine 1) (slot 0 (nobodys ∷ []) ∷ []) ∷ []) []) refl
     | Sent ↦ λ n. absurd (n refl)
-    | Stays ↦ λ _. refl
-    | SameExecutor ↦ λ _. refl
-    | Isolated ↦ λ _ a e. absurd (cc (e))
-    | NoInitialiser ↦ λ _ e. cc (e)
-    | HereColour ↦ λ _. shares_in (alone caller)
-        (beside (caller ∷ row plainly (mine 1) (slot 0 (nobodys ∷ []) ∷ []) ∷ []) [])
-        (there (alone caller) main (Register 0) (mine 1) refl)
-        (result_with (alone caller)
-        (beside (caller ∷ row plainly (mine 1) (slot 0 (nobodys ∷ []) ∷ []) ∷ []) []) main 1
-        (Register 0) refl refl refl)
+    | other ↦ λ _. plain_by (alone caller)
+        foreign_callee main other refl
   ];
   fails = λ s. cc (s.owned.owned
-      (there (beside (caller ∷ row plainly (mine 1) (slot 0 (nobodys ∷ []) ∷ []) ∷ []) []) callee
+      (there foreign_callee callee
       (Register 0) nobodys refl));
 }
 plain_needed Stays = record {
@@ -557,33 +248,9 @@ plain_needed Stays = record {
   at = main;
   sound = sound_view (alone bank_caller) refl;
   others = elim [
-    | Before ↦ λ _. refl
-    | Height ↦ λ _. refl
-    | Heights ↦ λ _. heights_but 0 (alone bank_caller)
-        (with_callee bank_caller (left Nonisolated (On bank) None) (mine 1)) refl
-    | Running ↦ λ _. running (alone bank_caller)
-        (with_callee bank_caller (left Nonisolated (On bank) None) (mine 1)) refl
-    | Fits ↦ λ _. fits_new (with_callee bank_caller (left Nonisolated (On bank) None) (mine 1))
-        callee refl
-    | NotClosing ↦ λ _. refl
-    | CallerShape ↦ λ _. refl
-    | CallerHeld ↦ λ _. held_by (alone bank_caller)
-        (with_callee bank_caller (left Nonisolated (On bank) None) (mine 1)) main (λ x. x) refl
-    | CallerJoined ↦ λ _. live_joined (alone bank_caller)
-        (with_callee bank_caller (left Nonisolated (On bank) None) (mine 1)) main refl
-    | Others ↦ λ _. kept_but main (alone bank_caller) (alone bank_caller)
-        (with_callee bank_caller (left Nonisolated (On bank) None) (mine 1)) refl
-    | Sent ↦ λ _. sent (alone bank_caller)
-        (with_callee bank_caller (left Nonisolated (On bank) None) (mine 1)) main refl
     | Stays ↦ λ n. absurd (n refl)
-    | SameExecutor ↦ λ _. refl
-    | Isolated ↦ λ _ a e. absurd (cc (e))
-    | NoInitialiser ↦ λ _ e. cc (e)
-    | HereColour ↦ λ _. shares_in (alone bank_caller)
-        (with_callee bank_caller (left Nonisolated (On bank) None) (mine 1))
-        (there (alone bank_caller) main (Register 0) (mine 1) refl)
-        (no_result (alone bank_caller) (with_callee bank_caller (left Nonisolated (On bank) None)
-        (mine 1)) main (Register 0) refl)
+    | other ↦ λ _. plain_by (alone bank_caller)
+        (with_callee bank_caller (left Nonisolated (On bank) None) (mine 1)) main other refl
   ];
   fails = λ s. cc (s.stacked.entered {a = bank} callee (omega arith) (inr refl) refl);
 }
@@ -593,33 +260,9 @@ plain_needed SameExecutor = record {
   at = main;
   sound = sound_view (alone caller) refl;
   others = elim [
-    | Before ↦ λ _. refl
-    | Height ↦ λ _. refl
-    | Heights ↦ λ _. heights_but 0 (alone caller)
-        (with_callee caller (called Nonisolated (On bank) None) (mine 1)) refl
-    | Running ↦ λ _. running (alone caller) (with_callee caller (called Nonisolated (On bank) None)
-        (mine 1)) refl
-    | Fits ↦ λ _. fits_new (with_callee caller (called Nonisolated (On bank) None) (mine 1)) callee
-        refl
-    | NotClosing ↦ λ _. refl
-    | CallerShape ↦ λ _. refl
-    | CallerHeld ↦ λ _. held_by (alone caller)
-        (with_callee caller (called Nonisolated (On bank) None) (mine 1)) main (λ x. x) refl
-    | CallerJoined ↦ λ _. live_joined (alone caller)
-        (with_callee caller (called Nonisolated (On bank) None) (mine 1)) main refl
-    | Others ↦ λ _. kept_but main (alone caller) (alone caller)
-        (with_callee caller (called Nonisolated (On bank) None) (mine 1)) refl
-    | Sent ↦ λ _. sent (alone caller) (with_callee caller (called Nonisolated (On bank) None)
-        (mine 1)) main refl
-    | Stays ↦ λ _. refl
     | SameExecutor ↦ λ n. absurd (n refl)
-    | Isolated ↦ λ _ a e. absurd (cc (e))
-    | NoInitialiser ↦ λ _ e. cc (e)
-    | HereColour ↦ λ _. shares_in (alone caller)
-        (with_callee caller (called Nonisolated (On bank) None) (mine 1))
-        (there (alone caller) main (Register 0) (mine 1) refl)
-        (no_result (alone caller) (with_callee caller (called Nonisolated (On bank) None) (mine 1))
-        main (Register 0) refl)
+    | other ↦ λ _. plain_by (alone caller)
+        (with_callee caller (called Nonisolated (On bank) None) (mine 1)) main other refl
   ];
   fails = λ s. cc (s.stacked.inherited main (omega arith) refl);
 }
@@ -629,35 +272,9 @@ plain_needed Isolated = record {
   at = main;
   sound = sound_view (alone bank_caller) refl;
   others = elim [
-    | Before ↦ λ _. refl
-    | Height ↦ λ _. refl
-    | Heights ↦ λ _. heights_but 0 (alone bank_caller)
-        (with_callee bank_caller (called (IsolatedTo bank) (On bank) None) (mine 1)) refl
-    | Running ↦ λ _. running (alone bank_caller)
-        (with_callee bank_caller (called (IsolatedTo bank) (On bank) None) (mine 1)) refl
-    | Fits ↦ λ _. fits_new (with_callee bank_caller (called (IsolatedTo bank) (On bank) None)
-        (mine 1)) callee refl
-    | NotClosing ↦ λ _. refl
-    | CallerShape ↦ λ _. refl
-    | CallerHeld ↦ λ _. held_by (alone bank_caller)
-        (with_callee bank_caller (called (IsolatedTo bank) (On bank) None) (mine 1)) main (λ x. x)
-        refl
-    | CallerJoined ↦ λ _. live_joined (alone bank_caller)
-        (with_callee bank_caller (called (IsolatedTo bank) (On bank) None) (mine 1)) main refl
-    | Others ↦ λ _. kept_but main (alone bank_caller) (alone bank_caller)
-        (with_callee bank_caller (called (IsolatedTo bank) (On bank) None) (mine 1)) refl
-    | Sent ↦ λ _. sent (alone bank_caller)
-        (with_callee bank_caller (called (IsolatedTo bank) (On bank) None) (mine 1)) main refl
-    | Stays ↦ λ _. refl
-    | SameExecutor ↦ λ _. refl
     | Isolated ↦ λ n. absurd (n refl)
-    | NoInitialiser ↦ λ _ e. cc (e)
-    | HereColour ↦ λ _. shares_in (alone bank_caller)
-        (with_callee bank_caller (called (IsolatedTo bank) (On bank) None) (mine 1))
-        (there (alone bank_caller) main (Register 0) (mine 1) refl)
-        (no_result (alone bank_caller)
-        (with_callee bank_caller (called (IsolatedTo bank) (On bank) None) (mine 1)) main
-        (Register 0) refl)
+    | other ↦ λ _. plain_by (alone bank_caller)
+        (with_callee bank_caller (called (IsolatedTo bank) (On bank) None) (mine 1)) main other refl
   ];
   fails = λ s. cc (s.owned.isolated {a = bank} callee (omega arith) refl);
 }
@@ -667,33 +284,9 @@ plain_needed NoInitialiser = record {
   at = main;
   sound = sound_view (alone caller) refl;
   others = elim [
-    | Before ↦ λ _. refl
-    | Height ↦ λ _. refl
-    | Heights ↦ λ _. heights_but 0 (alone caller)
-        (with_callee caller (called MakesActor Generic None) (mine 1)) refl
-    | Running ↦ λ _. running (alone caller) (with_callee caller (called MakesActor Generic None)
-        (mine 1)) refl
-    | Fits ↦ λ _. fits_new (with_callee caller (called MakesActor Generic None) (mine 1)) callee
-        refl
-    | NotClosing ↦ λ _. refl
-    | CallerShape ↦ λ _. refl
-    | CallerHeld ↦ λ _. held_by (alone caller) (with_callee caller (called MakesActor Generic None)
-        (mine 1)) main (λ x. x) refl
-    | CallerJoined ↦ λ _. live_joined (alone caller)
-        (with_callee caller (called MakesActor Generic None) (mine 1)) main refl
-    | Others ↦ λ _. kept_but main (alone caller) (alone caller)
-        (with_callee caller (called MakesActor Generic None) (mine 1)) refl
-    | Sent ↦ λ _. sent (alone caller) (with_callee caller (called MakesActor Generic None) (mine 1))
-        main refl
-    | Stays ↦ λ _. refl
-    | SameExecutor ↦ λ _. refl
-    | Isolated ↦ λ _ a e. absurd (cc (e))
     | NoInitialiser ↦ λ n. absurd (n refl)
-    | HereColour ↦ λ _. shares_in (alone caller)
-        (with_callee caller (called MakesActor Generic None) (mine 1))
-        (there (alone caller) main (Register 0) (mine 1) refl)
-        (no_result (alone caller) (with_callee caller (called MakesActor Generic None) (mine 1))
-        main (Register 0) refl)
+    | other ↦ λ _. plain_by (alone caller)
+        (with_callee caller (called MakesActor Generic None) (mine 1)) main other refl
   ];
   fails = λ s. s.initialisers.alone {p = main} {q = callee} refl (refl, omega arith)
       (there (with_callee caller (called MakesActor Generic None) (mine 1)) callee Here (mine 1)
@@ -707,24 +300,8 @@ plain_needed HereColour = record {
   at = main;
   sound = sound_view (alone caller) refl;
   others = elim [
-    | Before ↦ λ _. refl
-    | Height ↦ λ _. refl
-    | Heights ↦ λ _. heights_but 0 (alone caller) (with_callee caller plainly nobodys) refl
-    | Running ↦ λ _. running (alone caller) (with_callee caller plainly nobodys) refl
-    | Fits ↦ λ _. fits_new (with_callee caller plainly nobodys) callee refl
-    | NotClosing ↦ λ _. refl
-    | CallerShape ↦ λ _. refl
-    | CallerHeld ↦ λ _. held_by (alone caller) (with_callee caller plainly nobodys) main (λ x. x)
-        refl
-    | CallerJoined ↦ λ _. live_joined (alone caller) (with_callee caller plainly nobodys) main refl
-    | Others ↦ λ _. kept_but main (alone caller) (alone caller) (with_callee caller plainly nobodys)
-        refl
-    | Sent ↦ λ _. sent (alone caller) (with_callee caller plainly nobodys) main refl
-    | Stays ↦ λ _. refl
-    | SameExecutor ↦ λ _. refl
-    | Isolated ↦ λ _ a e. absurd (cc (e))
-    | NoInitialiser ↦ λ _ e. cc (e)
     | HereColour ↦ λ n. absurd (n refl)
+    | other ↦ λ _. plain_by (alone caller) (with_callee caller plainly nobodys) main other refl
   ];
   fails = λ s. cc (s.owned.owned (there (with_callee caller plainly nobodys) callee Here nobodys
       refl));
@@ -756,25 +333,8 @@ shares_needed Colours = record {
   sound = sound_view (alone caller) refl;
   others = elim [
     | Plain ↦ λ _. elim [
-      | Before ↦ λ _. refl
-      | Height ↦ λ _. refl
-      | Heights ↦ λ _. heights_but 0 (alone caller) (with_callee caller plainly nobodys) refl
-      | Running ↦ λ _. running (alone caller) (with_callee caller plainly nobodys) refl
-      | Fits ↦ λ _. fits_new (with_callee caller plainly nobodys) callee refl
-      | NotClosing ↦ λ _. refl
-      | CallerShape ↦ λ _. refl
-      | CallerHeld ↦ λ _. held_by (alone caller) (with_callee caller plainly nobodys) main (λ x. x)
-          refl
-      | CallerJoined ↦ λ _. live_joined (alone caller) (with_callee caller plainly nobodys) main
-          refl
-      | Others ↦ λ _. kept_but main (alone caller) (alone caller)
-          (with_callee caller plainly nobodys) refl
-      | Sent ↦ λ _. sent (alone caller) (with_callee caller plainly nobodys) main refl
-      | Stays ↦ λ _. refl
-      | SameExecutor ↦ λ _. refl
-      | Isolated ↦ λ _ a e. absurd (cc (e))
-      | NoInitialiser ↦ λ _ e. cc (e)
       | HereColour ↦ λ n. absurd (n refl)
+      | other ↦ λ _. plain_by (alone caller) (with_callee caller plainly nobodys) main other refl
     ]
     | Colours ↦ λ n. absurd (n refl)
     | Result ↦ λ _. result_with (alone caller) (with_callee caller plainly nobodys) main 1
@@ -790,25 +350,8 @@ shares_needed Result = record {
   sound = sound_view (alone misput) refl;
   others = elim [
     | Plain ↦ λ _. elim [
-      | Before ↦ λ _. refl
-      | Height ↦ λ _. refl
-      | Heights ↦ λ _. heights_but 0 (alone misput) (with_callee misput plainly (mine 1)) refl
-      | Running ↦ λ _. running (alone misput) (with_callee misput plainly (mine 1)) refl
-      | Fits ↦ λ _. fits_new (with_callee misput plainly (mine 1)) callee refl
-      | NotClosing ↦ λ _. refl
-      | CallerShape ↦ λ _. refl
-      | CallerHeld ↦ λ _. held_by (alone misput) (with_callee misput plainly (mine 1)) main (λ x. x)
-          refl
-      | CallerJoined ↦ λ _. live_joined (alone misput) (with_callee misput plainly (mine 1)) main
-          refl
-      | Others ↦ λ _. kept_but main (alone misput) (alone misput)
-          (with_callee misput plainly (mine 1)) refl
-      | Sent ↦ λ _. sent (alone misput) (with_callee misput plainly (mine 1)) main refl
-      | Stays ↦ λ _. refl
-      | SameExecutor ↦ λ _. refl
-      | Isolated ↦ λ _ a e. absurd (cc (e))
-      | NoInitialiser ↦ λ _ e. cc (e)
       | HereColour ↦ λ n. absurd (n refl)
+      | other ↦ λ _. plain_by (alone misput) (with_callee misput plainly (mine 1)) main other refl
     ]
     | Colours ↦ λ _. there (alone misput) main (Register 0) (mine 1) refl
     | Result ↦ λ n. absurd (n refl)
@@ -826,6 +369,18 @@ on_the_bank region = row on_bank banks (slot 0 (banks ∷ []) ∷ dead region �
 abbrev samely : Shape
 samely = called (IsolatedTo bank) (On bank) (Some 1)
 
+-- the callee left its caller's executor
+abbrev crossing_same : List Job
+crossing_same = with_callee (on_the_bank 0) (left (IsolatedTo bank) (On bank) (Some 1)) banks
+
+-- the callee stands on no actor
+abbrev generic_same : List Job
+generic_same = with_callee (on_the_bank 0) (called (IsolatedTo bank) Generic (Some 1)) banks
+
+-- the callee is isolated to another actor
+abbrev other_same : List Job
+other_same = with_callee (on_the_bank 0) (called (IsolatedTo (Instance 1)) (On bank) (Some 1)) banks
+
 pub same_possible : IsPossible same_says
 same_possible = record {
   old = view_of (alone (on_the_bank 0));
@@ -833,14 +388,10 @@ same_possible = record {
   at = (main, bank);
   sound = sound_view (alone (on_the_bank 0)) refl;
   all = elim [
-    | Calls ↦ calls (alone (on_the_bank 0)) (with_callee (on_the_bank 0) samely banks) main refl
-    | Stays ↦ refl
-    | SameExecutor ↦ refl
-    | IsIsolated ↦ refl
-    | HereColour ↦ refl
-    | CallerHere ↦ refl
-    | Result ↦ result_with (alone (on_the_bank 0)) (with_callee (on_the_bank 0) samely banks) main 1
-        Here refl refl refl
+    | Calls ↦ same_by (alone (on_the_bank 0)) (with_callee (on_the_bank 0) samely banks) main bank
+        Calls refl
+    | other ↦ same_by (alone (on_the_bank 0)) (with_callee (on_the_bank 0) samely banks) main bank
+        other refl
   ];
 }
 
@@ -852,73 +403,48 @@ same_needed Calls = record {
   sound = sound_view (alone (on_the_bank 0)) refl;
   others = elim [
     | Calls ↦ λ n. absurd (n refl)
-    | Stays ↦ λ _. refl
-    | SameExecutor ↦ λ _. refl
-    | IsIsolated ↦ λ _. refl
-    | HereColour ↦ λ _. refl
-    | CallerHere ↦ λ _. refl
-    | Result ↦ λ _. result_with (alone (on_the_bank 0)) (and_rogue (on_the_bank 0) samely banks)
-        main 1 Here refl refl refl
+    | other ↦ λ _. same_by (alone (on_the_bank 0)) (and_rogue (on_the_bank 0) samely banks) main
+        bank other refl
   ];
   fails = λ s. cc (s.owned.owned (there (and_rogue (on_the_bank 0) samely banks) task Here (mine 0)
       refl));
 }
 same_needed Stays = record {
   old = view_of (alone (on_the_bank 0));
-  new = view_of (with_callee (on_the_bank 0) (left (IsolatedTo bank) (On bank) (Some 1)) banks);
+  new = view_of crossing_same;
   at = (main, bank);
   sound = sound_view (alone (on_the_bank 0)) refl;
   others = elim [
-    | Calls ↦ λ _. calls (alone (on_the_bank 0))
-        (with_callee (on_the_bank 0) (left (IsolatedTo bank) (On bank) (Some 1)) banks) main refl
     | Stays ↦ λ n. absurd (n refl)
-    | SameExecutor ↦ λ _. refl
-    | IsIsolated ↦ λ _. refl
-    | HereColour ↦ λ _. refl
-    | CallerHere ↦ λ _. refl
-    | Result ↦ λ _. result_with (alone (on_the_bank 0))
-        (with_callee (on_the_bank 0) (left (IsolatedTo bank) (On bank) (Some 1)) banks) main 1 Here
-        refl refl refl
+    | other ↦ λ _. same_by (alone (on_the_bank 0))
+        crossing_same main bank other
+        refl
   ];
   fails = λ s. cc (s.stacked.linked 1 main (omega arith) refl refl);
 }
 same_needed SameExecutor = record {
   old = view_of (alone (on_the_bank 0));
-  new = view_of (with_callee (on_the_bank 0) (called (IsolatedTo bank) Generic (Some 1)) banks);
+  new = view_of generic_same;
   at = (main, bank);
   sound = sound_view (alone (on_the_bank 0)) refl;
   others = elim [
-    | Calls ↦ λ _. calls (alone (on_the_bank 0))
-        (with_callee (on_the_bank 0) (called (IsolatedTo bank) Generic (Some 1)) banks) main refl
-    | Stays ↦ λ _. refl
     | SameExecutor ↦ λ n. absurd (n refl)
-    | IsIsolated ↦ λ _. refl
-    | HereColour ↦ λ _. refl
-    | CallerHere ↦ λ _. refl
-    | Result ↦ λ _. result_with (alone (on_the_bank 0))
-        (with_callee (on_the_bank 0) (called (IsolatedTo bank) Generic (Some 1)) banks) main 1 Here
-        refl refl refl
+    | other ↦ λ _. same_by (alone (on_the_bank 0))
+        generic_same main bank other
+        refl
   ];
   fails = λ s. cc (s.owned.stands {a = bank} callee (omega arith) refl);
 }
 same_needed IsIsolated = record {
   old = view_of (alone (on_the_bank 0));
-  new = view_of (with_callee (on_the_bank 0) (called (IsolatedTo (Instance 1)) (On bank) (Some 1))
-      banks);
+  new = view_of other_same;
   at = (main, bank);
   sound = sound_view (alone (on_the_bank 0)) refl;
   others = elim [
-    | Calls ↦ λ _. calls (alone (on_the_bank 0))
-        (with_callee (on_the_bank 0) (called (IsolatedTo (Instance 1)) (On bank) (Some 1)) banks)
-        main refl
-    | Stays ↦ λ _. refl
-    | SameExecutor ↦ λ _. refl
     | IsIsolated ↦ λ n. absurd (n refl)
-    | HereColour ↦ λ _. refl
-    | CallerHere ↦ λ _. refl
-    | Result ↦ λ _. result_with (alone (on_the_bank 0))
-        (with_callee (on_the_bank 0) (called (IsolatedTo (Instance 1)) (On bank) (Some 1)) banks)
-        main 1 Here refl refl refl
+    | other ↦ λ _. same_by (alone (on_the_bank 0))
+        other_same main
+        bank other refl
   ];
   fails = λ s. cc (s.owned.stands {a = Instance 1} callee (omega arith) refl);
 }
@@ -928,15 +454,9 @@ same_needed HereColour = record {
   at = (main, bank);
   sound = sound_view (alone (on_the_bank 0)) refl;
   others = elim [
-    | Calls ↦ λ _. calls (alone (on_the_bank 0)) (with_callee (on_the_bank 0) samely (mine 7)) main
-        refl
-    | Stays ↦ λ _. refl
-    | SameExecutor ↦ λ _. refl
-    | IsIsolated ↦ λ _. refl
     | HereColour ↦ λ n. absurd (n refl)
-    | CallerHere ↦ λ _. refl
-    | Result ↦ λ _. result_with (alone (on_the_bank 0))
-        (with_callee (on_the_bank 0) samely (mine 7)) main 1 Here refl refl refl
+    | other ↦ λ _. same_by (alone (on_the_bank 0)) (with_callee (on_the_bank 0) samely (mine 7))
+        main bank other refl
   ];
   fails = λ s. cc (s.owned.isolated {a = bank} callee (omega arith) refl);
 }
@@ -946,15 +466,9 @@ same_needed CallerHere = record {
   at = (main, bank);
   sound = sound_view (alone caller) refl;
   others = elim [
-    | Calls ↦ λ _. calls (alone caller) (with_callee caller (called (IsolatedTo bank) Generic None)
-        banks) main refl
-    | Stays ↦ λ _. refl
-    | SameExecutor ↦ λ _. refl
-    | IsIsolated ↦ λ _. refl
-    | HereColour ↦ λ _. refl
     | CallerHere ↦ λ n. absurd (n refl)
-    | Result ↦ λ _. no_result (alone caller)
-        (with_callee caller (called (IsolatedTo bank) Generic None) banks) main Here refl
+    | other ↦ λ _. same_by (alone caller)
+        (with_callee caller (called (IsolatedTo bank) Generic None) banks) main bank other refl
   ];
   fails = λ s. cc (s.owned.stands {a = bank} callee (omega arith) refl);
 }
@@ -964,14 +478,9 @@ same_needed Result = record {
   at = (main, bank);
   sound = sound_view (alone (on_the_bank 5)) refl;
   others = elim [
-    | Calls ↦ λ _. calls (alone (on_the_bank 5)) (with_callee (on_the_bank 5) samely banks) main
-        refl
-    | Stays ↦ λ _. refl
-    | SameExecutor ↦ λ _. refl
-    | IsIsolated ↦ λ _. refl
-    | HereColour ↦ λ _. refl
-    | CallerHere ↦ λ _. refl
     | Result ↦ λ n. absurd (n refl)
+    | other ↦ λ _. same_by (alone (on_the_bank 5)) (with_callee (on_the_bank 5) samely banks) main
+        bank other refl
   ];
   fails = λ s. cc (s.returns.near {p = main} {x = Here} 1 refl
       (there (with_callee (on_the_bank 5) samely banks) callee Here banks refl)

@@ -7,8 +7,9 @@ use Rattle.sw_owned.specs.Within.{Closed}
 use Rattle.sw_owned.specs.Sketch.{Slot, Row, Job, view_of}
 use Rattle.sw_owned.specs.Premises.{IsNeeded, IsPossible, StaysSound, LeavesNothing, MergedPremise, merged_says, Top, HoldsLost, HoldsKept, Recolours, Joined, UnheldPremise, unheld_says, Unheld, SameShape, HereTurns, Held, GivenPremise, given_says, Weakens, Free, Gone, ClosedPremise, closed_says, Jobs, NewShape, SameHere, Others, HandsOver, HandsOverPremise, hands_over_says, Closes, Makes, DispatchedPremise, dispatched_says, Heights, Running, Frames, Exclusive}
 use Rattle.sw_owned.proofs.Sketches.Tests.{sound_view}
-use Rattle.sw_owned.proofs.Sketches.Reading.{there, same_heights, fewer_run, all_kept_but, kept, kept_but, heights, running_but}
-use Rattle.sw_owned.proofs.Sketches.Moves.{recoloured, all_shapes, all_turn, all_turned, all_joined, weakens, same_jobs, is_unheld}
+use Rattle.sw_owned.proofs.Sketches.Reading.{there, same_heights, fewer_run, all_kept_but, kept_but}
+use Rattle.sw_owned.proofs.Sketches.Moves.{same_jobs}
+use Rattle.sw_owned.proofs.Sketches.Premises.{closed_by, dispatched_by, given_by, merged_by, unheld_by, runs_by}
 use Rattle.sw_owned.proofs.Examples.Views.{bank, banks, mine, yours, nobodys, main, callee, task, called, free, on_bank, slot, dead, row, runs, waits}
 
 -- ---- two colours become one
@@ -24,12 +25,10 @@ merged_possible = record {
   at = (main, Register 0, Register 1, 1, mine 2);
   sound = sound_view (regs 1 (mine 1) 2 (mine 2)) refl;
   all = elim [
-    | Top ↦ refl
-    | HoldsLost ↦ there (regs 1 (mine 1) 2 (mine 2)) main (Register 0) (mine 1) refl
-    | HoldsKept ↦ there (regs 1 (mine 1) 2 (mine 2)) main (Register 1) (mine 2) refl
-    | Recolours ↦ recoloured (regs 1 (mine 1) 2 (mine 2)) (regs 1 (mine 2) 1 (mine 2)) 0 1 (mine 2)
-        refl
-    | Joined ↦ refl
+    | Top ↦ merged_by (regs 1 (mine 1) 2 (mine 2)) (regs 1 (mine 2) 1 (mine 2)) main (Register 0)
+        (Register 1) 1 (mine 2) Top refl
+    | other ↦ merged_by (regs 1 (mine 1) 2 (mine 2)) (regs 1 (mine 2) 1 (mine 2)) main (Register 0)
+        (Register 1) 1 (mine 2) other refl
   ];
 }
 
@@ -51,10 +50,8 @@ merged_needed Top = record {
   sound = sound_view (left_bank (mine 1) 1) refl;
   others = elim [
     | Top ↦ λ n. absurd (n refl)
-    | HoldsLost ↦ λ _. there (left_bank (mine 1) 1) main (Register 0) (mine 1) refl
-    | HoldsKept ↦ λ _. there (left_bank (mine 1) 1) main Here banks refl
-    | Recolours ↦ λ _. recoloured (left_bank (mine 1) 1) (left_bank banks 0) 0 1 banks refl
-    | Joined ↦ λ _. refl
+    | other ↦ λ _. merged_by (left_bank (mine 1) 1) (left_bank banks 0) main
+        (Register 0) Here 1 banks other refl
   ];
   fails = λ s. cc (s.owned.owned (there (left_bank banks 0) callee Here banks refl));
 }
@@ -64,12 +61,9 @@ merged_needed HoldsLost = record {
   at = (callee, Here, Here, 1, mine 2);
   sound = sound_view (below_two (mine 1) (mine 2)) refl;
   others = elim [
-    | Top ↦ λ _. refl
     | HoldsLost ↦ λ n. absurd (n refl)
-    | HoldsKept ↦ λ _. there (below_two (mine 1) (mine 2)) callee Here (mine 2) refl
-    | Recolours ↦ λ _. recoloured (below_two (mine 1) (mine 2)) (below_two (mine 2) (mine 2)) 0 1
-        (mine 2) refl
-    | Joined ↦ λ _. refl
+    | other ↦ λ _. merged_by (below_two (mine 1) (mine 2)) (below_two (mine 2) (mine 2)) callee Here
+        Here 1 (mine 2) other refl
   ];
   fails = λ s. cc (s.owned.together (there (below_two (mine 2) (mine 2)) main (Register 0) (mine 2)
       refl) (there (below_two (mine 2) (mine 2)) main (Register 1) (mine 2) refl));
@@ -80,12 +74,9 @@ merged_needed HoldsKept = record {
   at = (main, Register 0, Register 0, 1, nobodys);
   sound = sound_view (regs 1 (mine 1) 2 (mine 2)) refl;
   others = elim [
-    | Top ↦ λ _. refl
-    | HoldsLost ↦ λ _. there (regs 1 (mine 1) 2 (mine 2)) main (Register 0) (mine 1) refl
     | HoldsKept ↦ λ n. absurd (n refl)
-    | Recolours ↦ λ _. recoloured (regs 1 (mine 1) 2 (mine 2)) (regs 1 nobodys 2 (mine 2)) 0 1
-        nobodys refl
-    | Joined ↦ λ _. refl
+    | other ↦ λ _. merged_by (regs 1 (mine 1) 2 (mine 2)) (regs 1 nobodys 2 (mine 2)) main
+        (Register 0) (Register 0) 1 nobodys other refl
   ];
   fails = λ s. cc (s.owned.owned (there (regs 1 nobodys 2 (mine 2)) main (Register 0) nobodys
       refl));
@@ -96,11 +87,9 @@ merged_needed Recolours = record {
   at = (main, Register 0, Register 1, 1, mine 2);
   sound = sound_view (regs 1 (mine 1) 2 (mine 2)) refl;
   others = elim [
-    | Top ↦ λ _. refl
-    | HoldsLost ↦ λ _. there (regs 1 (mine 1) 2 (mine 2)) main (Register 0) (mine 1) refl
-    | HoldsKept ↦ λ _. there (regs 1 (mine 1) 2 (mine 2)) main (Register 1) (mine 2) refl
     | Recolours ↦ λ n. absurd (n refl)
-    | Joined ↦ λ _. refl
+    | other ↦ λ _. merged_by (regs 1 (mine 1) 2 (mine 2)) (regs 1 nobodys 1 (mine 2)) main
+        (Register 0) (Register 1) 1 (mine 2) other refl
   ];
   fails = λ s. cc (s.owned.owned (there (regs 1 nobodys 1 (mine 2)) main (Register 0) nobodys
       refl));
@@ -111,12 +100,9 @@ merged_needed Joined = record {
   at = (main, Register 0, Register 1, 1, mine 2);
   sound = sound_view (regs 1 (mine 1) 2 (mine 2)) refl;
   others = elim [
-    | Top ↦ λ _. refl
-    | HoldsLost ↦ λ _. there (regs 1 (mine 1) 2 (mine 2)) main (Register 0) (mine 1) refl
-    | HoldsKept ↦ λ _. there (regs 1 (mine 1) 2 (mine 2)) main (Register 1) (mine 2) refl
-    | Recolours ↦ λ _. recoloured (regs 1 (mine 1) 2 (mine 2)) (regs 1 (mine 2) 2 (mine 2)) 0 1
-        (mine 2) refl
     | Joined ↦ λ n. absurd (n refl)
+    | other ↦ λ _. merged_by (regs 1 (mine 1) 2 (mine 2)) (regs 1 (mine 2) 2 (mine 2)) main
+        (Register 0) (Register 1) 1 (mine 2) other refl
   ];
   fails = λ s. cc (s.owned.together (there (regs 1 (mine 2) 2 (mine 2)) main (Register 0) (mine 2)
       refl) (there (regs 1 (mine 2) 2 (mine 2)) main (Register 1) (mine 2) refl));
@@ -156,12 +142,8 @@ unheld_possible = record {
   at = (0, 2, banks);
   sound = sound_view (ghost (mine 2)) refl;
   all = elim [
-    | Unheld ↦ is_unheld (ghost (mine 2)) (mine 2) refl
-    | Jobs ↦ same_jobs (ghost (mine 2)) (ghost banks) refl
-    | SameShape ↦ all_shapes (ghost (mine 2)) (ghost banks) refl
-    | HereTurns ↦ all_turn (ghost (mine 2)) (ghost banks) (mine 2) banks refl
-    | Held ↦ all_turned (ghost (mine 2)) (ghost banks) (mine 2) banks refl
-    | Joined ↦ all_joined (ghost (mine 2)) (ghost banks) refl
+    | Unheld ↦ unheld_by (ghost (mine 2)) (ghost banks) 0 2 banks Unheld refl
+    | other ↦ unheld_by (ghost (mine 2)) (ghost banks) 0 2 banks other refl
   ];
 }
 
@@ -173,13 +155,8 @@ unheld_needed Unheld = record {
   sound = sound_view (regs 1 (mine 1) 2 (mine 2)) refl;
   others = elim [
     | Unheld ↦ λ n. absurd (n refl)
-    | Jobs ↦ λ _. same_jobs (regs 1 (mine 1) 2 (mine 2)) (regs 1 banks 2 (mine 2)) refl
-    | SameShape ↦ λ _. all_shapes (regs 1 (mine 1) 2 (mine 2)) (regs 1 banks 2 (mine 2)) refl
-    | HereTurns ↦ λ _. all_turn (regs 1 (mine 1) 2 (mine 2)) (regs 1 banks 2 (mine 2)) (mine 1)
-        banks refl
-    | Held ↦ λ _. all_turned (regs 1 (mine 1) 2 (mine 2)) (regs 1 banks 2 (mine 2)) (mine 1) banks
+    | other ↦ λ _. unheld_by (regs 1 (mine 1) 2 (mine 2)) (regs 1 banks 2 (mine 2)) 0 1 banks other
         refl
-    | Joined ↦ λ _. all_joined (regs 1 (mine 1) 2 (mine 2)) (regs 1 banks 2 (mine 2)) refl
   ];
   fails = λ s. cc (s.owned.owned (there (regs 1 banks 2 (mine 2)) main (Register 0) banks refl));
 }
@@ -189,19 +166,11 @@ unheld_needed Jobs = record {
   at = (0, 7, banks);
   sound = sound_view (deep (row free (mine 0) [] ∷ [])) refl;
   others = elim [
-    | Unheld ↦ λ _. is_unheld (deep (row free (mine 0) [] ∷ [])) (mine 7) refl
     | Jobs ↦ λ n. absurd (n refl)
-    | SameShape ↦ λ _. all_shapes (deep (row free (mine 0) [] ∷ [])) (deep []) refl
-    | HereTurns ↦ λ _. all_turn (deep (row free (mine 0) [] ∷ [])) (deep []) (mine 7) banks refl
-    | Held ↦ λ _. all_turned (deep (row free (mine 0) [] ∷ [])) (deep []) (mine 7) banks refl
-    | Joined ↦ λ _. all_joined (deep (row free (mine 0) [] ∷ [])) (deep []) refl
+    | other ↦ λ _. unheld_by (deep (row free (mine 0) [] ∷ [])) (deep []) 0 7 banks other refl
   ];
-  fails = λ s. cc (s.owned.exclusive {p = main} {q = task} {a = bank}
-      (record { running = refl; top = refl; executor = refl }) (record {
-        running = refl;
-        top = refl;
-        executor = refl;
-      }));
+  fails = λ s. cc (s.owned.exclusive (runs_by (deep []) main bank refl)
+      (runs_by (deep []) task bank refl));
 }
 unheld_needed SameShape = record {
   old = view_of (regs 1 (mine 1) 2 (mine 2));
@@ -209,12 +178,8 @@ unheld_needed SameShape = record {
   at = (0, 7, banks);
   sound = sound_view (regs 1 (mine 1) 2 (mine 2)) refl;
   others = elim [
-    | Unheld ↦ λ _. is_unheld (regs 1 (mine 1) 2 (mine 2)) (mine 7) refl
-    | Jobs ↦ λ _. same_jobs (regs 1 (mine 1) 2 (mine 2)) as_isolated refl
     | SameShape ↦ λ n. absurd (n refl)
-    | HereTurns ↦ λ _. all_turn (regs 1 (mine 1) 2 (mine 2)) as_isolated (mine 7) banks refl
-    | Held ↦ λ _. all_turned (regs 1 (mine 1) 2 (mine 2)) as_isolated (mine 7) banks refl
-    | Joined ↦ λ _. all_joined (regs 1 (mine 1) 2 (mine 2)) as_isolated refl
+    | other ↦ λ _. unheld_by (regs 1 (mine 1) 2 (mine 2)) as_isolated 0 7 banks other refl
   ];
   fails = λ s. cc (s.owned.isolated {a = bank} main (omega arith) refl);
 }
@@ -224,12 +189,8 @@ unheld_needed HereTurns = record {
   at = (0, 7, banks);
   sound = sound_view (closing_here banks) refl;
   others = elim [
-    | Unheld ↦ λ _. is_unheld (closing_here banks) (mine 7) refl
-    | Jobs ↦ λ _. same_jobs (closing_here banks) (closing_here (mine 0)) refl
-    | SameShape ↦ λ _. all_shapes (closing_here banks) (closing_here (mine 0)) refl
     | HereTurns ↦ λ n. absurd (n refl)
-    | Held ↦ λ _. all_turned (closing_here banks) (closing_here (mine 0)) (mine 7) banks refl
-    | Joined ↦ λ _. all_joined (closing_here banks) (closing_here (mine 0)) refl
+    | other ↦ λ _. unheld_by (closing_here banks) (closing_here (mine 0)) 0 7 banks other refl
   ];
   fails = λ s. cc (s.owned.isolated {a = bank} main (omega arith) refl);
 }
@@ -239,13 +200,9 @@ unheld_needed Held = record {
   at = (0, 7, banks);
   sound = sound_view (regs 1 (mine 1) 2 (mine 2)) refl;
   others = elim [
-    | Unheld ↦ λ _. is_unheld (regs 1 (mine 1) 2 (mine 2)) (mine 7) refl
-    | Jobs ↦ λ _. same_jobs (regs 1 (mine 1) 2 (mine 2)) (regs 1 nobodys 2 (mine 2)) refl
-    | SameShape ↦ λ _. all_shapes (regs 1 (mine 1) 2 (mine 2)) (regs 1 nobodys 2 (mine 2)) refl
-    | HereTurns ↦ λ _. all_turn (regs 1 (mine 1) 2 (mine 2)) (regs 1 nobodys 2 (mine 2)) (mine 7)
-        banks refl
     | Held ↦ λ n. absurd (n refl)
-    | Joined ↦ λ _. all_joined (regs 1 (mine 1) 2 (mine 2)) (regs 1 nobodys 2 (mine 2)) refl
+    | other ↦ λ _. unheld_by (regs 1 (mine 1) 2 (mine 2)) (regs 1 nobodys 2 (mine 2)) 0 7 banks
+        other refl
   ];
   fails = λ s. cc (s.owned.owned (there (regs 1 nobodys 2 (mine 2)) main (Register 0) nobodys
       refl));
@@ -256,14 +213,9 @@ unheld_needed Joined = record {
   at = (0, 7, banks);
   sound = sound_view (regs 1 (mine 1) 1 (mine 1)) refl;
   others = elim [
-    | Unheld ↦ λ _. is_unheld (regs 1 (mine 1) 1 (mine 1)) (mine 7) refl
-    | Jobs ↦ λ _. same_jobs (regs 1 (mine 1) 1 (mine 1)) (regs 1 (mine 1) 2 (mine 1)) refl
-    | SameShape ↦ λ _. all_shapes (regs 1 (mine 1) 1 (mine 1)) (regs 1 (mine 1) 2 (mine 1)) refl
-    | HereTurns ↦ λ _. all_turn (regs 1 (mine 1) 1 (mine 1)) (regs 1 (mine 1) 2 (mine 1)) (mine 7)
-        banks refl
-    | Held ↦ λ _. all_turned (regs 1 (mine 1) 1 (mine 1)) (regs 1 (mine 1) 2 (mine 1)) (mine 7)
-        banks refl
     | Joined ↦ λ n. absurd (n refl)
+    | other ↦ λ _. unheld_by (regs 1 (mine 1) 1 (mine 1)) (regs 1 (mine 1) 2 (mine 1)) 0 7 banks
+        other refl
   ];
   fails = λ s. cc (s.owned.together (there (regs 1 (mine 1) 2 (mine 1)) main (Register 0) (mine 1)
       refl) (there (regs 1 (mine 1) 2 (mine 1)) main (Register 1) (mine 1) refl));
@@ -287,11 +239,10 @@ given_possible = record {
   at = (main, Register 0);
   sound = sound_view (regs 1 (mine 1) 2 (mine 2)) refl;
   all = elim [
-    | Top ↦ refl
-    | Weakens ↦ weakens (regs 1 (mine 1) 2 (mine 2)) (given_first 2 (mine 2)) refl
-    | Free ↦ λ e. cc (e)
     | Gone ↦ λ r e live. cc (subst (λ r. IsTrue ((view_of (given_first 2 (mine 2))).live main r))
         (is_region r e) live)
+    | other ↦ given_by (regs 1 (mine 1) 2 (mine 2)) (given_first 2 (mine 2)) main
+        (Register 0) other refl
   ];
 }
 
@@ -321,10 +272,10 @@ given_needed Top = record {
   sound = sound_view (caller_gives (slot 1 (mine 1 ∷ []))) refl;
   others = elim [
     | Top ↦ λ n. absurd (n refl)
-    | Weakens ↦ λ _. weakens (caller_gives (slot 1 (mine 1 ∷ []))) (caller_gives (dead 1)) refl
-    | Free ↦ λ _ e. cc (e)
     | Gone ↦ λ _ r e live. cc (subst (λ r. IsTrue ((view_of (caller_gives (dead 1))).live main r))
         (first_of r e) live)
+    | other ↦ λ _. given_by (caller_gives (slot 1 (mine 1 ∷ []))) (caller_gives (dead 1)) main
+        (Register 0) other refl
   ];
   fails = λ nothing. (nothing (mine 1) (there (caller_gives (slot 1 (mine 1 ∷ []))) main
       (Register 0) (mine 1) refl)).unheld callee Here
@@ -336,11 +287,11 @@ given_needed Weakens = record {
   at = (main, Register 0);
   sound = sound_view (regs 1 (mine 1) 2 (mine 2)) refl;
   others = elim [
-    | Top ↦ λ _. refl
     | Weakens ↦ λ n. absurd (n refl)
-    | Free ↦ λ _ e. cc (e)
     | Gone ↦ λ _ r e live. cc (subst (λ r. IsTrue ((view_of (given_first 2 (mine 1))).live main r))
         (is_region r e) live)
+    | other ↦ λ _. given_by (regs 1 (mine 1) 2 (mine 2)) (given_first 2 (mine 1)) main
+        (Register 0) other refl
   ];
   fails = λ nothing. (nothing (mine 1) (there (regs 1 (mine 1) 2 (mine 2)) main (Register 0)
       (mine 1) refl)).unheld main (Register 1)
@@ -352,10 +303,10 @@ given_needed Free = record {
   at = (main, Register 0);
   sound = sound_view (with_here (slot 0 (mine 0 ∷ []))) refl;
   others = elim [
-    | Top ↦ λ _. refl
-    | Weakens ↦ λ _. weakens (with_here (slot 0 (mine 0 ∷ []))) (with_here (dead 0)) refl
     | Free ↦ λ n. absurd (n refl)
     | Gone ↦ λ _ r e live. none_live r live
+    | other ↦ λ _. given_by (with_here (slot 0 (mine 0 ∷ []))) (with_here (dead 0)) main
+        (Register 0) other refl
   ];
   fails = λ nothing. (nothing (mine 0) (there (with_here (slot 0 (mine 0 ∷ []))) main (Register 0)
       (mine 0) refl)).unheld main Here
@@ -367,10 +318,9 @@ given_needed Gone = record {
   at = (main, Register 0);
   sound = sound_view (regs 1 (mine 1) 2 (mine 2)) refl;
   others = elim [
-    | Top ↦ λ _. refl
-    | Weakens ↦ λ _. weakens (regs 1 (mine 1) 2 (mine 2)) (regs 1 (mine 1) 2 (mine 2)) refl
-    | Free ↦ λ _ e. cc (e)
     | Gone ↦ λ n. absurd (n refl)
+    | other ↦ λ _. given_by (regs 1 (mine 1) 2 (mine 2)) (regs 1 (mine 1) 2 (mine 2)) main
+        (Register 0) other refl
   ];
   fails = λ nothing. (nothing (mine 1) (there (regs 1 (mine 1) 2 (mine 2)) main (Register 0)
       (mine 1) refl)).unheld main (Register 0)
@@ -431,14 +381,10 @@ closed_possible = record {
   at = callee;
   sound = sound_view (initialiser making (mine 2) (yours 0)) refl;
   all = elim [
-    | Top ↦ refl
-    | Jobs ↦ same_jobs (initialiser making (mine 2) (yours 0))
-        (initialiser (closing_shape MakesActor Generic) (mine 2) (yours 0)) refl
-    | NewShape ↦ refl
-    | SameHere ↦ refl
-    | Others ↦ kept_but callee (initialiser making (mine 2) (yours 0))
-        (initialiser making (mine 2) (yours 0))
-        (initialiser (closing_shape MakesActor Generic) (mine 2) (yours 0)) refl
+    | Top ↦ closed_by (initialiser making (mine 2) (yours 0))
+        (initialiser (closing_shape MakesActor Generic) (mine 2) (yours 0)) callee Top refl
+    | other ↦ closed_by (initialiser making (mine 2) (yours 0))
+        (initialiser (closing_shape MakesActor Generic) (mine 2) (yours 0)) callee other refl
   ];
 }
 
@@ -461,11 +407,7 @@ closed_needed Top = record {
   sound = sound_view (initialiser making (mine 2) (yours 0)) refl;
   others = elim [
     | Top ↦ λ n. absurd (n refl)
-    | Jobs ↦ λ _. same_jobs (initialiser making (mine 2) (yours 0)) closed_caller refl
-    | NewShape ↦ λ _. refl
-    | SameHere ↦ λ _. refl
-    | Others ↦ λ _. kept_but main (initialiser making (mine 2) (yours 0))
-        (initialiser making (mine 2) (yours 0)) closed_caller refl
+    | other ↦ λ _. closed_by (initialiser making (mine 2) (yours 0)) closed_caller main other refl
   ];
   fails = λ s. cc (s.stacked.waiting main (omega arith));
 }
@@ -475,12 +417,9 @@ closed_needed Jobs = record {
   at = callee;
   sound = sound_view (initialiser making (mine 2) (yours 0)) refl;
   others = elim [
-    | Top ↦ λ _. refl
     | Jobs ↦ λ n. absurd (n refl)
-    | NewShape ↦ λ _. refl
-    | SameHere ↦ λ _. refl
-    | Others ↦ λ _. kept_but callee (initialiser making (mine 2) (yours 0))
-        (initialiser making (mine 2) (yours 0)) initialiser_and_rogue refl
+    | other ↦ λ _. closed_by (initialiser making (mine 2) (yours 0)) initialiser_and_rogue callee
+        other refl
   ];
   fails = λ s. cc (s.owned.owned (there initialiser_and_rogue (record { job = 2; depth = 0 }) Here
       (mine 0) refl));
@@ -491,12 +430,8 @@ closed_needed NewShape = record {
   at = main;
   sound = sound_view (regs 1 (mine 1) 2 (mine 2)) refl;
   others = elim [
-    | Top ↦ λ _. refl
-    | Jobs ↦ λ _. same_jobs (regs 1 (mine 1) 2 (mine 2)) (isolated true (mine 0)) refl
     | NewShape ↦ λ n. absurd (n refl)
-    | SameHere ↦ λ _. refl
-    | Others ↦ λ _. kept_but main (regs 1 (mine 1) 2 (mine 2)) (regs 1 (mine 1) 2 (mine 2))
-        (isolated true (mine 0)) refl
+    | other ↦ λ _. closed_by (regs 1 (mine 1) 2 (mine 2)) (isolated true (mine 0)) main other refl
   ];
   fails = λ s. cc (s.owned.isolated main (omega arith) refl);
 }
@@ -506,12 +441,8 @@ closed_needed SameHere = record {
   at = main;
   sound = sound_view (isolated false banks) refl;
   others = elim [
-    | Top ↦ λ _. refl
-    | Jobs ↦ λ _. same_jobs (isolated false banks) (isolated true (mine 0)) refl
-    | NewShape ↦ λ _. refl
     | SameHere ↦ λ n. absurd (n refl)
-    | Others ↦ λ _. kept_but main (isolated false banks) (isolated false banks)
-        (isolated true (mine 0)) refl
+    | other ↦ λ _. closed_by (isolated false banks) (isolated true (mine 0)) main other refl
   ];
   fails = λ s. cc (s.owned.isolated main (omega arith) refl);
 }
@@ -521,12 +452,9 @@ closed_needed Others = record {
   at = callee;
   sound = sound_view (initialiser making (mine 2) (yours 0)) refl;
   others = elim [
-    | Top ↦ λ _. refl
-    | Jobs ↦ λ _. same_jobs (initialiser making (mine 2) (yours 0))
-        (initialiser (closing_shape MakesActor Generic) (mine 2) nobodys) refl
-    | NewShape ↦ λ _. refl
-    | SameHere ↦ λ _. refl
     | Others ↦ λ n. absurd (n refl)
+    | other ↦ λ _. closed_by (initialiser making (mine 2) (yours 0))
+        (initialiser (closing_shape MakesActor Generic) (mine 2) nobodys) callee other refl
   ];
   fails = λ s. cc (s.owned.owned
       (there (initialiser (closing_shape MakesActor Generic) (mine 2) nobodys) task Here nobodys
@@ -591,11 +519,9 @@ dispatched_possible = record {
   at = 0;
   sound = sound_view (two_on_bank false false banks) refl;
   all = elim [
-    | Heights ↦ heights (two_on_bank false false banks) (two_on_bank true false banks) refl
-    | Running ↦ running_but 0 (two_on_bank false false banks) (two_on_bank true false banks) refl
-    | Frames ↦ kept (two_on_bank false false banks) (two_on_bank false false banks)
-        (two_on_bank true false banks) refl
     | Exclusive ↦ λ p q a e top on r. idle q a r
+    | other ↦ dispatched_by (two_on_bank false false banks) (two_on_bank true false banks) 0 other
+        refl
   ];
 }
 
@@ -607,10 +533,8 @@ dispatched_needed Heights = record {
   sound = sound_view (two_on_bank false false banks) refl;
   others = elim [
     | Heights ↦ λ n. absurd (n refl)
-    | Running ↦ λ _. running_but 0 (two_on_bank false false banks) on_bank_and_rogue refl
-    | Frames ↦ λ _. kept (two_on_bank false false banks) (two_on_bank false false banks)
-        on_bank_and_rogue refl
     | Exclusive ↦ λ _ p q a e top on r. idle q a r
+    | other ↦ λ _. dispatched_by (two_on_bank false false banks) on_bank_and_rogue 0 other refl
   ];
   fails = λ s. cc (s.owned.owned (there on_bank_and_rogue (record { job = 2; depth = 0 }) Here
       (mine 0) refl));
@@ -621,18 +545,13 @@ dispatched_needed Running = record {
   at = 0;
   sound = sound_view (two_on_bank false false banks) refl;
   others = elim [
-    | Heights ↦ λ _. heights (two_on_bank false false banks) (two_on_bank true true banks) refl
     | Running ↦ λ n. absurd (n refl)
-    | Frames ↦ λ _. kept (two_on_bank false false banks) (two_on_bank false false banks)
-        (two_on_bank true true banks) refl
     | Exclusive ↦ λ _ p q a e top on r. idle q a r
+    | other ↦ λ _. dispatched_by (two_on_bank false false banks)
+        (two_on_bank true true banks) 0 other refl
   ];
-  fails = λ s. cc (s.owned.exclusive {p = main} {q = task} {a = bank}
-      (record { running = refl; top = refl; executor = refl }) (record {
-        running = refl;
-        top = refl;
-        executor = refl;
-      }));
+  fails = λ s. cc (s.owned.exclusive (runs_by (two_on_bank true true banks) main bank refl)
+      (runs_by (two_on_bank true true banks) task bank refl));
 }
 dispatched_needed Frames = record {
   old = view_of (two_on_bank false false banks);
@@ -640,11 +559,10 @@ dispatched_needed Frames = record {
   at = 0;
   sound = sound_view (two_on_bank false false banks) refl;
   others = elim [
-    | Heights ↦ λ _. heights (two_on_bank false false banks) (two_on_bank true false nobodys) refl
-    | Running ↦ λ _. running_but 0 (two_on_bank false false banks) (two_on_bank true false nobodys)
-        refl
     | Frames ↦ λ n. absurd (n refl)
     | Exclusive ↦ λ _ p q a e top on r. idle q a r
+    | other ↦ λ _. dispatched_by (two_on_bank false false banks) (two_on_bank true false nobodys) 0
+        other refl
   ];
   fails = λ s. cc (s.owned.owned (there (two_on_bank true false nobodys) task Here nobodys refl));
 }
@@ -654,16 +572,10 @@ dispatched_needed Exclusive = record {
   at = 0;
   sound = sound_view (two_on_bank false true banks) refl;
   others = elim [
-    | Heights ↦ λ _. heights (two_on_bank false true banks) (two_on_bank true true banks) refl
-    | Running ↦ λ _. running_but 0 (two_on_bank false true banks) (two_on_bank true true banks) refl
-    | Frames ↦ λ _. kept (two_on_bank false true banks) (two_on_bank false true banks)
-        (two_on_bank true true banks) refl
     | Exclusive ↦ λ n. absurd (n refl)
+    | other ↦ λ _. dispatched_by (two_on_bank false true banks)
+        (two_on_bank true true banks) 0 other refl
   ];
-  fails = λ s. cc (s.owned.exclusive {p = main} {q = task} {a = bank}
-      (record { running = refl; top = refl; executor = refl }) (record {
-        running = refl;
-        top = refl;
-        executor = refl;
-      }));
+  fails = λ s. cc (s.owned.exclusive (runs_by (two_on_bank true true banks) main bank refl)
+      (runs_by (two_on_bank true true banks) task bank refl));
 }

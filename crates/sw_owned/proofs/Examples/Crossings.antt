@@ -1,13 +1,13 @@
 -- What a call needs that leaves its caller's executor, one of an actor's initialiser, and a task.
 use Rattle.std.specs.Prelude.{Bool, true, false, Some, None, List, [], ◌∷◌, refl}
-use Rattle.std.proofs.Common.{inl, inr, arith}
+use Rattle.std.proofs.Common.{inr, arith}
 use Rattle.sw_owned.specs.Colours.{Colour, Executor, Generic, On}
 use Rattle.sw_owned.specs.View.{Here, Register, Nonisolated, IsolatedTo, MakesActor, Shape}
 use Rattle.sw_owned.specs.Sketch.{Row, Job, view_of}
 use Rattle.sw_owned.specs.Premises.{IsNeeded, IsPossible, StaysSound, WeakPremise, weak_says, Calls, Crosses, NoExecutor, NotIsolated, Colours, Result, Free, StrongPremise, strong_says, Leaves, IsIsolated, OnActor, HereColour, NoResult, MakePremise, make_says, Stays, SameExecutor, Makes, SpawnedPremise, spawned_says, Pushes, Others, Ready, Held, Stands}
 use Rattle.sw_owned.proofs.Sketches.Tests.{sound_view}
-use Rattle.sw_owned.proofs.Sketches.Reading.{there, kept}
-use Rattle.sw_owned.proofs.Sketches.Moves.{calls, result_with, no_result, disconnected, pushed, holds_here}
+use Rattle.sw_owned.proofs.Sketches.Reading.{there}
+use Rattle.sw_owned.proofs.Sketches.Premises.{make_by, spawned_by, strong_by, weak_by, runs_by}
 use Rattle.sw_owned.proofs.Examples.Views.{bank, banks, mine, yours, nobodys, main, callee, task, called, free, on_bank, slot, dead, row, runs, waits, left, caller, bank_caller, alone, with_callee, and_rogue}
 
 -- ---- a call that leaves its caller's actor
@@ -21,14 +21,10 @@ weak_possible = record {
   at = (main, Register 0);
   sound = sound_view (alone bank_caller) refl;
   all = elim [
-    | Calls ↦ calls (alone bank_caller) (with_callee bank_caller weakly (mine 1)) main refl
-    | Crosses ↦ refl
-    | NoExecutor ↦ refl
-    | NotIsolated ↦ refl
-    | Colours ↦ there (alone bank_caller) main (Register 0) (mine 1) refl
-    | Result ↦ result_with (alone bank_caller) (with_callee bank_caller weakly (mine 1)) main 1
-        (Register 0) refl refl refl
-    | Free ↦ λ e. cc (e)
+    | Calls ↦ weak_by (alone bank_caller) (with_callee bank_caller weakly (mine 1)) main
+        (Register 0) Calls refl
+    | other ↦ weak_by (alone bank_caller) (with_callee bank_caller weakly (mine 1)) main
+        (Register 0) other refl
   ];
 }
 
@@ -44,13 +40,8 @@ weak_needed Calls = record {
   sound = sound_view (alone bank_caller) refl;
   others = elim [
     | Calls ↦ λ n. absurd (n refl)
-    | Crosses ↦ λ _. refl
-    | NoExecutor ↦ λ _. refl
-    | NotIsolated ↦ λ _. refl
-    | Colours ↦ λ _. there (alone bank_caller) main (Register 0) (mine 1) refl
-    | Result ↦ λ _. result_with (alone bank_caller) (and_rogue bank_caller weakly (mine 1)) main 1
-        (Register 0) refl refl refl
-    | Free ↦ λ _ e. cc (e)
+    | other ↦ λ _. weak_by (alone bank_caller) (and_rogue bank_caller weakly (mine 1)) main
+        (Register 0) other refl
   ];
   fails = λ s. cc (s.owned.owned (there (and_rogue bank_caller weakly (mine 1)) task Here (mine 0)
       refl));
@@ -61,16 +52,10 @@ weak_needed Crosses = record {
   at = (main, Register 0);
   sound = sound_view (alone bank_caller) refl;
   others = elim [
-    | Calls ↦ λ _. calls (alone bank_caller)
-        (with_callee bank_caller (called Nonisolated Generic (Some 1)) (mine 1)) main refl
     | Crosses ↦ λ n. absurd (n refl)
-    | NoExecutor ↦ λ _. refl
-    | NotIsolated ↦ λ _. refl
-    | Colours ↦ λ _. there (alone bank_caller) main (Register 0) (mine 1) refl
-    | Result ↦ λ _. result_with (alone bank_caller)
-        (with_callee bank_caller (called Nonisolated Generic (Some 1)) (mine 1)) main 1 (Register 0)
-        refl refl refl
-    | Free ↦ λ _ e. cc (e)
+    | other ↦ λ _. weak_by (alone bank_caller)
+        (with_callee bank_caller (called Nonisolated Generic (Some 1)) (mine 1)) main
+        (Register 0) other refl
   ];
   fails = λ s. cc (s.stacked.inherited main (omega arith) refl);
 }
@@ -80,15 +65,10 @@ weak_needed NoExecutor = record {
   at = (main, Register 0);
   sound = sound_view (alone bank_caller) refl;
   others = elim [
-    | Calls ↦ λ _. calls (alone bank_caller)
-        (with_callee bank_caller (left Nonisolated (On bank) None) (mine 1)) main refl
-    | Crosses ↦ λ _. refl
     | NoExecutor ↦ λ n. absurd (n refl)
-    | NotIsolated ↦ λ _. refl
-    | Colours ↦ λ _. there (alone bank_caller) main (Register 0) (mine 1) refl
-    | Result ↦ λ _. no_result (alone bank_caller)
-        (with_callee bank_caller (left Nonisolated (On bank) None) (mine 1)) main (Register 0) refl
-    | Free ↦ λ _ e. cc (e)
+    | other ↦ λ _. weak_by (alone bank_caller)
+        (with_callee bank_caller (left Nonisolated (On bank) None) (mine 1)) main
+        (Register 0) other refl
   ];
   fails = λ s. cc (s.stacked.entered {a = bank} callee (omega arith) (inr refl) refl);
 }
@@ -98,16 +78,10 @@ weak_needed NotIsolated = record {
   at = (main, Register 0);
   sound = sound_view (alone bank_caller) refl;
   others = elim [
-    | Calls ↦ λ _. calls (alone bank_caller)
-        (with_callee bank_caller (left (IsolatedTo bank) Generic (Some 1)) (mine 1)) main refl
-    | Crosses ↦ λ _. refl
-    | NoExecutor ↦ λ _. refl
     | NotIsolated ↦ λ n. absurd (n refl)
-    | Colours ↦ λ _. there (alone bank_caller) main (Register 0) (mine 1) refl
-    | Result ↦ λ _. result_with (alone bank_caller)
-        (with_callee bank_caller (left (IsolatedTo bank) Generic (Some 1)) (mine 1)) main 1
-        (Register 0) refl refl refl
-    | Free ↦ λ _ e. cc (e)
+    | other ↦ λ _. weak_by (alone bank_caller)
+        (with_callee bank_caller (left (IsolatedTo bank) Generic (Some 1)) (mine 1)) main
+        (Register 0) other refl
   ];
   fails = λ s. cc (s.owned.stands {a = bank} callee (omega arith) refl);
 }
@@ -117,14 +91,9 @@ weak_needed Colours = record {
   at = (main, Register 0);
   sound = sound_view (alone bank_caller) refl;
   others = elim [
-    | Calls ↦ λ _. calls (alone bank_caller) (with_callee bank_caller weakly nobodys) main refl
-    | Crosses ↦ λ _. refl
-    | NoExecutor ↦ λ _. refl
-    | NotIsolated ↦ λ _. refl
     | Colours ↦ λ n. absurd (n refl)
-    | Result ↦ λ _. result_with (alone bank_caller) (with_callee bank_caller weakly nobodys) main 1
-        (Register 0) refl refl refl
-    | Free ↦ λ _ e. cc (e)
+    | other ↦ λ _. weak_by (alone bank_caller) (with_callee bank_caller weakly nobodys) main
+        (Register 0) other refl
   ];
   fails = λ s. cc (s.owned.owned (there (with_callee bank_caller weakly nobodys) callee Here nobodys
       refl));
@@ -135,13 +104,9 @@ weak_needed Result = record {
   at = (main, Register 0);
   sound = sound_view (alone misput) refl;
   others = elim [
-    | Calls ↦ λ _. calls (alone misput) (with_callee misput weakly (mine 1)) main refl
-    | Crosses ↦ λ _. refl
-    | NoExecutor ↦ λ _. refl
-    | NotIsolated ↦ λ _. refl
-    | Colours ↦ λ _. there (alone misput) main (Register 0) (mine 1) refl
     | Result ↦ λ n. absurd (n refl)
-    | Free ↦ λ _ e. cc (e)
+    | other ↦ λ _. weak_by (alone misput) (with_callee misput weakly (mine 1)) main
+        (Register 0) other refl
   ];
   fails = λ s. cc (s.returns.near {p = main} {x = Register 0} 1 refl
       (there (with_callee misput weakly (mine 1)) callee Here (mine 1) refl)
@@ -153,15 +118,9 @@ weak_needed Free = record {
   at = (main, Here);
   sound = sound_view (alone bank_caller) refl;
   others = elim [
-    | Calls ↦ λ _. calls (alone bank_caller)
-        (with_callee bank_caller (left Nonisolated Generic None) banks) main refl
-    | Crosses ↦ λ _. refl
-    | NoExecutor ↦ λ _. refl
-    | NotIsolated ↦ λ _. refl
-    | Colours ↦ λ _. there (alone bank_caller) main Here banks refl
-    | Result ↦ λ _. no_result (alone bank_caller)
-        (with_callee bank_caller (left Nonisolated Generic None) banks) main Here refl
     | Free ↦ λ n. absurd (n refl)
+    | other ↦ λ _. weak_by (alone bank_caller)
+        (with_callee bank_caller (left Nonisolated Generic None) banks) main Here other refl
   ];
   fails = λ s. cc (s.owned.owned
       (there (with_callee bank_caller (left Nonisolated Generic None) banks) callee Here banks
@@ -192,13 +151,8 @@ strong_possible = record {
   at = (main, bank);
   sound = sound_view (alone caller) refl;
   all = elim [
-    | Calls ↦ calls (alone caller) (on_actor false on_bank banks) main refl
-    | Crosses ↦ refl
-    | Leaves ↦ refl
-    | IsIsolated ↦ refl
-    | OnActor ↦ refl
-    | HereColour ↦ refl
-    | NoResult ↦ refl
+    | Calls ↦ strong_by (alone caller) (on_actor false on_bank banks) main bank Calls refl
+    | other ↦ strong_by (alone caller) (on_actor false on_bank banks) main bank other refl
   ];
 }
 
@@ -210,12 +164,7 @@ strong_needed Calls = record {
   sound = sound_view (alone caller) refl;
   others = elim [
     | Calls ↦ λ n. absurd (n refl)
-    | Crosses ↦ λ _. refl
-    | Leaves ↦ λ _. refl
-    | IsIsolated ↦ λ _. refl
-    | OnActor ↦ λ _. refl
-    | HereColour ↦ λ _. refl
-    | NoResult ↦ λ _. refl
+    | other ↦ λ _. strong_by (alone caller) on_actor_and_rogue main bank other refl
   ];
   fails = λ s. cc (s.owned.owned (there on_actor_and_rogue task Here (mine 0) refl));
 }
@@ -225,14 +174,9 @@ strong_needed Crosses = record {
   at = (main, bank);
   sound = sound_view (alone caller) refl;
   others = elim [
-    | Calls ↦ λ _. calls (alone caller) (on_actor false (called (IsolatedTo bank) (On bank) None)
-        banks) main refl
     | Crosses ↦ λ n. absurd (n refl)
-    | Leaves ↦ λ _. refl
-    | IsIsolated ↦ λ _. refl
-    | OnActor ↦ λ _. refl
-    | HereColour ↦ λ _. refl
-    | NoResult ↦ λ _. refl
+    | other ↦ λ _. strong_by (alone caller)
+        (on_actor false (called (IsolatedTo bank) (On bank) None) banks) main bank other refl
   ];
   fails = λ s. cc (s.stacked.inherited main (omega arith) refl);
 }
@@ -242,21 +186,13 @@ strong_needed Leaves = record {
   at = (main, bank);
   sound = sound_view (beside (caller ∷ []) true) refl;
   others = elim [
-    | Calls ↦ λ _. calls (beside (caller ∷ []) true)
-        (beside (caller ∷ row on_bank banks [] ∷ []) true) main refl
-    | Crosses ↦ λ _. refl
     | Leaves ↦ λ n. absurd (n refl)
-    | IsIsolated ↦ λ _. refl
-    | OnActor ↦ λ _. refl
-    | HereColour ↦ λ _. refl
-    | NoResult ↦ λ _. refl
+    | other ↦ λ _. strong_by (beside (caller ∷ []) true)
+        (beside (caller ∷ row on_bank banks [] ∷ []) true) main bank other refl
   ];
-  fails = λ s. cc (s.owned.exclusive {p = callee} {q = task} {a = bank}
-      (record { running = refl; top = refl; executor = refl }) (record {
-        running = refl;
-        top = refl;
-        executor = refl;
-      }));
+  fails = λ s. cc (s.owned.exclusive
+      (runs_by (beside (caller ∷ row on_bank banks [] ∷ []) true) callee bank refl)
+      (runs_by (beside (caller ∷ row on_bank banks [] ∷ []) true) task bank refl));
 }
 strong_needed IsIsolated = record {
   old = view_of (alone caller);
@@ -264,14 +200,9 @@ strong_needed IsIsolated = record {
   at = (main, bank);
   sound = sound_view (alone caller) refl;
   others = elim [
-    | Calls ↦ λ _. calls (alone caller) (on_actor false (left Nonisolated (On bank) None) banks)
-        main refl
-    | Crosses ↦ λ _. refl
-    | Leaves ↦ λ _. refl
     | IsIsolated ↦ λ n. absurd (n refl)
-    | OnActor ↦ λ _. refl
-    | HereColour ↦ λ _. refl
-    | NoResult ↦ λ _. refl
+    | other ↦ λ _. strong_by (alone caller) (on_actor false (left Nonisolated (On bank) None) banks)
+        main bank other refl
   ];
   fails = λ s. cc (s.stacked.entered {a = bank} callee (omega arith) (inr refl) refl);
 }
@@ -281,14 +212,9 @@ strong_needed OnActor = record {
   at = (main, bank);
   sound = sound_view (alone caller) refl;
   others = elim [
-    | Calls ↦ λ _. calls (alone caller) (on_actor false (left (IsolatedTo bank) Generic None) banks)
-        main refl
-    | Crosses ↦ λ _. refl
-    | Leaves ↦ λ _. refl
-    | IsIsolated ↦ λ _. refl
     | OnActor ↦ λ n. absurd (n refl)
-    | HereColour ↦ λ _. refl
-    | NoResult ↦ λ _. refl
+    | other ↦ λ _. strong_by (alone caller)
+        (on_actor false (left (IsolatedTo bank) Generic None) banks) main bank other refl
   ];
   fails = λ s. cc (s.owned.stands {a = bank} callee (omega arith) refl);
 }
@@ -298,13 +224,8 @@ strong_needed HereColour = record {
   at = (main, bank);
   sound = sound_view (alone caller) refl;
   others = elim [
-    | Calls ↦ λ _. calls (alone caller) (on_actor false on_bank (mine 7)) main refl
-    | Crosses ↦ λ _. refl
-    | Leaves ↦ λ _. refl
-    | IsIsolated ↦ λ _. refl
-    | OnActor ↦ λ _. refl
     | HereColour ↦ λ n. absurd (n refl)
-    | NoResult ↦ λ _. refl
+    | other ↦ λ _. strong_by (alone caller) (on_actor false on_bank (mine 7)) main bank other refl
   ];
   fails = λ s. cc (s.owned.isolated {a = bank} callee (omega arith) refl);
 }
@@ -314,14 +235,9 @@ strong_needed NoResult = record {
   at = (main, bank);
   sound = sound_view (alone caller) refl;
   others = elim [
-    | Calls ↦ λ _. calls (alone caller) (on_actor false (left (IsolatedTo bank) (On bank) (Some 1))
-        banks) main refl
-    | Crosses ↦ λ _. refl
-    | Leaves ↦ λ _. refl
-    | IsIsolated ↦ λ _. refl
-    | OnActor ↦ λ _. refl
-    | HereColour ↦ λ _. refl
     | NoResult ↦ λ n. absurd (n refl)
+    | other ↦ λ _. strong_by (alone caller)
+        (on_actor false (left (IsolatedTo bank) (On bank) (Some 1)) banks) main bank other refl
   ];
   fails = λ s. cc (s.stacked.linked 1 main (omega arith) refl refl);
 }
@@ -337,11 +253,8 @@ make_possible = record {
   at = main;
   sound = sound_view (alone caller) refl;
   all = elim [
-    | Calls ↦ calls (alone caller) (with_callee caller (makes Generic) (mine 2)) main refl
-    | Stays ↦ refl
-    | SameExecutor ↦ refl
-    | Makes ↦ refl
-    | HereColour ↦ disconnected (alone caller) 0 (mine 2) refl
+    | Calls ↦ make_by (alone caller) (with_callee caller (makes Generic) (mine 2)) main Calls refl
+    | other ↦ make_by (alone caller) (with_callee caller (makes Generic) (mine 2)) main other refl
   ];
 }
 
@@ -353,10 +266,8 @@ make_needed Calls = record {
   sound = sound_view (alone caller) refl;
   others = elim [
     | Calls ↦ λ n. absurd (n refl)
-    | Stays ↦ λ _. refl
-    | SameExecutor ↦ λ _. refl
-    | Makes ↦ λ _. refl
-    | HereColour ↦ λ _. disconnected (alone caller) 0 (mine 2) refl
+    | other ↦ λ _. make_by (alone caller) (and_rogue caller (makes Generic) (mine 2)) main other
+        refl
   ];
   fails = λ s. cc (s.owned.owned (there (and_rogue caller (makes Generic) (mine 2)) task Here
       (mine 0) refl));
@@ -367,12 +278,9 @@ make_needed Stays = record {
   at = main;
   sound = sound_view (alone bank_caller) refl;
   others = elim [
-    | Calls ↦ λ _. calls (alone bank_caller)
-        (with_callee bank_caller (left MakesActor (On bank) None) (mine 2)) main refl
     | Stays ↦ λ n. absurd (n refl)
-    | SameExecutor ↦ λ _. refl
-    | Makes ↦ λ _. refl
-    | HereColour ↦ λ _. disconnected (alone bank_caller) 0 (mine 2) refl
+    | other ↦ λ _. make_by (alone bank_caller)
+        (with_callee bank_caller (left MakesActor (On bank) None) (mine 2)) main other refl
   ];
   fails = λ s. cc (s.stacked.entered {a = bank} callee (omega arith) (inr refl) refl);
 }
@@ -382,11 +290,9 @@ make_needed SameExecutor = record {
   at = main;
   sound = sound_view (alone caller) refl;
   others = elim [
-    | Calls ↦ λ _. calls (alone caller) (with_callee caller (makes (On bank)) (mine 2)) main refl
-    | Stays ↦ λ _. refl
     | SameExecutor ↦ λ n. absurd (n refl)
-    | Makes ↦ λ _. refl
-    | HereColour ↦ λ _. disconnected (alone caller) 0 (mine 2) refl
+    | other ↦ λ _. make_by (alone caller) (with_callee caller (makes (On bank)) (mine 2)) main other
+        refl
   ];
   fails = λ s. cc (s.stacked.inherited main (omega arith) refl);
 }
@@ -396,12 +302,9 @@ make_needed Makes = record {
   at = main;
   sound = sound_view (alone caller) refl;
   others = elim [
-    | Calls ↦ λ _. calls (alone caller) (with_callee caller (called (IsolatedTo bank) Generic None)
-        (mine 2)) main refl
-    | Stays ↦ λ _. refl
-    | SameExecutor ↦ λ _. refl
     | Makes ↦ λ n. absurd (n refl)
-    | HereColour ↦ λ _. disconnected (alone caller) 0 (mine 2) refl
+    | other ↦ λ _. make_by (alone caller)
+        (with_callee caller (called (IsolatedTo bank) Generic None) (mine 2)) main other refl
   ];
   fails = λ s. cc (s.owned.stands {a = bank} callee (omega arith) refl);
 }
@@ -411,11 +314,9 @@ make_needed HereColour = record {
   at = main;
   sound = sound_view (alone caller) refl;
   others = elim [
-    | Calls ↦ λ _. calls (alone caller) (with_callee caller (makes Generic) (mine 1)) main refl
-    | Stays ↦ λ _. refl
-    | SameExecutor ↦ λ _. refl
-    | Makes ↦ λ _. refl
     | HereColour ↦ λ n. absurd (n refl)
+    | other ↦ λ _. make_by (alone caller) (with_callee caller (makes Generic) (mine 1)) main other
+        refl
   ];
   fails = λ s. s.initialisers.alone {p = main} {q = callee} refl (refl, omega arith)
       (there (with_callee caller (makes Generic) (mine 1)) callee Here (mine 1) refl)
@@ -451,12 +352,11 @@ spawned_possible = record {
   at = 1;
   sound = sound_view (alone caller) refl;
   all = elim [
-    | Pushes ↦ pushed (alone caller) (tasked caller (new_task free (yours 0) (yours 0))) task refl
-    | Others ↦ kept (alone caller) (alone caller)
-        (tasked caller (new_task free (yours 0) (yours 0))) refl
-    | Ready ↦ refl
-    | Held ↦ holds_here (tasked caller (new_task free (yours 0) (yours 0))) task refl
-    | Stands ↦ inr (record { isolation = refl; executor = refl; here = (0, refl) })
+    | Pushes ↦ spawned_by (alone caller) (tasked caller (new_task free (yours 0) (yours 0))) 1
+        Pushes
+        refl
+    | other ↦ spawned_by (alone caller) (tasked caller (new_task free (yours 0) (yours 0))) 1 other
+        refl
   ];
 }
 
@@ -468,10 +368,7 @@ spawned_needed Pushes = record {
   sound = sound_view (alone caller) refl;
   others = elim [
     | Pushes ↦ λ n. absurd (n refl)
-    | Others ↦ λ _. kept (alone caller) (alone caller) task_and_rogue refl
-    | Ready ↦ λ _. refl
-    | Held ↦ λ _. holds_here task_and_rogue task refl
-    | Stands ↦ λ _. inr (record { isolation = refl; executor = refl; here = (0, refl) })
+    | other ↦ λ _. spawned_by (alone caller) task_and_rogue 1 other refl
   ];
   fails = λ s. cc (s.owned.owned (there task_and_rogue (record { job = 2; depth = 0 }) Here (mine 0)
       refl));
@@ -482,12 +379,9 @@ spawned_needed Others = record {
   at = 1;
   sound = sound_view (alone caller) refl;
   others = elim [
-    | Pushes ↦ λ _. pushed (alone caller) (tasked robbed (new_task free (yours 0) (yours 0))) task
-        refl
     | Others ↦ λ n. absurd (n refl)
-    | Ready ↦ λ _. refl
-    | Held ↦ λ _. holds_here (tasked robbed (new_task free (yours 0) (yours 0))) task refl
-    | Stands ↦ λ _. inr (record { isolation = refl; executor = refl; here = (0, refl) })
+    | other ↦ λ _. spawned_by (alone caller) (tasked robbed (new_task free (yours 0) (yours 0))) 1
+        other refl
   ];
   fails = λ s. cc (s.owned.owned (there (tasked robbed (new_task free (yours 0) (yours 0))) main
       (Register 0) nobodys refl));
@@ -498,18 +392,11 @@ spawned_needed Ready = record {
   at = 1;
   sound = sound_view beside_nothing refl;
   others = elim [
-    | Pushes ↦ λ _. pushed beside_nothing both_on_bank task refl
-    | Others ↦ λ _. kept beside_nothing beside_nothing both_on_bank refl
     | Ready ↦ λ n. absurd (n refl)
-    | Held ↦ λ _. holds_here both_on_bank task refl
-    | Stands ↦ λ _. inl (bank, record { isolation = refl; executor = refl; here = refl })
+    | other ↦ λ _. spawned_by beside_nothing both_on_bank 1 other refl
   ];
-  fails = λ s. cc (s.owned.exclusive {p = main} {q = task} {a = bank}
-      (record { running = refl; top = refl; executor = refl }) (record {
-        running = refl;
-        top = refl;
-        executor = refl;
-      }));
+  fails = λ s. cc (s.owned.exclusive (runs_by both_on_bank main bank refl)
+      (runs_by both_on_bank task bank refl));
 }
 spawned_needed Held = record {
   old = view_of (alone caller);
@@ -517,13 +404,9 @@ spawned_needed Held = record {
   at = 1;
   sound = sound_view (alone caller) refl;
   others = elim [
-    | Pushes ↦ λ _. pushed (alone caller) (tasked caller (new_task free (yours 0) nobodys)) task
-        refl
-    | Others ↦ λ _. kept (alone caller) (alone caller)
-        (tasked caller (new_task free (yours 0) nobodys)) refl
-    | Ready ↦ λ _. refl
     | Held ↦ λ n. absurd (n refl)
-    | Stands ↦ λ _. inr (record { isolation = refl; executor = refl; here = (0, refl) })
+    | other ↦ λ _. spawned_by (alone caller) (tasked caller (new_task free (yours 0) nobodys)) 1
+        other refl
   ];
   fails = λ s. cc (s.owned.owned (there (tasked caller (new_task free (yours 0) nobodys)) task
       (Register 0) nobodys refl));
@@ -535,16 +418,10 @@ spawned_needed Stands = record {
   at = 1;
   sound = sound_view (alone caller) refl;
   others = elim [
-    | Pushes ↦ λ _. pushed (alone caller)
-        (tasked caller (new_task (left (IsolatedTo bank) Generic None) (yours 0) (yours 0))) task
-        refl
-    | Others ↦ λ _. kept (alone caller) (alone caller)
-        (tasked caller (new_task (left (IsolatedTo bank) Generic None) (yours 0) (yours 0))) refl
-    | Ready ↦ λ _. refl
-    | Held ↦ λ _. holds_here
-        (tasked caller (new_task (left (IsolatedTo bank) Generic None) (yours 0) (yours 0))) task
-        refl
     | Stands ↦ λ n. absurd (n refl)
+    | other ↦ λ _. spawned_by (alone caller)
+        (tasked caller (new_task (left (IsolatedTo bank) Generic None) (yours 0) (yours 0))) 1 other
+        refl
   ];
   fails = λ s. cc (s.owned.stands {a = bank} task (omega arith) refl);
 }

@@ -7,10 +7,10 @@ use Rattle.sw_owned.specs.Colours.{Colour, Generic, On}
 use Rattle.sw_owned.specs.View.{Element, Here, Register, Nonisolated, IsolatedTo, View, HoldsLive, Together}
 use Rattle.sw_owned.specs.Sketch.{Job, row_at, view_of}
 use Rattle.sw_owned.specs.Premises.{IsNeeded, IsPossible, StaysSound, WithinPremise, within_says, Change, Held, Joined, ComesPremise, comes_says, FreshenedPremise, freshened_says, Fresh, NewColour, WeakenedPremise, weakened_says, Top, Jobs, SameShape, SameHere, Others, Heights, Running}
-use Rattle.sw_owned.proofs.Sketches.Same.{same_colour, same_colour_true}
-use Rattle.sw_owned.proofs.Sketches.Tests.{sound_view, holders, held_in, in_all, implies, implied}
-use Rattle.sw_owned.proofs.Sketches.Reading.{there, joined, holds_live, still_joined, held_by, for_holders, kept_but, heights, running}
-use Rattle.sw_owned.proofs.Sketches.Moves.{all_shapes, all_heres, all_lesser, all_joined, same_element, same_element_true, same_jobs, changes_top, is_unheld}
+use Rattle.sw_owned.proofs.Sketches.Tests.{sound_view, holders, held_in, in_all}
+use Rattle.sw_owned.proofs.Sketches.Reading.{there, joined, holds_live, held_by, for_holders}
+use Rattle.sw_owned.proofs.Sketches.Moves.{same_element, same_element_true, changes_top}
+use Rattle.sw_owned.proofs.Sketches.Premises.{freshened_by, weakened_by, within_by, runs_by}
 use Rattle.sw_owned.proofs.Examples.Views.{bank, banks, mine, yours, nobodys, main, callee, task, called, free, on_bank, slot, dead, row, runs, waits}
 
 -- one frame with two registers
@@ -43,13 +43,8 @@ within_possible = record {
   at = (main, second_is_first);
   sound = sound_view two refl;
   all = elim [
-    | Top ↦ refl
-    | Jobs ↦ same_jobs two put refl
-    | SameShape ↦ refl
-    | SameHere ↦ refl
-    | Others ↦ kept_but main two two put refl
-    | Held ↦ held_by two put main second_is_first refl
     | Joined ↦ λ x y t. put_regions x ∙ t ∙ sym (put_regions y)
+    | other ↦ within_by two put main second_is_first other refl
   ];
 }
 
@@ -121,12 +116,8 @@ within_needed Top = record {
   sound = sound_view (asking 1) refl;
   others = elim [
     | Top ↦ λ n. absurd (n refl)
-    | Jobs ↦ λ _. same_jobs (asking 1) (asking 7) refl
-    | SameShape ↦ λ _. refl
-    | SameHere ↦ λ _. refl
-    | Others ↦ λ _. kept_but main (asking 1) (asking 1) (asking 7) refl
-    | Held ↦ λ _. held_by (asking 1) (asking 7) main second_is_third refl
     | Joined ↦ λ _ x y t. asking_regions x ∙ t ∙ sym (asking_regions y)
+    | other ↦ λ _. within_by (asking 1) (asking 7) main second_is_third other refl
   ];
   fails = λ s. cc (s.returns.near {p = main} {x = Register 0} 1 refl
       (there (asking 7) callee Here (mine 1) refl)
@@ -138,13 +129,9 @@ within_needed Jobs = record {
   at = (main, λ x. x);
   sound = sound_view two refl;
   others = elim [
-    | Top ↦ λ _. refl
     | Jobs ↦ λ n. absurd (n refl)
-    | SameShape ↦ λ _. refl
-    | SameHere ↦ λ _. refl
-    | Others ↦ λ _. kept_but main two two two_and_rogue refl
-    | Held ↦ λ _. held_by two two_and_rogue main (λ x. x) refl
     | Joined ↦ λ _ x y t. t
+    | other ↦ λ _. within_by two two_and_rogue main (λ x. x) other refl
   ];
   fails = λ s. cc (s.owned.owned (there two_and_rogue task Here (mine 0) refl));
 }
@@ -154,13 +141,9 @@ within_needed SameShape = record {
   at = (main, λ x. x);
   sound = sound_view two refl;
   others = elim [
-    | Top ↦ λ _. refl
-    | Jobs ↦ λ _. same_jobs two reshaped refl
     | SameShape ↦ λ n. absurd (n refl)
-    | SameHere ↦ λ _. refl
-    | Others ↦ λ _. kept_but main two two reshaped refl
-    | Held ↦ λ _. held_by two reshaped main (λ x. x) refl
     | Joined ↦ λ _ x y t. t
+    | other ↦ λ _. within_by two reshaped main (λ x. x) other refl
   ];
   fails = λ s. cc (s.owned.isolated {a = bank} main (omega arith) refl);
 }
@@ -170,13 +153,9 @@ within_needed SameHere = record {
   at = (callee, here_is_second);
   sound = sound_view (sharing (mine 1)) refl;
   others = elim [
-    | Top ↦ λ _. refl
-    | Jobs ↦ λ _. same_jobs (sharing (mine 1)) (sharing (mine 2)) refl
-    | SameShape ↦ λ _. refl
     | SameHere ↦ λ n. absurd (n refl)
-    | Others ↦ λ _. kept_but callee (sharing (mine 1)) (sharing (mine 1)) (sharing (mine 2)) refl
-    | Held ↦ λ _. held_by (sharing (mine 1)) (sharing (mine 2)) callee here_is_second refl
     | Joined ↦ λ _ x y t. in_region_0 x ∙ sym (in_region_0 y)
+    | other ↦ λ _. within_by (sharing (mine 1)) (sharing (mine 2)) callee here_is_second other refl
   ];
   fails = λ s. cc (s.owned.apart {p = main} {q = callee} {x = Register 0} {y = Register 0}
       (refl, omega arith) (there (sharing (mine 2)) main (Register 0) (mine 1) refl)
@@ -188,13 +167,9 @@ within_needed Others = record {
   at = (main, λ x. x);
   sound = sound_view (with_task (yours 0)) refl;
   others = elim [
-    | Top ↦ λ _. refl
-    | Jobs ↦ λ _. same_jobs (with_task (yours 0)) (with_task nobodys) refl
-    | SameShape ↦ λ _. refl
-    | SameHere ↦ λ _. refl
     | Others ↦ λ n. absurd (n refl)
-    | Held ↦ λ _. held_by (with_task (yours 0)) (with_task nobodys) main (λ x. x) refl
     | Joined ↦ λ _ x y t. t
+    | other ↦ λ _. within_by (with_task (yours 0)) (with_task nobodys) main (λ x. x) other refl
   ];
   fails = λ s. cc (s.owned.owned (there (with_task nobodys) task Here nobodys refl));
 }
@@ -204,13 +179,9 @@ within_needed Held = record {
   at = (main, λ x. x);
   sound = sound_view two refl;
   others = elim [
-    | Top ↦ λ _. refl
-    | Jobs ↦ λ _. same_jobs two foreign refl
-    | SameShape ↦ λ _. refl
-    | SameHere ↦ λ _. refl
-    | Others ↦ λ _. kept_but main two two foreign refl
     | Held ↦ λ n. absurd (n refl)
     | Joined ↦ λ _ x y t. joined two foreign main refl x y t
+    | other ↦ λ _. within_by two foreign main (λ x. x) other refl
   ];
   fails = λ s. cc (s.owned.owned (there foreign main (Register 0) nobodys refl));
 }
@@ -220,13 +191,8 @@ within_needed Joined = record {
   at = (main, second_is_first);
   sound = sound_view two refl;
   others = elim [
-    | Top ↦ λ _. refl
-    | Jobs ↦ λ _. same_jobs two torn refl
-    | SameShape ↦ λ _. refl
-    | SameHere ↦ λ _. refl
-    | Others ↦ λ _. kept_but main two two torn refl
-    | Held ↦ λ _. held_by two torn main second_is_first refl
     | Joined ↦ λ n. absurd (n refl)
+    | other ↦ λ _. within_by two torn main second_is_first other refl
   ];
   fails = λ s. cc (s.owned.together (there torn main (Register 0) (mine 1) refl)
       (there torn main (Register 1) (mine 1) refl));
@@ -408,21 +374,6 @@ rest_held old new e x c n h = elim (or_cases (same_element x (Register 2)) (hold
       | inr holds ↦ there old main x c holds
     ]
 
-rest_joined : (old new : List Job) → still_joined old new main ≡ true → (x y : Element)
-    → x ≢ Register 2 → y ≢ Register 2
-    → Together (view_of old) main x y → Together (view_of new) main x y
-rest_joined old new e x y a b t = joined old new main e x y t
-
--- with the third register's colour c, and that it is c
-third : (c : Colour) (jobs : List Job)
-    → list_all (λ h. implies (same_element h.0 (Register 2)) (same_colour h.1 c))
-    (holders (row_at jobs main)) ≡ true
-    → (d : Colour) → HoldsLive (view_of jobs) main (Register 2) d → d ≡ c
-third c jobs e d h = same_colour_true d c (implied (same_element (Register 2) (Register 2))
-    (same_colour d c)
-    (in_all (λ h. implies (same_element h.0 (Register 2)) (same_colour h.1 c)) (Register 2, d)
-    (holders (row_at jobs main)) e (held_in jobs main (Register 2) d h)) refl)
-
 pub freshened_possible : IsPossible freshened_says
 freshened_possible = record {
   old = view_of before_fresh;
@@ -430,11 +381,8 @@ freshened_possible = record {
   at = (main, 2, 3);
   sound = sound_view before_fresh refl;
   all = elim [
-    | Change ↦ changes_top before_fresh (with_third 1 (mine 3)) main refl
-    | Fresh ↦ is_unheld before_fresh (mine 3) refl
-    | NewColour ↦ third (mine 3) (with_third 1 (mine 3)) refl
-    | Held ↦ rest_held before_fresh (with_third 1 (mine 3)) refl
-    | Joined ↦ rest_joined before_fresh (with_third 1 (mine 3)) refl
+    | Change ↦ freshened_by before_fresh (with_third 1 (mine 3)) main 2 3 Change refl
+    | other ↦ freshened_by before_fresh (with_third 1 (mine 3)) main 2 3 other refl
   ];
 }
 
@@ -446,10 +394,7 @@ freshened_needed Change = record {
   sound = sound_view before_fresh refl;
   others = elim [
     | Change ↦ λ n. absurd (n refl)
-    | Fresh ↦ λ _. is_unheld before_fresh (mine 3) refl
-    | NewColour ↦ λ _. third (mine 3) third_and_rogue refl
-    | Held ↦ λ _. rest_held before_fresh third_and_rogue refl
-    | Joined ↦ λ _. rest_joined before_fresh third_and_rogue refl
+    | other ↦ λ _. freshened_by before_fresh third_and_rogue main 2 3 other refl
   ];
   fails = λ s. cc (s.owned.owned (there third_and_rogue task Here (mine 0) refl));
 }
@@ -459,11 +404,8 @@ freshened_needed Fresh = record {
   at = (main, 2, 1);
   sound = sound_view before_fresh refl;
   others = elim [
-    | Change ↦ λ _. changes_top before_fresh (with_third 1 (mine 1)) main refl
     | Fresh ↦ λ n. absurd (n refl)
-    | NewColour ↦ λ _. third (mine 1) (with_third 1 (mine 1)) refl
-    | Held ↦ λ _. rest_held before_fresh (with_third 1 (mine 1)) refl
-    | Joined ↦ λ _. rest_joined before_fresh (with_third 1 (mine 1)) refl
+    | other ↦ λ _. freshened_by before_fresh (with_third 1 (mine 1)) main 2 1 other refl
   ];
   fails = λ s. cc (s.owned.together (there (with_third 1 (mine 1)) main (Register 0) (mine 1) refl)
       (there (with_third 1 (mine 1)) main (Register 2) (mine 1) refl));
@@ -474,11 +416,8 @@ freshened_needed NewColour = record {
   at = (main, 2, 3);
   sound = sound_view before_fresh refl;
   others = elim [
-    | Change ↦ λ _. changes_top before_fresh (with_third 1 nobodys) main refl
-    | Fresh ↦ λ _. is_unheld before_fresh (mine 3) refl
     | NewColour ↦ λ n. absurd (n refl)
-    | Held ↦ λ _. rest_held before_fresh (with_third 1 nobodys) refl
-    | Joined ↦ λ _. rest_joined before_fresh (with_third 1 nobodys) refl
+    | other ↦ λ _. freshened_by before_fresh (with_third 1 nobodys) main 2 3 other refl
   ];
   fails = λ s. cc (s.owned.owned (there (with_third 1 nobodys) main (Register 2) nobodys refl));
 }
@@ -488,11 +427,8 @@ freshened_needed Held = record {
   at = (main, 2, 3);
   sound = sound_view before_fresh refl;
   others = elim [
-    | Change ↦ λ _. changes_top before_fresh third_and_foreign main refl
-    | Fresh ↦ λ _. is_unheld before_fresh (mine 3) refl
-    | NewColour ↦ λ _. third (mine 3) third_and_foreign refl
     | Held ↦ λ n. absurd (n refl)
-    | Joined ↦ λ _. rest_joined before_fresh third_and_foreign refl
+    | other ↦ λ _. freshened_by before_fresh third_and_foreign main 2 3 other refl
   ];
   fails = λ s. cc (s.owned.owned (there third_and_foreign main (Register 0) nobodys refl));
 }
@@ -502,11 +438,8 @@ freshened_needed Joined = record {
   at = (main, 2, 3);
   sound = sound_view before_fresh refl;
   others = elim [
-    | Change ↦ λ _. changes_top before_fresh (with_third 2 (mine 3)) main refl
-    | Fresh ↦ λ _. is_unheld before_fresh (mine 3) refl
-    | NewColour ↦ λ _. third (mine 3) (with_third 2 (mine 3)) refl
-    | Held ↦ λ _. rest_held before_fresh (with_third 2 (mine 3)) refl
     | Joined ↦ λ n. absurd (n refl)
+    | other ↦ λ _. freshened_by before_fresh (with_third 2 (mine 3)) main 2 3 other refl
   ];
   fails = λ s. cc (s.owned.together (there (with_third 2 (mine 3)) main (Register 0) (mine 1) refl)
       (there (with_third 2 (mine 3)) main (Register 1) (mine 1) refl));
@@ -547,12 +480,8 @@ weakened_possible = record {
   at = tt;
   sound = sound_view two refl;
   all = elim [
-    | Heights ↦ heights two stopped refl
-    | Running ↦ running two stopped refl
-    | SameShape ↦ all_shapes two stopped refl
-    | SameHere ↦ all_heres two stopped refl
-    | Held ↦ all_lesser two stopped refl
-    | Joined ↦ all_joined two stopped refl
+    | Heights ↦ weakened_by two stopped Heights refl
+    | other ↦ weakened_by two stopped other refl
   ];
 }
 
@@ -564,11 +493,7 @@ weakened_needed Heights = record {
   sound = sound_view two refl;
   others = elim [
     | Heights ↦ λ n. absurd (n refl)
-    | Running ↦ λ _. running two two_and_rogue refl
-    | SameShape ↦ λ _. all_shapes two two_and_rogue refl
-    | SameHere ↦ λ _. all_heres two two_and_rogue refl
-    | Held ↦ λ _. all_lesser two two_and_rogue refl
-    | Joined ↦ λ _. all_joined two two_and_rogue refl
+    | other ↦ λ _. weakened_by two two_and_rogue other refl
   ];
   fails = λ s. cc (s.owned.owned (there two_and_rogue task Here (mine 0) refl));
 }
@@ -578,19 +503,11 @@ weakened_needed Running = record {
   at = tt;
   sound = sound_view (on_bank_with false) refl;
   others = elim [
-    | Heights ↦ λ _. heights (on_bank_with false) (on_bank_with true) refl
     | Running ↦ λ n. absurd (n refl)
-    | SameShape ↦ λ _. all_shapes (on_bank_with false) (on_bank_with true) refl
-    | SameHere ↦ λ _. all_heres (on_bank_with false) (on_bank_with true) refl
-    | Held ↦ λ _. all_lesser (on_bank_with false) (on_bank_with true) refl
-    | Joined ↦ λ _. all_joined (on_bank_with false) (on_bank_with true) refl
+    | other ↦ λ _. weakened_by (on_bank_with false) (on_bank_with true) other refl
   ];
-  fails = λ s. cc (s.owned.exclusive {p = main} {q = task} {a = bank}
-      (record { running = refl; top = refl; executor = refl }) (record {
-        running = refl;
-        top = refl;
-        executor = refl;
-      }));
+  fails = λ s. cc (s.owned.exclusive (runs_by (on_bank_with true) main bank refl)
+      (runs_by (on_bank_with true) task bank refl));
 }
 weakened_needed SameShape = record {
   old = view_of two;
@@ -598,12 +515,8 @@ weakened_needed SameShape = record {
   at = tt;
   sound = sound_view two refl;
   others = elim [
-    | Heights ↦ λ _. heights two reshaped refl
-    | Running ↦ λ _. running two reshaped refl
     | SameShape ↦ λ n. absurd (n refl)
-    | SameHere ↦ λ _. all_heres two reshaped refl
-    | Held ↦ λ _. all_lesser two reshaped refl
-    | Joined ↦ λ _. all_joined two reshaped refl
+    | other ↦ λ _. weakened_by two reshaped other refl
   ];
   fails = λ s. cc (s.owned.isolated {a = bank} main (omega arith) refl);
 }
@@ -613,12 +526,8 @@ weakened_needed SameHere = record {
   at = tt;
   sound = sound_view (closing_here banks) refl;
   others = elim [
-    | Heights ↦ λ _. heights (closing_here banks) (closing_here (mine 0)) refl
-    | Running ↦ λ _. running (closing_here banks) (closing_here (mine 0)) refl
-    | SameShape ↦ λ _. all_shapes (closing_here banks) (closing_here (mine 0)) refl
     | SameHere ↦ λ n. absurd (n refl)
-    | Held ↦ λ _. all_lesser (closing_here banks) (closing_here (mine 0)) refl
-    | Joined ↦ λ _. all_joined (closing_here banks) (closing_here (mine 0)) refl
+    | other ↦ λ _. weakened_by (closing_here banks) (closing_here (mine 0)) other refl
   ];
   fails = λ s. cc (s.owned.isolated {a = bank} main (omega arith) refl);
 }
@@ -628,12 +537,8 @@ weakened_needed Held = record {
   at = tt;
   sound = sound_view two refl;
   others = elim [
-    | Heights ↦ λ _. heights two foreign refl
-    | Running ↦ λ _. running two foreign refl
-    | SameShape ↦ λ _. all_shapes two foreign refl
-    | SameHere ↦ λ _. all_heres two foreign refl
     | Held ↦ λ n. absurd (n refl)
-    | Joined ↦ λ _. all_joined two foreign refl
+    | other ↦ λ _. weakened_by two foreign other refl
   ];
   fails = λ s. cc (s.owned.owned (there foreign main (Register 0) nobodys refl));
 }
@@ -643,12 +548,8 @@ weakened_needed Joined = record {
   at = tt;
   sound = sound_view (same_colours 1) refl;
   others = elim [
-    | Heights ↦ λ _. heights (same_colours 1) (same_colours 2) refl
-    | Running ↦ λ _. running (same_colours 1) (same_colours 2) refl
-    | SameShape ↦ λ _. all_shapes (same_colours 1) (same_colours 2) refl
-    | SameHere ↦ λ _. all_heres (same_colours 1) (same_colours 2) refl
-    | Held ↦ λ _. all_lesser (same_colours 1) (same_colours 2) refl
     | Joined ↦ λ n. absurd (n refl)
+    | other ↦ λ _. weakened_by (same_colours 1) (same_colours 2) other refl
   ];
   fails = λ s. cc (s.owned.together (there (same_colours 2) main (Register 0) (mine 1) refl)
       (there (same_colours 2) main (Register 1) (mine 1) refl));

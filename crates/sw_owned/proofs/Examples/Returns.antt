@@ -7,7 +7,8 @@ use Rattle.sw_owned.specs.Calls.{Handed}
 use Rattle.sw_owned.specs.Sketch.{Slot, Row, Job, row_at, view_of}
 use Rattle.sw_owned.specs.Premises.{IsNeeded, IsPossible, StaysSound, ReturnedPremise, returned_says, Top, Leaves, SameShape, Held, Joined, Others, EndedPremise, ended_says, Height, Heights, Running}
 use Rattle.sw_owned.proofs.Sketches.Tests.{sound_view, holders}
-use Rattle.sw_owned.proofs.Sketches.Reading.{there, AllHold, holds_live, running, joined, for_holders, kept, kept_but, heights_but, running_but}
+use Rattle.sw_owned.proofs.Sketches.Reading.{there, AllHold, holds_live, running, for_holders}
+use Rattle.sw_owned.proofs.Sketches.Premises.{ended_by, returned_by, runs_by}
 use Rattle.sw_owned.proofs.Examples.Views.{bank, banks, mine, yours, nobodys, main, callee, task, called, free, on_bank, slot, dead, row, runs, waits}
 
 -- a caller whose second register waits, or has the result: its colour and its region
@@ -90,16 +91,9 @@ returned_possible = record {
   at = (main, 1);
   sound = sound_view (calling (Some 1)) refl;
   all = elim [
-    | Top ↦ refl
-    | Height ↦ refl
-    | Heights ↦ heights_but 0 (calling (Some 1)) (done (got 1 (mine 1))) refl
-    | Running ↦ running (calling (Some 1)) (done (got 1 (mine 1))) refl
-    | Leaves ↦ λ e. absurd (cc (e))
-    | SameShape ↦ refl
     | Held ↦ got_both (calling (Some 1)) (done (got 1 (mine 1)))
         (all_got (calling (Some 1)) refl refl refl refl)
-    | Joined ↦ joined (calling (Some 1)) (done (got 1 (mine 1))) main refl
-    | Others ↦ kept_but main (done (got 1 (mine 1))) (calling (Some 1)) (done (got 1 (mine 1))) refl
+    | other ↦ returned_by (calling (Some 1)) (done (got 1 (mine 1))) main 1 other refl
   ];
 }
 
@@ -147,22 +141,12 @@ returned_needed Top = record {
   sound = sound_view three_deep refl;
   others = elim [
     | Top ↦ λ n. absurd (n refl)
-    | Height ↦ λ _. refl
-    | Heights ↦ λ _. heights_but 0 three_deep (one_deep true) refl
-    | Running ↦ λ _. running three_deep (one_deep true) refl
-    | Leaves ↦ λ _ e. absurd (cc (e))
-    | SameShape ↦ λ _. refl
     | Held ↦ λ _. for_holders (one_deep true) main (IsGot three_deep)
         (record { first = inl (there three_deep main Here banks refl); rest = record {} })
-    | Joined ↦ λ _. joined three_deep (one_deep true) main refl
-    | Others ↦ λ _. kept_but main (one_deep true) three_deep (one_deep true) refl
+    | other ↦ λ _. returned_by three_deep (one_deep true) main 1 other refl
   ];
-  fails = λ s. cc (s.owned.exclusive {p = main} {q = task} {a = bank}
-      (record { running = refl; top = refl; executor = refl }) (record {
-        running = refl;
-        top = refl;
-        executor = refl;
-      }));
+  fails = λ s. cc (s.owned.exclusive (runs_by (one_deep true) main bank refl)
+      (runs_by (one_deep true) task bank refl));
 }
 returned_needed Height = record {
   old = view_of (freeing (dead 5));
@@ -170,16 +154,9 @@ returned_needed Height = record {
   at = (main, 1);
   sound = sound_view (freeing (dead 5)) refl;
   others = elim [
-    | Top ↦ λ _. refl
     | Height ↦ λ n. absurd (n refl)
-    | Heights ↦ λ _. heights_but 0 (freeing (dead 5)) (freeing (slot 5 (mine 3 ∷ []))) refl
-    | Running ↦ λ _. running (freeing (dead 5)) (freeing (slot 5 (mine 3 ∷ []))) refl
-    | Leaves ↦ λ _ e. absurd (cc (e))
-    | SameShape ↦ λ _. refl
     | Held ↦ λ _. freed
-    | Joined ↦ λ _. joined (freeing (dead 5)) (freeing (slot 5 (mine 3 ∷ []))) main refl
-    | Others ↦ λ _. kept_but main (freeing (slot 5 (mine 3 ∷ []))) (freeing (dead 5))
-        (freeing (slot 5 (mine 3 ∷ []))) refl
+    | other ↦ λ _. returned_by (freeing (dead 5)) (freeing (slot 5 (mine 3 ∷ []))) main 1 other refl
   ];
   fails = λ s. cc (s.owned.apart {p = main} {q = callee} {x = Register 1} {y = Register 0}
       (refl, omega arith) (there (freeing (slot 5 (mine 3 ∷ []))) main (Register 1) (mine 3) refl)
@@ -191,28 +168,15 @@ returned_needed Heights = record {
   at = (main, 1);
   sound = sound_view (before_return (bank_job true (row free (yours 0) [] ∷ []))) refl;
   others = elim [
-    | Top ↦ λ _. refl
-    | Height ↦ λ _. refl
     | Heights ↦ λ n. absurd (n refl)
-    | Running ↦ λ _. running (before_return (bank_job true (row free (yours 0) [] ∷ [])))
-        (after_return (bank_job true [])) refl
-    | Leaves ↦ λ _ e. absurd (cc (e))
-    | SameShape ↦ λ _. refl
     | Held ↦ λ _. got_both (before_return (bank_job true (row free (yours 0) [] ∷ [])))
         (after_return (bank_job true []))
         (all_got (before_return (bank_job true (row free (yours 0) [] ∷ []))) refl refl refl refl)
-    | Joined ↦ λ _. joined (before_return (bank_job true (row free (yours 0) [] ∷ [])))
-        (after_return (bank_job true [])) main refl
-    | Others ↦ λ _. kept_but main (after_return (bank_job true []))
-        (before_return (bank_job true (row free (yours 0) [] ∷ [])))
-        (after_return (bank_job true [])) refl
+    | other ↦ λ _. returned_by (before_return (bank_job true (row free (yours 0) [] ∷ [])))
+        (after_return (bank_job true [])) main 1 other refl
   ];
-  fails = λ s. cc (s.owned.exclusive {p = task} {q = record { job = 2; depth = 0 }} {a = bank}
-      (record { running = refl; top = refl; executor = refl }) (record {
-        running = refl;
-        top = refl;
-        executor = refl;
-      }));
+  fails = λ s. cc (s.owned.exclusive (runs_by (after_return (bank_job true [])) task bank refl)
+      (runs_by (after_return (bank_job true [])) (record { job = 2; depth = 0 }) bank refl));
 }
 returned_needed Running = record {
   old = view_of (before_return (bank_job false []));
@@ -220,26 +184,14 @@ returned_needed Running = record {
   at = (main, 1);
   sound = sound_view (before_return (bank_job false [])) refl;
   others = elim [
-    | Top ↦ λ _. refl
-    | Height ↦ λ _. refl
-    | Heights ↦ λ _. heights_but 0 (before_return (bank_job false []))
-        (after_return (bank_job true [])) refl
     | Running ↦ λ n. absurd (n refl)
-    | Leaves ↦ λ _ e. absurd (cc (e))
-    | SameShape ↦ λ _. refl
     | Held ↦ λ _. got_both (before_return (bank_job false [])) (after_return (bank_job true []))
         (all_got (before_return (bank_job false [])) refl refl refl refl)
-    | Joined ↦ λ _. joined (before_return (bank_job false [])) (after_return (bank_job true []))
-        main refl
-    | Others ↦ λ _. kept_but main (after_return (bank_job true []))
-        (before_return (bank_job false [])) (after_return (bank_job true [])) refl
+    | other ↦ λ _. returned_by (before_return (bank_job false []))
+        (after_return (bank_job true [])) main 1 other refl
   ];
-  fails = λ s. cc (s.owned.exclusive {p = task} {q = record { job = 2; depth = 0 }} {a = bank}
-      (record { running = refl; top = refl; executor = refl }) (record {
-        running = refl;
-        top = refl;
-        executor = refl;
-      }));
+  fails = λ s. cc (s.owned.exclusive (runs_by (after_return (bank_job true [])) task bank refl)
+      (runs_by (after_return (bank_job true [])) (record { job = 2; depth = 0 }) bank refl));
 }
 returned_needed Leaves = record {
   old = view_of two_deep;
@@ -247,23 +199,13 @@ returned_needed Leaves = record {
   at = (main, 1);
   sound = sound_view two_deep refl;
   others = elim [
-    | Top ↦ λ _. refl
-    | Height ↦ λ _. refl
-    | Heights ↦ λ _. heights_but 0 two_deep (one_deep true) refl
-    | Running ↦ λ _. running two_deep (one_deep true) refl
     | Leaves ↦ λ n. absurd (n refl)
-    | SameShape ↦ λ _. refl
     | Held ↦ λ _. for_holders (one_deep true) main (IsGot two_deep)
         (record { first = inl (there two_deep main Here banks refl); rest = record {} })
-    | Joined ↦ λ _. joined two_deep (one_deep true) main refl
-    | Others ↦ λ _. kept_but main (one_deep true) two_deep (one_deep true) refl
+    | other ↦ λ _. returned_by two_deep (one_deep true) main 1 other refl
   ];
-  fails = λ s. cc (s.owned.exclusive {p = main} {q = task} {a = bank}
-      (record { running = refl; top = refl; executor = refl }) (record {
-        running = refl;
-        top = refl;
-        executor = refl;
-      }));
+  fails = λ s. cc (s.owned.exclusive (runs_by (one_deep true) main bank refl)
+      (runs_by (one_deep true) task bank refl));
 }
 returned_needed SameShape = record {
   old = view_of (calling (Some 1));
@@ -271,16 +213,10 @@ returned_needed SameShape = record {
   at = (main, 1);
   sound = sound_view (calling (Some 1)) refl;
   others = elim [
-    | Top ↦ λ _. refl
-    | Height ↦ λ _. refl
-    | Heights ↦ λ _. heights_but 0 (calling (Some 1)) (done reshaped) refl
-    | Running ↦ λ _. running (calling (Some 1)) (done reshaped) refl
-    | Leaves ↦ λ _ e. absurd (cc (e))
     | SameShape ↦ λ n. absurd (n refl)
     | Held ↦ λ _. got_both (calling (Some 1)) (done reshaped)
         (all_got (calling (Some 1)) refl refl refl refl)
-    | Joined ↦ λ _. joined (calling (Some 1)) (done reshaped) main refl
-    | Others ↦ λ _. kept_but main (done reshaped) (calling (Some 1)) (done reshaped) refl
+    | other ↦ λ _. returned_by (calling (Some 1)) (done reshaped) main 1 other refl
   ];
   fails = λ s. cc (s.owned.isolated {a = bank} main (omega arith) refl);
 }
@@ -290,15 +226,8 @@ returned_needed Held = record {
   at = (main, 1);
   sound = sound_view calling_apart refl;
   others = elim [
-    | Top ↦ λ _. refl
-    | Height ↦ λ _. refl
-    | Heights ↦ λ _. heights_but 0 calling_apart (done (got 5 (mine 1))) refl
-    | Running ↦ λ _. running calling_apart (done (got 5 (mine 1))) refl
-    | Leaves ↦ λ _ e. absurd (cc (e))
-    | SameShape ↦ λ _. refl
     | Held ↦ λ n. absurd (n refl)
-    | Joined ↦ λ _. joined calling_apart (done (got 5 (mine 1))) main refl
-    | Others ↦ λ _. kept_but main (done (got 5 (mine 1))) calling_apart (done (got 5 (mine 1))) refl
+    | other ↦ λ _. returned_by calling_apart (done (got 5 (mine 1))) main 1 other refl
   ];
   fails = λ s. cc (s.owned.together (there (done (got 5 (mine 1))) main (Register 0) (mine 1) refl)
       (there (done (got 5 (mine 1))) main (Register 1) (mine 1) refl));
@@ -309,17 +238,10 @@ returned_needed Joined = record {
   at = (main, 1);
   sound = sound_view (calling (Some 1)) refl;
   others = elim [
-    | Top ↦ λ _. refl
-    | Height ↦ λ _. refl
-    | Heights ↦ λ _. heights_but 0 (calling (Some 1)) (done (got 2 (mine 1))) refl
-    | Running ↦ λ _. running (calling (Some 1)) (done (got 2 (mine 1))) refl
-    | Leaves ↦ λ _ e. absurd (cc (e))
-    | SameShape ↦ λ _. refl
+    | Joined ↦ λ n. absurd (n refl)
     | Held ↦ λ _. got_both (calling (Some 1)) (done (got 2 (mine 1)))
         (all_got (calling (Some 1)) refl refl refl refl)
-    | Joined ↦ λ n. absurd (n refl)
-    | Others ↦ λ _. kept_but main (done (got 2 (mine 1))) (calling (Some 1)) (done (got 2 (mine 1)))
-        refl
+    | other ↦ λ _. returned_by (calling (Some 1)) (done (got 2 (mine 1))) main 1 other refl
   ];
   fails = λ s. cc (s.owned.together (there (done (got 2 (mine 1))) main (Register 0) (mine 1) refl)
       (there (done (got 2 (mine 1))) main (Register 1) (mine 1) refl));
@@ -330,16 +252,11 @@ returned_needed Others = record {
   at = (main, 1);
   sound = sound_view (calling (Some 1)) refl;
   others = elim [
-    | Top ↦ λ _. refl
-    | Height ↦ λ _. refl
-    | Heights ↦ λ _. heights_but 0 (calling (Some 1)) (with_task (got 1 (mine 1) ∷ []) nobodys) refl
-    | Running ↦ λ _. running (calling (Some 1)) (with_task (got 1 (mine 1) ∷ []) nobodys) refl
-    | Leaves ↦ λ _ e. absurd (cc (e))
-    | SameShape ↦ λ _. refl
+    | Others ↦ λ n. absurd (n refl)
     | Held ↦ λ _. got_both (calling (Some 1)) (with_task (got 1 (mine 1) ∷ []) nobodys)
         (all_got (calling (Some 1)) refl refl refl refl)
-    | Joined ↦ λ _. joined (calling (Some 1)) (with_task (got 1 (mine 1) ∷ []) nobodys) main refl
-    | Others ↦ λ n. absurd (n refl)
+    | other ↦ λ _. returned_by (calling (Some 1)) (with_task (got 1 (mine 1) ∷ []) nobodys) main 1
+        other refl
   ];
   fails = λ s. cc (s.owned.owned (there (with_task (got 1 (mine 1) ∷ []) nobodys) task Here nobodys
       refl));
@@ -369,10 +286,8 @@ ended_possible = record {
   at = 0;
   sound = sound_view ending refl;
   all = elim [
-    | Height ↦ refl
-    | Heights ↦ heights_but 0 ending (ended_beside false banks) refl
-    | Running ↦ running_but 0 ending (ended_beside false banks) refl
-    | Others ↦ kept (ended_beside false banks) ending (ended_beside false banks) refl
+    | Height ↦ ended_by ending (ended_beside false banks) 0 Height refl
+    | other ↦ ended_by ending (ended_beside false banks) 0 other refl
   ];
 }
 
@@ -384,16 +299,10 @@ ended_needed Height = record {
   sound = sound_view (before_end false) refl;
   others = elim [
     | Height ↦ λ n. absurd (n refl)
-    | Heights ↦ λ _. heights_but 0 (before_end false) (before_end true) refl
-    | Running ↦ λ _. running_but 0 (before_end false) (before_end true) refl
-    | Others ↦ λ _. kept (before_end true) (before_end false) (before_end true) refl
+    | other ↦ λ _. ended_by (before_end false) (before_end true) 0 other refl
   ];
-  fails = λ s. cc (s.owned.exclusive {p = main} {q = task} {a = bank}
-      (record { running = refl; top = refl; executor = refl }) (record {
-        running = refl;
-        top = refl;
-        executor = refl;
-      }));
+  fails = λ s. cc (s.owned.exclusive (runs_by (before_end true) main bank refl)
+      (runs_by (before_end true) task bank refl));
 }
 ended_needed Heights = record {
   old = view_of (deep_beside (row free (mine 0) [] ∷ [])
@@ -403,23 +312,15 @@ ended_needed Heights = record {
   sound = sound_view (deep_beside (row free (mine 0) [] ∷ [])
       (row on_bank banks [] ∷ row free (yours 0) [] ∷ [])) refl;
   others = elim [
-    | Height ↦ λ _. refl
     | Heights ↦ λ n. absurd (n refl)
-    | Running ↦ λ _. running_but 0
-        (deep_beside (row free (mine 0) [] ∷ [])
+    | other ↦ λ _. ended_by (deep_beside (row free (mine 0) [] ∷ [])
         (row on_bank banks [] ∷ row free (yours 0) [] ∷ []))
-        (deep_beside [] (row on_bank banks [] ∷ [])) refl
-    | Others ↦ λ _. kept (deep_beside [] (row on_bank banks [] ∷ []))
-        (deep_beside (row free (mine 0) [] ∷ [])
-        (row on_bank banks [] ∷ row free (yours 0) [] ∷ []))
-        (deep_beside [] (row on_bank banks [] ∷ [])) refl
+        (deep_beside [] (row on_bank banks [] ∷ [])) 0 other refl
   ];
-  fails = λ s. cc (s.owned.exclusive {p = task} {q = record { job = 2; depth = 0 }} {a = bank}
-      (record { running = refl; top = refl; executor = refl }) (record {
-        running = refl;
-        top = refl;
-        executor = refl;
-      }));
+  fails = λ s. cc (s.owned.exclusive
+      (runs_by (deep_beside [] (row on_bank banks [] ∷ [])) task bank refl)
+      (runs_by (deep_beside [] (row on_bank banks [] ∷ [])) (record { job = 2; depth = 0 }) bank
+      refl));
 }
 ended_needed Running = record {
   old = view_of ending;
@@ -427,17 +328,11 @@ ended_needed Running = record {
   at = 0;
   sound = sound_view ending refl;
   others = elim [
-    | Height ↦ λ _. refl
-    | Heights ↦ λ _. heights_but 0 ending (ended_beside true banks) refl
     | Running ↦ λ n. absurd (n refl)
-    | Others ↦ λ _. kept (ended_beside true banks) ending (ended_beside true banks) refl
+    | other ↦ λ _. ended_by ending (ended_beside true banks) 0 other refl
   ];
-  fails = λ s. cc (s.owned.exclusive {p = task} {q = record { job = 2; depth = 0 }} {a = bank}
-      (record { running = refl; top = refl; executor = refl }) (record {
-        running = refl;
-        top = refl;
-        executor = refl;
-      }));
+  fails = λ s. cc (s.owned.exclusive (runs_by (ended_beside true banks) task bank refl)
+      (runs_by (ended_beside true banks) (record { job = 2; depth = 0 }) bank refl));
 }
 ended_needed Others = record {
   old = view_of ending;
@@ -445,10 +340,8 @@ ended_needed Others = record {
   at = 0;
   sound = sound_view ending refl;
   others = elim [
-    | Height ↦ λ _. refl
-    | Heights ↦ λ _. heights_but 0 ending (ended_beside false nobodys) refl
-    | Running ↦ λ _. running_but 0 ending (ended_beside false nobodys) refl
     | Others ↦ λ n. absurd (n refl)
+    | other ↦ λ _. ended_by ending (ended_beside false nobodys) 0 other refl
   ];
   fails = λ s. cc (s.owned.owned (there (ended_beside false nobodys) task Here nobodys refl));
 }

@@ -13,6 +13,7 @@ use Rattle.sw_owned.proofs.Sketches.Tests.{sound_view, owned_view, stacked_view,
 use Rattle.sw_owned.proofs.Sketches.Reading.{there, joined, for_holders, held_by, kept_but}
 use Rattle.sw_owned.proofs.Sketches.Moves.{popped, same_jobs, recoloured}
 use Rattle.sw_owned.proofs.MergedLemmas.{others_stay}
+use Rattle.sw_owned.proofs.Sketches.Premises.{runs_by}
 use Rattle.sw_owned.proofs.Examples.Views.{bank, banks, mine, yours, main, callee, task, called, free, on_bank, slot, dead, row, runs, waits}
 
 -- `let z = Cell(); let a = Cell(); let r = pick(a)`, where `pick` has z in its register
@@ -139,11 +140,8 @@ without_stack_shape = (
   returns_view misplaced refl,
   initialisers_view misplaced refl,
   misplaced_returns,
-  λ o. cc (o.exclusive {p = main} {q = task} {a = bank} (record {
-    running = refl;
-    top = refl;
-    executor = refl;
-  }) (record { running = refl; top = refl; executor = refl })),
+  λ o. cc (o.exclusive (runs_by two_run main bank refl)
+      (runs_by two_run task bank refl)),
 )
 
 -- ---- a nonisolated function waits on the bank, while another job runs there and gives the bank
@@ -177,7 +175,7 @@ caller_waits = (
   1,
   sound_view (waiting_caller (yours 1) 1) refl,
   record { frame = omega arith; isolation = refl; executor = refl; stopped = refl },
-  record { running = refl; top = refl; executor = refl },
+  runs_by (waiting_caller (yours 1) 1) task bank refl,
   bank_merges,
   others_stay (view_of (waiting_caller (yours 1) 1)) (view_of (waiting_caller banks 0)) task
       (Register 0) Here 1 banks (sound_view (waiting_caller (yours 1) 1) refl)

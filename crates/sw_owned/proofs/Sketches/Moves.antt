@@ -110,7 +110,8 @@ abbrev pub recoloured_test : List Job → List Job → Colour → Colour → Boo
 recoloured_test old new lost kept = (same_heights old new && fewer_run old new) && each_frame new
     (turned_frame old new lost kept)
 
-pub any_in : (test : Element × Colour → Bool) (hs : List (Element × Colour)) → list_any test hs ≡ true
+pub any_in : (test : Element × Colour → Bool) (hs : List (Element × Colour))
+    → list_any test hs ≡ true
     → (h : Element × Colour) × (test h ≡ true)
 any_in test [] e = absurd (cc (e))
 any_in test (h ∷ hs) e = elim (or_cases (test h) (list_any test hs) e) [

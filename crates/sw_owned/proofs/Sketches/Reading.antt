@@ -147,7 +147,8 @@ kept_but q frames old new e p f n = elim
     ]
 
 -- ---- numbers of frames, and who runs
-pub item_beyond : {A : Type 0} (none : A) (xs : List A) (n : ℕ) → length xs ≤ n → item none xs n ≡ none
+pub item_beyond : {A : Type 0} (none : A) (xs : List A) (n : ℕ) → length xs ≤ n
+    → item none xs n ≡ none
 item_beyond none [] n le = refl
 item_beyond none (x ∷ xs) zero le = absurd (omega arith)
 item_beyond none (x ∷ xs) (suc n) le = item_beyond none xs n (omega arith)
