@@ -1,5 +1,5 @@
 -- What the exit of a reply says.
-use Rattle.std.proofs.Common.{◌≡◌, ◌≢◌, ℕ, ◌≤◌, inl, inr, List, [], length, Option, Some, None}
+use Rattle.std.proofs.Common.{◌≡◌, ◌≢◌, ℕ, ◌<◌, ◌≤◌, inl, inr, List, [], length, Option, Some, None}
 use Rattle.std.proofs.Common.{Result, Ok, Err, refl, sym, ap, ◌∙◌, subst, arith}
 use Rattle.sw_graph.specs.declared.graph.Graph.{Graph}
 use Rattle.sw_value.proofs.NeverRaces.{never_races}
@@ -7,7 +7,8 @@ use Rattle.sw_value.specs.Reach.{reach}
 use Rattle.sw_replay.specs.declared.text.TheConstants.{SCHEDULE_LIMIT}
 use Rattle.sw_replay.specs.declared.output.End.{End}
 use Rattle.sw_replay.specs.declared.output.End.TheVariants as ends
-use Rattle.sw_replay.specs.Items.{IsItems}
+use Rattle.sw_replay.specs.Items.{IsItems, IsFirstFault}
+use Rattle.sw_replay.specs.declared.text.SchedFault.{SchedFault}
 use Rattle.sw_replay.proofs.ScheduleLaws.{one_list as one_items}
 use Rattle.sw_course.specs.declared.TheConstants.{PROGRAM_LIMIT}
 use Rattle.sw_course.specs.declared.exit.Exit.{Exit}
@@ -15,13 +16,15 @@ use Rattle.sw_course.specs.declared.exit.Exit.TheVariants.{Done, Breached, Usage
 use Rattle.sw_course.specs.declared.exit.Exit.TheVariants.{NotWritten, Memory, Trapped, BadSchedule}
 use Rattle.sw_course.specs.declared.exit.Exit.TheVariants.{Raced}
 use Rattle.sw_course.specs.declared.outcome.Outcome.{Outcome}
-use Rattle.sw_course.specs.Course.{Read, AreOf, Ended, Part, Alone, Fetched, ◌>>=◌}
+use Rattle.sw_course.specs.Course.{Read, AreOf, Ended, Part, Alone, ◌>>=◌}
 use Rattle.sw_course.proofs.Inversions.{EndsAfterFetch, too_long, fetched, after_fetch}
 use Rattle.sw_course.proofs.Inversions.{EndsAfterRule, refuses, gives, after_rule, by_rule}
 use Rattle.sw_verdict.specs.Phases.{all_phases}
 use Rattle.sw_verdict.specs.Verdict.{Breaches, Accepts, Refuses, IsGraphOf}
 use Rattle.sw_verdict.proofs.Verdicts.{never_both, some_graph_of, one_graph_of, graph_runs}
-use Rattle.sw_check.specs.Claims.{NeverRaces, EndsSo, Passes, Says, SaysOf, phases_of, program_of}
+use Rattle.sw_check.specs.Claims.{NeverRaces, EndsSo, Ends, Passes, Says, SaysOf, phases_of}
+use Rattle.sw_check.specs.Claims.{program_of, ScheduleIsBad, SecondIsLong}
+use Rattle.sw_check.proofs.Pieces.{program_then, replay_by}
 use Rattle.sw_replay.specs.Replay.{IsReplay}
 use Rattle.sw_check.specs.Reply.{usage, accepted, end_outcome, Answers, Judged, passes, breached}
 use Rattle.sw_check.specs.Reply.{Scheduled, has_items, has_fault, Replayed, ends, course_of, Reply}
@@ -34,133 +37,130 @@ abbrev outcome_of : Result Outcome Outcome → Outcome
 outcome_of (Ok outcome) = outcome
 outcome_of (Err outcome) = outcome
 
-answers_exit : (outcome : Outcome) (result : Result Outcome Outcome) → Answers outcome result
-    → outcome_of result ≡ outcome
-answers_exit outcome result is = ap outcome_of is
+module _ (files : List ℕ → List ℕ) (command : Command) where
+  -- what is said of a result
+  abbrev SaysSo : Result Outcome Outcome → Type 0
+  SaysSo result = SaysOf files command (outcome_of result).exit
 
--- `check` after its program is fetched
-says_judged : (files : List ℕ → List ℕ) (file : List ℕ) (reads : List Read)
-    (result : Result Outcome Outcome) → length (files file) ≤ PROGRAM_LIMIT
-    → EndsAfterRule (Judged all_phases (files file))
-    (λ graph. Alone (Answers accepted)) reads result
-    → Says files (Some (Check file)) (outcome_of result).exit
-says_judged files file reads _ short (refuses _ (breached list judges)) = (list, judges.0, judges.1)
-says_judged files file reads _ short (gives _ result (passes graph judges) ended) =
-    let end = answers_exit accepted result (by_rule (Answers accepted) reads result ended) in
-    subst (λ outcome. Says files (Some (Check file)) outcome.exit) (sym end)
-    (record { short = short; no_breach = judges.0 }, refl)
+  -- A command that begins with its program: it is too long, or refused, or the rest ended.
+  module _ (file : List ℕ) (is : program_of files command ≡ files file)
+      (rest : List ℕ → Graph → Part Outcome)
+      (goes_on : (graph : Graph) (reads : List Read) (result : Result Outcome Outcome)
+      → AreOf files reads → Passes files command → IsGraphOf (files file) graph
+      → rest (files file) graph reads (Ended result) → SaysSo result) where
+    says_judged : (reads : List Read) (result : Result Outcome Outcome) → AreOf files reads
+        → length (files file) ≤ PROGRAM_LIMIT
+        → EndsAfterRule (Judged (phases_of command) (files file)) (rest (files file)) reads result
+        → SaysSo result
+    says_judged reads _ of_files short (refuses _ (breached list judges)) =
+        (list, judges.0, subst (λ text. Breaches (phases_of command) text list) (sym is) judges.1)
+    says_judged reads _ of_files short (gives _ result (passes graph judges) ended) =
+        goes_on graph reads result of_files
+        (record {
+          short = subst (λ text. length text ≤ PROGRAM_LIMIT) (sym is) short;
+          no_breach = subst (λ text. Breaches (phases_of command) text []) (sym is) judges.0;
+        })
+        judges.1 ended
 
-says_check : (files : List ℕ → List ℕ) (file : List ℕ) (result : Result Outcome Outcome)
-    → EndsAfterFetch files file PROGRAM_LIMIT
-    (λ text. Alone (Judged all_phases text) >>= (λ graph. Alone (Answers accepted))) result
-    → Says files (Some (Check file)) (outcome_of result).exit
-says_check files file _ (too_long long) = inl long
-says_check files file _ (fetched others result short of_files ended) =
-    says_judged files file others result short
-    (after_rule (Judged all_phases (files file))
-    (λ graph. Alone (Answers accepted)) others result ended)
+    says_fetched : (result : Result Outcome Outcome)
+        → EndsAfterFetch files file PROGRAM_LIMIT
+        (λ text. Alone (Judged (phases_of command) text) >>= rest text) result → SaysSo result
+    says_fetched _ (too_long long) =
+        inl (subst (λ text. PROGRAM_LIMIT < length text) (sym is) long)
+    says_fetched _ (fetched others result short of_files ended) =
+        says_judged others result of_files short
+        (after_rule (Judged (phases_of command) (files file)) (rest (files file)) others result
+        ended)
 
--- `run` at its end
-says_end : (files : List ℕ → List ℕ) (file schedule_file : List ℕ) (graph : Graph) (items : List ℕ)
-    (lines : List ℕ) (ended jobs : ℕ) (end : End) → Passes files (Run file schedule_file)
-    → EndsSo end (files file) (files schedule_file)
-    → Says files (Some (Run file schedule_file))
-    (end_outcome (files file) lines ended jobs end).exit
-says_end files file schedule_file graph items lines ended jobs ends.Ran whole so = (whole, so)
-says_end files file schedule_file graph items lines ended jobs (ends.Trapped kind at) whole so =
-    (whole, kind, at, so)
-says_end files file schedule_file graph items lines ended jobs (ends.Raced race) whole so =
-    (whole, race, so)
+    says_program : (reads : List Read) (result : Result Outcome Outcome) → AreOf files reads
+        → program_then (phases_of command) file rest reads (Ended result) → SaysSo result
+    says_program reads result of_files ended =
+        says_fetched result
+        (after_fetch files file PROGRAM_LIMIT
+        (λ text. Alone (Judged (phases_of command) text) >>= rest text) reads result of_files ended)
 
-says_replayed : (files : List ℕ → List ℕ) (file schedule_file : List ℕ) (graph : Graph)
-    (items : List ℕ) (result : Result Outcome Outcome) → Passes files (Run file schedule_file)
-    → IsGraphOf (files file) graph → IsItems (files schedule_file) items
-    → Replayed (files file) graph items result
-    → Says files (Some (Run file schedule_file)) (outcome_of result).exit
-says_replayed files file schedule_file graph items _ whole of_text are (ends replay is) =
-    says_end files file schedule_file graph items replay.lines replay.ended replay.jobs replay.end
-    whole
-    (record {
-      graph = graph;
-      of_text = of_text;
-      items = items;
-      are_items = are;
-      replay =
-          replay;
-      is_replay = is;
-      ends = refl;
-    })
+  -- A command that ends with a replay of its program by a schedule.
+  module _ (text schedule_file : List ℕ) (graph : Graph) (whole : Passes files command)
+      (of_text : IsGraphOf text graph)
+      (replays : (end : End) → EndsSo end text (files schedule_file) → Ends end files command)
+      (bad : (fault : SchedFault) → IsFirstFault (files schedule_file) fault
+      → ScheduleIsBad files command)
+      (long : SCHEDULE_LIMIT < length (files schedule_file) → SecondIsLong files command) where
+    says_end : (lines : List ℕ) (ended jobs : ℕ) (end : End) → EndsSo end text (files schedule_file)
+        → SaysOf files command (end_outcome text lines ended jobs end).exit
+    says_end lines ended jobs ends.Ran so = (whole, replays ends.Ran so)
+    says_end lines ended jobs (ends.Trapped kind at) so =
+        (whole, kind, at, replays (ends.Trapped kind at) so)
+    says_end lines ended jobs (ends.Raced race) so = (whole, race, replays (ends.Raced race) so)
 
--- `run` after its schedule is fetched
-says_scheduled : (files : List ℕ → List ℕ) (file schedule_file : List ℕ) (graph : Graph)
-    (reads : List Read) (result : Result Outcome Outcome) → Passes files (Run file schedule_file)
-    → IsGraphOf (files file) graph
-    → EndsAfterRule (Scheduled (files schedule_file))
-    (λ items. Alone (Replayed (files file) graph items)) reads result
-    → Says files (Some (Run file schedule_file)) (outcome_of result).exit
-says_scheduled files file schedule_file graph reads _ whole of_text
-    (refuses _ (has_fault fault is)) = (whole, (fault, is))
-says_scheduled files file schedule_file graph reads _ whole of_text
-    (gives _ result (has_items items are) ended) =
-    says_replayed files file schedule_file graph items result whole of_text are
-    (by_rule (Replayed (files file) graph items) reads result ended)
+    says_replayed : (items : List ℕ) (result : Result Outcome Outcome)
+        → IsItems (files schedule_file) items → Replayed text graph items result → SaysSo result
+    says_replayed items _ are (ends replay is) =
+        says_end replay.lines replay.ended replay.jobs replay.end
+        (record {
+          graph = graph;
+          of_text = of_text;
+          items = items;
+          are_items = are;
+          replay = replay;
+          is_replay = is;
+          ends = refl;
+        })
 
-abbrev schedule_part : List ℕ → List ℕ → Graph → Part Outcome
-schedule_part schedule_file text graph =
-    Fetched schedule_file SCHEDULE_LIMIT >>=
-    (λ schedule. Alone (Scheduled schedule) >>= (λ items. Alone (Replayed text graph items)))
+    says_scheduled : (reads : List Read) (result : Result Outcome Outcome)
+        → EndsAfterRule (Scheduled (files schedule_file))
+        (λ items. Alone (Replayed text graph items)) reads result → SaysSo result
+    says_scheduled reads _ (refuses _ (has_fault fault is)) = (whole, bad fault is)
+    says_scheduled reads _ (gives _ result (has_items items are) ended) =
+        says_replayed items result are (by_rule (Replayed text graph items) reads result ended)
 
-says_schedule : (files : List ℕ → List ℕ) (file schedule_file : List ℕ) (graph : Graph)
-    (result : Result Outcome Outcome) → Passes files (Run file schedule_file)
-    → IsGraphOf (files file) graph
-    → EndsAfterFetch files schedule_file SCHEDULE_LIMIT
-    (λ schedule. Alone (Scheduled schedule) >>=
-    (λ items. Alone (Replayed (files file) graph items))) result
-    → Says files (Some (Run file schedule_file)) (outcome_of result).exit
-says_schedule files file schedule_file graph _ whole of_text (too_long long) = inr (whole, long)
-says_schedule files file schedule_file graph _ whole of_text
-    (fetched others result short of_files ended) =
-    says_scheduled files file schedule_file graph others result whole of_text
-    (after_rule (Scheduled (files schedule_file))
-    (λ items. Alone (Replayed (files file) graph items)) others result ended)
+    says_fetched_schedule : (result : Result Outcome Outcome)
+        → EndsAfterFetch files schedule_file SCHEDULE_LIMIT
+        (λ schedule. Alone (Scheduled schedule) >>= (λ items. Alone (Replayed text graph items)))
+        result → SaysSo result
+    says_fetched_schedule _ (too_long is_long) = inr (whole, long is_long)
+    says_fetched_schedule _ (fetched others result short of_files ended) =
+        says_scheduled others result
+        (after_rule (Scheduled (files schedule_file)) (λ items. Alone (Replayed text graph items))
+        others result ended)
 
--- `run` after its program is fetched
-says_run_judged : (files : List ℕ → List ℕ) (file schedule_file : List ℕ) (reads : List Read)
-    (result : Result Outcome Outcome) → AreOf files reads → length (files file) ≤ PROGRAM_LIMIT
-    → EndsAfterRule (Judged all_phases (files file))
-    (schedule_part schedule_file (files file)) reads result
-    → Says files (Some (Run file schedule_file)) (outcome_of result).exit
-says_run_judged files file schedule_file reads _ of_files short (refuses _ (breached list judges)) =
-    (list, judges.0, judges.1)
-says_run_judged files file schedule_file reads _ of_files short
-    (gives _ result (passes graph judges) ended) =
-    says_schedule files file schedule_file graph result
-    (record { short = short; no_breach = judges.0 }) judges.1
-    (after_fetch files schedule_file SCHEDULE_LIMIT
-    (λ schedule. Alone (Scheduled schedule) >>=
-    (λ items. Alone (Replayed (files file) graph items))) reads result of_files ended)
+    says_replay : (reads : List Read) (result : Result Outcome Outcome) → AreOf files reads
+        → replay_by schedule_file text graph reads (Ended result) → SaysSo result
+    says_replay reads result of_files ended =
+        says_fetched_schedule result
+        (after_fetch files schedule_file SCHEDULE_LIMIT
+        (λ schedule. Alone (Scheduled schedule) >>= (λ items. Alone (Replayed text graph items)))
+        reads result of_files ended)
 
-says_run : (files : List ℕ → List ℕ) (file schedule_file : List ℕ) (result : Result Outcome Outcome)
-    → EndsAfterFetch files file PROGRAM_LIMIT
-    (λ text. Alone (Judged all_phases text) >>= schedule_part schedule_file text) result
-    → Says files (Some (Run file schedule_file)) (outcome_of result).exit
-says_run files file schedule_file _ (too_long long) = inl long
-says_run files file schedule_file _ (fetched others result short of_files ended) =
-    says_run_judged files file schedule_file others result of_files short
-    (after_rule (Judged all_phases (files file))
-    (schedule_part schedule_file (files file)) others result ended)
+answers_exit : (outcome : Outcome) (reads : List Read) (result : Result Outcome Outcome)
+    → Alone (Answers outcome) reads (Ended result) → outcome_of result ≡ outcome
+answers_exit outcome reads result ended =
+    ap outcome_of (by_rule (Answers outcome) reads result ended)
+
+-- an accepted program is answered at the end
+says_accepted_at : (files : List ℕ → List ℕ) (file : List ℕ) (reads : List Read)
+    (result : Result Outcome Outcome) → Passes files (Check file)
+    → Alone (Answers accepted) reads (Ended result)
+    → SaysOf files (Check file) (outcome_of result).exit
+says_accepted_at files file reads result whole ended =
+    subst (λ outcome. SaysOf files (Check file) outcome.exit)
+    (sym (answers_exit accepted reads result ended)) (whole, refl)
 
 says : (files : List ℕ → List ℕ) (command : Option Command) (reads : List Read)
     (result : Result Outcome Outcome) → AreOf files reads → course_of command reads (Ended result)
     → Says files command (outcome_of result).exit
 says files None reads result of_files ended =
-    ap (λ o. o.exit) (answers_exit usage result (by_rule (Answers usage) reads result ended))
+    ap (λ o. o.exit) (answers_exit usage reads result ended)
 says files (Some (Check file)) reads result of_files ended =
-    says_check files file result
-    (after_fetch files file PROGRAM_LIMIT _ reads result of_files ended)
+    says_program files (Check file) file refl (λ text graph. Alone (Answers accepted))
+    (λ graph others result _ whole _. says_accepted_at files file others result whole) reads result
+    of_files ended
 says files (Some (Run file schedule_file)) reads result of_files ended =
-    says_run files file schedule_file result
-    (after_fetch files file PROGRAM_LIMIT _ reads result of_files ended)
+    says_program files (Run file schedule_file) file refl (replay_by schedule_file)
+    (λ graph others result of_files whole of_text.
+    says_replay files (Run file schedule_file) (files file) schedule_file graph whole of_text
+    (λ end so. so) (λ fault is. (fault, is)) (λ long. long) others result of_files) reads result
+    of_files ended
 
 pub reply_says : (files : List ℕ → List ℕ) (command : Option Command) (reads : List Read)
     (outcome : Outcome) → AreOf files reads → Reply command reads outcome

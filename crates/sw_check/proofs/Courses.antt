@@ -11,13 +11,13 @@ use Rattle.sw_verdict.specs.Phases.{all_phases}
 use Rattle.sw_check.specs.Reply.{usage, accepted, Answers, Judged, Scheduled, Replayed, course_of}
 use Rattle.sw_check.specs.Reply.{Reply, at_end, before_end}
 use Rattle.sw_check.specs.Words.{Command, Check, Run}
+use Rattle.sw_check.proofs.Pieces.{program_then, replay_by}
 use Rattle.sw_check.proofs.RuleLemmas.{answers_rule, judged_rule, scheduled_rule, replayed_rule}
 
 -- a program is fetched and judged, and something goes on from its text and its graph
 lawful_program : (file : List ℕ) (next : List ℕ → Graph → Part Outcome)
     → ((text : List ℕ) (graph : Graph) → IsLawful (next text graph))
-    → IsLawful (Fetched file PROGRAM_LIMIT >>=
-    (λ text. Alone (Judged all_phases text) >>= next text))
+    → IsLawful (program_then all_phases file next)
 lawful_program file next each =
     lawful_then (Fetched file PROGRAM_LIMIT) (λ text. Alone (Judged all_phases text) >>= next text)
     (lawful_fetched file PROGRAM_LIMIT)
@@ -26,8 +26,7 @@ lawful_program file next each =
 
 -- a schedule is fetched, and its items replay a graph
 lawful_replay : (file text : List ℕ) (graph : Graph)
-    → IsLawful (Fetched file SCHEDULE_LIMIT >>=
-    (λ schedule. Alone (Scheduled schedule) >>= (λ items. Alone (Replayed text graph items))))
+    → IsLawful (replay_by file text graph)
 lawful_replay file text graph =
     lawful_then (Fetched file SCHEDULE_LIMIT)
     (λ schedule. Alone (Scheduled schedule) >>= (λ items. Alone (Replayed text graph items)))

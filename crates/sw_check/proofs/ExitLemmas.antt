@@ -18,7 +18,7 @@ use Rattle.sw_course.specs.declared.TheConstants.{PROGRAM_LIMIT}
 use Rattle.sw_course.specs.declared.exit.Exit.{Exit}
 use Rattle.sw_course.specs.declared.exit.Exit.TheVariants as exits
 use Rattle.sw_course.specs.declared.outcome.Outcome.{Outcome}
-use Rattle.sw_course.specs.Course.{Read, Ended, Alone, Fetched, too_long_file}
+use Rattle.sw_course.specs.Course.{Read, Ended, Part, Alone, Fetched, too_long_file}
 use Rattle.sw_course.specs.Exit.{IsOneOf, is_failure, is_silent}
 use Rattle.sw_course.specs.Lawful.{RefusesBy}
 use Rattle.sw_course.specs.Written.{Appended}
@@ -30,6 +30,7 @@ use Rattle.sw_check.specs.Reply.{usage, accepted, end_outcome, Answers, Judged, 
 use Rattle.sw_check.specs.Reply.{Scheduled, has_fault, Replayed, ends, course_of, Reply, at_end}
 use Rattle.sw_check.specs.Reply.{before_end, exits_of}
 use Rattle.sw_check.specs.Words.{Command, Check, Run}
+use Rattle.sw_check.proofs.Pieces.{program_then, replay_by}
 
 -- a reply that has one of these exits: it reports no failure, and nothing is written where the exit
 -- says so
@@ -68,27 +69,39 @@ replayed_nothing_else : (Q : Outcome → Type 0) (text : List ℕ) (graph : Grap
     (other : Outcome) → Replayed text graph items (Err other) → Q other
 replayed_nothing_else Q text graph items other is = elim is [ ]
 
+-- a program that is fetched and judged, and the rest
+program_refusals : (among : List Exit) (phases : List Phase) (file : List ℕ)
+    (rest : List ℕ → Graph → Part Outcome) → IsOneOf among exits.TooLong
+    → IsOneOf among exits.Breached
+    → ((text : List ℕ) (graph : Graph) → RefusesBy (HasExit among) (rest text graph))
+    → RefusesBy (HasExit among) (program_then phases file rest)
+program_refusals among phases file rest long refused others =
+    refuses_then (HasExit among) (Fetched file PROGRAM_LIMIT) _
+    (refuses_fetched (HasExit among) file PROGRAM_LIMIT (too_long_exit among long))
+    (λ text. refuses_then (HasExit among) (Alone (Judged phases text)) (rest text)
+    (refuses_alone (HasExit among) (Judged phases text) (judged_exit among phases text refused))
+    (others text))
+
+-- a schedule that is fetched, and its replay
+replay_refusals : (among : List Exit) (file text : List ℕ) (graph : Graph)
+    → IsOneOf among exits.TooLong → IsOneOf among exits.BadSchedule
+    → RefusesBy (HasExit among) (replay_by file text graph)
+replay_refusals among file text graph long bad =
+    refuses_then (HasExit among) (Fetched file SCHEDULE_LIMIT) _
+    (refuses_fetched (HasExit among) file SCHEDULE_LIMIT (too_long_exit among long))
+    (λ schedule. refuses_then (HasExit among) (Alone (Scheduled schedule)) _
+    (refuses_alone (HasExit among) (Scheduled schedule) (scheduled_exit among schedule bad))
+    (λ items. refuses_alone (HasExit among) (Replayed text graph items)
+    (replayed_nothing_else (HasExit among) text graph items)))
+
 refusals : (command : Option Command) → RefusesBy (HasExit (exits_of command)) (course_of command)
 refusals None = refuses_alone _ (Answers usage) (answers_nothing_else _ usage)
 refusals (Some (Check file)) =
-    let Q = HasExit (exits_of (Some (Check file))) in
-    refuses_then Q (Fetched file PROGRAM_LIMIT) _
-    (refuses_fetched Q file PROGRAM_LIMIT (too_long_exit _ (inl refl)))
-    (λ text. refuses_then Q (Alone (Judged all_phases text)) _
-    (refuses_alone Q (Judged all_phases text) (judged_exit _ all_phases text (inr (inl refl))))
-    (λ graph. refuses_alone Q (Answers accepted) (answers_nothing_else Q accepted)))
+    program_refusals _ all_phases file _ (inl refl) (inr (inl refl))
+    (λ text graph. refuses_alone _ (Answers accepted) (answers_nothing_else _ accepted))
 refusals (Some (Run file schedule_file)) =
-    let Q = HasExit (exits_of (Some (Run file schedule_file))) in
-    refuses_then Q (Fetched file PROGRAM_LIMIT) _
-    (refuses_fetched Q file PROGRAM_LIMIT (too_long_exit _ (inl refl)))
-    (λ text. refuses_then Q (Alone (Judged all_phases text)) _
-    (refuses_alone Q (Judged all_phases text) (judged_exit _ all_phases text (inr (inl refl))))
-    (λ graph. refuses_then Q (Fetched schedule_file SCHEDULE_LIMIT) _
-    (refuses_fetched Q schedule_file SCHEDULE_LIMIT (too_long_exit _ (inl refl)))
-    (λ schedule. refuses_then Q (Alone (Scheduled schedule)) _
-    (refuses_alone Q (Scheduled schedule) (scheduled_exit _ schedule (inr (inr (inl refl)))))
-    (λ items. refuses_alone Q (Replayed text graph items)
-    (replayed_nothing_else Q text graph items)))))
+    program_refusals _ all_phases file _ (inl refl) (inr (inl refl))
+    (λ text graph. replay_refusals _ schedule_file text graph (inl refl) (inr (inr (inl refl))))
 
 -- the replies at the end
 answers_end : (among : List Exit) (outcome other : Outcome) → HasEndExit among outcome
@@ -126,29 +139,40 @@ replayed_end among text graph items runs done trapped _ (ends replay is) = by re
   by (Trapped kind at) e = record { exit = trapped; plain = refl; speaks = refl }
   by (Raced race) e = absurd (never_raced graph items replay runs is race e)
 
+program_ends : (among : List Exit) (phases : List Phase) (file : List ℕ)
+    (rest : List ℕ → Graph → Part Outcome)
+    → ((text : List ℕ) (graph : Graph) → IsRunnable graph
+    → EndsBy (HasEndExit among) (rest text graph))
+    → EndsBy (HasEndExit among) (program_then phases file rest)
+program_ends among phases file rest others =
+    ends_then (HasEndExit among) (Fetched file PROGRAM_LIMIT) _
+    (λ read text fetched. ends_then (HasEndExit among) (Alone (Judged phases text)) (rest text)
+    (λ none graph judged. others text graph
+    (judged_runs phases text graph (within_limit file PROGRAM_LIMIT read text fetched)
+    (by_rule (Judged phases text) none (Ok graph) judged))))
+
+replay_ends : (among : List Exit) (file text : List ℕ) (graph : Graph) → IsRunnable graph
+    → IsOneOf among exits.Done → IsOneOf among exits.Trapped
+    → EndsBy (HasEndExit among) (replay_by file text graph)
+replay_ends among file text graph runs done trapped =
+    ends_then (HasEndExit among) (Fetched file SCHEDULE_LIMIT) _
+    (λ _ schedule _. ends_then (HasEndExit among) (Alone (Scheduled schedule)) _
+    (λ _ items _. ends_alone (HasEndExit among) (Replayed text graph items)
+    (replayed_end among text graph items runs done trapped)))
+
 at_ends : (command : Option Command) → EndsBy (HasEndExit (exits_of command)) (course_of command)
 at_ends None = ends_alone _ (Answers usage)
     (λ outcome is. answers_end _ usage outcome
     (record { exit = inl refl; plain = refl; speaks = refl }) is)
 at_ends (Some (Check file)) =
-    let Q = HasEndExit (exits_of (Some (Check file))) in
-    ends_then Q (Fetched file PROGRAM_LIMIT) _
-    (λ _ text _. ends_then Q (Alone (Judged all_phases text)) _
-    (λ _ graph _. ends_alone Q (Answers accepted)
+    program_ends _ all_phases file _
+    (λ text graph _. ends_alone _ (Answers accepted)
     (λ outcome is. answers_end _ accepted outcome
-    (record { exit = inr (inr (inl refl)); plain = refl; speaks = refl }) is)))
+    (record { exit = inr (inr (inl refl)); plain = refl; speaks = refl }) is))
 at_ends (Some (Run file schedule_file)) =
-    let Q = HasEndExit (exits_of (Some (Run file schedule_file))) in
-    ends_then Q (Fetched file PROGRAM_LIMIT) _
-    (λ read text fetched. ends_then Q (Alone (Judged all_phases text)) _
-    (λ none graph judged. let runs =
-    judged_runs all_phases text graph (within_limit file PROGRAM_LIMIT read text fetched)
-    (by_rule (Judged all_phases text) none (Ok graph) judged) in
-    ends_then Q (Fetched schedule_file SCHEDULE_LIMIT) _
-    (λ _ schedule _. ends_then Q (Alone (Scheduled schedule)) _
-    (λ _ items _. ends_alone Q (Replayed text graph items)
-    (replayed_end _ text graph items runs (inr (inr (inr (inl refl))))
-    (inr (inr (inr (inr (inl refl))))))))))
+    program_ends _ all_phases file _
+    (λ text graph runs. replay_ends _ schedule_file text graph runs (inr (inr (inr (inl refl))))
+    (inr (inr (inr (inr (inl refl))))))
 
 pub end_exit : (command : Option Command) (reads : List Read) (outcome : Outcome)
     → course_of command reads (Ended (Ok outcome)) → IsOneOf (exits_of command) outcome.exit

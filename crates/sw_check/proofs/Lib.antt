@@ -3,4 +3,5 @@ pub mod ClaimLemmas
 pub mod Courses
 pub mod ExitLemmas
 pub mod PartLemmas
+pub mod Pieces
 pub mod RuleLemmas
