@@ -32,7 +32,7 @@ impl Outcome {
     pub fn is_reply(&self, exit: Option<u8>, bytes: &[u8]) -> bool
         ensures { IsTrue result
             ↔ (IfSome exit (λ status. status ≡ self.now.exit)
-              × (self.now.bytes.items ≡ bytes.now)) }
+            × (self.now.bytes.items ≡ bytes.now)) }
     {
         exit.unwrap_or(self.exit) == self.exit && self.bytes.as_slice() == bytes
     }
