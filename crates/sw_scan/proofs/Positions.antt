@@ -5,9 +5,13 @@ use Rattle.std.specs.List.{AllByRecursion}
 use Rattle.std.proofs.lemmas.List.{append_assoc}
 use Rattle.sw_scan.specs.Scan.{Form, Splits, Fails}
 use Rattle.sw_scan.specs.Scan as scans
+use Rattle.sw_scan.specs.Reading.{StepOf}
+use Rattle.sw_scan.proofs.Agreement.{Agrees}
 
--- the item is made of a text that is one, at the offset where it stands in the whole
-pub record StandsIn {B T F : Type 0} (form : Form B T F) (whole : List ℕ) (item : T) : Type 0 where
+-- the item is made of a text that is one, at the offset where it stands in the whole, and the bytes
+-- from there on are sound
+pub record StandsIn {B T F : Type 0} (form : Form B T F) (IsSound : List ℕ → Type 0) (whole : List ℕ)
+    (item : T) : Type 0 where
   pub prefix : List ℕ
   pub text : List ℕ
   pub after : List ℕ
@@ -15,6 +19,7 @@ pub record StandsIn {B T F : Type 0} (form : Form B T F) (whole : List ℕ) (ite
   pub whole_is : whole ≡ prefix ++ (text ++ after)
   pub is_item : form.IsItem before text after
   pub is_made : item ≡ form.item_of (length prefix) before text after
+  pub sound : IsSound (text ++ after)
 
 -- the fault is that of bytes that are refused, at the offset where they stand in the whole
 pub record IsRefusedIn {B T F : Type 0} (form : Form B T F) (whole : List ℕ)
@@ -25,19 +30,21 @@ pub record IsRefusedIn {B T F : Type 0} (form : Form B T F) (whole : List ℕ)
   pub whole_is : whole ≡ prefix ++ rest
   pub is_refused : form.IsRefused (length prefix) before rest fault
 
-module _ {B T F : Type 0} (form : Form B T F) where
-  longer : (prefix piece : List ℕ) (at : ℕ) → at ≡ length prefix
-      → at + length piece ≡ length (prefix ++ piece)
-  longer prefix piece at here = omega (arith, length-append prefix piece)
+longer : (prefix piece : List ℕ) (at : ℕ) → at ≡ length prefix
+    → at + length piece ≡ length (prefix ++ piece)
+longer prefix piece at here = omega (arith, length-append prefix piece)
 
+module _ {B T F : Type 0} {form : Form B T F} {IsSound : List ℕ → Type 0} {step : StepOf B F}
+    (agrees : Agrees form IsSound step) where
   pub Splits-stand : (prefix : List ℕ) (at : ℕ) (before : B) (bytes : List ℕ) (items : List T)
-      → Splits form at before bytes items → at ≡ length prefix
-      → AllByRecursion (StandsIn form (prefix ++ bytes)) items
-  Splits-stand prefix _ _ _ _ (scans.nothing at before) here = tt
-  Splits-stand prefix _ _ _ _ (scans.piece at before p after items is rest) here =
-      subst (λ xs. AllByRecursion (StandsIn form xs) items) (append_assoc prefix p after)
-      (Splits-stand (prefix ++ p) _ _ after items rest (longer prefix p at here))
-  Splits-stand prefix _ _ _ _ (scans.item at before t after items is rest) here = (
+      → Splits form at before bytes items → at ≡ length prefix → IsSound bytes
+      → AllByRecursion (StandsIn form IsSound (prefix ++ bytes)) items
+  Splits-stand prefix _ _ _ _ (scans.nothing at before) here sound = tt
+  Splits-stand prefix _ _ _ _ (scans.piece at before p after items is rest) here sound =
+      subst (λ xs. AllByRecursion (StandsIn form IsSound xs) items) (append_assoc prefix p after)
+      (Splits-stand (prefix ++ p) _ _ after items rest (longer prefix p at here)
+      (agrees.sound_piece p after is sound))
+  Splits-stand prefix _ _ _ _ (scans.item at before t after items is rest) here sound = (
     record {
       prefix = prefix;
       text = t;
@@ -46,11 +53,14 @@ module _ {B T F : Type 0} (form : Form B T F) where
       whole_is = refl;
       is_item = is;
       is_made = ap (λ k. form.item_of k before t after) here;
+      sound = sound;
     },
-    subst (λ xs. AllByRecursion (StandsIn form xs) items) (append_assoc prefix t after)
-        (Splits-stand (prefix ++ t) _ _ after items rest (longer prefix t at here)),
+    subst (λ xs. AllByRecursion (StandsIn form IsSound xs) items) (append_assoc prefix t after)
+        (Splits-stand (prefix ++ t) _ _ after items rest (longer prefix t at here)
+        (agrees.sound_item before t after is sound)),
   )
 
+module _ {B T F : Type 0} (form : Form B T F) where
   pub Fails-refused : (prefix : List ℕ) (at : ℕ) (before : B) (bytes : List ℕ) (fault : F)
       → Fails form at before bytes fault → at ≡ length prefix
       → IsRefusedIn form (prefix ++ bytes) fault

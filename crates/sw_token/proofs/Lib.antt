@@ -1,5 +1,13 @@
-pub mod Lengths
-pub mod Numbers
+pub mod ClassLemmas
+pub mod CommentLemmas
+pub mod LiteralLemmas
+pub mod OperatorLemmas
+pub mod Utf8Lemmas
+pub mod WordLemmas
+pub mod FoundLemmas
+pub mod FoundHolds
 pub mod Steps
 pub mod Spans
 pub mod TokenLaws
+pub mod KindLemmas
+pub mod TokenTexts

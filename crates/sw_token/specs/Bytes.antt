@@ -1,20 +1,22 @@
--- The classes of bytes that the forms of tokens are made of.
-use Rattle.std.specs.Prelude.{ℕ, ◌==◌, Bool, ◌||◌, List, codes}
-use Rattle.std.specs.Char.{is_ascii_alphabetic}
+-- Classes of bytes that tokens are made of.
+use Rattle.std.specs.Prelude.{ℕ, ◌==◌, Bool, List, codes}
 use Rattle.std.specs.List.{list_any}
-use Rattle.sw_bytes.specs.Classes.{is_digit}
 
--- a letter of ASCII or `_`: what a word begins with
-unfoldable pub is_word_start : ℕ → Bool
-is_word_start byte = is_ascii_alphabetic byte || byte == 95
+-- a byte of an operator
+unfoldable pub is_operator_byte : ℕ → Bool
+is_operator_byte byte = list_any (λ other. other == byte) (codes "+-*/%=<>!&|")
 
--- a letter, a digit or `_`: what a word goes on with
-unfoldable pub is_word_byte : ℕ → Bool
-is_word_byte byte = is_word_start byte || is_digit byte
-
--- the marks that stand in texts so far
+-- a bracket, a separator or a dot
 unfoldable pub is_mark : ℕ → Bool
-is_mark byte = list_any (λ mark. mark == byte) (codes "(){};.")
+is_mark byte = list_any (λ mark. mark == byte) (codes "(){}[],:;.")
+
+-- a mark after which an operator stands as after white space
+unfoldable pub is_opening : ℕ → Bool
+is_opening byte = list_any (λ mark. mark == byte) (codes "([{,;:")
+
+-- a mark before which an operator stands as before white space
+unfoldable pub is_closing : ℕ → Bool
+is_closing byte = list_any (λ mark. mark == byte) (codes ")]},;:")
 
 -- whether a line feed is among the bytes
 unfoldable pub has_line_feed : List ℕ → Bool

@@ -1,11 +1,12 @@
 -- The kind of a token, which its text alone decides.
-use Rattle.std.specs.List.{list_all}
-use Rattle.std.specs.Prelude.{ℕ, ◌<◌, ◌==◌, length, IsTrue, if◌then◌else◌, List, [], ◌∷◌, ◌++◌, Option, Some, None, pos, codes, position, bytes_eq, unwrap_or}
+use Rattle.std.specs.Prelude.{ℕ, ◌≤◌, ◌==◌, true, length, if◌then◌else◌, List, [], ◌∷◌, ◌++◌, drop}
+use Rattle.std.specs.Prelude.{Option, Some, None, codes, position, bytes_eq, unwrap_or}
 use Rattle.sw_token.specs.declared.Kind.{Kind}
 use Rattle.sw_token.specs.declared.Kind.TheVariants as kinds
-use Rattle.sw_bytes.specs.Classes.{is_digit}
-use Rattle.sw_bytes.specs.Decimal.{number_of}
-use Rattle.sw_token.specs.Bytes.{is_word_start}
+use Rattle.sw_token.specs.declared.literals.Literal.{Literal}
+use Rattle.sw_token.specs.Bytes.{is_operator_byte, is_mark}
+use Rattle.sw_token.specs.Literals.{head_of, most, number_in, signed, literal_of}
+use Rattle.sw_token.specs.Operators.{operator_number}
 
 -- the words that some rule of the grammar uses
 unfoldable pub ruled_words : List (List ℕ)
@@ -50,18 +51,34 @@ word_kind text =
 unfoldable pub mark_number : ℕ → ℕ
 mark_number byte = unwrap_or (position (λ mark. mark == byte) marks) 0
 
--- The kind of the token with this text: its first byte says whether it is a word, a number, an `@`
--- with a word after it, or a mark. No token has an empty text.
-unfoldable pub kind_of : List ℕ → Kind
-kind_of [] = kinds.Word
-kind_of (byte ∷ more) =
-    if is_word_start byte then word_kind (byte ∷ more)
-    else (if is_digit byte then kinds.Int (pos (number_of (byte ∷ more)))
-    else (if byte == 64 then kinds.At else kinds.Mark (mark_number byte)))
+-- the digits of the literal with this text
+abbrev pub digits_in : Literal → List ℕ → List ℕ
+digits_in literal text = drop (length (head_of literal)) text
 
--- Of a text that begins with a digit: it has digits alone, at most eighteen, so that its number is
--- below 2 ^ 63.
+-- the kind of a token that is no literal, by its first byte
+abbrev pub plain_kind : List ℕ → Kind
+plain_kind [] = kinds.Word
+plain_kind (byte ∷ more) =
+    if is_operator_byte byte then kinds.Op (unwrap_or (operator_number (byte ∷ more)) 0)
+    else (if is_mark byte then kinds.Mark (mark_number byte)
+    else (if byte == 64 then kinds.At else word_kind (byte ∷ more)))
+
+-- the same where it may be a literal
+abbrev pub literal_kind : Option Literal → List ℕ → Kind
+literal_kind (Some literal) text =
+    kinds.Int (signed literal (number_in literal (digits_in literal text)))
+literal_kind None text = plain_kind text
+
+-- The kind of the token with this text. A text that begins with `-` and a digit is a literal. No
+-- token has an empty text.
+unfoldable pub kind_of : List ℕ → Kind
+kind_of text = literal_kind (literal_of true text) text
+
+-- a literal's number is not above the greatest
+abbrev pub IsWithinMost : Option Literal → List ℕ → Type 0
+IsWithinMost (Some literal) text = number_in literal (digits_in literal text) ≤ most literal
+IsWithinMost None text = Unit {0}
+
+-- Of a text that is a literal: its number fits.
 abbrev pub NumberFits : List ℕ → Type 0
-NumberFits [] = Unit {0}
-NumberFits (byte ∷ more) = IsTrue (is_digit byte)
-    → IsTrue (list_all is_digit more) × (length more < 18)
+NumberFits text = IsWithinMost (literal_of true text) text

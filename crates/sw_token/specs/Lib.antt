@@ -1,4 +1,8 @@
 pub mod Bytes
+pub mod Words
+pub mod Comments
+pub mod Literals
+pub mod Operators
 pub mod Kinds
 pub mod Tokens
 pub mod Reading

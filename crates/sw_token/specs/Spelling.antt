@@ -1,15 +1,13 @@
 -- Spellings: lists of tokens by their texts, apart from any one source.
-use Rattle.std.specs.Prelude.{◌≡◌, ◌≤◌, ℕ, ◌==◌, Bool, false, ◌&&◌, ◌||◌, IsTrue, List, [], ◌∷◌, map, slice_range, All, codes, bytes_eq, refl}
-use Rattle.std.specs.List.{list_any, list_all}
+use Rattle.std.specs.Prelude.{◌≡◌, ◌≤◌, ℕ, Bool, true, List, [], map, slice_range, All, refl}
 use Rattle.std.specs.Coded.{Coded, code_by, coded_list, coded_ℕ, coded_bool, coded×}
 use Rattle.std.specs.List.Sorted.{IsStrictlyIncreasing}
 use Rattle.std.specs.Str.{IsCharBoundary}
 use Rattle.sw_token.specs.declared.Fixity.{Fixity}
 use Rattle.sw_token.specs.declared.Token.{Token}
 use Rattle.sw_token.specs.contracts.Fixity as fixity
-use Rattle.sw_bytes.specs.Classes.{is_digit}
-use Rattle.sw_token.specs.Bytes.{is_word_start, is_word_byte}
-use Rattle.sw_token.specs.Kinds.{marks, kind_of}
+use Rattle.sw_token.specs.Kinds.{kind_of}
+use Rattle.sw_token.specs.Tokens.{IsToken}
 
 -- A token of a spelling. Its kind, and the value of an integer literal, are those of its text.
 pub record Spelled : Type 0 where
@@ -33,38 +31,15 @@ spelled source token = record {
 abbrev pub spelling_of : List ℕ → List Token → List Spelled
 spelling_of source tokens = map (spelled source) tokens
 
--- all operators
-abbrev pub operators : List (List ℕ)
-operators =
-    codes "+" ∷ codes "-" ∷ codes "*" ∷ codes "/" ∷ codes "%" ∷ codes "!" ∷ codes "=" ∷ codes "=="
-    ∷ codes "!=" ∷ codes "<" ∷ codes "<=" ∷ codes ">" ∷ codes ">=" ∷ codes "&&" ∷ codes "||"
-    ∷ codes "+=" ∷ codes "-=" ∷ codes "*=" ∷ codes "/=" ∷ codes "%=" ∷ codes "->" ∷ []
-
--- a letter or `_`, then letters, digits and `_`
-abbrev pub is_word : List ℕ → Bool
-is_word [] = false
-is_word (byte ∷ more) = is_word_start byte && list_all is_word_byte more
-
--- an `@` and a word
-abbrev pub is_at_word : List ℕ → Bool
-is_at_word [] = false
-is_at_word (byte ∷ more) = byte == 64 && is_word more
-
--- digits
-abbrev pub is_number : List ℕ → Bool
-is_number [] = false
-is_number (byte ∷ more) = is_digit byte && list_all is_digit more
-
--- The text is that of a token: a word, a number, an `@` with a word, an operator or a mark.
-abbrev pub is_token_text : List ℕ → Bool
-is_token_text text =
-    is_word text || is_number text || is_at_word text || list_any (bytes_eq text) operators
-    || list_any (λ mark. bytes_eq text (mark ∷ [])) marks
+-- The text is that of a token. What stands around a token says only where it ends and whether a `-`
+-- belongs to it; so it is a token by itself, with white space before it and nothing after it.
+abbrev pub IsTokenText : List ℕ → Type 0
+IsTokenText text = IsToken true text []
 
 -- What may be a spelling of something: tokens, each with the text of a token, at rising positions.
 -- How an operator stands and which token is first on its line are free.
 pub record IsSpelling (tokens : List Spelled) : Type 0 where
-  pub texts : All (λ token. IsTrue (is_token_text token.text)) tokens
+  pub texts : All (λ token. IsTokenText token.text) tokens
   pub rising : IsStrictlyIncreasing (map (λ token. token.at) tokens)
 
 -- The token can be read in the source: its span is a part of it that cuts no character in two, and

@@ -1,35 +1,33 @@
-//! The classes of bytes that words and marks are made of.
-ghost use Rattle.std.specs.Prelude.{◌≡◌, ◌≤◌, length};
-ghost use Rattle.std.specs.List.{prefix_len};
-ghost use Rattle.sw_token.specs.Bytes.{is_word_start, is_word_byte, is_mark};
+//! The classes of bytes that tokens are made of.
+ghost use Rattle.std.specs.Prelude.{◌≡◌};
+ghost use Rattle.sw_token.specs.Bytes.{is_operator_byte, is_mark, is_opening, is_closing};
 
-use sw_bytes::is_digit;
-
-#[tactic(auto, unfolding(crate::specs::Bytes::is_word_start))]
-pub fn is_word_start(byte: u8) -> bool
-    ensures { result ≡ is_word_start byte }
+#[tactic(auto, unfolding(crate::specs::Bytes::is_operator_byte))]
+pub fn is_operator_byte(byte: u8) -> bool
+    ensures { result ≡ is_operator_byte byte }
 {
-    byte.is_ascii_alphabetic() || byte == b'_'
-}
-
-#[tactic(auto, unfolding(crate::specs::Bytes::is_word_byte))]
-pub fn is_word_byte(byte: u8) -> bool
-    ensures { result ≡ is_word_byte byte }
-{
-    is_word_start(byte) || is_digit(byte)
+    b"+-*/%=<>!&|".contains(&byte)
 }
 
 #[tactic(auto, unfolding(crate::specs::Bytes::is_mark))]
 pub fn is_mark(byte: u8) -> bool
     ensures { result ≡ is_mark byte }
 {
-    b"(){};.".contains(&byte)
+    b"(){}[],:;.".contains(&byte)
 }
 
-/// The number of word bytes that the bytes begin with.
-pub fn word_len(bytes: &[u8]) -> usize
-    ensures value { result ≡ prefix_len is_word_byte bytes.now }
-    ensures within { result ≤ length bytes.now }
+/// Whether the byte is a mark after which an operator stands as after white space.
+#[tactic(auto, unfolding(crate::specs::Bytes::is_opening))]
+pub fn is_opening(byte: u8) -> bool
+    ensures { result ≡ is_opening byte }
 {
-    bytes.iter().take_while(|byte| is_word_byte(**byte)).count()
+    b"([{,;:".contains(&byte)
+}
+
+/// Whether the byte is a mark before which an operator stands as before white space.
+#[tactic(auto, unfolding(crate::specs::Bytes::is_closing))]
+pub fn is_closing(byte: u8) -> bool
+    ensures { result ≡ is_closing byte }
+{
+    b")]},;:".contains(&byte)
 }

@@ -1,13 +1,13 @@
 //! The kind of a token, from its text.
-ghost use Rattle.std.specs.Prelude.{ℕ, ◌≡◌, ◌==◌, IsTrue, IfSome, length, ◌≤◌, ◌<◌, pos, position, map, bytes_eq};
-ghost use Rattle.std.specs.List.{list_all};
-ghost use Rattle.sw_bytes.specs.Classes.{is_digit};
-ghost use Rattle.sw_bytes.specs.Decimal.{number_of};
-ghost use Rattle.sw_token.specs.Kinds.{kind_of, word_kind, key_words, marks, mark_number, NumberFits};
+ghost use Rattle.std.specs.Prelude.{◌≡◌, ◌==◌, IfSome, length, ◌≤◌, ◌<◌, position, bytes_eq};
+ghost use Rattle.sw_token.specs.Literals.{most, signed};
+ghost use Rattle.sw_token.specs.Kinds.{kind_of, plain_kind, word_kind, key_words, marks};
+ghost use Rattle.sw_token.specs.Kinds.{mark_number, NumberFits};
 
 use super::Kind;
-use super::bytes::is_word_start;
-use sw_bytes::is_digit;
+use super::bytes::{is_mark, is_operator_byte};
+use super::literals::{Literal, literal_of};
+use super::operators::operator_number;
 
 /// The words with a rule, and then those that are reserved without one.
 const KEY_WORDS: [&str; 59] = [
@@ -78,17 +78,38 @@ pub fn kind_of(text: &[u8]) -> Kind
     requires { NumberFits text.now }
     ensures { result ≡ kind_of text.now }
 {
+    match literal_of(true, text) {
+        Some(form) => Kind::Int(signed(form, form.number_in(&text[form.head_len()..]))),
+        None => plain_kind(text),
+    }
+}
+
+/// The kind of a token that is no literal.
+fn plain_kind(text: &[u8]) -> Kind
+    ensures { result ≡ plain_kind text.now }
+{
     let Some(byte) = text.first().copied() else {
         return Kind::Word;
     };
-    if is_word_start(byte) {
-        word_kind(text)
-    } else if is_digit(byte) {
-        Kind::Int(number_of(text))
+    if is_operator_byte(byte) {
+        Kind::Op(operator_number(text).unwrap_or(0))
+    } else if is_mark(byte) {
+        Kind::Mark(mark_number(byte))
     } else if byte == b'@' {
         Kind::At
     } else {
-        Kind::Mark(mark_number(byte))
+        word_kind(text)
+    }
+}
+
+/// The value of a literal whose digits spell a number.
+fn signed(form: Literal, number: u64) -> i64
+    requires { number ≤ most form }
+    ensures { result ≡ signed form number }
+{
+    match form {
+        Literal::Negative => (-i128::from(number)) as i64,
+        Literal::Decimal | Literal::Binary | Literal::Octal | Literal::Hexadecimal => number as i64,
     }
 }
 
@@ -115,7 +136,7 @@ fn key_number(text: &[u8]) -> Option<u8>
     }
 }
 
-fn index_of(words: &[&str], text: &[u8]) -> Option<usize>
+pub fn index_of(words: &[&str], text: &[u8]) -> Option<usize>
     ensures index { result ≡ position (λ word. bytes_eq word.now text.now) words.now }
     ensures within { IfSome result (λ index. index < length words.now) }
 {
@@ -140,16 +161,4 @@ fn mark_index(byte: u8) -> Option<usize>
     ensures within { IfSome result (λ index. index < 10) }
 {
     b"(){}[],:;.".iter().position(|mark| *mark == byte)
-}
-
-fn number_of(digits: &[u8]) -> i64
-    requires digits { IsTrue (list_all is_digit digits.now) }
-    requires short { length digits.now ≤ 18 }
-    ensures { result ≡ pos (number_of digits.now) }
-{
-    let mut number: u64 = 0;
-    for digit in digits {
-        number = number * 10 + u64::from(*digit - b'0');
-    }
-    number as i64
 }

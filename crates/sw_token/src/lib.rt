@@ -2,28 +2,36 @@
 //! that has none. It knows bytes and nothing of grammar.
 #![tactic(auto)]
 
-ghost use Rattle.std.specs.Prelude.{ℕ, ◌≡◌, ◌≢◌, ◌+◌, ◌≤◌, ◌<◌, ◌^◌, ◌↔◌, List, [], length, All, IfOk, IfErr, IsTrue};
-ghost use Rattle.std.specs.List.{list_all};
+ghost use Rattle.std.specs.Prelude.{ℕ, ◌≡◌, ◌≢◌, ◌+◌, ◌≤◌, ◌<◌, ◌^◌, List, length, take, drop, All};
+ghost use Rattle.std.specs.Prelude.{IfOk, IfErr};
 ghost use Rattle.std.specs.Str.{IsUtf8, IsCharBoundary};
-ghost use Rattle.sw_bytes.specs.Classes.{is_blank};
 ghost use Rattle.sw_token.specs.declared.Token.{Token};
 ghost use Rattle.sw_token.specs.declared.LexFault.{LexFault};
 ghost use Rattle.sw_token.specs.Kinds.{NumberFits};
-ghost use Rattle.sw_token.specs.Tokens.{IsTokens, IsLexicalFault, HasTokens, IsTokenIn, StandInOrder, token_of};
+ghost use Rattle.sw_token.specs.Tokens.{IsTokens, IsLexicalFault, HasTokens, IsTokenIn};
+ghost use Rattle.sw_token.specs.Tokens.{StandInOrder, fixity_of, position_of, token_of};
 ghost use Rattle.sw_token.specs.Reading.{Lexes, tokens_or_fault};
 
 mod before;
 mod bytes;
+mod comments;
 mod kinds;
+mod literals;
+mod operators;
 mod step;
+mod words;
 
 use before::Before;
 use kinds::kind_of;
+use operators::{fixity_between, is_white_after};
 use std::alloc::{AllocFailed, Global};
-use step::step_at;
+use step::step;
 use sw_scan::Step;
 use sw_text::{Source, Span};
 use thiserror::Error;
+
+/// The most tokens of a text.
+pub const MOST_TOKENS: usize = 65_536;
 
 /// How an operator stands among its neighbours. Every token that is no operator has `None`.
 #[derive(Clone, Copy, Debug, PartialEq, Eq)]
@@ -96,8 +104,8 @@ impl<T: Drop> From<AllocFailed<T>> for LexFault {
     }
 }
 
-/// The tokens of a text, in order, or its lexical fault: the first byte that no token can take. It
-/// goes over the text once.
+/// The tokens of a text, in order, or its lexical fault: the first position at which no gap and no
+/// token can be taken. It goes over the text once.
 pub fn tokens(alloc: Global, source: &Source) -> Result<Vec<Token>, LexFault>
     ensures found { IfOk result (λ tokens. IsTokens source.now tokens.items) }
     ensures fault { IfErr result
@@ -108,9 +116,6 @@ pub fn tokens(alloc: Global, source: &Source) -> Result<Vec<Token>, LexFault>
         → Lexes (Ok tokens) result }
     ensures only_fault { (fault : LexFault) → IsLexicalFault source.now fault
         → Lexes (Err fault) result }
-    // The other faults wait for comments, larger literals and a limit on the number of tokens.
-    ensures only_bad_char { IfErr result
-        (λ fault. fault ≢ LexFault.Memory → (at : ℕ) × (fault ≡ LexFault.BadChar at)) }
     // The same as one function of the text.
     ensures exact { Lexes (tokens_or_fault source.now) result }
 {
@@ -118,10 +123,10 @@ pub fn tokens(alloc: Global, source: &Source) -> Result<Vec<Token>, LexFault>
         start: 0,
         end: source.len(),
     };
-    tokens_of(alloc, source.slice(span).as_bytes())
+    tokens_of(alloc, source.slice(span))
 }
 
-fn tokens_of(alloc: Global, text: &[u8]) -> Result<Vec<Token>, LexFault>
+fn tokens_of(alloc: Global, text: &str) -> Result<Vec<Token>, LexFault>
     requires { length text.now < 2 ^ 32 }
     ensures { Lexes (tokens_or_fault text.now) result }
 {
@@ -130,35 +135,48 @@ fn tokens_of(alloc: Global, text: &[u8]) -> Result<Vec<Token>, LexFault>
     let mut at = 0;
     loop {
         let rest = &text[at..];
-        match step_at(rest, at as u32)? {
+        let bytes = rest.as_bytes();
+        match step(rest, at as u32, before)? {
             Step::End => return Ok(tokens),
             Step::Skip(len) => {
-                before = before.past_piece(&rest[..len]);
+                before = before.past_piece(&bytes[..len]);
                 at += len;
             }
             Step::Take(len) => {
-                tokens.push(token_of(&rest[..len], at as u32, before))?;
-                before = before.past_token(&rest[..len]);
+                tokens.push(token_of(bytes, len, at as u32, before))?;
+                before = before.past_token(&bytes[..len]);
                 at += len;
             }
         }
     }
 }
 
-/// The token of this text, which stands at the offset `at`.
-fn token_of(text: &[u8], at: u32, before: Before) -> Token
-    requires fits { NumberFits text.now }
-    requires within { at + length text.now < 2 ^ 32 }
-    ensures { result ≡ token_of at before text.now }
+/// The token of the first `len` bytes, which stand at the offset `at`.
+fn token_of(bytes: &[u8], len: usize, at: u32, before: Before) -> Token
+    requires fits { NumberFits (take len bytes.now) }
+    requires len { len ≤ length bytes.now }
+    requires within { at + len < 2 ^ 32 }
+    ensures { result ≡ token_of at before (take len bytes.now) (drop len bytes.now) }
 {
+    let kind = kind_of(&bytes[..len]);
     Token {
-        kind: kind_of(text),
+        kind,
         span: Span {
             start: at,
-            end: at + text.len() as u32,
+            end: at + len as u32,
         },
-        fixity: Fixity::None,
+        fixity: fixity_of(kind, before.is_white, is_white_after(&bytes[len..])),
         first: before.is_first_on_line,
+    }
+}
+
+fn fixity_of(kind: Kind, before: bool, after: bool) -> Fixity
+    ensures { result ≡ fixity_of kind before after }
+{
+    match kind {
+        Kind::Op(_) => fixity_between(before, after),
+        Kind::Word | Kind::Underscore | Kind::Key(_) | Kind::At | Kind::Int(_) | Kind::Mark(_) =>
+            Fixity::None,
     }
 }
 
@@ -170,22 +188,28 @@ pub fn one_reading()
         → IsLexicalFault text a → IsLexicalFault text b → a ≡ b }
     ensures apart { (text : List ℕ) (tokens : List Token) (fault : LexFault)
         → IsTokens text tokens → ¬ IsLexicalFault text fault }
-    ensures always { (text : List ℕ) → HasTokens text (tokens_or_fault text) }
+    ensures always { (text : List ℕ) → IsUtf8 text → HasTokens text (tokens_or_fault text) }
 {}
 
 /// What the tokens of a text are, one by one and together.
 pub fn tokens_in_text()
-    ensures each { (text : List ℕ) (tokens : List Token) → IsTokens text tokens
+    ensures each { (text : List ℕ) (tokens : List Token) → IsUtf8 text → IsTokens text tokens
         → All (IsTokenIn text) tokens }
     ensures order { (text : List ℕ) (tokens : List Token) → IsTokens text tokens
         → StandInOrder 0 tokens }
     ensures few { (text : List ℕ) (tokens : List Token) → IsTokens text tokens
         → length tokens ≤ length text }
-    ensures empty { (text : List ℕ) → IsTokens text [] ↔ IsTrue (list_all is_blank text) }
+    ensures most { (text : List ℕ) (tokens : List Token) → IsTokens text tokens
+        → length tokens ≤ MOST_TOKENS }
     // A span of a token may be cut out of the text.
     ensures borders { (text : List ℕ) (tokens : List Token) → IsUtf8 text → IsTokens text tokens
         → All (λ token. IsCharBoundary text token.span.start
         × IsCharBoundary text token.span.end) tokens }
-    ensures inside { (text : List ℕ) (at : ℕ) → IsLexicalFault text (LexFault.BadChar at)
-        → at < length text }
+    ensures inside { (text : List ℕ) (fault : LexFault) → IsLexicalFault text fault
+        → position_of fault ≤ length text }
+{}
+
+/// The limit that the definitions of tokens take from here.
+pub fn token_limit()
+    ensures { MOST_TOKENS ≡ 65536 }
 {}

@@ -1,4 +1,5 @@
-use Rattle.sw_token.proofs.TokenLaws.{IsTokens-each, IsTokens-order, IsTokens-few, IsTokens-empty, IsTokens-borders, IsLexicalFault-within}
+use Rattle.sw_token.proofs.TokenLaws.{IsTokens-each, IsTokens-order, IsTokens-few, IsTokens-most}
+use Rattle.sw_token.proofs.TokenLaws.{IsTokens-borders, IsLexicalFault-inside}
 use Rattle.sw_token.proofs.tokens_in_text.Goals as goal
 
 pub returns-clause-each : goal.returns-clause-each
@@ -10,11 +11,11 @@ returns-clause-order c = IsTokens-order
 pub returns-clause-few : goal.returns-clause-few
 returns-clause-few c = IsTokens-few
 
-pub returns-clause-empty : goal.returns-clause-empty
-returns-clause-empty c = IsTokens-empty
+pub returns-clause-most : goal.returns-clause-most
+returns-clause-most c = IsTokens-most
 
 pub returns-clause-borders : goal.returns-clause-borders
 returns-clause-borders c = IsTokens-borders
 
 pub returns-clause-inside : goal.returns-clause-inside
-returns-clause-inside c = IsLexicalFault-within
+returns-clause-inside c = IsLexicalFault-inside
