@@ -1,13 +1,15 @@
 -- What a reader has to do with the relation that it reads, as one record, `Reads`. Each way of
 -- putting readers together keeps it. The theorems about a grammar (one value, one fault, and that
 -- the token at fault is the first that can't be taken) follow from the record.
-use Rattle.std.proofs.Common.{◌≡◌, ℕ, suc, ◌<◌, Bool, true, false, cond, ◌⊎◌, inl, inr, List, [], ◌∷◌, ◌++◌, length, refl, sym, ◌∙◌, ap, subst, append_assoc}
+use Rattle.std.proofs.Common.{◌≡◌, ℕ, suc, ◌<◌, Bool, true, false, cond, ◌⊎◌, inl, inr, List, []}
+use Rattle.std.proofs.Common.{◌∷◌, ◌++◌, length, refl, sym, ◌∙◌, ap, subst, append_assoc}
 use Rattle.std.specs.Prelude.{Option, Some, None, Result, Ok, Err, IsTrue}
-use Rattle.sw_token.specs.Spelling.{Spelled, is_token_text}
+use Rattle.sw_token.specs.Spelling.{Spelled, IsTokenText}
 use Rattle.sw_reader.specs.Sets.{Set, has, starts}
 use Rattle.sw_reader.specs.Form.{Terminal}
 use Rattle.sw_reader.specs.Relations.{Relation, head, Nothing, One, Then, Either, Only, Passing}
-use Rattle.sw_reader.specs.Reader.{Fault, Answer, Reader, refused, pure, and_then, then_read, take_if, next, checked, choose, only_if}
+use Rattle.sw_reader.specs.Reader.{Fault, Answer, Reader, refused, pure, and_then, then_read}
+use Rattle.sw_reader.specs.Reader.{take_if, next, checked, choose, only_if}
 use Rattle.sw_reader.specs.Reader.Fault.{unexpected, too_deep}
 
 -- what is asked of the token that follows
@@ -23,7 +25,7 @@ Outside set token = starts set token ≡ false
 -- Tokens of a spelling at positions one after another, the first at `from`.
 abbrev pub Fills : ℕ → List Spelled → Type 0
 Fills from [] = Unit {0}
-Fills from (token ∷ others) = (token.at ≡ from) × IsTrue (is_token_text token.text)
+Fills from (token ∷ others) = (token.at ≡ from) × IsTokenText token.text
     × Fills (suc from) others
 
 abbrev pub past : ℕ → List Spelled → ℕ

@@ -1,10 +1,11 @@
 -- Positions that rise, along a list, and spellings that go on with new tokens.
-use Rattle.std.proofs.Common.{◌≡◌, ℕ, zero, suc, ◌+◌, ◌≤◌, ◌<◌, List, [], ◌∷◌, ◌++◌, map, sym, subst, arith}
+use Rattle.std.proofs.Common.{◌≡◌, ℕ, zero, suc, ◌+◌, ◌≤◌, ◌<◌, List, [], ◌∷◌, ◌++◌, map, sym}
+use Rattle.std.proofs.Common.{subst, arith}
 use Rattle.std.specs.Prelude.{slice_index, IsTrue}
 use Rattle.std.specs.List.{AllByRecursion}
 use Rattle.std.specs.List.Sorted.{IsStrictlyIncreasing}
 use Rattle.std.proofs.lemmas.List.Elements.{All-from_recursion, recursion_from_All}
-use Rattle.sw_token.specs.Spelling.{Spelled, is_token_text, IsSpelling}
+use Rattle.sw_token.specs.Spelling.{Spelled, IsTokenText, IsSpelling}
 use Rattle.sw_reader.proofs.ReaderLaws.{Fills}
 
 -- each token begins after the one before it, and the first at `from` or after it
@@ -61,7 +62,7 @@ rises [] h = tt
 rises (t ∷ ts) h = (omega arith, Rises-from_increasing t.at ts h)
 
 abbrev pub HasTokenText : Spelled → Type 0
-HasTokenText token = IsTrue (is_token_text token.text)
+HasTokenText token = IsTokenText token.text
 
 texts_append : (us vs : List Spelled) → AllByRecursion HasTokenText us
     → AllByRecursion HasTokenText vs → AllByRecursion HasTokenText (us ++ vs)

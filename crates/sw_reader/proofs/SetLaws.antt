@@ -1,5 +1,7 @@
 -- What the sets of grammars say of a token's text.
-use Rattle.std.proofs.Common.{◌≡◌, ℕ, zero, suc, ◌+◌, ◌*◌, ◌≤◌, ◌<◌, Bool, true, false, cond, not, ◌&&◌, ◌||◌, ◌⊎◌, inl, inr, List, [], ◌∷◌, ◌++◌, length, get_or, nat_lt, ◌==◌, refl, sym, ◌∙◌, ap, arith, bytes_eq, filter, ◌%◌}
+use Rattle.std.proofs.Common.{◌≡◌, ℕ, zero, suc, ◌+◌, ◌*◌, ◌≤◌, ◌<◌, Bool, true, false, cond, not}
+use Rattle.std.proofs.Common.{◌&&◌, ◌||◌, ◌⊎◌, inl, inr, List, [], ◌∷◌, ◌++◌, length, get_or}
+use Rattle.std.proofs.Common.{nat_lt, ◌==◌, refl, sym, ◌∙◌, ap, arith, bytes_eq, filter, ◌%◌}
 use Rattle.std.specs.List.{list_any, list_all, position_or_len}
 use Rattle.std.proofs.lemmas.Bool.{eqb-true, eq-eqb, ltb-true, ltb-false, le-ltb}
 use Rattle.std.proofs.lemmas.Bool.Decides.{eqb_tells}
@@ -10,11 +12,16 @@ use Rattle.sw_token.specs.declared.Fixity.TheVariants as fixities
 use Rattle.sw_token.specs.declared.Kind.{Kind}
 use Rattle.sw_token.specs.declared.Kind.TheVariants as kinds
 use Rattle.sw_bytes.specs.Classes.{is_digit}
-use Rattle.sw_token.specs.Bytes.{is_word_start}
+use Rattle.sw_token.specs.Bytes.{is_operator_byte, is_mark}
+use Rattle.sw_token.specs.Literals.{unsigned_of, literal_of, number_in}
 use Rattle.sw_token.specs.Kinds.{kind_of, word_kind, ruled_words, reserved_words, mark_number}
-use Rattle.sw_token.specs.Spelling.{Spelled, operators}
-use Rattle.sw_reader.specs.Sets.{Set, quoted_texts, index_of, is_quoted, text_number, sort_of, is_name, is_integer, fixity_number, kind_class, class_of, is_in, has, any, not_first, quoted, open_words, one_of, word, integer}
-use Rattle.sw_reader.proofs.SetLemmas.{and_left, and_right, and_both, or_left, or_right, not_true, implied, is_in-append, is_in-filter}
+use Rattle.sw_token.specs.Operators.{operators}
+use Rattle.sw_token.specs.Spelling.{Spelled}
+use Rattle.sw_reader.specs.Sets.{Set, quoted_texts, index_of, is_quoted, text_number, sort_of}
+use Rattle.sw_reader.specs.Sets.{is_name, is_integer, fixity_number, kind_class, class_of, is_in}
+use Rattle.sw_reader.specs.Sets.{has, any, not_first, quoted, open_words, one_of, word, integer}
+use Rattle.sw_reader.proofs.SetLemmas.{and_left, and_right, and_both, or_left, or_right, not_true}
+use Rattle.sw_reader.proofs.SetLemmas.{implied, is_in-append, is_in-filter}
 
 same_truth : (a b : Bool) → (a ≡ true → b ≡ true) → (b ≡ true → a ≡ true) → a ≡ b
 same_truth true true h k = refl
@@ -350,7 +357,8 @@ zero_sort (kinds.Op _) h = absurd (cc)
 zero_sort (kinds.Mark _) h = absurd (cc)
 
 no_integers : list_all (λ text. not (is_integer (kind_of text))) quoted_texts ≡ true
-unfolding kind_of is_word_start is_digit word_kind ruled_words reserved_words mark_number
+unfolding kind_of literal_of unsigned_of number_in is_digit is_operator_byte is_mark
+    word_kind ruled_words reserved_words mark_number
 no_integers = refl
 
 -- The set of integer literals has the tokens of this kind.
@@ -380,12 +388,14 @@ has-integer token = same_truth _ _
         (omega arith)
 
 open_are_quoted : list_all (λ text. is_quoted text && is_name (kind_of text)) open_words ≡ true
-unfolding kind_of is_word_start is_digit word_kind ruled_words reserved_words mark_number
+unfolding kind_of literal_of unsigned_of number_in is_digit is_operator_byte is_mark
+    word_kind ruled_words reserved_words mark_number
 open_are_quoted = refl
 
 names_are_open : list_all (λ text. not (is_name (kind_of text))
     || list_any (λ member. bytes_eq member text) open_words) quoted_texts ≡ true
-unfolding kind_of is_word_start is_digit word_kind ruled_words reserved_words mark_number
+unfolding kind_of literal_of unsigned_of number_in is_digit is_operator_byte is_mark
+    word_kind ruled_words reserved_words mark_number
 names_are_open = refl
 
 one_of_says : (texts : List (List ℕ)) (text : List ℕ) (fixity : Fixity) (first : Bool)

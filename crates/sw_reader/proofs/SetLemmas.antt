@@ -1,14 +1,17 @@
 -- Sets of tokens: members, sets apart and sets within each other.
-use Rattle.std.proofs.Common.{◌≡◌, ℕ, ◌+◌, ◌*◌, ◌%◌, Bool, true, false, cond, not, ◌&&◌, ◌||◌, List, [], ◌∷◌, ◌++◌, refl, sym, ◌∙◌, ap, arith, filter, ◌==◌, bytes_eq}
+use Rattle.std.proofs.Common.{◌≡◌, ℕ, ◌+◌, ◌*◌, ◌%◌, Bool, true, false, cond, not, ◌&&◌, ◌||◌, List}
+use Rattle.std.proofs.Common.{[], ◌∷◌, ◌++◌, refl, sym, subst, ◌∙◌, ap, arith, filter, ◌==◌}
+use Rattle.std.proofs.Common.{bytes_eq}
 use Rattle.std.specs.List.{list_any, list_all}
 use Rattle.std.specs.Prelude.{Option, Some, None}
 use Rattle.std.proofs.lemmas.Bool.{eqb-true, eq-eqb}
 use Rattle.std.proofs.lemmas.List.Folds.{list_any-append}
-use Rattle.sw_token.specs.Bytes.{is_word_start, is_word_byte}
-use Rattle.sw_bytes.specs.Classes.{is_digit}
+use Rattle.sw_token.specs.Bytes.{is_operator_byte, is_mark}
 use Rattle.std.proofs.lemmas.Slice.Eq.{bytes_eq-Decides}
-use Rattle.sw_token.specs.Spelling.{Spelled, is_token_text}
-use Rattle.sw_reader.specs.Sets.{Set, starts, sample_texts, is_sample, class_of, kind_class, is_in, has, apart, within, not_first}
+use Rattle.sw_token.specs.Spelling.{Spelled, IsTokenText}
+use Rattle.sw_token.proofs.TokenTexts.{is_ascii_token, IsTokenText-ascii}
+use Rattle.sw_reader.specs.Sets.{Set, starts, sample_texts, is_sample, class_of, kind_class, is_in}
+use Rattle.sw_reader.specs.Sets.{has, apart, within, not_first}
 
 pub and_left : (a b : Bool) → (a && b) ≡ true → a ≡ true
 and_left true b h = refl
@@ -122,25 +125,25 @@ has-not_first set token stays h =
 
 -- The texts of examples are those of tokens.
 
-samples_are_tokens : list_all is_token_text sample_texts ≡ true
-unfolding is_word_start is_word_byte is_digit
+samples_are_tokens : list_all is_ascii_token sample_texts ≡ true
+unfolding is_operator_byte is_mark
 samples_are_tokens = refl
 
-among : (texts : List (List ℕ)) (text : List ℕ) → list_all is_token_text texts ≡ true
+among : (texts : List (List ℕ)) (text : List ℕ) → list_all is_ascii_token texts ≡ true
     → list_any (λ sample. bytes_eq sample text) texts ≡ true
-    → is_token_text text ≡ true
+    → IsTokenText text
 among [] text h k = absurd (cc)
 among (x ∷ texts) text h k = by_test (bytes_eq x text) refl k (among texts text (and_right _ _ h))
   where
     by_test : (b : Bool) → bytes_eq x text ≡ b
         → (b || list_any (λ sample. bytes_eq sample text) texts) ≡ true
-        → (list_any (λ sample. bytes_eq sample text) texts ≡ true → is_token_text text ≡ true)
-        → is_token_text text ≡ true
-    by_test true is k others = ap is_token_text (sym ((bytes_eq-Decides x text).0 is))
-        ∙ and_left _ _ h
+        → (list_any (λ sample. bytes_eq sample text) texts ≡ true → IsTokenText text)
+        → IsTokenText text
+    by_test true is k others = subst IsTokenText ((bytes_eq-Decides x text).0 is)
+        (IsTokenText-ascii x (and_left _ _ h))
     by_test false is k others = others k
 
-pub sample_is_token : (text : List ℕ) → is_sample text ≡ true → is_token_text text ≡ true
+pub sample_is_token : (text : List ℕ) → is_sample text ≡ true → IsTokenText text
 sample_is_token text h = among sample_texts text samples_are_tokens h
 
 pub starts-append : (set other : Set) (token : Option Spelled)

@@ -1,14 +1,17 @@
 -- Sets of tokens. Each token is of one class, which its text, its fixity and whether it is the
 -- first on its line decide; a set is a list of classes. So whether two sets have a token in common
 -- is a computation.
-use Rattle.std.specs.Prelude.{ℕ, ◌+◌, ◌*◌, ◌%◌, ◌==◌, nat_lt, Bool, true, false, not, if◌then◌else◌, List, [], ◌∷◌, ◌++◌, length, filter, codes, bytes_eq, Option, Some, None}
+use Rattle.std.specs.Prelude.{ℕ, ◌+◌, ◌*◌, ◌%◌, ◌==◌, nat_lt, Bool, true, false, not, if◌then◌else◌}
+use Rattle.std.specs.Prelude.{List, [], ◌∷◌, ◌++◌, length, filter, codes, bytes_eq, Option, Some}
+use Rattle.std.specs.Prelude.{None}
 use Rattle.std.specs.List.{list_any, list_all, position_or_len}
 use Rattle.sw_token.specs.declared.Fixity.{Fixity}
 use Rattle.sw_token.specs.declared.Fixity.TheVariants as fixities
 use Rattle.sw_token.specs.declared.Kind.{Kind}
 use Rattle.sw_token.specs.declared.Kind.TheVariants as kinds
 use Rattle.sw_token.specs.Kinds.{kind_of}
-use Rattle.sw_token.specs.Spelling.{Spelled, operators}
+use Rattle.sw_token.specs.Operators.{operators}
+use Rattle.sw_token.specs.Spelling.{Spelled}
 
 -- the marks and words that a grammar quotes
 abbrev pub other_texts : List (List ℕ)

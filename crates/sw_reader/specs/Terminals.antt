@@ -4,7 +4,8 @@ use Rattle.sw_token.specs.declared.Fixity.TheVariants as fixities
 use Rattle.sw_token.specs.declared.Kind.{Kind}
 use Rattle.sw_token.specs.declared.Kind.TheVariants as kinds
 use Rattle.sw_bytes.specs.Classes.{is_digit}
-use Rattle.sw_token.specs.Bytes.{is_word_start}
+use Rattle.sw_token.specs.Bytes.{is_operator_byte, is_mark}
+use Rattle.sw_token.specs.Literals.{unsigned_of, literal_of, number_in}
 use Rattle.sw_token.specs.Kinds.{kind_of, word_kind, ruled_words, reserved_words, mark_number}
 use Rattle.sw_reader.specs.Sets.{quoted, word, integer, not_first}
 use Rattle.sw_reader.specs.Form.{Shape, Terminal, Form, empty, one, solid, seq, alt, star, started}
@@ -64,13 +65,15 @@ expect_on_line text = forms.terminal (quote_on_line text)
 -- a word that names something
 unfoldable pub name : {N : Type 0} {El : N → Type 0} {shape_of : N → Shape}
     → Form El shape_of (solid word [] 0) ℕ
-unfolding kind_of is_word_start is_digit word_kind ruled_words reserved_words mark_number
+unfolding kind_of literal_of unsigned_of number_in is_digit is_operator_byte is_mark
+    word_kind ruled_words reserved_words mark_number
 name = forms.shaped _ (forms.terminal a_word)
 
 -- an integer literal
 unfoldable pub literal : {N : Type 0} {El : N → Type 0} {shape_of : N → Shape}
     → Form El shape_of (solid integer [] 0) (ℕ × ℤ)
-unfolding kind_of is_word_start is_digit word_kind ruled_words reserved_words mark_number
+unfolding kind_of literal_of unsigned_of number_in is_digit is_operator_byte is_mark
+    word_kind ruled_words reserved_words mark_number
 literal = forms.shaped _ (forms.terminal an_integer)
 
 -- whether the token with this text is next, which is then taken

@@ -3,6 +3,7 @@ use Rattle.std.proofs.Common.{◌≡◌, ℕ, ◌+◌, ◌-◌, ◌<◌, ◌≤�
 use Rattle.std.proofs.Common.{length-take-le, drop, sym, subst, nat_eq, arith}
 use Rattle.std.proofs.lemmas.Grind.{common_steps}
 use Rattle.std.specs.List.{AllByRecursion, IsDistinct}
+use Rattle.std.specs.Str.{IsUtf8}
 use Rattle.sw_token.specs.Spelling.{Spelled, spelled, spelling_of}
 use Rattle.sw_token.specs.Tokens.{IsTokens, IsTokenIn, StandInOrder}
 use Rattle.sw_token.specs.declared.Token.{Token}
@@ -50,11 +51,11 @@ in_order source (token ∷ tokens) from order each =
     )
 
 -- the spans of a source's tokens are in order
-pub IsTokens-in_order : (source : List ℕ) (tokens : List Token) → IsTokens source tokens
-    → InOrder start end_of 0 (spelling_of source tokens)
-IsTokens-in_order source tokens are =
+pub IsTokens-in_order : (source : List ℕ) (tokens : List Token) → IsUtf8 source
+    → IsTokens source tokens → InOrder start end_of 0 (spelling_of source tokens)
+IsTokens-in_order source tokens utf8 are =
     in_order source tokens 0 (IsTokens-order source tokens are)
-    (IsTokens-each_by_recursion source tokens are)
+    (IsTokens-each_by_recursion source tokens utf8 are)
 
 -- a position in a token's span weighs no more than the token
 pub hits_here : (token : Spelled) (d k : ℕ) → d < max 1 (length token.text)
@@ -74,14 +75,14 @@ unfolding hits counting.here
 hits_start token k = grind (arith, common_steps)
 
 -- So a value that owns its keys has each key once.
-pub IsDistinct-owned : (source : List ℕ) (tokens : List Token) → IsTokens source tokens
-    → (ats : List ℕ)
+pub IsDistinct-owned : (source : List ℕ) (tokens : List Token) → IsUtf8 source
+    → IsTokens source tokens → (ats : List ℕ)
     → ((k : ℕ) → in_all hits ats k ≤ in_all here (spelling_of source tokens) k)
     → IsDistinct nat_eq ats
 unfolding counting.covers
-IsDistinct-owned source tokens are ats owned =
+IsDistinct-owned source tokens utf8 are ats owned =
     IsDistinct-covers start end_of 0 (spelling_of source tokens)
-    (IsTokens-in_order source tokens are) ats owned
+    (IsTokens-in_order source tokens utf8 are) ats owned
 
 -- A token whose value is its position owns that position.
 pub own_quote : (text : List ℕ) → Owns here none (One (quote text)) hits

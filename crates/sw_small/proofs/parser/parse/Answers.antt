@@ -39,7 +39,8 @@ overflow_sub-result c = omega (
 pub returns-in-Ok-clause-found : goal.returns-in-Ok-clause-found
 returns-in-Ok-clause-found c =
     read_small (spelling_of c.args.source.now c.args.tokens.now)
-    (tokens_spelled c.args.source.now c.args.tokens.now c.requires) c.in-Ok.program _
+    (tokens_spelled c.args.source.now c.args.tokens.now c.len-bytes.ensures.utf8 c.requires)
+    c.in-Ok.program _
     (ap whole_small (sym c.new.ensures) ∙ c.in-Ok.ensures)
 
 pub returns-in-Err-Unexpected-clause-fault : goal.returns-in-Err-Unexpected-clause-fault
@@ -47,5 +48,6 @@ returns-in-Err-Unexpected-clause-fault c =
     subst (λ n. IsUnexpected (spelling_of c.args.source.now c.args.tokens.now)
     (n - c.in-Err-Unexpected.left)) (length-map c.args.tokens.now (spelled c.args.source.now))
     (read_unexpected (spelling_of c.args.source.now c.args.tokens.now)
-    (tokens_spelled c.args.source.now c.args.tokens.now c.requires) c.in-Err-Unexpected.left
+    (tokens_spelled c.args.source.now c.args.tokens.now c.len-bytes.ensures.utf8 c.requires)
+    c.in-Err-Unexpected.left
     (failed (goal.at.returns-in-Err-Unexpected-clause-fault c).In-Err-Unexpected))
