@@ -17,7 +17,7 @@ const FETCHES: [(&[&str], &[u64], u8, &[u8]); 5] = [
         &["run", "refused.swift", "schedule.txt"],
         &[1],
         1,
-        b"3:11: error E201: unexpected token\nrefused: 1\n",
+        b"3:5: error E201: unexpected token\nrefused: 1\n",
     ),
 ];
 

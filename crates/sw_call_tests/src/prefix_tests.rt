@@ -3,11 +3,12 @@ use std::alloc::{AllocError, Global};
 use std::test::Fail;
 use sw_outside::{MemShelf, MemSink};
 
-/// The lengths of prefixes of the program, from and to; the line and the column at which the first
-/// is refused; and how far the column moves with each byte more. It doesn't move while a word that
-/// isn't whole yet is what is refused, as `@mai`, and moves with the end of the text elsewhere.
+/// The lengths of prefixes of the program that have tokens, from and to; the line and the column at
+/// which the first is refused; and how far the column moves with each byte more. It doesn't move
+/// while a word that isn't whole yet is what is refused, as `@mai`, and moves with the end of the
+/// text elsewhere.
 const PREFIXES: [(usize, usize, usize, usize, usize); 16] = [
-    (1, 4, 1, 1, 0),
+    (2, 4, 1, 1, 0),
     (5, 6, 1, 6, 1),
     (7, 11, 1, 7, 0),
     (12, 18, 1, 13, 1),

@@ -7,7 +7,8 @@ use Rattle.std.specs.Str.{IsUtf8, is_utf8 as test_utf8}
 use Rattle.std.proofs.lemmas.Str.{IsUtf8-from_is_utf8, is_utf8-from_IsUtf8}
 use Rattle.sw_token.specs.declared.Token.{Token}
 use Rattle.sw_token.specs.declared.LexFault.{LexFault}
-use Rattle.sw_token.specs.Tokens.{IsTokens, HasTokens}
+use Rattle.sw_token.specs.Tokens.{IsTokens, HasTokens, IsLexicalFault, position_of}
+use Rattle.sw_token.specs.declared.LexFault.TheVariants as faults
 use Rattle.sw_token.specs.Reading.{tokens_or_fault}
 use Rattle.sw_token.proofs.TokenLaws.{IsTokens-few, one_list as one_tokens, one_fault}
 use Rattle.sw_token.proofs.TokenLaws.{never_both as tokens_and_fault, tokens_or_fault-HasTokens}
@@ -30,9 +31,10 @@ use Rattle.sw_verdict.specs.Phases.{Phase, Encoding, Lexis, Entry, SmallForm, al
 use Rattle.sw_verdict.specs.Phases.{EncodingFinds, is_utf8, not_utf8, LexisFinds, has_tokens}
 use Rattle.sw_verdict.specs.Phases.{has_fault, EntryFinds, some_token, no_token, SmallFormFinds}
 use Rattle.sw_verdict.specs.Phases.{spelled, unexpected, Finds, breach_at, unexpected_token}
-use Rattle.sw_verdict.specs.Phases.{not_one_entry, position_of, token_position}
+use Rattle.sw_verdict.specs.Phases.{not_utf8_code, lexical_code, not_one_entry, token_position}
 use Rattle.sw_verdict.specs.Verdict.{Breaches, none, first, later, Accepts, Refuses, IsProgram}
 use Rattle.sw_verdict.specs.Verdict.{IsGraphOf}
+use Rattle.sw_verdict.proofs.Finding.{memory_is_no_fault}
 use Rattle.sw_verdict.proofs.InOrder.{utf8_found}
 
 -- each phase finds one list
@@ -50,7 +52,7 @@ lexis_one text _ _ (has_tokens tokens are) (has_fault fault place) =
 lexis_one text _ _ (has_fault fault place) (has_tokens tokens are) =
     absurd (tokens_and_fault text tokens fault are place)
 lexis_one text _ _ (has_fault a is_a) (has_fault b is_b) =
-    ap (λ fault. breach_at unexpected_token (position_of fault)) (one_fault text a b is_a is_b)
+    ap (λ fault. breach_at (lexical_code fault) (position_of fault)) (one_fault text a b is_a is_b)
 
 entry_one : (text : List ℕ) (a b : List Breach) → EntryFinds text a → EntryFinds text b → a ≡ b
 entry_one text _ _ (some_token _ _ _) (some_token _ _ _) = refl
@@ -127,6 +129,20 @@ unexpected_is_code : IsCode unexpected_token
 unfolding text_of texts
 unexpected_is_code = refl
 
+not_utf8_is_code : IsCode not_utf8_code
+unfolding text_of texts
+not_utf8_is_code = refl
+
+-- a lexical fault isn't that memory ran out
+lexical_is_code : (text : List ℕ) (fault : LexFault) → IsLexicalFault text fault
+    → IsCode (lexical_code fault)
+unfolding text_of texts
+lexical_is_code text (faults.Unclosed _) is = refl
+lexical_is_code text (faults.TooBig _) is = refl
+lexical_is_code text (faults.BadChar _) is = refl
+lexical_is_code text (faults.TooMany _) is = refl
+lexical_is_code text faults.Memory is = absurd (memory_is_no_fault text is)
+
 no_entry_is_code : IsCode not_one_entry
 unfolding text_of texts
 no_entry_is_code = refl
@@ -134,9 +150,9 @@ no_entry_is_code = refl
 codes_found : (phase : Phase) (text : List ℕ) (list : List Breach) → Finds phase text list
     → AllByRecursion (λ breach. IsCode breach.code) list
 codes_found Encoding text _ (is_utf8 _) = tt
-codes_found Encoding text _ (not_utf8 _) = (unexpected_is_code, tt)
+codes_found Encoding text _ (not_utf8 _) = (not_utf8_is_code, tt)
 codes_found Lexis text _ (has_tokens _ _) = tt
-codes_found Lexis text _ (has_fault _ _) = (unexpected_is_code, tt)
+codes_found Lexis text _ (has_fault fault is) = (lexical_is_code text fault is, tt)
 codes_found Entry text _ (some_token _ _ _) = tt
 codes_found Entry text _ (no_token _) = (no_entry_is_code, tt)
 codes_found SmallForm text _ (spelled _ _ _ _) = tt
@@ -190,7 +206,7 @@ some_list text = by_encoding (test_utf8 text) refl where
   by_tokens utf8 (Ok (token ∷ tokens)) are =
       by_form utf8 (token ∷ tokens) are (λ e. cc)
       (program_or_unexpected (spelling_of text (token ∷ tokens))
-      (tokens_spelled text (token ∷ tokens) are))
+      (tokens_spelled text (token ∷ tokens) utf8 are))
 
   by_encoding : (test : Bool) → test_utf8 text ≡ test → (list : List Breach)
       × Breaches all_phases text list
@@ -198,8 +214,9 @@ some_list text = by_encoding (test_utf8 text) refl where
     _,
     first Encoding _ text _ [] (not_utf8 (λ utf8. cc (is_utf8-from_IsUtf8 text utf8, is))),
   )
-  by_encoding true is = by_tokens (IsUtf8-from_is_utf8 text is) (tokens_or_fault text)
-      (tokens_or_fault-HasTokens text)
+  by_encoding true is =
+      let utf8 = IsUtf8-from_is_utf8 text is in
+      by_tokens utf8 (tokens_or_fault text) (tokens_or_fault-HasTokens text utf8)
 
 pub decided : (text : List ℕ) → Accepts text ⊎ Refuses all_phases text
 decided text = let (list, found) = some_list text in by list found where

@@ -7,7 +7,7 @@ use Rattle.std.specs.Str.Lossy.{utf8_valid_len}
 use Rattle.sw_token.specs.declared.Token.{Token}
 use Rattle.sw_token.specs.declared.LexFault.{LexFault}
 use Rattle.sw_token.specs.declared.LexFault.TheVariants.{Unclosed, TooBig, BadChar, TooMany, Memory}
-use Rattle.sw_token.specs.Tokens.{IsTokens, IsLexicalFault}
+use Rattle.sw_token.specs.Tokens.{IsTokens, IsLexicalFault, position_of}
 use Rattle.sw_breach.specs.declared.Breach.{Breach}
 use Rattle.sw_small.specs.declared.tree.Small.{Small}
 use Rattle.sw_token.specs.Spelling.{spelling_of}
@@ -27,6 +27,10 @@ pub data Phase : Type 0 where
 abbrev pub all_phases : List Phase
 all_phases = Encoding ∷ Lexis ∷ Entry ∷ SmallForm ∷ []
 
+-- the code of a text that isn't UTF-8
+abbrev pub not_utf8_code : ℕ
+not_utf8_code = 101
+
 -- the code of a token that can't stand where it does
 abbrev pub unexpected_token : ℕ
 unexpected_token = 201
@@ -42,21 +46,21 @@ breach_at code at = record { code = code; at = at; note = None } ∷ []
 -- The breach is at the first byte after the longest prefix that is UTF-8.
 pub data EncodingFinds (text : List ℕ) : List Breach → Type 0 where
   is_utf8 : IsUtf8 text → EncodingFinds text []
-  not_utf8 : ¬ (IsUtf8 text) → EncodingFinds text (breach_at unexpected_token (utf8_valid_len text))
+  not_utf8 : ¬ (IsUtf8 text) → EncodingFinds text (breach_at not_utf8_code (utf8_valid_len text))
 
--- the position that a fault of the tokens names
-abbrev pub position_of : LexFault → ℕ
-position_of (Unclosed at) = at
-position_of (TooBig at) = at
-position_of (BadChar at) = at
-position_of (TooMany at) = at
-position_of Memory = 0
+-- the code of each fault of the tokens; a call that ran out of memory found none
+abbrev pub lexical_code : LexFault → ℕ
+lexical_code (Unclosed _) = 102
+lexical_code (TooBig _) = 103
+lexical_code (BadChar _) = 104
+lexical_code (TooMany _) = 105
+lexical_code Memory = 0
 
--- The breach is at the first byte that no token can take.
+-- The breach is at the lexical fault.
 pub data LexisFinds (text : List ℕ) : List Breach → Type 0 where
   has_tokens : (tokens : List Token) → IsTokens text tokens → LexisFinds text []
   has_fault : (fault : LexFault) → IsLexicalFault text fault
-      → LexisFinds text (breach_at unexpected_token (position_of fault))
+      → LexisFinds text (breach_at (lexical_code fault) (position_of fault))
 
 -- A text without tokens has no entry.
 pub data EntryFinds (text : List ℕ) : List Breach → Type 0 where

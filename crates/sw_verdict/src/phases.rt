@@ -1,11 +1,11 @@
 //! One function for each phase.
 
 ghost use Rattle.std.specs.Prelude.{◌≡◌, ◌≢◌, ◌≤◌, ℕ, List, IfOk, OnOk, length};
-ghost use Rattle.sw_token.specs.Tokens.{IsTokens};
+ghost use Rattle.sw_token.specs.Tokens.{IsTokens, position_of};
 ghost use Rattle.sw_token.specs.Spelling.{spelling_of};
 ghost use Rattle.sw_small.specs.Small.{Spells};
 ghost use Rattle.sw_verdict.specs.Phases.{Encoding, Entry, Lexis, SmallForm, Finds, breach_at};
-ghost use Rattle.sw_verdict.specs.Phases.{position_of, token_position, unexpected_token};
+ghost use Rattle.sw_verdict.specs.Phases.{lexical_code, token_position};
 ghost use Rattle.sw_verdict.specs.Found.{Found};
 
 use std::alloc::{AllocError, Global};
@@ -14,6 +14,21 @@ use sw_list::ListOf;
 use sw_small::{ParseFault, Small, parse};
 use sw_text::{MAX_LENGTH, Source, TextFault};
 use sw_token::{LexFault, Token, tokens};
+
+/// A text that isn't UTF-8.
+const NOT_UTF8: u16 = 101;
+
+/// A comment that isn't closed.
+const UNCLOSED_COMMENT: u16 = 102;
+
+/// An integer literal with too large a value.
+const TOO_LARGE_LITERAL: u16 = 103;
+
+/// A character with which nothing goes on.
+const BAD_CHARACTER: u16 = 104;
+
+/// A token that is one too many.
+const TOO_MANY_TOKENS: u16 = 105;
 
 /// A token that can't stand where it does.
 const UNEXPECTED_TOKEN: u16 = 201;
@@ -64,7 +79,7 @@ pub fn encoding(alloc: Global, text: &[u8]) -> Result<Source, Refusal>
 {
     match Source::new(alloc, text) {
         Ok(source) => Ok(source),
-        Err(TextFault::NotUtf8 { at }) => Err(refused(alloc, UNEXPECTED_TOKEN, at)),
+        Err(TextFault::NotUtf8 { at }) => Err(refused(alloc, NOT_UTF8, at)),
         Err(TextFault::Memory) => Err(Refusal::Memory),
     }
 }
@@ -72,13 +87,13 @@ pub fn encoding(alloc: Global, text: &[u8]) -> Result<Source, Refusal>
 /// The refusal for a fault of the tokens.
 fn lexical_refusal(alloc: Global, fault: LexFault) -> Refusal
     ensures { result ≢ Refusal.Memory → (fault ≢ LexFault.Memory)
-        × (result ≡ Refusal.Breached (breach_at unexpected_token (position_of fault))) }
+        × (result ≡ Refusal.Breached (breach_at (lexical_code fault) (position_of fault))) }
 {
     match fault {
-        LexFault::Unclosed { at }
-        | LexFault::TooBig { at }
-        | LexFault::BadChar { at }
-        | LexFault::TooMany { at } => refused(alloc, UNEXPECTED_TOKEN, at),
+        LexFault::Unclosed { at } => refused(alloc, UNCLOSED_COMMENT, at),
+        LexFault::TooBig { at } => refused(alloc, TOO_LARGE_LITERAL, at),
+        LexFault::BadChar { at } => refused(alloc, BAD_CHARACTER, at),
+        LexFault::TooMany { at } => refused(alloc, TOO_MANY_TOKENS, at),
         LexFault::Memory => Refusal::Memory,
     }
 }
