@@ -1,5 +1,6 @@
 -- The readers of one token, step by step as the cursor takes them.
-use Rattle.std.proofs.Common.{◌≡◌, ℕ, ℤ, Bool, true, false, cond, not, ◌&&◌, List, [], ◌∷◌, length, refl, sym, ◌∙◌, ap, subst}
+use Rattle.std.proofs.Common.{◌≡◌, ℕ, ℤ, Bool, true, false, cond, not, ◌&&◌, List, [], ◌∷◌, length}
+use Rattle.std.proofs.Common.{refl, sym, ◌∙◌, ap, subst}
 use Rattle.std.specs.Prelude.{Option, Some, None, Ok, Err}
 use Rattle.sw_token.specs.declared.Fixity.{Fixity}
 use Rattle.sw_token.specs.declared.Fixity.TheVariants as fixities
@@ -9,7 +10,7 @@ use Rattle.sw_token.specs.Kinds.{kind_of}
 use Rattle.sw_token.specs.Spelling.{Spelled}
 use Rattle.sw_reader.specs.Sets.{Set, has, starts, quoted, is_quoted, word, not_first, is_integer}
 use Rattle.sw_reader.specs.Form.{Terminal}
-use Rattle.sw_reader.specs.Terminals.{quote, quote_on_line, an_integer, int_value}
+use Rattle.sw_reader.specs.Quotes.{quote, quote_on_line, an_integer, int_value}
 use Rattle.sw_reader.specs.Relations.{head, is_first_on_line}
 use Rattle.sw_reader.specs.Reader.{Answer, pure, and_then, then_read, take_if, next, skipping}
 use Rattle.sw_reader.specs.Reader.Fault.{unexpected}

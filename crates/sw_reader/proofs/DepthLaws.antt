@@ -1,17 +1,21 @@
 -- A greater depth changes no answer but that a nest is too deep. So a token that can't be taken
 -- begins no spelling of any depth.
-use Rattle.std.proofs.Common.{◌≡◌, ℕ, zero, suc, ◌+◌, ◌-◌, ◌≤◌, max, Bool, true, false, cond, List, [], ◌∷◌, ◌++◌, length, refl, sym, ◌∙◌, ap, subst, arith}
+use Rattle.sw_reader.specs.Quotes.{quote}
+use Rattle.std.proofs.Common.{◌≡◌, ℕ, zero, suc, ◌+◌, ◌-◌, ◌≤◌, max, Bool, true, false, cond, List}
+use Rattle.std.proofs.Common.{[], ◌∷◌, ◌++◌, length, refl, sym, ◌∙◌, ap, subst, arith, not, codes}
 use Rattle.std.specs.Prelude.{Option, Ok, Err}
 use Rattle.std.proofs.Math.Nat.{le-max_left, le-max_right}
 use Rattle.sw_token.specs.Spelling.{Spelled}
-use Rattle.sw_reader.specs.Sets.{Set, has, starts}
+use Rattle.sw_reader.specs.Sets.{Set, has, starts, quoted}
 use Rattle.sw_reader.specs.Form.{Shape, Terminal, Form}
 use Rattle.sw_reader.specs.Form as forms
 use Rattle.sw_reader.specs.Relations.{head, may_start, stays}
-use Rattle.sw_reader.specs.Reader.{Answer, Reader, refused, pure, and_then, then_read, take_if, next, opening, check, choose, repeat, finish, whole}
+use Rattle.sw_reader.specs.Reader.{Answer, Reader, refused, pure, and_then, then_read, take_if}
+use Rattle.sw_reader.specs.Reader.{next, opening, check, choose, repeat, finish, whole, set_if}
+use Rattle.sw_reader.specs.Reader.{only_if, read_item, read_items, skipping, checked}
 use Rattle.sw_reader.specs.Reader.Fault.{unexpected, too_deep}
 use Rattle.sw_reader.specs.Spells.{Wide, read_inside, reads}
-use Rattle.sw_reader.proofs.ReaderLaws.{Outside, Failed}
+use Rattle.sw_reader.proofs.ReaderLaws.{Without, Failed}
 use Rattle.sw_reader.proofs.LoopLaws.{same_ends}
 use Rattle.sw_reader.proofs.FormLaws.{deeper, law}
 
@@ -22,10 +26,10 @@ NotDeep (Err (unexpected left)) = Unit {0}
 NotDeep (Err (too_deep left)) = ⊥
 
 -- the second reader answers what the first does, where that isn't that a nest is too deep
-abbrev Agrees : {A : Type 0} → Reader A → Reader A → Type 0
+abbrev pub Agrees : {A : Type 0} → Reader A → Reader A → Type 0
 Agrees p q = (ts : List Spelled) → NotDeep (p ts) → q ts ≡ p ts
 
-then_agrees : {A B : Type 0} (p q : Reader A) (f g : A → Reader B) → Agrees p q
+pub then_agrees : {A B : Type 0} (p q : Reader A) (f g : A → Reader B) → Agrees p q
     → ((a : A) → Agrees (f a) (g a))
     → Agrees (then_read p f) (then_read q g)
 then_agrees {A} {B} p q f g same also ts shallow = by_answer (p ts) refl shallow
@@ -46,15 +50,28 @@ cond_agrees : {A : Type 0} (b : Bool) (x y x' y' : Answer A) → (NotDeep x → 
 cond_agrees true x y x' y' one two h = one h
 cond_agrees false x y x' y' one two h = two h
 
-repeat_agrees : {S : Type 0} (set : Set) (f g : S → Reader S) → ((s : S) → Agrees (f s) (g s))
-    → (n : ℕ) (s : S) → Agrees (repeat set f n s) (repeat set g n s)
-repeat_agrees set f g same zero s ts h = cond_agrees (starts set (head ts)) (refused ts)
-    (Ok (s, ts)) (refused ts) (Ok (s, ts)) (λ _. refl) (λ _. refl) h
-repeat_agrees set f g same (suc n) s ts h =
-    cond_agrees (starts set (head ts)) (then_read (f s) (repeat set f n) ts) (Ok (s, ts))
-    (then_read (g s) (repeat set g n) ts) (Ok (s, ts))
-    (then_agrees (f s) (g s) (repeat set f n) (repeat set g n) (same s)
-    (repeat_agrees set f g same n) ts) (λ _. refl) h
+repeat_agrees : {S : Type 0} (set : Set) (is_open : S → Bool) (f g : S → Reader S)
+    → ((s : S) → Agrees (f s) (g s)) → (n : ℕ) (s : S)
+    → Agrees (repeat set is_open f n s) (repeat set is_open g n s)
+repeat_agrees set is_open f g same zero s ts h =
+    cond_agrees (starts (set_if (is_open s) set) (head ts)) (refused ts) (Ok (s, ts)) (refused ts)
+    (Ok (s, ts)) (λ _. refl) (λ _. refl) h
+repeat_agrees set is_open f g same (suc n) s ts h =
+    cond_agrees (starts (set_if (is_open s) set) (head ts))
+    (then_read (f s) (repeat set is_open f n) ts) (Ok (s, ts))
+    (then_read (g s) (repeat set is_open g n) ts) (Ok (s, ts))
+    (then_agrees (f s) (g s) (repeat set is_open f n) (repeat set is_open g n) (same s)
+    (repeat_agrees set is_open f g same n) ts) (λ _. refl) h
+
+item_agrees : {A : Type 0} (p q : Reader A) → Agrees p q → (state : List A × Bool)
+    → Agrees (read_item p state) (read_item q state)
+item_agrees p q same state =
+    then_agrees (checked (may_start (not state.1)) p) (checked (may_start (not state.1)) q)
+    (λ x. then_read (skipping (codes ";")) (λ ended. pure (state.0 ++ x ∷ [], ended)))
+    (λ x. then_read (skipping (codes ";")) (λ ended. pure (state.0 ++ x ∷ [], ended)))
+    (then_agrees (check (may_start (not state.1))) (check (may_start (not state.1))) (λ _. p)
+    (λ _. q) (λ ts _. refl) (λ _. same))
+    (λ x ts _. refl)
 
 -- where no nest may be opened, none is
 no_nest_agrees : {A B : Type 0} (t : Terminal A) (f g : A → Reader B)
@@ -90,8 +107,33 @@ module _ {N : Type 0} (El : N → Type 0) (shape_of : N → Shape)
       (reads El shape_of body d q ts) (reads El shape_of body (suc d) p ts)
       (reads El shape_of body (suc d) q ts)
       (form_agrees d inner p ts) (form_agrees d inner q ts) h
-  form_agrees d inner (forms.turns {s = s} state f) ts h =
-      repeat_agrees s.first (λ now. reads El shape_of body d (f now))
+  form_agrees d inner (forms.more_items {s = s} state p) ts h =
+      repeat_agrees s.first (λ _. true) (read_item (reads El shape_of body d p))
+      (read_item (reads El shape_of body (suc d) p))
+      (item_agrees (reads El shape_of body d p) (reads El shape_of body (suc d) p)
+      (form_agrees d inner p))
+      (length ts) state ts h
+  form_agrees d inner (forms.some_items {s = s} p) ts h =
+      then_agrees (read_item (reads El shape_of body d p) ([], true))
+      (read_item (reads El shape_of body (suc d) p) ([], true))
+      (read_items s.first (reads El shape_of body d p))
+      (read_items s.first (reads El shape_of body (suc d) p))
+      (item_agrees (reads El shape_of body d p) (reads El shape_of body (suc d) p)
+      (form_agrees d inner p) ([], true))
+      (λ state us. repeat_agrees s.first (λ _. true) (read_item (reads El shape_of body d p))
+      (read_item (reads El shape_of body (suc d) p))
+      (item_agrees (reads El shape_of body d p) (reads El shape_of body (suc d) p)
+      (form_agrees d inner p))
+      (length us) state us)
+      ts h
+  form_agrees d inner (forms.unless {s = s} is_so p q) ts h =
+      cond_agrees (starts s.first (head ts)) (reads El shape_of body d p ts)
+      (only_if is_so (reads El shape_of body d q) refused ts) (reads El shape_of body (suc d) p ts)
+      (only_if is_so (reads El shape_of body (suc d) q) refused ts) (form_agrees d inner p ts)
+      (λ k. cond_agrees is_so (reads El shape_of body d q ts) (refused ts)
+      (reads El shape_of body (suc d) q ts) (refused ts) (form_agrees d inner q ts) (λ _. refl) k) h
+  form_agrees d inner (forms.turns {s = s} is_open state f) ts h =
+      repeat_agrees s.first is_open (λ now. reads El shape_of body d (f now))
       (λ now. reads El shape_of body (suc d) (f now)) (λ now. form_agrees d inner (f now))
       (length ts) state ts h
   form_agrees d inner (forms.when {s = s} is_so p q) ts h =
@@ -153,7 +195,7 @@ module _ {N : Type 0} (El : N → Type 0) (shape_of : N → Shape)
   pub unexpected_at_any_depth : ((n : N) → (shape_of n).ok ≡ true)
       → (d : ℕ) {s : Shape} {A : Type 0} (form : Form El shape_of s A) → s.ok ≡ true
       → (ts : List Spelled) (left : ℕ) → reads El shape_of body d form ts ≡ Err (unexpected left)
-      → Failed (Wide El shape_of body form) (Wide El shape_of body form) (Outside s.ext) ts
+      → Failed (Wide El shape_of body form) (Wide El shape_of body form) (Without s.ext) ts
       (unexpected left)
   unexpected_at_any_depth good d form ok ts left e =
       let bad = (law El shape_of body good d form ok).fails ts (unexpected left) e in
@@ -200,14 +242,32 @@ never_next t (token ∷ ts) = never_cond (has t.set token) (Ok (t.value token, t
 never_check : (test : Option Spelled → Bool) (ts : List Spelled) → NotDeep (check test ts)
 never_check test ts = never_cond (test (head ts)) (Ok (tt {0}, ts)) (refused ts) tt tt
 
-never_repeat : {S : Type 0} (set : Set) (f : S → Reader S)
+never_repeat : {S : Type 0} (set : Set) (is_open : S → Bool) (f : S → Reader S)
     → ((s : S) (ts : List Spelled) → NotDeep (f s ts)) → (n : ℕ) (s : S) (ts : List Spelled)
-    → NotDeep (repeat set f n s ts)
-never_repeat set f each zero s ts = never_cond (starts set (head ts)) (refused ts)
-    (Ok (s, ts)) tt tt
-never_repeat set f each (suc n) s ts =
-    never_cond (starts set (head ts)) (then_read (f s) (repeat set f n) ts) (Ok (s, ts))
-    (never_then (f s) (repeat set f n) (each s) (never_repeat set f each n) ts) tt
+    → NotDeep (repeat set is_open f n s ts)
+never_repeat set is_open f each zero s ts =
+    never_cond (starts (set_if (is_open s) set) (head ts)) (refused ts) (Ok (s, ts)) tt tt
+never_repeat set is_open f each (suc n) s ts =
+    never_cond (starts (set_if (is_open s) set) (head ts))
+    (then_read (f s) (repeat set is_open f n) ts) (Ok (s, ts))
+    (never_then (f s) (repeat set is_open f n) (each s) (never_repeat set is_open f each n) ts) tt
+
+never_skip : (text : List ℕ) (ts : List Spelled) → NotDeep (skipping text ts)
+never_skip text ts =
+    never_cond (starts (quoted text) (head ts)) (then_read (next (quote text)) (λ _. pure true) ts)
+    (Ok (false, ts))
+    (never_then (next (quote text)) (λ _. pure true) (never_next (quote text)) (λ _ us. tt) ts) tt
+
+never_item : {A : Type 0} (p : Reader A) → ((ts : List Spelled) → NotDeep (p ts))
+    → (state : List A × Bool) (ts : List Spelled)
+    → NotDeep (read_item p state ts)
+never_item p each state ts =
+    never_then (checked (may_start (not state.1)) p)
+    (λ x. then_read (skipping (codes ";")) (λ ended. pure (state.0 ++ x ∷ [], ended)))
+    (never_then (check (may_start (not state.1))) (λ _. p) (never_check (may_start (not state.1)))
+    (λ _. each))
+    (λ x. never_then (skipping (codes ";")) (λ ended. pure (state.0 ++ x ∷ [], ended))
+    (never_skip (codes ";")) (λ _ us. tt)) ts
 
 module _ {N : Type 0} (El : N → Type 0) (shape_of : N → Shape)
     (body : (n : N) → Form El shape_of (shape_of n) (El n)) (none : N → ⊥) where
@@ -220,8 +280,23 @@ module _ {N : Type 0} (El : N → Type 0) (shape_of : N → Shape)
   never d (forms.either {s = s} p q) ts =
       never_cond (starts s.first (head ts)) (reads El shape_of body d p ts)
       (reads El shape_of body d q ts) (never d p ts) (never d q ts)
-  never d (forms.turns {s = s} state f) ts =
-      never_repeat s.first (λ now. reads El shape_of body d (f now)) (λ now. never d (f now))
+  never d (forms.more_items {s = s} state p) ts =
+      never_repeat s.first (λ _. true) (read_item (reads El shape_of body d p))
+      (never_item (reads El shape_of body d p) (never d p)) (length ts) state ts
+  never d (forms.some_items {s = s} p) ts =
+      never_then (read_item (reads El shape_of body d p) ([], true))
+      (read_items s.first (reads El shape_of body d p))
+      (never_item (reads El shape_of body d p) (never d p) ([], true))
+      (λ state us. never_repeat s.first (λ _. true) (read_item (reads El shape_of body d p))
+      (never_item (reads El shape_of body d p) (never d p)) (length us) state us)
+      ts
+  never d (forms.unless {s = s} is_so p q) ts =
+      never_cond (starts s.first (head ts)) (reads El shape_of body d p ts)
+      (only_if is_so (reads El shape_of body d q) refused ts) (never d p ts)
+      (never_cond is_so (reads El shape_of body d q ts) (refused ts) (never d q ts) tt)
+  never d (forms.turns {s = s} is_open state f) ts =
+      never_repeat s.first is_open (λ now. reads El shape_of body d (f now))
+      (λ now. never d (f now))
       (length ts) state ts
   never d (forms.when {s = s} is_so p q) ts =
       never_cond is_so (choose s.first (reads El shape_of body d p) (reads El shape_of body d q) ts)

@@ -1,15 +1,19 @@
 -- What a form's shape says of its spellings: with which tokens they begin, and that there is a
 -- short one.
-use Rattle.std.proofs.Common.{◌≡◌, ◌≤◌, Bool, true, false, cond, not, ◌||◌, inl, inr, List, [], ◌∷◌, ◌++◌, refl, sym, ◌∙◌, ap, subst}
+use Rattle.std.proofs.Common.{◌≡◌, ◌≤◌, Bool, true, false, cond, not, ◌||◌, inl, inr, List, [], ◌∷◌}
+use Rattle.std.proofs.Common.{◌++◌, refl, sym, ◌∙◌, ap, subst}
 use Rattle.std.proofs.lemmas.Bool.{leb-true}
 use Rattle.sw_token.specs.Spelling.{Spelled}
 use Rattle.sw_reader.specs.Sets.{Set, class_of, is_in, has, starts, not_first}
 use Rattle.sw_reader.specs.Sets as sets
-use Rattle.sw_reader.specs.Form.{Shape, Terminal, Claim, Form, shows, one, seq, choice, alt, is_shorter, star, nested, started, inline, held}
+use Rattle.sw_reader.specs.Form.{Shape, Terminal, Claim, Form, shows, one, seq, choice, alt}
+use Rattle.sw_reader.specs.Form.{is_shorter, star, nested, started, inline, held, listed}
+use Rattle.sw_reader.specs.Form.{listed_some}
 use Rattle.sw_reader.specs.Form as forms
-use Rattle.sw_reader.specs.Relations.{Relation, head, Turns, stays, spelled}
+use Rattle.sw_reader.specs.Relations.{Relation, head, Turns, stays, spelled, Only, OneMore}
 use Rattle.sw_reader.specs.Relations.Turns.{stop, turn}
-use Rattle.sw_reader.proofs.SetLemmas.{and_left, and_right, and_both, or_left, or_right, not_true, implied, has-append, has-within, has-not_first}
+use Rattle.sw_reader.proofs.SetLemmas.{and_left, and_right, and_both, or_left, or_right, not_true}
+use Rattle.sw_reader.proofs.SetLemmas.{implied, has-append, has-within, has-not_first}
 
 -- FIRST: a spelling begins with a token of `first`, or is empty where the shape says so
 
@@ -70,6 +74,7 @@ starts_started s (u ∷ us) some h = h
 pub record Covers (s : Shape) (c : Claim) : Type 0 where
   pub ok : s.ok ≡ true
   pub nullable : s.nullable ≡ c.nullable
+  pub bare : s.bare ≡ c.bare
   pub first : (token : Spelled) → has s.first token ≡ true → has c.first token ≡ true
   pub ext : (token : Spelled) → has s.ext token ≡ true → has c.ext token ≡ true
   pub height : s.height ≤ c.height
@@ -79,7 +84,8 @@ pub record Covers (s : Shape) (c : Claim) : Type 0 where
 
 pub covers : (s : Shape) (c : Claim) → (held s c).ok ≡ true → Covers s c
 covers s c h =
-    let seven = and_left _ _ h in
+    let eight = and_left _ _ h in
+    let seven = and_left _ _ eight in
     let six = and_left _ _ seven in
     let five = and_left _ _ six in
     let four = and_left _ _ five in
@@ -90,9 +96,10 @@ covers s c h =
       nullable = same_bool _ _ (and_right _ _ two);
       first = λ token k. has-within s.first c.first token (and_right _ _ three) k;
       ext = λ token k. has-within s.ext c.ext token (and_right _ _ four) k;
-      height = leb-true s.height c.height (and_right _ _ five);
-      begins_line = implied _ _ (and_right _ _ six);
-      stays_on_line = implied _ _ (and_right _ _ seven);
+      bare = same_bool _ _ (and_right _ _ five);
+      height = leb-true s.height c.height (and_right _ _ six);
+      begins_line = implied _ _ (and_right _ _ seven);
+      stays_on_line = implied _ _ (and_right _ _ eight);
       some = and_right _ _ h;
     }
 
@@ -118,12 +125,73 @@ good_choice s t short h =
       apart = and_right _ _ four;
     }
 
-Turns-map : {S : Type 0} {One Two : S → Relation S}
+-- what items that can be told apart say
+pub record GoodItem (s : Shape) : Type 0 where
+  pub ok : s.ok ≡ true
+  pub some : s.nullable ≡ false
+  pub begins_line : s.begins_line ≡ true
+  pub solid : s.bare ≡ false
+  pub next_line : sets.apart s.ext (sets.first_only s.first) ≡ true
+  pub next_mark : sets.apart s.ext forms.semicolon ≡ true
+  pub no_mark : sets.apart s.first forms.semicolon ≡ true
+
+pub good_item : (s : Shape) → forms.is_item s ≡ true → GoodItem s
+good_item s h =
+    let five = and_left _ _ h in let four = and_left _ _ five in let three = and_left _ _ four in
+    let two = and_left _ _ three in let line = and_right _ _ three in
+    record {
+      ok = and_left _ _ two;
+      some = not_true _ (and_right _ _ two);
+      begins_line = and_left _ _ line;
+      solid = not_true _ (and_right _ _ line);
+      next_line = and_right _ _ four;
+      next_mark = and_right _ _ five;
+      no_mark = and_right _ _ h;
+    }
+
+starts_more : {A : Type 0} (s : Shape) (P : Relation A) → s.nullable ≡ false
+    → ((a : A) (us : List Spelled) → P a us → StartsWith s us)
+    → (a b : List A × Bool) (us vs : List Spelled) → OneMore P a b us
+    → StartsWith (listed_some s) (us ++ vs)
+starts_more s P some each a b us vs h =
+    subst (λ ws. StartsWith (listed_some s) (ws ++ vs)) (sym h.whole)
+    (by_left h.left (each h.value h.left h.first.0))
+  where
+    by_left : (left : List Spelled) → StartsWith s left
+        → StartsWith (listed_some s) ((left ++ h.right) ++ vs)
+    by_left [] k = absurd (clash _ k some)
+    by_left (w ∷ ws) k = k
+
+starts_listed : {A : Type 0} (s : Shape) (P : Relation A) → s.nullable ≡ false
+    → ((a : A) (us : List Spelled) → P a us → StartsWith s us)
+    → (a b : List A × Bool) (us : List Spelled) → Turns (OneMore P) a b us
+    → StartsWith (listed s) us
+starts_listed s P some each a b us (stop _) = refl
+starts_listed s P some each a b us (turn _ next _ ws vs h rest) =
+    by_all (ws ++ vs) (starts_more s P some each a next ws vs h)
+  where
+    by_all : (all : List Spelled) → StartsWith (listed_some s) all → StartsWith (listed s) all
+    by_all [] k = refl
+    by_all (u ∷ all) k = k
+
+pub Turns-map : {S : Type 0} {One Two : S → Relation S}
     → ((a b : S) (us : List Spelled) → One a b us → Two a b us)
     → (a b : S) (us : List Spelled) → Turns One a b us → Turns Two a b us
 Turns-map {S} {One} {Two} each a b us (stop _) = stop a
 Turns-map {S} {One} {Two} each a b us (turn _ next _ vs ws h rest) =
     turn a next b vs ws (each a next vs h) (Turns-map each next b ws rest)
+
+pub OneMore-map : {A : Type 0} {P Q : Relation A} → ((a : A) (us : List Spelled) → P a us → Q a us)
+    → (state next : List A × Bool) (us : List Spelled) → OneMore P state next us
+    → OneMore Q state next us
+OneMore-map {A} {P} {Q} each state next us h = record {
+  value = h.value;
+  left = h.left;
+  right = h.right;
+  first = (each h.value h.left h.first.0, h.first.1);
+  second = h.second;
+  whole = h.whole;
+}
 
 module _ {N : Type 0} (El : N → Type 0) (shape_of : N → Shape) where
   pub starts_form : (inside : (n : N) → Relation (El n)) {s : Shape} {A : Type 0}
@@ -147,10 +215,27 @@ module _ {N : Type 0} (El : N → Type 0) (shape_of : N → Shape) where
       let three = and_left _ _ (and_left _ _ ok) in let two = and_left _ _ three in
       starts_right s t (cond (is_shorter s t) s t) ts
       (starts_form inside q (and_right _ _ two) a ts h)
-  starts_form inside (forms.turns {s = s} state f) ok a ts h =
+  starts_form inside (forms.turns {s = s} is_open state f) ok a ts h =
       let two = and_left _ _ ok in
-      starts_turns s (λ now. spelled El shape_of inside (f now)) (not_true _ (and_right _ _ two))
-      (λ now next us k. starts_form inside (f now) (and_left _ _ two) next us k) state a ts h
+      starts_turns s (λ now. Only (is_open now) (spelled El shape_of inside (f now)))
+      (not_true _ (and_right _ _ two))
+      (λ now next us k. starts_form inside (f now) (and_left _ _ two) next us k.1) state a ts h
+  starts_form inside (forms.unless {s = s} {t = t} is_so p q) ok a ts (inl h) =
+      let three = and_left _ _ (and_left _ _ ok) in let two = and_left _ _ three in
+      starts_left s t s ts (not_true _ (and_right _ _ three))
+      (starts_form inside p (and_left _ _ two) a ts h)
+  starts_form inside (forms.unless {s = s} {t = t} is_so p q) ok a ts (inr h) =
+      let three = and_left _ _ (and_left _ _ ok) in let two = and_left _ _ three in
+      starts_right s t s ts (starts_form inside q (and_right _ _ two) a ts h.1)
+  starts_form inside (forms.more_items {s = s} state p) ok a ts h =
+      let is = good_item s ok in
+      starts_listed s (spelled El shape_of inside p) is.some (starts_form inside p is.ok) state a ts
+      h
+  starts_form inside (forms.some_items {s = s} p) ok a ts h =
+      let is = good_item s ok in
+      subst (λ us. StartsWith (listed_some s) us) (sym h.whole)
+      (starts_more s (spelled El shape_of inside p) is.some (starts_form inside p is.ok)
+      ([], true) h.value h.left h.right h.first)
   starts_form inside (forms.when {s = s} {t = t} is_so p q) ok a ts (inl h) =
       let three = and_left _ _ (and_left _ _ ok) in let two = and_left _ _ three in
       starts_left s t t ts (not_true _ (and_right _ _ three))
@@ -191,8 +276,23 @@ module _ {N : Type 0} (El : N → Type 0) (shape_of : N → Shape) where
       inl (spelled_more inside more grows p a ts h)
   spelled_more inside more grows (forms.either p q) a ts (inr h) =
       inr (spelled_more inside more grows q a ts h)
-  spelled_more inside more grows (forms.turns state f) a ts h =
-      Turns-map (λ now next us k. spelled_more inside more grows (f now) next us k) state a ts h
+  spelled_more inside more grows (forms.turns is_open state f) a ts h =
+      Turns-map (λ now next us k. (k.0, spelled_more inside more grows (f now) next us k.1)) state a
+      ts h
+  spelled_more inside more grows (forms.unless is_so p q) a ts (inl h) =
+      inl (spelled_more inside more grows p a ts h)
+  spelled_more inside more grows (forms.unless is_so p q) a ts (inr h) =
+      inr (h.0, spelled_more inside more grows q a ts h.1)
+  spelled_more inside more grows (forms.more_items state p) a ts h =
+      Turns-map (OneMore-map (spelled_more inside more grows p)) state a ts h
+  spelled_more inside more grows (forms.some_items p) a ts h = record {
+    value = h.value;
+    left = h.left;
+    right = h.right;
+    first = OneMore-map (spelled_more inside more grows p) ([], true) h.value h.left h.first;
+    second = Turns-map (OneMore-map (spelled_more inside more grows p)) h.value a h.right h.second;
+    whole = h.whole;
+  }
   spelled_more inside more grows (forms.when is_so p q) a ts (inl h) =
       inl (h.0, spelled_more inside more grows p a ts h.1)
   spelled_more inside more grows (forms.when is_so p q) a ts (inr h) =

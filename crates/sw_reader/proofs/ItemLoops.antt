@@ -1,19 +1,21 @@
 -- Items that a `;` or the end of a line ends, turn by turn as a loop of the code reads them.
-use Rattle.std.proofs.Common.{◌≡◌, ℕ, ◌<◌, Bool, true, false, not, List, [], ◌∷◌, ◌++◌, length, refl, sym, ◌∙◌, codes}
+use Rattle.std.proofs.Common.{◌≡◌, ℕ, ◌<◌, Bool, true, false, not, List, [], ◌∷◌, ◌++◌, length}
+use Rattle.std.proofs.Common.{refl, sym, ◌∙◌, codes}
 use Rattle.std.specs.Prelude.{Ok, Err}
 use Rattle.sw_token.specs.Spelling.{Spelled}
 use Rattle.sw_reader.specs.Sets.{starts}
-use Rattle.sw_reader.specs.Form.{Shape, Form, empty, one, seq, alt, star, started}
+use Rattle.sw_reader.specs.Form.{Shape, Form, is_item}
 use Rattle.sw_reader.specs.Relations.{head, may_start}
 use Rattle.sw_reader.specs.Reader.{Fault, Answer, Reader, pure, then_read, check, checked, skipping}
+use Rattle.sw_reader.specs.Reader.{read_item}
 use Rattle.sw_reader.specs.Reader.Fault.{unexpected}
 use Rattle.sw_reader.specs.Spells.{reads}
-use Rattle.sw_reader.specs.Terminals.{quote, one_more, more_items}
+use Rattle.sw_reader.specs.Form.Form.{more_items}
 use Rattle.sw_reader.specs.Outcome.{Gives}
 use Rattle.sw_reader.specs.declared.stop.Stop.{Stop}
 use Rattle.sw_reader.specs.declared.stop.Stop.TheVariants as stops
 use Rattle.sw_reader.proofs.ReaderLaws.{bind_step, bind_stop}
-use Rattle.sw_reader.proofs.FormLaws.{loop_stops, loop_goes_on, turn_takes}
+use Rattle.sw_reader.proofs.FormLaws.{items_end, items_next, item_shrinks}
 
 -- a refusal of the first is one of the second
 abbrev pub Refuses : {A B : Type 0} → Answer A → Answer B → Type 0
@@ -26,24 +28,20 @@ refuses first second (stops.Unexpected count) left other passes gives =
     passes (unexpected count) gives
 refuses first second stops.Memory left other passes gives = tt
 
--- the shape of a turn
-abbrev pub turn_of : Shape → Shape
-turn_of s = seq (started s) (seq (alt (seq (one (quote (codes ";"))) empty) empty) empty)
-
 module _ {N : Type 0} (El : N → Type 0) (shape_of : N → Shape)
     (body : (n : N) → Form El shape_of (shape_of n) (El n))
     (good : (n : N) → (shape_of n).ok ≡ true) (d : ℕ) {s : Shape} {A : Type 0}
-    (item : Form El shape_of s A) (ok : (star (turn_of s)).ok ≡ true) where
+    (item : Form El shape_of s A) (ok : is_item s ≡ true) where
   -- the answer of the items, of which some are read
   abbrev pub Rest : List A → Bool → Reader (List A × Bool)
-  Rest xs ended = reads El shape_of body d (more_items item (xs, ended))
+  Rest xs ended = reads El shape_of body d (more_items (xs, ended) item)
 
   -- the answer of all items
   abbrev pub AllItems : Reader (List A)
   AllItems = then_read (Rest [] true) (λ state. pure state.0)
 
   abbrev turn : List A → Bool → Reader (List A × Bool)
-  turn xs ended = reads El shape_of body d (one_more item (xs, ended))
+  turn xs ended = read_item (reads El shape_of body d item) (xs, ended)
 
   abbrev one_item : Reader A
   one_item = reads El shape_of body d item
@@ -80,7 +78,7 @@ module _ {N : Type 0} (El : N → Type 0) (shape_of : N → Shape)
   rest_refused : (xs : List A) (ended : Bool) (ts : List Spelled) → starts s.first (head ts) ≡ true
       → Refuses (turn xs ended ts) (Rest xs ended ts)
   rest_refused xs ended ts goes fault e =
-      loop_goes_on El shape_of body good d (one_more item) ok (xs, ended) ts goes
+      items_next El shape_of body good d item ok (xs, ended) ts goes
       ∙ bind_stop (turn xs ended ts) _ fault e
 
   all_refused : (ts : List Spelled) → Refuses (Rest [] true ts) (AllItems ts)
@@ -110,7 +108,7 @@ module _ {N : Type 0} (El : N → Type 0) (shape_of : N → Shape)
       → one_item us ≡ Ok (x, vs) → skipping (codes ";") vs ≡ Ok (marked, ws)
       → Rest (xs ++ x ∷ []) marked ws ≡ Rest [] true start
   one_turn start ts us vs ws xs ended marked x value goes same a b c =
-      sym (loop_goes_on El shape_of body good d (one_more item) ok (xs, ended) ts goes
+      sym (items_next El shape_of body good d item ok (xs, ended) ts goes
       ∙ bind_step (turn xs ended ts) _ ((xs ++ x ∷ [], marked), ws) _
       (turned xs ended marked x value ts us vs ws a b c) refl) ∙ same
 
@@ -119,7 +117,7 @@ module _ {N : Type 0} (El : N → Type 0) (shape_of : N → Shape)
       → check (may_start (not ended)) ts ≡ Ok (value, us) → one_item us ≡ Ok (x, vs)
       → skipping (codes ";") vs ≡ Ok (marked, ws) → length ws < length ts
   shorter ts us vs ws xs ended marked x value a b c =
-      turn_takes El shape_of body good d (one_more item) ok (xs, ended) (xs ++ x ∷ [], marked) ts ws
+      item_shrinks El shape_of body good d item ok (xs, ended) (xs ++ x ∷ [], marked) ts ws
       (turned xs ended marked x value ts us vs ws a b c)
 
   pub all_read : (start ts : List Spelled) (xs : List A) (ended : Bool)
@@ -127,5 +125,5 @@ module _ {N : Type 0} (El : N → Type 0) (shape_of : N → Shape)
       → Rest xs ended ts ≡ Rest [] true start → AllItems start ≡ Ok (xs, ts)
   all_read start ts xs ended ends same =
       bind_step (Rest [] true start) _ ((xs, ended), ts) _
-      (sym same ∙ loop_stops El shape_of body good d (one_more item) ok (xs, ended) ts ends)
+      (sym same ∙ items_end El shape_of body good d item ok (xs, ended) ts ends)
       refl

@@ -3,6 +3,8 @@ pub mod LoopLaws
 pub mod SetLemmas
 pub mod FormLemmas
 pub mod ShortSpellings
+pub mod FollowLemmas
+pub mod ItemLaws
 pub mod FormLaws
 pub mod DepthLaws
 pub mod Rising
@@ -11,3 +13,5 @@ pub mod SetLaws
 pub mod CursorSteps
 pub mod TokensSpelled
 pub mod ItemLoops
+pub mod DepthEnough
+pub mod GrammarLaws

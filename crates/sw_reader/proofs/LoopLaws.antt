@@ -1,12 +1,17 @@
 -- Loops of readers, and the record `Reads` for them.
-use Rattle.std.proofs.Common.{◌≡◌, ℕ, zero, suc, ◌+◌, ◌≤◌, ◌<◌, Bool, true, false, cond, inl, inr, List, [], ◌∷◌, ◌++◌, length, refl, sym, ◌∙◌, ap, subst, append_assoc, arith, length-append}
-use Rattle.std.specs.Prelude.{Option, Ok, Err}
+use Rattle.std.proofs.Common.{◌≡◌, ℕ, zero, suc, ◌+◌, ◌≤◌, ◌<◌, Bool, true, false, cond, inl, inr}
+use Rattle.std.proofs.Common.{List, [], ◌∷◌, ◌++◌, length, refl, sym, ◌∙◌, ap, subst, append_assoc}
+use Rattle.std.proofs.Common.{arith, length-append}
+use Rattle.std.specs.Prelude.{Option, Some, None, Ok, Err}
 use Rattle.sw_token.specs.Spelling.{Spelled}
-use Rattle.sw_reader.specs.Sets.{Set, starts}
-use Rattle.sw_reader.specs.Relations.{Relation, head, Nothing, Then, Either, Turns}
+use Rattle.sw_reader.specs.Sets.{Set, has, starts}
+use Rattle.sw_reader.specs.Relations.{Relation, head, Nothing, Then, Either, Only, Turns}
 use Rattle.sw_reader.specs.Relations.Turns.{stop, turn}
-use Rattle.sw_reader.specs.Reader.{Fault, Answer, Reader, refused, and_then, then_read, repeat, loop}
-use Rattle.sw_reader.proofs.ReaderLaws.{Follow, Failed, Reads, ok_parts, bind_ok, bind_step, cond_cases, refused_at_once, restate, narrow, widen, reads_pure, reads_then, reads_choose, Shows}
+use Rattle.sw_reader.specs.Reader.{Fault, Answer, Reader, refused, pure, and_then, then_read}
+use Rattle.sw_reader.specs.Reader.{choose, set_if, repeat, loop}
+use Rattle.sw_reader.proofs.ReaderLaws.{Follow, Failed, Reads, ok_parts, bind_ok, bind_step}
+use Rattle.sw_reader.proofs.ReaderLaws.{cond_cases, refused_at_once, restate, same_reader, narrow}
+use Rattle.sw_reader.proofs.ReaderLaws.{widen, reads_pure, reads_then, reads_choose, Shows}
 
 -- at most `n` turns, from one state to another
 data AtMost {S : Type 0} (One : S → Relation S) : ℕ → S → S → List Spelled → Type 0 where
@@ -16,13 +21,13 @@ data AtMost {S : Type 0} (One : S → Relation S) : ℕ → S → S → List Spe
 
 -- what makes a loop of a reader: its turns take tokens, begin with the tokens that the loop goes on
 -- with, and may follow each other and be followed by what follows the loop
-pub record IsTurn {S : Type 0} (One : S → Relation S) (F G : Follow) (set : Set) : Type 0 where
+pub record IsTurn {S : Type 0} (One : S → Relation S) (F G : Follow S) (set : Set) : Type 0 where
   pub takes : (s t : S) (ts : List Spelled) → One s t ts → 0 < length ts
   pub goes_on : (s t : S) (ts rest : List Spelled) → One s t ts
       → starts set (head (ts ++ rest)) ≡ true
-  pub ends : (token : Option Spelled) → G token → starts set token ≡ false
-  pub stopped : (token : Option Spelled) → G token → F token
-  pub followed : (s t : S) (ts rest : List Spelled) → One s t ts → F (head (ts ++ rest))
+  pub ends : (s : S) (token : Option Spelled) → G s token → starts set token ≡ false
+  pub stopped : (s : S) (token : Option Spelled) → G s token → F s token
+  pub followed : (s t : S) (ts rest : List Spelled) → One s t ts → F s (head (ts ++ rest))
 
 -- two ends of one length of one list
 pub same_ends : (us vs xs ys : List Spelled) → us ++ vs ≡ xs ++ ys → length vs ≡ length ys
@@ -38,8 +43,39 @@ same_ends (u ∷ us) vs (x ∷ xs) ys same equal =
     let both = same_ends us vs xs ys tails equal in
     (ap (λ z. z ∷ us) heads ∙ ap (λ zs. x ∷ zs) both.0, both.1)
 
-module _ {S : Type 0} (One W : S → Relation S) (F G : Follow) (set : Set) (turn_of : S → Reader S)
-    (reads : (s : S) → Reads (One s) (W s) F (turn_of s)) (is : IsTurn One F G set) where
+no_token : (token : Option Spelled) → starts [] token ≡ false
+unfolding has
+no_token None = refl
+no_token (Some token) = refl
+
+never_starts : (b : Bool) (set : Set) (token : Option Spelled) → starts set token ≡ false
+    → starts (set_if b set) token ≡ false
+never_starts true set token h = h
+never_starts false set token h = no_token token
+
+-- a turn from an open state
+abbrev pub Open : {S : Type 0} → (S → Bool) → (S → Relation S) → S → Relation S
+Open is_open P s = Only (is_open s) (P s)
+
+module _ {S : Type 0} (P V : S → Relation S) (F G : Follow S) (set : Set) (is_open : S → Bool)
+    (turn_of : S → Reader S)
+    (reads : (s : S) → Reads (P s) (V s) F (turn_of s)) (is : IsTurn P F G set) where
+  abbrev One : S → Relation S
+  One = Open is_open P
+
+  abbrev W : S → Relation S
+  W = Open is_open V
+
+  abbrev set_of : S → Set
+  set_of s = set_if (is_open s) set
+
+  ends : (s : S) (token : Option Spelled) → G s token → starts (set_of s) token ≡ false
+  ends s token g = never_starts (is_open s) set token (is.ends s token g)
+
+  reads_one : (s : S) → is_open s ≡ true → Reads (One s) (W s) F (turn_of s)
+  reads_one s open_now = restate (widen (reads s) (λ t ts h. (open_now, h)))
+      (λ t ts h. (open_now, h)) (λ t ts h. h.1)
+
   -- no turn at all
   none_there : (s t : S) (ts : List Spelled) → Nothing s t ts → AtMost One 0 s t ts
   none_there s t ts h = subst (λ x. AtMost One 0 s x ts) (sym h.0)
@@ -53,22 +89,24 @@ module _ {S : Type 0} (One W : S → Relation S) (F G : Follow) (set : Set) (tur
       (subst (λ us. Turns W s s us) (sym h.1) (stop s))
 
   no_turns_fail : (s : S) (ts : List Spelled) (fault : Fault)
-      → repeat set turn_of 0 s ts ≡ Err fault → Failed (Nothing s) (Nothing s) G ts fault
+      → repeat set is_open turn_of 0 s ts ≡ Err fault → Failed (Nothing s) (Nothing s) G ts fault
   no_turns_fail s ts fault e =
-      elim (cond_cases (starts set (head ts)) (refused ts) (Ok (s, ts)) (Err fault) e) [
+      elim (cond_cases (starts (set_of s) (head ts)) (refused ts) (Ok (s, ts)) (Err fault) e) [
         | inl h ↦ refused_at_once (Nothing s) (Nothing s) G ts fault h.1
             (λ t prefix rest more s' g same heads.
             let text : rest ≡ more = ap (λ us. us ++ rest) (sym s'.1) ∙ same in
-            let clash : false ≡ true = sym (is.ends (head rest) g)
-            ∙ (ap (λ us. starts set (head us)) text ∙ (ap (starts set) heads ∙ h.0)) in cc)
+            let clash : false ≡ true =
+            sym (ends s (head rest) (subst (λ x. G x (head rest)) s'.0 g))
+            ∙ (ap (λ us. starts (set_of s) (head us)) text ∙ (ap (starts (set_of s)) heads ∙ h.0))
+            in cc)
             (λ from. record { value = s; filler = []; spelled = (refl, refl); fills = tt })
         | inr h ↦ absurd (let clash : ◌≡◌ {A = Answer S} (Ok (s, ts)) (Err fault) = h.1 in cc)
       ]
 
-  reads_no_turn : (s : S) → Reads (Nothing s) (Nothing s) G (repeat set turn_of 0 s)
+  reads_no_turn : (s : S) → Reads (Nothing s) (Nothing s) G (repeat set is_open turn_of 0 s)
   reads_no_turn s = record {
     wide = λ t ts h. h;
-    sound = λ ts t rest e. elim (cond_cases (starts set (head ts)) (refused ts) (Ok (s, ts))
+    sound = λ ts t rest e. elim (cond_cases (starts (set_of s) (head ts)) (refused ts) (Ok (s, ts))
         (Ok (t, rest)) e) [
           | inl h ↦ absurd (let clash : ◌≡◌ {A = Answer S} (refused ts) (Ok (t, rest)) = h.1 in cc)
           | inr h ↦ (let same = ok_parts h.1 in record {
@@ -77,13 +115,14 @@ module _ {S : Type 0} (One W : S → Relation S) (F G : Follow) (set : Set) (tur
             split = same.1;
             stable = λ other heads.
                 ap (λ b. cond b (refused other) (Ok (s, other)))
-                (ap (starts set) (heads ∙ ap head (sym same.1)) ∙ h.0)
+                (ap (starts (set_of s)) (heads ∙ ap head (sym same.1)) ∙ h.0)
                 ∙ ap (λ x. Ok (x, other)) same.0;
           })
         ];
     complete = λ t prefix rest h g.
-        ap (λ us. repeat set turn_of 0 s (us ++ rest)) h.1
-        ∙ (ap (λ b. cond b (refused rest) (Ok (s, rest))) (is.ends (head rest) g)
+        ap (λ us. repeat set is_open turn_of 0 s (us ++ rest)) h.1
+        ∙ (ap (λ b. cond b (refused rest) (Ok (s, rest)))
+        (ends s (head rest) (subst (λ x. G x (head rest)) h.0 g))
         ∙ ap (λ x. Ok (x, rest)) (sym h.0));
     fails = no_turns_fail s;
     fill = λ from. record { value = s; filler = []; spelled = (refl, refl); fills = tt };
@@ -109,31 +148,62 @@ module _ {S : Type 0} (One W : S → Relation S) (F G : Follow) (set : Set) (tur
         whole = refl;
       })
 
+  closed_nothing : (n : ℕ) (s : S) → is_open s ≡ false → (t : S) (ts : List Spelled)
+      → AtMost One (suc n) s t ts → Nothing s t ts
+  closed_nothing n s closed t ts (none _ _) = (refl, refl)
+  closed_nothing n s closed t ts (more _ _ next _ us vs one others) =
+      absurd (let clash : true ≡ false = sym one.0 ∙ closed in cc)
+
   then_turns : (n : ℕ) (a b : S) (right rest : List Spelled) → AtMost One n a b right
-      → G (head rest) → F (head (right ++ rest))
-  then_turns n a b right rest (none _ _) g = is.stopped (head rest) g
+      → G b (head rest) → F a (head (right ++ rest))
+  then_turns n a b right rest (none _ _) g = is.stopped a (head rest) g
   then_turns n a b right rest (more _ _ next _ us vs one others) g =
-      subst (λ ts. F (head ts)) (sym (append_assoc us vs rest))
-      (is.followed a next us (vs ++ rest) one)
+      subst (λ ts. F a (head ts)) (sym (append_assoc us vs rest))
+      (is.followed a next us (vs ++ rest) one.1)
 
-  begins : (n : ℕ) (s : S) → Shows set true (Then (One s) (AtMost One n)) G
+  begins : (n : ℕ) (s : S) → Shows (set_of s) true (Then (One s) (AtMost One n)) G
   begins n s t prefix rest h g =
-      ap (λ us. starts set (head (us ++ rest))) h.whole
-      ∙ (ap (λ us. starts set (head us)) (append_assoc h.left h.right rest)
-      ∙ is.goes_on s h.value h.left (h.right ++ rest) h.first)
+      ap (λ us. starts (set_of s) (head (us ++ rest))) h.whole
+      ∙ (ap (λ us. starts (set_of s) (head us)) (append_assoc h.left h.right rest)
+      ∙ (ap (λ b. starts (set_if b set) (head (h.left ++ (h.right ++ rest)))) h.first.0
+      ∙ is.goes_on s h.value h.left (h.right ++ rest) h.first.1))
 
-  reads_repeat : (n : ℕ) (s : S) → Reads (AtMost One n s) (Turns W s) G (repeat set turn_of n s)
+  reads_repeat : (n : ℕ) (s : S)
+      → Reads (AtMost One n s) (Turns W s) G (repeat set is_open turn_of n s)
   reads_repeat zero s = restate (widen (reads_no_turn s) (nothing_turns s)) (none_there s)
       (none_back s)
-  reads_repeat (suc n) s = restate
-      (reads_choose (Turns W s) set
-      (reads_then (Turns W s) (reads s) (reads_repeat n)
-      (λ a b us vs one others. turn s a b us vs one others) (then_turns n))
-      (narrow (reads_pure s) (λ token g. tt))
-      (begins n s) (λ t prefix rest h g. ap (λ us. starts set (head (us ++ rest))) h.1
-      ∙ is.ends (head rest) g)
-      (λ t ts h. h) (nothing_turns s))
-      (more_there n s) (more_back n s)
+  reads_repeat (suc n) s = by_state (is_open s) refl (reads_repeat n)
+    where
+      by_state : (b : Bool) → is_open s ≡ b
+          → ((t : S) → Reads (AtMost One n t) (Turns W t) G (repeat set is_open turn_of n t))
+          → Reads (AtMost One (suc n) s) (Turns W s) G (repeat set is_open turn_of (suc n) s)
+      by_state true open_now others = restate
+          (reads_choose (Turns W s) (set_of s)
+          (reads_then (Turns W s) (reads_one s open_now) others
+          (λ a b us vs one others. turn s a b us vs one others) (then_turns n))
+          (narrow (reads_pure s) (λ t token g. tt))
+          (begins n s) (λ t prefix rest h g. ap (λ us. starts (set_of s) (head (us ++ rest))) h.1
+          ∙ ends s (head rest) (subst (λ x. G x (head rest)) h.0 g))
+          (λ t ts h. h) (nothing_turns s))
+          (more_there n s) (more_back n s)
+      by_state false closed others =
+          same_reader (pure s) (repeat set is_open turn_of (suc n) s) (λ ts. sym (stopped_now ts))
+          (restate (narrow (widen (reads_pure s) (nothing_turns s)) (λ t token g. tt)) closed_there
+          closed_back)
+        where
+          stopped_now : (ts : List Spelled) → repeat set is_open turn_of (suc n) s ts ≡ Ok (s, ts)
+          stopped_now ts =
+              ap (λ b. choose (set_if b set) (then_read (turn_of s) (repeat set is_open turn_of n))
+              (pure s) ts) closed
+              ∙ ap (λ b. cond b (then_read (turn_of s) (repeat set is_open turn_of n) ts)
+              (Ok (s, ts))) (no_token (head ts))
+
+          closed_there : (t : S) (ts : List Spelled) → Nothing s t ts → AtMost One (suc n) s t ts
+          closed_there t ts h = subst (λ x. AtMost One (suc n) s x ts) (sym h.0)
+              (subst (λ us. AtMost One (suc n) s s us) (sym h.1) (none (suc n) s))
+
+          closed_back : (t : S) (ts : List Spelled) → AtMost One (suc n) s t ts → Nothing s t ts
+          closed_back t ts h = closed_nothing n s closed t ts h
 
   -- On the number of turns: more than are taken change nothing.
 
@@ -143,32 +213,34 @@ module _ {S : Type 0} (One W : S → Relation S) (F G : Follow) (set : Set) (tur
       let some = is.takes s t found.prefix found.spelled in
       omega (arith, ap length found.split, length-append found.prefix rest)
 
-  stopped : (n : ℕ) (s : S) (ts : List Spelled) → starts set (head ts) ≡ false
-      → repeat set turn_of n s ts ≡ Ok (s, ts)
+  stopped : (n : ℕ) (s : S) (ts : List Spelled) → starts (set_of s) (head ts) ≡ false
+      → repeat set is_open turn_of n s ts ≡ Ok (s, ts)
   stopped zero s ts h = ap (λ b. cond b (refused ts) (Ok (s, ts))) h
   stopped (suc n) s ts h = ap
-      (λ b. cond b (then_read (turn_of s) (repeat set turn_of n) ts) (Ok (s, ts))) h
+      (λ b. cond b (then_read (turn_of s) (repeat set is_open turn_of n) ts) (Ok (s, ts))) h
 
-  goes_on : (n : ℕ) (s : S) (ts : List Spelled) → starts set (head ts) ≡ true
-      → repeat set turn_of (suc n) s ts ≡ then_read (turn_of s) (repeat set turn_of n) ts
-  goes_on n s ts h = ap (λ b. cond b (then_read (turn_of s) (repeat set turn_of n) ts) (Ok (s, ts)))
+  goes_on : (n : ℕ) (s : S) (ts : List Spelled) → starts (set_of s) (head ts) ≡ true
+      → repeat set is_open turn_of (suc n) s ts ≡ then_read (turn_of s)
+      (repeat set is_open turn_of n) ts
+  goes_on n s ts h = ap (λ b. cond b (then_read (turn_of s) (repeat set is_open turn_of n) ts)
+      (Ok (s, ts)))
       h
 
   abbrev SameTurns : ℕ → ℕ → Type 0
   SameTurns n m = (t : S) (us : List Spelled) → length us ≤ n → length us ≤ m
-      → repeat set turn_of n t us ≡ repeat set turn_of m t us
+      → repeat set is_open turn_of n t us ≡ repeat set is_open turn_of m t us
 
   same_after : (n m : ℕ) → SameTurns n m → (s : S) (ts : List Spelled) → length ts ≤ suc n
       → length ts ≤ suc m → (r : Answer S) → turn_of s ts ≡ r
-      → and_then r (λ x. repeat set turn_of n x.0 x.1) ≡ and_then r
-      (λ x. repeat set turn_of m x.0 x.1)
+      → and_then r (λ x. repeat set is_open turn_of n x.0 x.1) ≡ and_then r
+      (λ x. repeat set is_open turn_of m x.0 x.1)
   same_after n m same s ts fuel fuel' (Ok x) e = let less : length x.1 < length ts =
       shrinks s x.0 ts x.1 e in same x.0 x.1 (omega arith) (omega arith)
   same_after n m same s ts fuel fuel' (Err k) e = refl
 
   same_turn : (n m : ℕ) → SameTurns n m → (s : S) (ts : List Spelled) → length ts ≤ suc n
-      → length ts ≤ suc m → (b : Bool) → starts set (head ts) ≡ b
-      → repeat set turn_of (suc n) s ts ≡ repeat set turn_of (suc m) s ts
+      → length ts ≤ suc m → (b : Bool) → starts (set_of s) (head ts) ≡ b
+      → repeat set is_open turn_of (suc n) s ts ≡ repeat set is_open turn_of (suc m) s ts
   same_turn n m same s ts fuel fuel' false h = stopped (suc n) s ts h ∙ sym (stopped (suc m) s ts h)
   same_turn n m same s ts fuel fuel' true h =
       goes_on n s ts h ∙ (same_after n m same s ts fuel fuel' (turn_of s ts) refl
@@ -176,13 +248,13 @@ module _ {S : Type 0} (One W : S → Relation S) (F G : Follow) (set : Set) (tur
 
   -- Of turns that are enough, their number changes nothing.
   enough : (n m : ℕ) (s : S) (ts : List Spelled) → length ts ≤ n → length ts ≤ m
-      → repeat set turn_of n s ts ≡ repeat set turn_of m s ts
+      → repeat set is_open turn_of n s ts ≡ repeat set is_open turn_of m s ts
   enough zero m s [] fuel fuel' = stopped zero s [] refl ∙ sym (stopped m s [] refl)
   enough zero m s (t ∷ ts) fuel fuel' = absurd (omega arith)
   enough (suc n) zero s [] fuel fuel' = stopped (suc n) s [] refl ∙ sym (stopped zero s [] refl)
   enough (suc n) zero s (t ∷ ts) fuel fuel' = absurd (omega arith)
   enough (suc n) (suc m) s ts fuel fuel' = same_turn n m (enough n m) s ts fuel fuel'
-      (starts set (head ts)) refl
+      (starts (set_of s) (head ts)) refl
 
   -- The loop
 
@@ -207,13 +279,14 @@ module _ {S : Type 0} (One W : S → Relation S) (F G : Follow) (set : Set) (tur
   Turns-wide : (s t : S) (ts : List Spelled) → Turns One s t ts → Turns W s t ts
   Turns-wide s t ts (stop _) = stop s
   Turns-wide s t ts (turn _ next _ us vs one others) =
-      turn s next t us vs ((reads s).wide next us one) (Turns-wide next t vs others)
+      turn s next t us vs (one.0, (reads s).wide next us one.1) (Turns-wide next t vs others)
 
   loop_is : (n : ℕ) (s : S) (ts : List Spelled) → length ts ≤ n
-      → repeat set turn_of n s ts ≡ loop set turn_of s ts
+      → repeat set is_open turn_of n s ts ≡ loop set is_open turn_of s ts
   loop_is n s ts fuel = enough n (length ts) s ts fuel (omega arith)
 
-  loop_fails : (s : S) (ts : List Spelled) (fault : Fault) → loop set turn_of s ts ≡ Err fault
+  loop_fails : (s : S) (ts : List Spelled) (fault : Fault)
+      → loop set is_open turn_of s ts ≡ Err fault
       → Failed (Turns One s) (Turns W s) G ts fault
   loop_fails s ts fault e =
       let bad = (reads_repeat (length ts) s).fails ts fault e in
@@ -226,7 +299,8 @@ module _ {S : Type 0} (One W : S → Relation S) (F G : Follow) (set : Set) (tur
         none = λ t prefix rest more h g same heads.
             let turns = counted s t prefix h in
             let fuel : ℕ = length ts + turns.0 in
-            let again : repeat set turn_of fuel s ts ≡ Err fault = loop_is fuel s ts (omega arith)
+            let again : repeat set is_open turn_of fuel s ts ≡ Err fault =
+            loop_is fuel s ts (omega arith)
             ∙ e in
             let worse = (reads_repeat fuel s).fails ts fault again in
             let ends = same_ends bad.before bad.bad worse.before worse.bad
@@ -236,8 +310,8 @@ module _ {S : Type 0} (One W : S → Relation S) (F G : Follow) (set : Set) (tur
         begun = bad.begun;
       }
 
-  loop_complete : (s t : S) (prefix rest : List Spelled) → Turns One s t prefix → G (head rest)
-      → loop set turn_of s (prefix ++ rest) ≡ Ok (t, rest)
+  loop_complete : (s t : S) (prefix rest : List Spelled) → Turns One s t prefix → G t (head rest)
+      → loop set is_open turn_of s (prefix ++ rest) ≡ Ok (t, rest)
   loop_complete s t prefix rest h g =
       let turns = counted s t prefix h in
       let fuel : ℕ = length (prefix ++ rest) + turns.0 in
@@ -246,33 +320,39 @@ module _ {S : Type 0} (One W : S → Relation S) (F G : Follow) (set : Set) (tur
       (AtMost-more turns.0 (length (prefix ++ rest)) s t prefix turns.1) g
 
   -- What `n` turns read, as many turns as tokens read too.
-  refuel : (n m : ℕ) (s t : S) (ts rest : List Spelled) → repeat set turn_of n s ts ≡ Ok (t, rest)
-      → length ts ≤ m → repeat set turn_of m s ts ≡ Ok (t, rest)
+  refuel : (n m : ℕ) (s t : S) (ts rest : List Spelled)
+      → repeat set is_open turn_of n s ts ≡ Ok (t, rest)
+      → length ts ≤ m → repeat set is_open turn_of m s ts ≡ Ok (t, rest)
   refuel zero m s t ts rest e fuel =
-      elim (cond_cases (starts set (head ts)) (refused ts) (Ok (s, ts)) (Ok (t, rest)) e) [
+      elim (cond_cases (starts (set_of s) (head ts)) (refused ts) (Ok (s, ts)) (Ok (t, rest)) e) [
         | inl h ↦ absurd (let clash : ◌≡◌ {A = Answer S} (refused ts) (Ok (t, rest)) = h.1 in cc)
         | inr h ↦ stopped m s ts h.0 ∙ h.1
       ]
   refuel (suc n) zero s t ts rest e fuel =
-      elim (cond_cases (starts set (head ts)) (then_read (turn_of s) (repeat set turn_of n) ts)
+      elim (cond_cases (starts (set_of s) (head ts))
+      (then_read (turn_of s) (repeat set is_open turn_of n) ts)
       (Ok (s, ts)) (Ok (t, rest)) e) [
-        | inl h ↦ (let one = bind_ok (turn_of s ts) (λ x. repeat set turn_of n x.0 x.1) (t, rest) h.1 in
+        | inl h ↦ (let one = bind_ok (turn_of s ts) (λ x. repeat set is_open turn_of n x.0 x.1)
+            (t, rest) h.1 in
             let less : length one.0.1 < length ts = shrinks s one.0.0 ts one.0.1 one.1 in
             absurd (omega arith))
         | inr h ↦ stopped zero s ts h.0 ∙ h.1
       ]
   refuel (suc n) (suc m) s t ts rest e fuel =
-      elim (cond_cases (starts set (head ts)) (then_read (turn_of s) (repeat set turn_of n) ts)
+      elim (cond_cases (starts (set_of s) (head ts))
+      (then_read (turn_of s) (repeat set is_open turn_of n) ts)
       (Ok (s, ts)) (Ok (t, rest)) e) [
-        | inl h ↦ (let one = bind_ok (turn_of s ts) (λ x. repeat set turn_of n x.0 x.1) (t, rest) h.1 in
+        | inl h ↦ (let one = bind_ok (turn_of s ts) (λ x. repeat set is_open turn_of n x.0 x.1)
+            (t, rest) h.1 in
             let less : length one.0.1 < length ts = shrinks s one.0.0 ts one.0.1 one.1 in
-            goes_on m s ts h.0 ∙ bind_step (turn_of s ts) (λ x. repeat set turn_of m x.0 x.1) one.0
+            goes_on m s ts h.0 ∙ bind_step (turn_of s ts)
+            (λ x. repeat set is_open turn_of m x.0 x.1) one.0
             (Ok (t, rest)) one.1
             (refuel n m one.0.0 t one.0.1 rest one.2 (omega arith)))
         | inr h ↦ stopped (suc m) s ts h.0 ∙ h.1
       ]
 
-  reads_turns : (s : S) → Reads (Turns One s) (Turns W s) G (loop set turn_of s)
+  reads_turns : (s : S) → Reads (Turns One s) (Turns W s) G (loop set is_open turn_of s)
   reads_turns s = record {
     wide = Turns-wide s;
     sound = λ ts t rest e. let found = (reads_repeat (length ts) s).sound ts t rest e in
@@ -290,53 +370,53 @@ module _ {S : Type 0} (One W : S → Relation S) (F G : Follow) (set : Set) (tur
 
   -- One turn of a loop
 
-  loop_stops : (s : S) (ts : List Spelled) → starts set (head ts) ≡ false
-      → loop set turn_of s ts ≡ Ok (s, ts)
+  loop_stops : (s : S) (ts : List Spelled) → starts (set_of s) (head ts) ≡ false
+      → loop set is_open turn_of s ts ≡ Ok (s, ts)
   loop_stops s ts h = stopped (length ts) s ts h
 
-  loop_goes_on : (s : S) (ts : List Spelled) → starts set (head ts) ≡ true
-      → loop set turn_of s ts ≡ then_read (turn_of s) (loop set turn_of) ts
+  loop_goes_on : (s : S) (ts : List Spelled) → starts (set_of s) (head ts) ≡ true
+      → loop set is_open turn_of s ts ≡ then_read (turn_of s) (loop set is_open turn_of) ts
   loop_goes_on s ts h = sym (loop_is (suc (length ts)) s ts (omega arith))
       ∙ (goes_on (length ts) s ts h ∙ by_result (turn_of s ts) refl)
     where
       by_result : (r : Answer S) → turn_of s ts ≡ r
-          → and_then r (λ x. repeat set turn_of (length ts) x.0 x.1) ≡ and_then r
-          (λ x. loop set turn_of x.0 x.1)
+          → and_then r (λ x. repeat set is_open turn_of (length ts) x.0 x.1) ≡ and_then r
+          (λ x. loop set is_open turn_of x.0 x.1)
       by_result (Ok x) e = let less : length x.1 < length ts = shrinks s x.0 ts x.1 e in
           loop_is (length ts) x.0 x.1 (omega arith)
       by_result (Err k) e = refl
 
-pub reads_loop : {S : Type 0} {One W : S → Relation S} {F G : Follow} {turn_of : S → Reader S}
-    (set : Set)
-    → ((s : S) → Reads (One s) (W s) F (turn_of s)) → IsTurn One F G set → (s : S)
-    → Reads (Turns One s) (Turns W s) G (loop set turn_of s)
-reads_loop {S} {One} {W} {F} {G} {turn_of} set reads is s =
-    reads_turns One W F G set turn_of reads is s
+pub reads_loop : {S : Type 0} {P V : S → Relation S} {F G : Follow S} {turn_of : S → Reader S}
+    (set : Set) (is_open : S → Bool)
+    → ((s : S) → Reads (P s) (V s) F (turn_of s)) → IsTurn P F G set → (s : S)
+    → Reads (Turns (Open is_open P) s) (Turns (Open is_open V) s) G (loop set is_open turn_of s)
+reads_loop {S} {P} {V} {F} {G} {turn_of} set is_open reads is s =
+    reads_turns P V F G set is_open turn_of reads is s
 
 -- What the code's loop needs: its answer is that of what is left, turn by turn.
 
-pub loop_ends : {S : Type 0} {One W : S → Relation S} {F G : Follow} {turn_of : S → Reader S}
-    (set : Set)
-    → ((s : S) → Reads (One s) (W s) F (turn_of s)) → IsTurn One F G set
+pub loop_ends : {S : Type 0} {P V : S → Relation S} {F G : Follow S} {turn_of : S → Reader S}
+    (set : Set) (is_open : S → Bool)
+    → ((s : S) → Reads (P s) (V s) F (turn_of s)) → IsTurn P F G set
     → (s : S) (ts : List Spelled)
-    → starts set (head ts) ≡ false → loop set turn_of s ts ≡ Ok (s, ts)
-loop_ends {S} {One} {W} {F} {G} {turn_of} set reads is s ts h =
-    loop_stops One W F G set turn_of reads is s ts h
+    → starts (set_if (is_open s) set) (head ts) ≡ false → loop set is_open turn_of s ts ≡ Ok (s, ts)
+loop_ends {S} {P} {V} {F} {G} {turn_of} set is_open reads is s ts h =
+    loop_stops P V F G set is_open turn_of reads is s ts h
 
-pub loop_turns : {S : Type 0} {One W : S → Relation S} {F G : Follow} {turn_of : S → Reader S}
-    (set : Set)
-    → ((s : S) → Reads (One s) (W s) F (turn_of s)) → IsTurn One F G set
+pub loop_turns : {S : Type 0} {P V : S → Relation S} {F G : Follow S} {turn_of : S → Reader S}
+    (set : Set) (is_open : S → Bool)
+    → ((s : S) → Reads (P s) (V s) F (turn_of s)) → IsTurn P F G set
     → (s : S) (ts : List Spelled)
-    → starts set (head ts) ≡ true
-    → loop set turn_of s ts ≡ then_read (turn_of s) (loop set turn_of) ts
-loop_turns {S} {One} {W} {F} {G} {turn_of} set reads is s ts h =
-    loop_goes_on One W F G set turn_of reads is s ts h
+    → starts (set_if (is_open s) set) (head ts) ≡ true
+    → loop set is_open turn_of s ts ≡ then_read (turn_of s) (loop set is_open turn_of) ts
+loop_turns {S} {P} {V} {F} {G} {turn_of} set is_open reads is s ts h =
+    loop_goes_on P V F G set is_open turn_of reads is s ts h
 
 -- A turn takes a token.
-pub turn_shrinks : {S : Type 0} {One W : S → Relation S} {F G : Follow} {turn_of : S → Reader S}
-    (set : Set)
-    → ((s : S) → Reads (One s) (W s) F (turn_of s)) → IsTurn One F G set
+pub turn_shrinks : {S : Type 0} {P V : S → Relation S} {F G : Follow S} {turn_of : S → Reader S}
+    (set : Set) (is_open : S → Bool)
+    → ((s : S) → Reads (P s) (V s) F (turn_of s)) → IsTurn P F G set
     → (s t : S) (ts rest : List Spelled)
     → turn_of s ts ≡ Ok (t, rest) → length rest < length ts
-turn_shrinks {S} {One} {W} {F} {G} {turn_of} set reads is s t ts rest e =
-    shrinks One W F G set turn_of reads is s t ts rest e
+turn_shrinks {S} {P} {V} {F} {G} {turn_of} set is_open reads is s t ts rest e =
+    shrinks P V F G set is_open turn_of reads is s t ts rest e

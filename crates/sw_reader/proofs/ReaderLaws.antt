@@ -3,7 +3,7 @@
 -- the token at fault is the first that can't be taken) follow from the record.
 use Rattle.std.proofs.Common.{◌≡◌, ℕ, suc, ◌<◌, Bool, true, false, cond, ◌⊎◌, inl, inr, List, []}
 use Rattle.std.proofs.Common.{◌∷◌, ◌++◌, length, refl, sym, ◌∙◌, ap, subst, append_assoc}
-use Rattle.std.specs.Prelude.{Option, Some, None, Result, Ok, Err, IsTrue}
+use Rattle.std.specs.Prelude.{Option, Some, None, Result, Ok, Err}
 use Rattle.sw_token.specs.Spelling.{Spelled, IsTokenText}
 use Rattle.sw_reader.specs.Sets.{Set, has, starts}
 use Rattle.sw_reader.specs.Form.{Terminal}
@@ -12,15 +12,19 @@ use Rattle.sw_reader.specs.Reader.{Fault, Answer, Reader, refused, pure, and_the
 use Rattle.sw_reader.specs.Reader.{take_if, next, checked, choose, only_if}
 use Rattle.sw_reader.specs.Reader.Fault.{unexpected, too_deep}
 
--- what is asked of the token that follows
-abbrev pub Follow : Type 1
-Follow = Option Spelled → Type 0
+-- what is asked of the token that follows what spells a value
+abbrev pub Follow : Type 0 → Type 1
+Follow A = A → Option Spelled → Type 0
 
-abbrev pub Anything : Follow
-Anything token = Unit {0}
+abbrev pub Anything : {A : Type 0} → Follow A
+Anything value token = Unit {0}
 
-abbrev pub Outside : Set → Follow
+-- no token of a set
+abbrev pub Outside : Set → Option Spelled → Type 0
 Outside set token = starts set token ≡ false
+
+abbrev pub Without : {A : Type 0} → Set → Follow A
+Without set value token = Outside set token
 
 -- Tokens of a spelling at positions one after another, the first at `from`.
 abbrev pub Fills : ℕ → List Spelled → Type 0
@@ -72,25 +76,25 @@ passed (too_deep left) (token ∷ _) = token ∷ []
 -- `tokens` stop being a spelling at a token: no spelling of `R` with what may follow it begins with
 -- the tokens before that one and it, and some spelling of `W` begins with those before it; where it
 -- opens a nest too many, also with those before it and it.
-pub record Failed {A : Type 0} (R W : Relation A) (F : Follow) (tokens : List Spelled)
+pub record Failed {A : Type 0} (R W : Relation A) (F : Follow A) (tokens : List Spelled)
     (fault : Fault) : Type 0 where
   pub before : List Spelled
   pub bad : List Spelled
   pub split : tokens ≡ before ++ bad
   pub count : length bad ≡ left_of fault
   pub opens : IsDeep fault → 0 < length bad
-  pub none : (value : A) (prefix rest more : List Spelled) → R value prefix → F (head rest)
+  pub none : (value : A) (prefix rest more : List Spelled) → R value prefix → F value (head rest)
       → prefix ++ rest ≡ before ++ more → head more ≡ head bad → ⊥
   pub begun : (from : ℕ) → Filled W (before ++ passed fault bad) from
 
 -- The reader reads what `R` spells, where a token of `F` follows. `W` spells more: `R` without its
 -- limit on nests.
-pub record Reads {A : Type 0} (R W : Relation A) (F : Follow) (p : Reader A) : Type 0 where
+pub record Reads {A : Type 0} (R W : Relation A) (F : Follow A) (p : Reader A) : Type 0 where
   pub wide : (value : A) (tokens : List Spelled) → R value tokens → W value tokens
   pub sound : (tokens : List Spelled) (value : A) (rest : List Spelled)
       → p tokens ≡ Ok (value, rest)
       → Found R p tokens value rest
-  pub complete : (value : A) (prefix rest : List Spelled) → R value prefix → F (head rest)
+  pub complete : (value : A) (prefix rest : List Spelled) → R value prefix → F value (head rest)
       → p (prefix ++ rest) ≡ Ok (value, rest)
   pub fails : (tokens : List Spelled) (fault : Fault) → p tokens ≡ Err fault
       → Failed R W F tokens fault
@@ -138,10 +142,10 @@ cond_cases true x y z same = inl (refl, same)
 cond_cases false x y z same = inr (refl, same)
 
 -- the token at fault is the next
-pub refused_at_once : {A : Type 0} (R W : Relation A) (F : Follow) (tokens : List Spelled)
+pub refused_at_once : {A : Type 0} (R W : Relation A) (F : Follow A) (tokens : List Spelled)
     (fault : Fault)
     → ◌≡◌ {A = Answer A} (refused tokens) (Err fault)
-    → ((value : A) (prefix rest more : List Spelled) → R value prefix → F (head rest)
+    → ((value : A) (prefix rest more : List Spelled) → R value prefix → F value (head rest)
     → prefix ++ rest ≡ more
     → head more ≡ head tokens → ⊥) → ((from : ℕ) → Filled W [] from) → Failed R W F tokens fault
 refused_at_once {A} R W F tokens fault e none fill =
@@ -159,7 +163,7 @@ refused_at_once {A} R W F tokens fault e none fill =
 
 -- Another relation with the same spellings
 
-pub restate : {A : Type 0} {R S W : Relation A} {F : Follow} {p : Reader A} → Reads R W F p
+pub restate : {A : Type 0} {R S W : Relation A} {F : Follow A} {p : Reader A} → Reads R W F p
     → ((a : A) (ts : List Spelled) → R a ts → S a ts)
     → ((a : A) (ts : List Spelled) → S a ts → R a ts) → Reads S W F p
 restate reads there back = record {
@@ -186,13 +190,21 @@ restate reads there back = record {
   fill = reads.fill;
 }
 
+-- Another reader with the same answers
+
+pub same_reader : {A : Type 0} {R W : Relation A} {F : Follow A} (p q : Reader A)
+    → ((ts : List Spelled) → p ts ≡ q ts) → Reads R W F p → Reads R W F q
+same_reader {A} {R} {W} {F} p q same reads =
+    let path : p ≡ q = λ i. λ ts. same ts i in
+    subst (λ reader. Reads R W F reader) path reads
+
 -- More may be asked of what follows.
-pub narrow : {A : Type 0} {R W : Relation A} {F G : Follow} {p : Reader A} → Reads R W F p
-    → ((token : Option Spelled) → G token → F token) → Reads R W G p
+pub narrow : {A : Type 0} {R W : Relation A} {F G : Follow A} {p : Reader A} → Reads R W F p
+    → ((a : A) (token : Option Spelled) → G a token → F a token) → Reads R W G p
 narrow reads weaker = record {
   wide = reads.wide;
   sound = reads.sound;
-  complete = λ a prefix rest s g. reads.complete a prefix rest s (weaker (head rest) g);
+  complete = λ a prefix rest s g. reads.complete a prefix rest s (weaker a (head rest) g);
   fails = λ ts n e. let bad = reads.fails ts n e in
       record {
         before = bad.before;
@@ -201,7 +213,7 @@ narrow reads weaker = record {
         count = bad.count;
         opens = bad.opens;
         none = λ a prefix rest more s g same heads. bad.none a prefix rest more s
-            (weaker (head rest) g) same heads;
+            (weaker a (head rest) g) same heads;
         begun = bad.begun;
       };
   fill = reads.fill;
@@ -218,7 +230,7 @@ widened {A} {W} {U} {before} {from} more one =
     }
 
 -- The wide relation may spell more.
-pub widen : {A : Type 0} {R W U : Relation A} {F : Follow} {p : Reader A} → Reads R W F p
+pub widen : {A : Type 0} {R W U : Relation A} {F : Follow A} {p : Reader A} → Reads R W F p
     → ((a : A) (ts : List Spelled) → W a ts → U a ts) → Reads R U F p
 widen reads more = record {
   wide = λ a ts s. more a ts (reads.wide a ts s);
@@ -319,12 +331,13 @@ module _ {A : Type 0} (t : Terminal A) (fill : (from : ℕ) → Filled (One t) [
 
 -- One reader after another
 
-module _ {A B : Type 0} (P V : Relation A) (Q W : A → Relation B) (U : Relation B) (F G : Follow)
+module _ {A B : Type 0} (P V : Relation A) (Q W : A → Relation B) (U : Relation B) (F : Follow A)
+    (G : Follow B)
     (p : Reader A) (f : A → Reader B)
     (reads_p : Reads P V F p) (reads_f : (a : A) → Reads (Q a) (W a) G (f a))
     (join : (a : A) (b : B) (us vs : List Spelled) → V a us → W a b vs → U b (us ++ vs))
-    (fits : (a : A) (b : B) (right rest : List Spelled) → Q a b right → G (head rest)
-    → F (head (right ++ rest))) where
+    (fits : (a : A) (b : B) (right rest : List Spelled) → Q a b right → G b (head rest)
+    → F a (head (right ++ rest))) where
   then_wide : (b : B) (ts : List Spelled) → Then P Q b ts → U b ts
   then_wide b ts s = subst (λ us. U b us) (sym s.whole)
       (join s.value b s.left s.right (reads_p.wide s.value s.left s.first)
@@ -358,7 +371,7 @@ module _ {A B : Type 0} (P V : Relation A) (Q W : A → Relation B) (U : Relatio
             (a, more.prefix ++ other) (Ok (b, other)) step (more.stable other heads);
       }
 
-  bind_complete : (b : B) (prefix rest : List Spelled) → Then P Q b prefix → G (head rest)
+  bind_complete : (b : B) (prefix rest : List Spelled) → Then P Q b prefix → G b (head rest)
       → then_read p f (prefix ++ rest) ≡ Ok (b, rest)
   bind_complete b prefix rest s g =
       let regroup : prefix ++ rest ≡ s.left ++ (s.right ++ rest) = ap (λ us. us ++ rest) s.whole
@@ -408,9 +421,11 @@ module _ {A B : Type 0} (P V : Relation A) (Q W : A → Relation B) (U : Relatio
         count = bad.count;
         opens = bad.opens;
         none = λ b prefix rest more s g same heads.
-            let regroup : prefix ++ rest ≡ s.left ++ (s.right ++ rest) = ap (λ us. us ++ rest) s.whole
+            let regroup : prefix ++ rest ≡ s.left ++ (s.right ++ rest) =
+            ap (λ us. us ++ rest) s.whole
             ∙ append_assoc s.left s.right rest in
-            let text : s.left ++ (s.right ++ rest) ≡ found.prefix ++ (bad.before ++ more) = sym regroup
+            let text : s.left ++ (s.right ++ rest) ≡ found.prefix ++ (bad.before ++ more) =
+            sym regroup
             ∙ (same ∙ append_assoc found.prefix bad.before more) in
             let one : p (s.left ++ (s.right ++ rest)) ≡ Ok (s.value, s.right ++ rest)
             = reads_p.complete s.value s.left (s.right ++ rest) s.first
@@ -419,7 +434,8 @@ module _ {A B : Type 0} (P V : Relation A) (Q W : A → Relation B) (U : Relatio
             = found.stable (bad.before ++ more)
             (head_after bad.before more bad.bad heads ∙ ap head (sym bad.split)) in
             let both = ok_parts (sym one ∙ (ap p text ∙ two)) in
-            bad.none b s.right rest more (subst (λ x. Q x b s.right) both.0 s.second) g both.1 heads;
+            bad.none b s.right rest more (subst (λ x. Q x b s.right) both.0 s.second) g both.1
+            heads;
         begun = λ from. let two = bad.begun from in
             record {
               value = two.value;
@@ -428,7 +444,8 @@ module _ {A B : Type 0} (P V : Relation A) (Q W : A → Relation B) (U : Relatio
                   (sym (append_assoc found.prefix (bad.before ++ passed fault bad.bad) two.filler)
                   ∙ ap (λ us. us ++ two.filler)
                   (sym (append_assoc found.prefix bad.before (passed fault bad.bad))))
-                  (join a two.value found.prefix ((bad.before ++ passed fault bad.bad) ++ two.filler)
+                  (join a two.value found.prefix
+                  ((bad.before ++ passed fault bad.bad) ++ two.filler)
                   (reads_p.wide a found.prefix found.spelled) two.spelled);
               fills = two.fills;
             };
@@ -443,11 +460,11 @@ module _ {A B : Type 0} (P V : Relation A) (Q W : A → Relation B) (U : Relatio
 
 -- What follows the second part is asked, and `fits` says what it makes of what follows the first.
 pub reads_then : {A B : Type 0} {P V : Relation A} {Q W : A → Relation B}
-    (U : Relation B) {F G : Follow} {p : Reader A} {f : A → Reader B}
+    (U : Relation B) {F : Follow A} {G : Follow B} {p : Reader A} {f : A → Reader B}
     → Reads P V F p → ((a : A) → Reads (Q a) (W a) G (f a))
     → ((a : A) (b : B) (us vs : List Spelled) → V a us → W a b vs → U b (us ++ vs))
-    → ((a : A) (b : B) (right rest : List Spelled) → Q a b right → G (head rest)
-    → F (head (right ++ rest)))
+    → ((a : A) (b : B) (right rest : List Spelled) → Q a b right → G b (head rest)
+    → F a (head (right ++ rest)))
     → Reads (Then P Q) U G (then_read p f)
 reads_then {A} {B} {P} {V} {Q} {W} U {F} {G} {p} {f} reads_p reads_f join fits = record {
   wide = then_wide P V Q W U F G p f reads_p reads_f join fits;
@@ -461,11 +478,11 @@ reads_then {A} {B} {P} {V} {Q} {W} U {F} {G} {p} {f} reads_p reads_f join fits =
 -- One of two readers, by the next token
 
 -- each spelling shows by its first token, or by what follows it, whether the token is of the set
-abbrev pub Shows : {A : Type 0} → Set → Bool → Relation A → Follow → Type 0
-Shows {A} set answer R F = (a : A) (prefix rest : List Spelled) → R a prefix → F (head rest)
+abbrev pub Shows : {A : Type 0} → Set → Bool → Relation A → Follow A → Type 0
+Shows {A} set answer R F = (a : A) (prefix rest : List Spelled) → R a prefix → F a (head rest)
     → starts set (head (prefix ++ rest)) ≡ answer
 
-module _ {A : Type 0} (P V Q W U : Relation A) (F : Follow) (set : Set) (p q : Reader A)
+module _ {A : Type 0} (P V Q W U : Relation A) (F : Follow A) (set : Set) (p q : Reader A)
     (reads_p : Reads P V F p) (reads_q : Reads Q W F q) (yes_p : Shows set true P F)
     (no_q : Shows set false Q F)
     (to_left : (a : A) (ts : List Spelled) → V a ts → U a ts)
@@ -500,7 +517,7 @@ module _ {A : Type 0} (P V Q W U : Relation A) (F : Follow) (set : Set) (p q : R
         })
       ]
 
-  either_complete : (a : A) (prefix rest : List Spelled) → Either P Q a prefix → F (head rest)
+  either_complete : (a : A) (prefix rest : List Spelled) → Either P Q a prefix → F a (head rest)
       → choose set p q (prefix ++ rest) ≡ Ok (a, rest)
   either_complete a prefix rest (inl s) f =
       ap (λ b. cond b (p (prefix ++ rest)) (q (prefix ++ rest))) (yes_p a prefix rest s f)
@@ -550,7 +567,7 @@ module _ {A : Type 0} (P V Q W U : Relation A) (F : Follow) (set : Set) (p q : R
   ]
 
 pub reads_choose : {A : Type 0} {P V Q W : Relation A}
-    (U : Relation A) {F : Follow} {p q : Reader A} (set : Set)
+    (U : Relation A) {F : Follow A} {p q : Reader A} (set : Set)
     → Reads P V F p → Reads Q W F q → Shows set true P F → Shows set false Q F
     → ((a : A) (ts : List Spelled) → V a ts → U a ts)
     → ((a : A) (ts : List Spelled) → W a ts → U a ts)
@@ -585,7 +602,7 @@ never_back : {A : Type 0} (P Q : Relation A) (a : A) (ts : List Spelled)
 never_back P Q a ts (inl s) = absurd (let clash : false ≡ true = s.0 in cc)
 never_back P Q a ts (inr s) = s
 
-pub reads_only : {A : Type 0} {P Q U : Relation A} {F : Follow} (is_so : Bool)
+pub reads_only : {A : Type 0} {P Q U : Relation A} {F : Follow A} (is_so : Bool)
     (both other : Reader A)
     → (is_so ≡ true → Reads (Either P Q) U F both) → Reads Q U F other
     → Reads (Either (Only is_so P) Q) U F (only_if is_so both other)
@@ -594,6 +611,21 @@ reads_only {A} {P} {Q} {U} {F} true both other reads_both reads_other =
 reads_only {A} {P} {Q} {U} {F} false both other reads_both reads_other =
     restate reads_other (never_there P Q) (never_back P Q)
 
+-- Nothing is spelled
+
+pub reads_never : {A : Type 0} (Q W : Relation A) (F : Follow A)
+    → ((a : A) (ts : List Spelled) → Q a ts → ⊥)
+    → ((from : ℕ) → Filled W [] from) → Reads Q W F refused
+reads_never {A} Q W F never fill = record {
+  wide = λ a ts s. absurd (never a ts s);
+  sound = λ ts a rest e. absurd (let clash : ◌≡◌ {A = Answer A} (refused ts) (Ok (a, rest)) = e in
+      cc);
+  complete = λ a prefix rest s f. absurd (never a prefix s);
+  fails = λ ts fault e. refused_at_once Q W F ts fault e
+      (λ a prefix rest more s f same heads. absurd (never a prefix s)) fill;
+  fill = fill;
+}
+
 -- A reader whose first token has to pass a test
 
 -- no spelling is empty
@@ -601,7 +633,7 @@ abbrev pub HasFirst : {A : Type 0} → Relation A → Type 0
 HasFirst {A} R = (a : A) (prefix rest : List Spelled) → R a prefix
     → head (prefix ++ rest) ≡ head prefix
 
-module _ {A : Type 0} (R W U : Relation A) (F : Follow) (test : Option Spelled → Bool)
+module _ {A : Type 0} (R W U : Relation A) (F : Follow A) (test : Option Spelled → Bool)
     (p : Reader A)
     (reads : Reads R W F p) (has_first : HasFirst R)
     (pass_wide : (a : A) (ts : List Spelled) → W a ts → test (head ts) ≡ true → U a ts)
@@ -677,13 +709,14 @@ module _ {A : Type 0} (R W U : Relation A) (F : Follow) (test : Option Spelled �
         fill
   ]
 
-  checked_complete : (a : A) (prefix rest : List Spelled) → Passing test R a prefix → F (head rest)
+  checked_complete : (a : A) (prefix rest : List Spelled) → Passing test R a prefix
+      → F a (head rest)
       → checked test p (prefix ++ rest) ≡ Ok (a, rest)
   checked_complete a prefix rest s f =
       pass (prefix ++ rest) (ap test (has_first a prefix rest s.0) ∙ s.1)
       ∙ reads.complete a prefix rest s.0 f
 
-pub reads_checked : {A : Type 0} {R W : Relation A} (U : Relation A) {F : Follow} {p : Reader A}
+pub reads_checked : {A : Type 0} {R W : Relation A} (U : Relation A) {F : Follow A} {p : Reader A}
     (test : Option Spelled → Bool)
     → Reads R W F p → HasFirst R
     → ((a : A) (ts : List Spelled) → W a ts → test (head ts) ≡ true → U a ts)

@@ -11,7 +11,7 @@ use Rattle.std.proofs.lemmas.Slice.Eq.{bytes_eq-Decides}
 use Rattle.sw_token.specs.Spelling.{Spelled, IsTokenText}
 use Rattle.sw_token.proofs.TokenTexts.{is_ascii_token, IsTokenText-ascii}
 use Rattle.sw_reader.specs.Sets.{Set, starts, sample_texts, is_sample, class_of, kind_class, is_in}
-use Rattle.sw_reader.specs.Sets.{has, apart, within, not_first}
+use Rattle.sw_reader.specs.Sets.{has, apart, within, not_first, first_only}
 
 pub and_left : (a b : Bool) → (a && b) ≡ true → a ≡ true
 and_left true b h = refl
@@ -145,6 +145,18 @@ among (x ∷ texts) text h k = by_test (bytes_eq x text) refl k (among texts tex
 
 pub sample_is_token : (text : List ℕ) → is_sample text ≡ true → IsTokenText text
 sample_is_token text h = among sample_texts text samples_are_tokens h
+
+odd : (class : ℕ) → ((2 * class + 1) % 2 == 1) ≡ true
+odd class = eq-eqb ((2 * class + 1) % 2) 1 (omega arith)
+
+-- A token of the set that is the first on its line is of `first_only`.
+pub has-first_only : (set : Set) (token : Spelled) → token.first ≡ true → has set token ≡ true
+    → has (first_only set) token ≡ true
+unfolding has
+has-first_only set token leads h =
+    is_in-filter (λ class. class % 2 == 1) set _
+    (ap (λ b. (2 * kind_class token.text token.fixity + cond b 1 0) % 2 == 1) leads
+    ∙ odd (kind_class token.text token.fixity)) h
 
 pub starts-append : (set other : Set) (token : Option Spelled)
     → starts (set ++ other) token ≡ (starts set token || starts other token)

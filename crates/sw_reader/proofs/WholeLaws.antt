@@ -1,6 +1,8 @@
 -- Laws of whole lists of tokens: a list is spelled as one value or has one unexpected token, and
 -- not both; and the reader finds which.
-use Rattle.std.proofs.Common.{◌≡◌, ℕ, suc, ◌-◌, ◌≤◌, ◌<◌, inl, inr, List, [], ◌∷◌, ◌++◌, length, take, drop, refl, sym, ◌∙◌, ap, subst, append_assoc, arith, length-append}
+use Rattle.std.proofs.Common.{◌≡◌, ℕ, suc, ◌-◌, ◌≤◌, ◌<◌, inl, inr, List, [], ◌∷◌, ◌++◌, length}
+use Rattle.std.proofs.Common.{take, drop, refl, sym, ◌∙◌, ap, subst, append_assoc, arith}
+use Rattle.std.proofs.Common.{length-append}
 use Rattle.std.proofs.lemmas.List.{append-nil, take_at, take-take, take-append-drop}
 use Rattle.std.proofs.lemmas.Bool.{cases_eq}
 use Rattle.std.specs.Prelude.{Some, None, Ok, Err}
@@ -8,15 +10,18 @@ use Rattle.sw_token.specs.Spelling.{Spelled, IsSpelling}
 use Rattle.sw_reader.specs.Sets.{Set}
 use Rattle.sw_reader.specs.Relations.{Relation, head, Nothing, Then}
 use Rattle.sw_reader.specs.Reader.{Fault, Reader, and_then, finish, whole}
-use Rattle.sw_reader.specs.Reader.Fault.{unexpected}
-use Rattle.sw_reader.specs.Whole.{IsSpelledAs, IsSpelled, Begins, IsUnexpectedIn}
-use Rattle.sw_reader.proofs.ReaderLaws.{Follow, Outside, Filled, Failed, Reads, ok_parts, bind_ok, restate, narrow, reads_pure, reads_then, refused_at_once}
+use Rattle.sw_reader.specs.Reader.Fault.{unexpected, too_deep}
+use Rattle.sw_reader.specs.Whole.{IsSpelledAs, IsSpelled, Begins, IsUnexpectedIn, IsTooDeepIn}
+use Rattle.sw_reader.proofs.ReaderLaws.{Follow, Outside, Without, Filled, Failed, passed, Reads}
+use Rattle.sw_reader.proofs.ReaderLaws.{ok_parts}
+use Rattle.sw_reader.proofs.ReaderLaws.{bind_ok, restate, narrow, reads_pure, reads_then}
+use Rattle.sw_reader.proofs.ReaderLaws.{refused_at_once}
 use Rattle.sw_reader.proofs.Rising.{end_of, IsSpelling-completed}
 
 -- The end
 
-abbrev pub IsEnd : Follow
-IsEnd token = token ≡ None
+abbrev pub IsEnd : {A : Type 0} → Follow A
+IsEnd value token = token ≡ None
 
 finish_ok : (ts rest : List Spelled) (a : Unit {0}) → finish ts ≡ Ok (a, rest)
     → (ts ≡ []) × (rest ≡ [])
@@ -57,7 +62,7 @@ reads_finish = record {
 }
 
 module _ {A : Type 0} (R W : Relation A) (ext : Set) (p : Reader A)
-    (reads : Reads R W (Outside ext) p) where
+    (reads : Reads R W (Without ext) p) where
   whole_there : (a : A) (ts : List Spelled)
       → Then R (λ x. Then (Nothing (tt {0})) (λ _. Nothing x)) a ts → R a ts
   whole_there a ts h =
@@ -87,7 +92,7 @@ module _ {A : Type 0} (R W : Relation A) (ext : Set) (p : Reader A)
   reads_whole : Reads R W IsEnd (whole p)
   reads_whole = restate
       (reads_then W reads
-      (λ x. reads_then (Nothing x) reads_finish (λ _. narrow (reads_pure x) (λ token f. tt))
+      (λ x. reads_then (Nothing x) reads_finish (λ _. narrow (reads_pure x) (λ y token f. tt))
       (λ u y us vs h k. (k.0, ap (λ ws. ws ++ vs) h.1 ∙ k.1))
       (λ u y right rest h f. ap (λ us. head (us ++ rest)) h.1 ∙ f))
       (λ x y us vs h k. subst (λ z. W z (us ++ vs)) (sym k.0)
@@ -186,8 +191,46 @@ unexpected_token R ts is left bad =
     omega (arith, ap length bad.split, length-append bad.before bad.bad, bad.count) in
     subst (λ n. IsUnexpectedIn R ts n) same (unexpected_at R ts left is bad)
 
+-- A fault says which token opens a nest too many.
+pub too_deep_token : {A : Type 0} (R W : Relation A) (ts : List Spelled) → IsSpelling ts
+    → (left : ℕ) → Failed R W IsEnd ts (too_deep left) → IsTooDeepIn R W ts (length ts - left)
+too_deep_token R W ts is left bad =
+    let some : 0 < length bad.bad = bad.opens tt in
+    let same : length bad.before ≡ length ts - left =
+    omega (arith, ap length bad.split, length-append bad.before bad.bad, bad.count) in
+    let less : length bad.before < length ts =
+    omega (arith, ap length bad.split, length-append bad.before bad.bad) in
+    let first = some_bad ts bad.before bad.bad bad.split less in
+    let split : ts ≡ bad.before ++ (first.0 ∷ first.1) =
+    bad.split ∙ ap (λ us. bad.before ++ us) first.2 in
+    let opened : bad.before ++ passed (too_deep left) bad.bad ≡ bad.before ++ (first.0 ∷ []) =
+    ap (λ us. bad.before ++ passed (too_deep left) us) first.2 in
+    let taken : take (suc (length bad.before)) ts ≡ bad.before ++ (first.0 ∷ []) =
+    take_one_more ts bad.before first.1 first.0 split in
+    let one = bad.begun (end_of 0 (bad.before ++ (first.0 ∷ []))) in
+    subst (λ n. IsTooDeepIn R W ts n) same (record {
+      within = less;
+      begun = subst (Begins W) (sym taken) (
+        one.value,
+        one.filler,
+        record {
+          spelling = IsSpelling-completed (bad.before ++ (first.0 ∷ [])) first.1 one.filler
+              (subst IsSpelling (split ∙ sym (append_assoc bad.before (first.0 ∷ []) first.1)) is)
+              one.fills;
+          form = subst (λ us. W one.value (us ++ one.filler)) opened one.spelled;
+        },
+      );
+      refused = λ begins.
+          let begins' = subst (Begins R) taken begins in
+          bad.none begins'.0 ((bad.before ++ (first.0 ∷ [])) ++ begins'.1) []
+          (first.0 ∷ begins'.1) begins'.2.form refl
+          (append-nil ((bad.before ++ (first.0 ∷ [])) ++ begins'.1)
+          ∙ append_assoc bad.before (first.0 ∷ []) begins'.1)
+          (ap head (sym first.2));
+    })
+
 -- A fault is at a token or the end.
-pub fault_within : {A : Type 0} (R W : Relation A) (F : Follow) (ts : List Spelled) (left : ℕ)
+pub fault_within : {A : Type 0} (R W : Relation A) (F : Follow A) (ts : List Spelled) (left : ℕ)
     → Failed R W F ts (unexpected left) → left ≤ length ts
 fault_within R W F ts left bad =
     omega (arith, ap length bad.split, length-append bad.before bad.bad, bad.count)
@@ -204,6 +247,15 @@ none_unexpected R ts n h k = elim (cases_eq n (length ts)) [
         subst (IsSpelledAs R h.0) (sym (take-append-drop (suc n) ts)) h.1,
       ))
 ]
+
+-- A list that is spelled within the limit has no token that opens a nest too many.
+pub none_too_deep : {A : Type 0} (R W : Relation A) (ts : List Spelled) (n : ℕ) → IsSpelled R ts
+    → ¬ IsTooDeepIn R W ts n
+none_too_deep R W ts n h k = k.refused (
+  h.0,
+  drop (suc n) ts,
+  subst (IsSpelledAs R h.0) (sym (take-append-drop (suc n) ts)) h.1,
+)
 
 no_earlier : {A : Type 0} (R : Relation A) (ts : List Spelled) (j k : ℕ) → IsUnexpectedIn R ts j
     → IsUnexpectedIn R ts k → j < k → ⊥

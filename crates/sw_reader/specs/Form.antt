@@ -1,10 +1,12 @@
 -- Grammars as data: a form says how the spellings of a value are put together. Its index, the
 -- shape, says what may come first and what may come after; `ok` in it is the condition under which
 -- one token decides each choice, computed along with the form.
-use Rattle.std.specs.Prelude.{ℕ, suc, nat_le, max, Bool, true, false, not, ◌&&◌, ◌||◌, if◌then◌else◌, List, [], ◌++◌}
+use Rattle.std.specs.Prelude.{ℕ, suc, nat_le, max, Bool, true, false, not, ◌&&◌, ◌||◌}
+use Rattle.std.specs.Prelude.{if◌then◌else◌, List, [], ◌++◌, codes}
 use Rattle.sw_token.specs.declared.Fixity.{Fixity}
 use Rattle.sw_token.specs.Spelling.{Spelled}
-use Rattle.sw_reader.specs.Sets.{Set, is_sample, class_of, is_in, apart, within, not_first}
+use Rattle.sw_reader.specs.Sets.{Set, is_sample, class_of, is_in, quoted, apart, within, not_first}
+use Rattle.sw_reader.specs.Sets.{first_only}
 
 -- One token of a set, and the value that it gives.
 pub record Terminal (A : Type 0) : Type 0 where
@@ -28,6 +30,8 @@ pub record Shape : Type 0 where
   pub ext : Set
   -- whether the form is read by looking at one token at each choice
   pub ok : Bool
+  -- whether a short one has no token
+  pub bare : Bool
   -- how many nests a short one opens
   pub height : ℕ
   -- whether there is a short one that begins a line, and one that doesn't
@@ -40,6 +44,7 @@ empty = record {
   first = [];
   ext = [];
   ok = true;
+  bare = true;
   height = 0;
   begins_line = true;
   stays_on_line = true;
@@ -51,6 +56,7 @@ one t = record {
   first = t.set;
   ext = [];
   ok = is_sample t.text && (shows t.set t.text t.fixity true || shows t.set t.text t.fixity false);
+  bare = false;
   height = 0;
   begins_line = shows t.set t.text t.fixity true;
   stays_on_line = shows t.set t.text t.fixity false;
@@ -66,15 +72,16 @@ seq s t = record {
   nullable = s.nullable && t.nullable;
   first = if s.nullable then s.first ++ t.first else s.first;
   ext = if t.nullable then t.ext ++ s.ext else t.ext;
-  ok = s.ok && t.ok && apart s.ext t.first && is_usable (if s.nullable then t else s);
+  ok = s.ok && t.ok && apart s.ext t.first && is_usable (if s.bare then t else s);
+  bare = s.bare && t.bare;
   height = max s.height t.height;
-  begins_line = (if s.nullable then t else s).begins_line;
-  stays_on_line = (if s.nullable then t else s).stays_on_line;
+  begins_line = (if s.bare then t else s).begins_line;
+  stays_on_line = (if s.bare then t else s).stays_on_line;
 }
 
 -- whether the first of two is chosen for a short spelling
 abbrev pub is_shorter : Shape → Shape → Bool
-is_shorter s t = not t.nullable && nat_le s.height t.height
+is_shorter s t = not t.bare && nat_le s.height t.height
 
 -- one of two, where `short` is the one that has a short spelling
 abbrev pub choice : Shape → Shape → Shape → Shape
@@ -83,6 +90,7 @@ choice s t short = record {
   first = s.first ++ t.first;
   ext = if t.nullable then s.ext ++ t.ext ++ s.first else s.ext ++ t.ext;
   ok = s.ok && t.ok && not s.nullable && apart s.first t.first && is_usable short;
+  bare = short.bare;
   height = short.height;
   begins_line = short.begins_line;
   stays_on_line = short.stays_on_line;
@@ -98,6 +106,7 @@ star s = record {
   first = s.first;
   ext = s.ext ++ s.first;
   ok = s.ok && not s.nullable && apart s.ext s.first;
+  bare = true;
   height = 0;
   begins_line = true;
   stays_on_line = true;
@@ -110,9 +119,50 @@ nested t s = record {
   first = t.set;
   ext = s.ext;
   ok = (one t).ok && s.ok;
+  bare = false;
   height = suc s.height;
   begins_line = shows t.set t.text t.fixity true;
   stays_on_line = shows t.set t.text t.fixity false;
+}
+
+abbrev pub semicolon : Set
+semicolon = quoted (codes ";")
+
+-- whether items of this shape can be told apart, each ended by a `;` or followed by one that begins
+-- a line
+abbrev pub is_item : Shape → Bool
+is_item s =
+    s.ok && not s.nullable && (s.begins_line && not s.bare) && apart s.ext (first_only s.first)
+    && apart s.ext semicolon && apart s.first semicolon
+
+-- what may follow such items is none of these
+abbrev pub items_ext : Shape → Set
+items_ext s = s.ext ++ semicolon ++ s.first
+
+-- any number of items
+abbrev pub listed : Shape → Shape
+listed s = record {
+  nullable = true;
+  first = s.first;
+  ext = items_ext s;
+  ok = is_item s;
+  bare = true;
+  height = 0;
+  begins_line = true;
+  stays_on_line = true;
+}
+
+-- one item at least
+abbrev pub listed_some : Shape → Shape
+listed_some s = record {
+  nullable = false;
+  first = s.first;
+  ext = items_ext s;
+  ok = is_item s;
+  bare = false;
+  height = s.height;
+  begins_line = s.begins_line;
+  stays_on_line = s.stays_on_line;
 }
 
 -- what may have to begin a line
@@ -121,7 +171,8 @@ started s = record {
   nullable = false;
   first = s.first;
   ext = s.ext;
-  ok = s.ok && not s.nullable && s.begins_line;
+  ok = s.ok && not s.nullable && (s.begins_line && not s.bare);
+  bare = false;
   height = s.height;
   begins_line = s.begins_line;
   stays_on_line = false;
@@ -133,7 +184,8 @@ inline s = record {
   nullable = false;
   first = not_first s.first;
   ext = s.ext;
-  ok = s.ok && not s.nullable && s.stays_on_line;
+  ok = s.ok && not s.nullable && (s.stays_on_line && not s.bare);
+  bare = false;
   height = s.height;
   begins_line = false;
   stays_on_line = s.stays_on_line;
@@ -144,6 +196,7 @@ pub record Claim : Type 0 where
   pub nullable : Bool
   pub first : Set
   pub ext : Set
+  pub bare : Bool
   pub height : ℕ
   pub begins_line : Bool
   pub stays_on_line : Bool
@@ -155,9 +208,10 @@ held s t = record {
   first = t.first;
   ext = t.ext;
   ok = s.ok && (if s.nullable then t.nullable else not t.nullable) && within s.first t.first
-      && within s.ext t.ext
+      && within s.ext t.ext && (if s.bare then t.bare else not t.bare)
       && nat_le s.height t.height && (not t.begins_line || s.begins_line)
       && (not t.stays_on_line || s.stays_on_line) && (t.begins_line || t.stays_on_line);
+  bare = t.bare;
   height = t.height;
   begins_line = t.begins_line;
   stays_on_line = t.stays_on_line;
@@ -170,6 +224,7 @@ solid first ext height = record {
   first = first;
   ext = ext;
   ok = true;
+  bare = false;
   height = height;
   begins_line = true;
   stays_on_line = true;
@@ -186,10 +241,18 @@ module _ {N : Type 0} (El : N → Type 0) (shape_of : N → Shape) where
     followed : {A B : Type 0} {s t : Shape} → Form s A → (A → Form t B) → Form (seq s t) B
     -- the first of two where the next token begins it
     either : {A : Type 0} {s t : Shape} → Form s A → Form t A → Form (alt s t) A
-    -- turns from a state on, as long as the next token begins one
-    turns : {S : Type 0} {s : Shape} → S → (S → Form s S) → Form (star s) S
+    -- turns from a state on, as long as the state is open and the next token begins one
+    turns : {S : Type 0} {s : Shape} → (S → Bool) → S → (S → Form s S) → Form (star s) S
+    -- Items after those of a state, which says whether a `;` ended the last. Where none did, the
+    -- next begins a line.
+    more_items : {A : Type 0} {s : Shape} → List A × Bool → Form s A
+        → Form (listed s) (List A × Bool)
+    -- one such item at least
+    some_items : {A : Type 0} {s : Shape} → Form s A → Form (listed_some s) (List A × Bool)
     -- the same as `either`, but the first only where a condition on earlier values holds
     when : {A : Type 0} {s t : Shape} → Bool → Form s A → Form t A → Form (choice s t t) A
+    -- the same as `either`, but the second only where a condition on earlier values holds
+    unless : {A : Type 0} {s t : Shape} → Bool → Form s A → Form t A → Form (choice s t s) A
     -- a token that opens a nest, and the nest
     nest : {A : Type 0} → (t : Terminal A) → (n : N) → Form (nested t (shape_of n)) (A × El n)
     -- where it is asked for, the first token begins a line

@@ -3,6 +3,7 @@ pub mod Form
 pub mod Relations
 pub mod Reader
 pub mod Spells
+pub mod Quotes
 pub mod Terminals
 pub mod Whole
 pub mod Outcome

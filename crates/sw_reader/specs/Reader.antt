@@ -1,10 +1,11 @@
 -- Readers: functions that read a value off the beginning of a list of tokens, from left to right,
 -- and the reader of a form. A fault says how many tokens are left from the one at fault on, so that
 -- it doesn't change when readers are put together; 0 is the end.
-use Rattle.std.specs.Prelude.{ℕ, zero, suc, Bool, true, false, if◌then◌else◌, List, [], ◌∷◌, length, Option, Result, Ok, Err}
+use Rattle.std.specs.Prelude.{ℕ, zero, suc, Bool, true, false, if◌then◌else◌, List, [], ◌∷◌, length}
+use Rattle.std.specs.Prelude.{Option, Result, Ok, Err, not, ◌++◌, codes}
 use Rattle.sw_token.specs.Spelling.{Spelled}
 use Rattle.sw_reader.specs.Sets.{Set, has, starts, quoted}
-use Rattle.sw_reader.specs.Terminals.{quote}
+use Rattle.sw_reader.specs.Quotes.{quote}
 use Rattle.sw_reader.specs.Form.{Shape, Terminal, Form}
 use Rattle.sw_reader.specs.Form as forms
 use Rattle.sw_reader.specs.Relations.{head, may_start, stays}
@@ -69,14 +70,32 @@ choose set this other tokens = if starts set (head tokens) then this tokens else
 abbrev pub skipping : List ℕ → Reader Bool
 skipping text = choose (quoted text) (then_read (next (quote text)) (λ _. pure true)) (pure false)
 
--- at most `n` turns, as long as the next token is of a set
-abbrev pub repeat : {S : Type 0} → Set → (S → Reader S) → ℕ → S → Reader S
-repeat set turn zero state = choose set refused (pure state)
-repeat set turn (suc n) state = choose set (then_read (turn state) (repeat set turn n)) (pure state)
+-- the set where a test holds, and else no token
+abbrev pub set_if : Bool → Set → Set
+set_if true set = set
+set_if false set = []
 
--- turns as long as the next token is of a set; each takes a token, so as many as tokens are enough
-abbrev pub loop : {S : Type 0} → Set → (S → Reader S) → S → Reader S
-loop set turn state tokens = repeat set turn (length tokens) state tokens
+-- at most `n` turns, as long as the state is open and the next token is of a set
+abbrev pub repeat : {S : Type 0} → Set → (S → Bool) → (S → Reader S) → ℕ → S → Reader S
+repeat set is_open turn zero state = choose (set_if (is_open state) set) refused (pure state)
+repeat set is_open turn (suc n) state =
+    choose (set_if (is_open state) set) (then_read (turn state) (repeat set is_open turn n))
+    (pure state)
+
+-- turns as long as the state is open and the next token is of a set; each takes a token, so as many
+-- as tokens are enough
+abbrev pub loop : {S : Type 0} → Set → (S → Bool) → (S → Reader S) → S → Reader S
+loop set is_open turn state tokens = repeat set is_open turn (length tokens) state tokens
+
+-- one more item after those of a state, and whether a `;` ends it
+abbrev pub read_item : {A : Type 0} → Reader A → List A × Bool → Reader (List A × Bool)
+read_item item state =
+    then_read (checked (may_start (not state.1)) item)
+    (λ x. then_read (skipping (codes ";")) (λ ended. pure (state.0 ++ x ∷ [], ended)))
+
+-- items as long as the next token begins one
+abbrev pub read_items : {A : Type 0} → Set → Reader A → List A × Bool → Reader (List A × Bool)
+read_items set item state = loop set (λ _. true) (read_item item) state
 
 abbrev pub only_if : {A : Type 0} → Bool → Reader A → Reader A → Reader A
 only_if is_so this other tokens = if is_so then this tokens else other tokens
@@ -100,12 +119,20 @@ reading El shape_of depth inside (forms.followed p f) =
     then_read (reading El shape_of depth inside p) (λ a. reading El shape_of depth inside (f a))
 reading El shape_of depth inside (forms.either {s = s} p q) =
     choose s.first (reading El shape_of depth inside p) (reading El shape_of depth inside q)
-reading El shape_of depth inside (forms.turns {s = s} state f) =
-    loop s.first (λ now. reading El shape_of depth inside (f now)) state
+reading El shape_of depth inside (forms.turns {s = s} is_open state f) =
+    loop s.first is_open (λ now. reading El shape_of depth inside (f now)) state
+reading El shape_of depth inside (forms.more_items {s = s} state p) =
+    read_items s.first (reading El shape_of depth inside p) state
+reading El shape_of depth inside (forms.some_items {s = s} p) =
+    then_read (read_item (reading El shape_of depth inside p) ([], true))
+    (read_items s.first (reading El shape_of depth inside p))
 reading El shape_of depth inside (forms.when {s = s} is_so p q) =
     only_if is_so (choose s.first (reading El shape_of depth inside p)
     (reading El shape_of depth inside q))
     (reading El shape_of depth inside q)
+reading El shape_of depth inside (forms.unless {s = s} is_so p q) =
+    choose s.first (reading El shape_of depth inside p)
+    (only_if is_so (reading El shape_of depth inside q) refused)
 reading El shape_of depth inside (forms.nest t n) =
     then_read (opening depth t) (λ a. then_read (inside n) (λ x. pure (a, x)))
 reading El shape_of depth inside (forms.line_start asked p) =

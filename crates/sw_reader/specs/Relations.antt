@@ -1,9 +1,11 @@
 -- Relations between values and the tokens that spell them, and how a form puts them together.
-use Rattle.std.specs.Prelude.{◌≡◌, ◌⊎◌, Bool, true, false, not, IsTrue, List, [], ◌∷◌, ◌++◌, Option, Some, None}
+use Rattle.std.specs.Prelude.{◌≡◌, ◌⊎◌, Bool, true, false, not, IsTrue, List, [], ◌∷◌, ◌++◌, Option}
+use Rattle.std.specs.Prelude.{Some, None, codes}
 use Rattle.sw_token.specs.Spelling.{Spelled}
 use Rattle.sw_reader.specs.Sets.{has}
 use Rattle.sw_reader.specs.Form.{Shape, Terminal, Form}
 use Rattle.sw_reader.specs.Form as forms
+use Rattle.sw_reader.specs.Quotes.{quote}
 
 abbrev pub Relation : Type 0 → Type 1
 Relation A = A → List Spelled → Type 0
@@ -61,6 +63,17 @@ abbrev pub stays : Option Spelled → Bool
 stays None = true
 stays (Some token) = not token.first
 
+-- a `;`, or nothing, and which of the two
+abbrev pub Skipped : Relation Bool
+Skipped = Either (Then (One (quote (codes ";"))) (λ _. Nothing true)) (Nothing false)
+
+-- One more item after those of a state, and whether a `;` ends it. Where none ended the item
+-- before, it begins a line.
+abbrev pub OneMore : {A : Type 0} → Relation A → List A × Bool → Relation (List A × Bool)
+OneMore P state =
+    Then (Passing (may_start (not state.1)) P)
+    (λ x. Then Skipped (λ ended. Nothing (state.0 ++ x ∷ [], ended)))
+
 -- What a form spells, where `inside` says what the nests do.
 abbrev pub spelled : {N : Type 0} (El : N → Type 0) (shape_of : N → Shape)
     → ((n : N) → Relation (El n)) → {s : Shape} {A : Type 0} → Form El shape_of s A → Relation A
@@ -70,10 +83,17 @@ spelled El shape_of inside (forms.followed p f) =
     Then (spelled El shape_of inside p) (λ a. spelled El shape_of inside (f a))
 spelled El shape_of inside (forms.either p q) =
     Either (spelled El shape_of inside p) (spelled El shape_of inside q)
-spelled El shape_of inside (forms.turns state f) =
-    Turns (λ s. spelled El shape_of inside (f s)) state
+spelled El shape_of inside (forms.turns is_open state f) =
+    Turns (λ s. Only (is_open s) (spelled El shape_of inside (f s))) state
+spelled El shape_of inside (forms.more_items state p) =
+    Turns (OneMore (spelled El shape_of inside p)) state
+spelled El shape_of inside (forms.some_items p) =
+    Then (OneMore (spelled El shape_of inside p) ([], true))
+    (Turns (OneMore (spelled El shape_of inside p)))
 spelled El shape_of inside (forms.when is_so p q) =
     Either (Only is_so (spelled El shape_of inside p)) (spelled El shape_of inside q)
+spelled El shape_of inside (forms.unless is_so p q) =
+    Either (spelled El shape_of inside p) (Only is_so (spelled El shape_of inside q))
 spelled El shape_of inside (forms.nest t n) =
     Then (One t) (λ a. Then (inside n) (λ x. Nothing (a, x)))
 spelled El shape_of inside (forms.line_start asked p) =

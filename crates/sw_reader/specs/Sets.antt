@@ -142,6 +142,10 @@ word = any (4 * length quoted_texts) ++ one_of open_words
 abbrev pub integer : Set
 integer = any (4 * (length quoted_texts + 1))
 
+-- the tokens of the set that are the first on their line
+abbrev pub first_only : Set → Set
+first_only set = filter (λ class. class % 2 == 1) set
+
 -- the tokens of the set that aren't the first on their line
 abbrev pub not_first : Set → Set
 not_first set = filter (λ class. class % 2 == 0) set

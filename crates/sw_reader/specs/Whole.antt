@@ -25,3 +25,11 @@ pub record IsUnexpectedIn {A : Type 0} (R : Relation A) (tokens : List Spelled)
   pub begun : Begins R (take n tokens)
   pub refused : n < length tokens → ¬ Begins R (take (suc n) tokens)
   pub unfinished : n ≡ length tokens → ¬ IsSpelled R tokens
+
+-- A spelling begins with the first `n` tokens and the next, but none within a limit does: `Narrow`
+-- is the part of `Wide` that keeps it.
+pub record IsTooDeepIn {A : Type 0} (Narrow Wide : Relation A) (tokens : List Spelled)
+    (n : ℕ) : Type 0 where
+  pub within : n < length tokens
+  pub begun : Begins Wide (take (suc n) tokens)
+  pub refused : ¬ Begins Narrow (take (suc n) tokens)

@@ -4,7 +4,7 @@ ghost use Rattle.std.specs.Prelude.{◌≡◌, ◌<◌, length, All, IsTrue};
 ghost use Rattle.sw_token.specs.Tokens.{IsTokens};
 ghost use Rattle.sw_token.specs.Spelling.{IsReadable, spelling_of};
 ghost use Rattle.sw_reader.specs.Sets.{is_quoted, quoted, starts};
-ghost use Rattle.sw_reader.specs.Terminals.{quote, quote_on_line, a_word, an_integer};
+ghost use Rattle.sw_reader.specs.Quotes.{quote, quote_on_line, a_word, an_integer};
 ghost use Rattle.sw_reader.specs.Relations.{head, is_first_on_line, may_start};
 ghost use Rattle.sw_reader.specs.Reader.{next, skipping, check, finish};
 ghost use Rattle.sw_reader.specs.Outcome.{Gives, Takes, has_text, names, literal};

@@ -1,13 +1,14 @@
 -- Laws of small programs: a list of tokens spells one program or has one unexpected token, and not
 -- both; and the reader finds which.
-use Rattle.std.proofs.Common.{◌≡◌, ℕ, ◌-◌, ◌≤◌, ◌⊎◌, inl, inr, List, [], length, refl, sym, ◌∙◌, codes}
+use Rattle.std.proofs.Common.{◌≡◌, ℕ, ◌-◌, ◌≤◌, ◌⊎◌, inl, inr, List, [], length, refl, sym, ◌∙◌}
+use Rattle.std.proofs.Common.{codes}
 use Rattle.std.specs.Prelude.{Ok, Err}
 use Rattle.sw_token.specs.Spelling.{Spelled, IsSpelling}
 use Rattle.sw_reader.specs.Sets.{quoted}
 use Rattle.sw_reader.specs.Spells.{inside, Wide}
 use Rattle.sw_reader.specs.Reader.{Answer}
 use Rattle.sw_reader.specs.Reader.Fault.{unexpected, too_deep}
-use Rattle.sw_reader.proofs.ReaderLaws.{Outside, Failed, Reads, ok_parts, widen}
+use Rattle.sw_reader.proofs.ReaderLaws.{Without, Failed, Reads, ok_parts, widen}
 use Rattle.sw_reader.proofs.FormLemmas.{spelled_more}
 use Rattle.sw_reader.proofs.FormLaws.{law}
 use Rattle.sw_reader.proofs.DepthLaws as depths
@@ -25,7 +26,7 @@ any_depth program ts h =
     spelled_more in_nest shape_of (inside in_nest shape_of body h.0)
     (inside in_nest shape_of body 0) (λ nest x us k. absurd nest) small program ts h.1
 
-reads_small : Reads SpellsSmall SpellsSmall (Outside (quoted (codes ";"))) (read small)
+reads_small : Reads SpellsSmall SpellsSmall (Without (quoted (codes ";"))) (read small)
 reads_small = widen (law in_nest shape_of body good 0 small refl) any_depth
 
 pub only_small : (program : Small) (ts : List Spelled) → Spells program ts

@@ -3,18 +3,18 @@ use Rattle.std.proofs.Common.{◌≡◌, ◌<◌, Bool, true, false, not, List, 
 use Rattle.std.specs.Prelude.{Ok}
 use Rattle.sw_token.specs.Spelling.{Spelled}
 use Rattle.sw_reader.specs.Sets.{starts}
-use Rattle.sw_reader.specs.Form.{Shape, star}
+use Rattle.sw_reader.specs.Form.{Shape, is_item}
 use Rattle.sw_reader.specs.Relations.{head, may_start}
 use Rattle.sw_reader.specs.Reader.{check, skipping}
 use Rattle.sw_reader.proofs.ItemLoops as loops
-use Rattle.sw_reader.proofs.ItemLoops.{turn_of, Refuses}
+use Rattle.sw_reader.proofs.ItemLoops.{Refuses}
 use Rattle.sw_small.specs.Grammar.{Form, Nest, in_nest, shape_of, body}
 use Rattle.sw_small.specs.Reading.{read, read_items, rest_of}
 
 pub good : (nest : Nest) → (shape_of nest).ok ≡ true
 good nest = absurd nest
 
-module _ {s : Shape} {A : Type 0} (form : Form s A) (ok : (star (turn_of s)).ok ≡ true) where
+module _ {s : Shape} {A : Type 0} (form : Form s A) (ok : is_item s ≡ true) where
   pub stops_at_start : (start ts : List Spelled) (xs : List A) (ended : Bool)
       → starts s.first (head ts) ≡ true
       → rest_of form xs ended ts ≡ rest_of form [] true start

@@ -1,17 +1,19 @@
 -- A program is no larger than its spelling.
-use Rattle.std.proofs.Common.{◌≡◌, ℕ, ◌+◌, ◌≤◌, ◌<◌, Bool, true, inl, inr, List, [], ◌∷◌, ◌++◌, length, sum_by, ◌∙◌, ap, arith, length-append}
+use Rattle.std.proofs.Common.{◌≡◌, ℕ, ◌+◌, ◌≤◌, ◌<◌, Bool, true, inl, inr, List, [], ◌∷◌, ◌++◌}
+use Rattle.std.proofs.Common.{length, sum_by, ◌∙◌, ap, arith, length-append}
 use Rattle.std.proofs.lemmas.List.Sums.{sum_by-append, sum_by-cons}
 use Rattle.sw_token.specs.Spelling.{Spelled}
-use Rattle.sw_reader.specs.Relations.{Relation, Then, Turns}
+use Rattle.sw_reader.specs.Relations.{Relation, Then, Turns, OneMore}
 use Rattle.sw_reader.specs.Relations.Turns.{stop, turn}
 use Rattle.sw_reader.specs.Form.{Shape}
 use Rattle.sw_reader.specs.Spells.{spells}
-use Rattle.sw_reader.specs.Terminals.{one_more, items}
+use Rattle.sw_reader.specs.Terminals.{items}
 use Rattle.sw_small.specs.declared.tree.Show.{Show}
 use Rattle.sw_small.specs.declared.tree.Item.{Item}
 use Rattle.sw_small.specs.declared.tree.Small.{Small}
 use Rattle.sw_small.specs.Lower.{item_size, size_of}
-use Rattle.sw_small.specs.Grammar.{Form, in_nest, shape_of, body, show, task, printed, item, entry, block, small}
+use Rattle.sw_small.specs.Grammar.{Form, in_nest, shape_of, body, show, task, printed, item, entry}
+use Rattle.sw_small.specs.Grammar.{block, small}
 use Rattle.sw_small.specs.Small.{SpellsSmall, Spells}
 
 abbrev Has : {A : Type 0} → (A → ℕ) → Relation A → Type 0
@@ -30,7 +32,7 @@ then_length h = ap length h.whole ∙ length-append h.left h.right
 turns_size : {s : Shape} {A : Type 0} (form : Form s A) (size : List A → ℕ) (one : A → ℕ)
     → ((xs : List A) (x : A) → size (xs ++ x ∷ []) ≡ size xs + one x) → Has one (of_form form)
     → (a b : List A × Bool) (ts : List Spelled)
-    → Turns (λ state. of_form (one_more form state)) a b ts
+    → Turns (OneMore (of_form form)) a b ts
     → size b.0 ≤ size a.0 + length ts
 turns_size form size one grows each a b ts (stop _) = omega arith
 turns_size form size one grows each a b ts (turn _ next _ us vs h rest) =

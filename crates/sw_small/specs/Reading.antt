@@ -3,7 +3,8 @@ use Rattle.std.specs.Prelude.{Bool, List}
 use Rattle.sw_reader.specs.Form.{Shape}
 use Rattle.sw_reader.specs.Reader.{Reader, then_read, pure, whole}
 use Rattle.sw_reader.specs.Spells.{reads}
-use Rattle.sw_reader.specs.Terminals.{more_items, items}
+use Rattle.sw_reader.specs.Form.Form.{more_items}
+use Rattle.sw_reader.specs.Terminals.{items}
 use Rattle.sw_small.specs.declared.tree.Small.{Small}
 use Rattle.sw_small.specs.Grammar.{Form, in_nest, shape_of, body, small}
 
@@ -21,4 +22,4 @@ whole_small = whole (read small)
 
 -- the answer of a block, of which some items are read
 abbrev pub rest_of : {s : Shape} {A : Type 0} → Form s A → List A → Bool → Reader (List A × Bool)
-rest_of form xs ended = read (more_items form (xs, ended))
+rest_of form xs ended = read (more_items (xs, ended) form)

@@ -8,10 +8,10 @@ use Rattle.sw_token.specs.Spelling.{Spelled}
 use Rattle.sw_tree.proofs.Counting.{Weight, in_all, in_all-nil, in_all-cons, in_all-append}
 use Rattle.sw_reader.specs.Form.{Shape, Terminal, Form}
 use Rattle.sw_reader.specs.Relations.{Relation, Nothing, One, Then, Either, Only, Turns, stop, turn}
-use Rattle.sw_reader.specs.Relations.{Passing, may_start, spelled}
+use Rattle.sw_reader.specs.Relations.{Passing, may_start, OneMore, spelled}
 use Rattle.sw_reader.specs.Sets.{has}
 use Rattle.sw_reader.specs.Spells.{inside}
-use Rattle.sw_reader.specs.Terminals.{items, one_more}
+use Rattle.sw_reader.specs.Terminals.{items}
 
 abbrev pub none : Weight
 none k = 0
@@ -127,7 +127,7 @@ module _ (of_token : Spelled → Weight) where
   module _ {N : Type 0} (El : N → Type 0) (shape_of : N → Shape) (table : (n : N) → Relation (El n))
       {A : Type 0} {s : Shape} (item : Form El shape_of s A) (w : A → Weight) where
     one_more_item : Owns none (spelled El shape_of table item) w → (state : List A × Bool)
-        → Owns (in_all w state.0) (spelled El shape_of table (one_more item state))
+        → Owns (in_all w state.0) (OneMore (spelled El shape_of table item) state)
         (λ read. in_all w read.0)
     one_more_item each state =
         own_then w (own_passing (may_start (not state.1)) each) (λ x. own_past (λ ended.

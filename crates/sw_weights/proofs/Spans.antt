@@ -9,7 +9,7 @@ use Rattle.sw_token.specs.Tokens.{IsTokens, IsTokenIn, StandInOrder}
 use Rattle.sw_token.specs.declared.Token.{Token}
 use Rattle.sw_token.proofs.TokenLaws.{IsTokens-each_by_recursion, IsTokens-order}
 use Rattle.sw_reader.specs.Relations.{One}
-use Rattle.sw_reader.specs.Terminals.{quote, quote_on_line}
+use Rattle.sw_reader.specs.Quotes.{quote, quote_on_line}
 use Rattle.sw_weights.proofs.Owning.{none, Owns, own_token}
 use Rattle.sw_tree.proofs.Counting.{Weight, hits, in_all, InOrder, IsDistinct-covers}
 use Rattle.sw_tree.proofs.Counting as counting

@@ -1,7 +1,7 @@
 use Rattle.std.proofs.Common.{sym, ◌∙◌}
 use Rattle.sw_token.specs.declared.Fixity.TheVariants.{None}
 use Rattle.sw_reader.specs.Sets.{quoted}
-use Rattle.sw_reader.specs.Terminals.{quote}
+use Rattle.sw_reader.specs.Quotes.{quote}
 use Rattle.sw_reader.proofs.CursorSteps.{stopped, next_refuses, next_takes}
 use Rattle.sw_reader.proofs.cursor.Cursor.expect.Goals as goal
 

@@ -1,6 +1,6 @@
 use Rattle.std.proofs.Common.{sym, ◌∙◌, subst}
 use Rattle.sw_reader.specs.Outcome.{Gives}
-use Rattle.sw_reader.specs.Terminals.{quote_on_line}
+use Rattle.sw_reader.specs.Quotes.{quote_on_line}
 use Rattle.sw_reader.specs.Reader.{next}
 use Rattle.sw_reader.proofs.CursorSteps.{stopped, on_line_refuses, on_line_is}
 use Rattle.sw_reader.proofs.cursor.Cursor.expect_on_line.Goals as goal

@@ -1,5 +1,5 @@
 use Rattle.std.proofs.Common.{sym, ◌∙◌}
-use Rattle.sw_reader.specs.Terminals.{a_word}
+use Rattle.sw_reader.specs.Quotes.{a_word}
 use Rattle.sw_reader.proofs.CursorSteps.{stopped, next_refuses, next_takes, starts_word}
 use Rattle.sw_reader.proofs.cursor.Cursor.word.Goals as goal
 

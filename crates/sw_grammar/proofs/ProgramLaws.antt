@@ -1,0 +1,40 @@
+-- The laws of every grammar, for programs.
+use Rattle.std.proofs.Common.{◌≡◌, ℕ, ◌⊎◌, List, refl}
+use Rattle.sw_token.specs.Spelling.{Spelled, IsSpelling}
+use Rattle.sw_reader.proofs.GrammarLaws.{one_value, value_or_unexpected, value_or_fault}
+use Rattle.sw_reader.proofs.WholeLaws as wholes
+use Rattle.sw_tree.specs.declared.decl.Decl.{Decl}
+use Rattle.sw_grammar.specs.Nests.{El, shape_of}
+use Rattle.sw_grammar.specs.Decls.{program}
+use Rattle.sw_grammar.specs.Grammar.{body, good}
+use Rattle.sw_grammar.specs.Program.{SpellsDecls, SpellsWithin, Spells, IsProgram, IsUnexpected}
+use Rattle.sw_grammar.specs.Program.{IsProgramWithin, IsTooDeep}
+
+pub decided : (id_of : List ℕ → ℕ) (tokens : List Spelled) → IsSpelling tokens
+    → IsProgram id_of tokens ⊎ ((n : ℕ) × IsUnexpected id_of tokens n)
+decided id_of tokens is =
+    value_or_unexpected El shape_of (body id_of) good (program id_of) refl tokens is
+
+pub never_both : (id_of : List ℕ → ℕ) (tokens : List Spelled) (n : ℕ) → IsProgram id_of tokens
+    → ¬ (IsUnexpected id_of tokens n)
+never_both id_of tokens n h k = wholes.none_unexpected (SpellsDecls id_of) tokens n h k
+
+pub one_program : (id_of : List ℕ → ℕ) (tokens : List Spelled) (a b : List Decl)
+    → Spells id_of a tokens → Spells id_of b tokens → a ≡ b
+one_program id_of tokens a b h k =
+    one_value El shape_of (body id_of) good (program id_of) refl a b tokens h.form k.form
+
+pub one_unexpected : (id_of : List ℕ → ℕ) (tokens : List Spelled) (a b : ℕ)
+    → IsUnexpected id_of tokens a → IsUnexpected id_of tokens b → a ≡ b
+one_unexpected id_of tokens a b h k = wholes.one_unexpected (SpellsDecls id_of) tokens a b h k
+
+pub decided_within : (id_of : List ℕ → ℕ) (depth : ℕ) (tokens : List Spelled) → IsSpelling tokens
+    → IsProgramWithin id_of depth tokens
+    ⊎ ((n : ℕ) × (IsUnexpected id_of tokens n ⊎ IsTooDeep id_of depth tokens n))
+decided_within id_of depth tokens is =
+    value_or_fault El shape_of (body id_of) good (program id_of) refl depth tokens is
+
+pub never_too_deep : (id_of : List ℕ → ℕ) (depth : ℕ) (tokens : List Spelled) (n : ℕ)
+    → IsProgramWithin id_of depth tokens → ¬ (IsTooDeep id_of depth tokens n)
+never_too_deep id_of depth tokens n h k =
+    wholes.none_too_deep (SpellsWithin id_of depth) (SpellsDecls id_of) tokens n h k

@@ -1,0 +1,8 @@
+use Rattle.sw_grammar.proofs.ProgramLaws as laws
+use Rattle.sw_grammar.proofs.laws.spellings_have_a_depth.Goals as goal
+
+pub returns-clause-decided : goal.returns-clause-decided
+returns-clause-decided c = laws.decided_within
+
+pub returns-clause-never_too_deep : goal.returns-clause-never_too_deep
+returns-clause-never_too_deep c = laws.never_too_deep

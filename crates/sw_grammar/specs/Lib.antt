@@ -1,0 +1,9 @@
+pub mod Tokens
+pub mod Nests
+pub mod Types
+pub mod Exprs
+pub mod Closures
+pub mod Stmts
+pub mod Decls
+pub mod Grammar
+pub mod Program

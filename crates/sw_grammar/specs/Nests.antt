@@ -1,0 +1,152 @@
+-- The nests: what stands after a token that opens one.
+use Rattle.std.specs.Prelude.{ℕ, Bool, Option, List, [], ◌∷◌, ◌++◌, codes}
+use Rattle.sw_reader.specs.Sets.{Set, quoted, one_of, word}
+use Rattle.sw_reader.specs.Form.{Shape, solid}
+use Rattle.sw_reader.specs.Form as forms
+use Rattle.sw_tree.specs.declared.name.Name.{Name}
+use Rattle.sw_tree.specs.declared.type_tree.TypeTree.{TypeTree}
+use Rattle.sw_tree.specs.declared.expr.Expr.{Expr}
+use Rattle.sw_tree.specs.declared.expr.Arg.{Arg}
+use Rattle.sw_tree.specs.declared.expr.ClosureParam.{ClosureParam}
+use Rattle.sw_tree.specs.declared.stmt.Stmt.{Stmt}
+use Rattle.sw_tree.specs.declared.stmt.Block.{Block}
+use Rattle.sw_tree.specs.declared.stmt.CaseArm.{CaseArm}
+use Rattle.sw_tree.specs.declared.stmt.Pattern.{Pattern}
+use Rattle.sw_tree.specs.declared.decl.Written.{Written}
+use Rattle.sw_tree.specs.declared.decl.ParamTree.{ParamTree}
+use Rattle.sw_tree.specs.declared.decl.PropTree.{PropTree}
+use Rattle.sw_tree.specs.declared.decl.InitTree.{InitTree}
+use Rattle.sw_tree.specs.declared.decl.FuncTree.{FuncTree}
+use Rattle.sw_tree.specs.declared.decl.CaseTree.{CaseTree}
+use Rattle.sw_grammar.specs.Tokens.{type_first, type_ext, expr_first, stmt_first, postfix_ext}
+use Rattle.sw_grammar.specs.Tokens.{at_word}
+
+pub data Nest : Type 0 where
+  -- after `(` of types: types and `)`
+  in_types : Nest
+  -- after `(` of an enum's case: one type at least, and `)`
+  in_payload : Nest
+  -- after `->` inside a function type: its result
+  in_result : Nest
+  -- after the `<` of `Task`: a type, `, Never >`
+  in_task_type : Nest
+  -- after `(`: an expression and `)`
+  in_round : Nest
+  -- after `(` of a call: arguments and `)`
+  in_args : Nest
+  -- after the `.` of a member: its word, its arguments and the members after it
+  in_member : Nest
+  -- after `(`: `)`
+  in_empty : Nest
+  -- after `[`: the words of a capture list and `]`
+  in_captures : Nest
+  -- after `(` of a closure: its parameters and `)`
+  in_closure_params : Nest
+  -- after `{` of a closure, or of a task
+  in_closure : Nest
+  in_task : Nest
+  -- after `{`: statements and `}`
+  in_block : Nest
+  -- after the `{` of a `switch`
+  in_switch : Nest
+  -- after the `(` of a `case`: patterns and `)`
+  in_patterns : Nest
+  -- after `(` of a function: its parameters and `)`
+  in_params : Nest
+  -- after `(` of `nonisolated`: `nonsending )`
+  in_isolation : Nest
+  -- after `{` of an entry, a global actor, and of types
+  in_entry : Nest
+  in_global_actor : Nest
+  in_struct : Nest
+  in_enum : Nest
+  in_class : Nest
+
+-- a member: its word, and its arguments where it is called
+abbrev pub Link : Type 0
+Link = Name × Option (List Arg)
+
+-- what a closure has beside its `{`
+pub record Inside : Type 0 where
+  pub mark : Option Name
+  pub captures : List Name
+  pub params : List ClosureParam
+  pub result : Option TypeTree
+  pub body : List Stmt
+
+-- what an entry has beside its word
+pub record Main : Type 0 where
+  pub written : Written
+  pub at : ℕ
+  pub is_async : Bool
+  pub body : Block
+
+-- a member of a type
+pub data Member : Type 0 where
+  property : PropTree → Member
+  initialiser : InitTree → Member
+  function : FuncTree → Member
+  cases : List CaseTree → Member
+
+abbrev pub El : Nest → Type 0
+El in_types = List TypeTree
+El in_payload = List TypeTree
+El in_result = TypeTree
+El in_task_type = TypeTree
+El in_round = Expr
+El in_args = List Arg
+El in_member = List Link
+El in_empty = ℕ
+El in_captures = List Name
+El in_closure_params = List ClosureParam
+El in_closure = Inside
+El in_task = Inside
+El in_block = List Stmt
+El in_switch = List CaseArm × Option Block
+El in_patterns = List Pattern
+El in_params = List ParamTree
+El in_isolation = ℕ
+El in_entry = Main
+El in_global_actor = Name
+El in_struct = List Member
+El in_enum = List Member
+El in_class = List Member
+
+-- what may begin a member of a type, beside its own kinds
+abbrev pub method_first : Set
+method_first =
+    at_word ++ one_of (codes "nonisolated" ∷ codes "@concurrent" ∷ codes "func" ∷ [])
+
+abbrev pub closed_by : List ℕ → Set → Shape
+closed_by text first = solid (quoted text ++ first) [] 0
+
+abbrev pub shape_of : Nest → Shape
+shape_of in_types = closed_by (codes ")") type_first
+shape_of in_payload = solid type_first [] 0
+shape_of in_result = solid type_first type_ext 0
+shape_of in_task_type = solid type_first [] 0
+shape_of in_round = solid expr_first [] 0
+shape_of in_args = closed_by (codes ")") expr_first
+shape_of in_member = solid word postfix_ext 0
+shape_of in_empty = solid (quoted (codes ")")) [] 0
+shape_of in_captures = solid word [] 0
+shape_of in_closure_params = closed_by (codes ")") word
+shape_of in_closure =
+    solid (one_of (codes "}" ∷ codes "@Sendable" ∷ codes "[" ∷ codes "(" ∷ []) ++ stmt_first) [] 0
+shape_of in_task =
+    solid (at_word ++ one_of (codes "}" ∷ codes "[" ∷ codes "(" ∷ []) ++ stmt_first) [] 0
+shape_of in_block = closed_by (codes "}") stmt_first
+shape_of in_switch = solid (one_of (codes "case" ∷ codes "default" ∷ codes "}" ∷ [])) [] 0
+shape_of in_patterns = solid (one_of (codes "_" ∷ codes "let" ∷ [])) [] 0
+shape_of in_params = closed_by (codes ")") (word ++ quoted (codes "_"))
+shape_of in_isolation = solid (quoted (codes "nonsending")) [] 0
+shape_of in_entry = solid (at_word ++ one_of (codes "nonisolated" ∷ codes "static" ∷ [])) [] 1
+shape_of in_global_actor = solid (quoted (codes "static")) [] 1
+shape_of in_struct = closed_by (codes "}") (one_of (codes "let" ∷ codes "var" ∷ []) ++ method_first)
+shape_of in_enum = closed_by (codes "}") (quoted (codes "case") ++ method_first)
+shape_of in_class =
+    closed_by (codes "}") (one_of (codes "let" ∷ codes "var" ∷ codes "init" ∷ []) ++ method_first)
+
+-- a form of this grammar
+abbrev pub Form : Shape → Type 0 → Type 1
+Form s A = forms.Form El shape_of s A

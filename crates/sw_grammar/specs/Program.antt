@@ -1,0 +1,41 @@
+-- Programs as tokens. `id_of` gives the index of a text among the texts of names.
+use Rattle.std.specs.Prelude.{ℕ, List}
+use Rattle.sw_token.specs.Spelling.{Spelled}
+use Rattle.sw_reader.specs.Spells.{spells, Wide}
+use Rattle.sw_reader.specs.Whole.{IsSpelledAs, IsSpelled, IsUnexpectedIn, IsTooDeepIn}
+use Rattle.sw_tree.specs.declared.decl.Decl.{Decl}
+use Rattle.sw_grammar.specs.Nests.{El, shape_of}
+use Rattle.sw_grammar.specs.Decls.{program}
+use Rattle.sw_grammar.specs.Grammar.{body}
+
+-- The tokens have the form of these declarations.
+abbrev pub SpellsDecls : (List ℕ → ℕ) → List Decl → List Spelled → Type 0
+SpellsDecls id_of decls tokens = Wide El shape_of (body id_of) (program id_of) decls tokens
+
+-- the same, where at most `depth` constructs are open at a token
+abbrev pub SpellsWithin : (List ℕ → ℕ) → ℕ → List Decl → List Spelled → Type 0
+SpellsWithin id_of depth decls tokens =
+    spells El shape_of (body id_of) depth (program id_of) decls tokens
+
+-- The tokens are a spelling of the program that these declarations are.
+abbrev pub Spells : (List ℕ → ℕ) → List Decl → List Spelled → Type 0
+Spells id_of decls tokens = IsSpelledAs (SpellsDecls id_of) decls tokens
+
+-- some program has these tokens as a spelling
+abbrev pub IsProgram : (List ℕ → ℕ) → List Spelled → Type 0
+IsProgram id_of tokens = IsSpelled (SpellsDecls id_of) tokens
+
+-- The first `n` tokens begin a program's spelling. With the next they begin none; where there is no
+-- next, they are none themselves.
+abbrev pub IsUnexpected : (List ℕ → ℕ) → List Spelled → ℕ → Type 0
+IsUnexpected id_of tokens n = IsUnexpectedIn (SpellsDecls id_of) tokens n
+
+-- some program has these tokens as a spelling, with at most `depth` nests open at a token
+abbrev pub IsProgramWithin : (List ℕ → ℕ) → ℕ → List Spelled → Type 0
+IsProgramWithin id_of depth tokens = IsSpelled (SpellsWithin id_of depth) tokens
+
+-- A program's spelling begins with the first `n` tokens and the next, but none does that opens at
+-- most `depth` nests.
+abbrev pub IsTooDeep : (List ℕ → ℕ) → ℕ → List Spelled → ℕ → Type 0
+IsTooDeep id_of depth tokens n =
+    IsTooDeepIn (SpellsWithin id_of depth) (SpellsDecls id_of) tokens n

@@ -1,0 +1,8 @@
+//! The grammar of programs as forms. This crate knows which tokens spell which trees, and that
+//! tokens spell one program or have one unexpected token. It knows no parser, and nothing of what
+//! a program means.
+#![tactic(auto)]
+
+mod laws;
+
+pub use laws::spellings_have_one_meaning;
