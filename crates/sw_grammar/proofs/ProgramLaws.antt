@@ -1,14 +1,16 @@
 -- The laws of every grammar, for programs.
-use Rattle.std.proofs.Common.{◌≡◌, ℕ, ◌⊎◌, List, refl}
+use Rattle.std.proofs.Common.{◌≡◌, ℕ, ◌⊎◌, inl, inr, List, refl}
 use Rattle.sw_token.specs.Spelling.{Spelled, IsSpelling}
 use Rattle.sw_reader.proofs.GrammarLaws.{one_value, value_or_unexpected, value_or_fault}
+use Rattle.sw_reader.proofs.GrammarLaws.{spelled_is_shallow}
 use Rattle.sw_reader.proofs.WholeLaws as wholes
 use Rattle.sw_tree.specs.declared.decl.Decl.{Decl}
 use Rattle.sw_grammar.specs.Nests.{El, shape_of}
 use Rattle.sw_grammar.specs.Decls.{program}
 use Rattle.sw_grammar.specs.Grammar.{body, good}
-use Rattle.sw_grammar.specs.Program.{SpellsDecls, SpellsWithin, Spells, IsProgram, IsUnexpected}
-use Rattle.sw_grammar.specs.Program.{IsProgramWithin, IsTooDeep}
+use Rattle.sw_grammar.specs.Program.{SpellsDecls, Spells, IsProgram, IsUnexpected}
+use Rattle.sw_grammar.specs.Program.{IsProgramWithin, IsTooDeep, Opens}
+use Rattle.sw_grammar.specs.Program.{IsFirstUnexpected}
 
 pub decided : (id_of : List ℕ → ℕ) (tokens : List Spelled) → IsSpelling tokens
     → IsProgram id_of tokens ⊎ ((n : ℕ) × IsUnexpected id_of tokens n)
@@ -30,11 +32,29 @@ one_unexpected id_of tokens a b h k = wholes.one_unexpected (SpellsDecls id_of) 
 
 pub decided_within : (id_of : List ℕ → ℕ) (depth : ℕ) (tokens : List Spelled) → IsSpelling tokens
     → IsProgramWithin id_of depth tokens
-    ⊎ ((n : ℕ) × (IsUnexpected id_of tokens n ⊎ IsTooDeep id_of depth tokens n))
+    ⊎ ((n : ℕ) × (IsFirstUnexpected id_of depth tokens n ⊎ IsTooDeep id_of depth tokens n))
 decided_within id_of depth tokens is =
-    value_or_fault El shape_of (body id_of) good (program id_of) refl depth tokens is
+    elim (value_or_fault El shape_of (body id_of) good (program id_of) refl depth tokens is) [
+      | inl h ↦ inl h
+      | inr h ↦ elim h.1 [
+        | inl k ↦ inr (h.0, inl (record { unexpected = k.0; shallow = k.1 }))
+        | inr k ↦ inr (h.0, inr k)
+      ]
+    ]
 
 pub never_too_deep : (id_of : List ℕ → ℕ) (depth : ℕ) (tokens : List Spelled) (n : ℕ)
     → IsProgramWithin id_of depth tokens → ¬ (IsTooDeep id_of depth tokens n)
 never_too_deep id_of depth tokens n h k =
-    wholes.none_too_deep (SpellsWithin id_of depth) (SpellsDecls id_of) tokens n h k
+    spelled_is_shallow El shape_of (body id_of) good (program id_of) refl depth tokens h n k.within
+    k.opens
+
+pub one_too_deep : (id_of : List ℕ → ℕ) (depth : ℕ) (tokens : List Spelled) (a b : ℕ)
+    → IsTooDeep id_of depth tokens a → IsTooDeep id_of depth tokens b → a ≡ b
+one_too_deep id_of depth tokens a b h k =
+    wholes.one_too_deep (Opens id_of depth) (SpellsDecls id_of) tokens a b h k
+
+pub one_fault : (id_of : List ℕ → ℕ) (depth : ℕ) (tokens : List Spelled) (a b : ℕ)
+    → IsFirstUnexpected id_of depth tokens a → ¬ (IsTooDeep id_of depth tokens b)
+one_fault id_of depth tokens a b h k =
+    wholes.unexpected_or_deep (Opens id_of depth) (SpellsDecls id_of) tokens a b h.unexpected
+    h.shallow k

@@ -7,3 +7,4 @@ pub mod Stmts
 pub mod Decls
 pub mod Grammar
 pub mod Program
+pub mod Reading

@@ -3,6 +3,8 @@ use Rattle.std.specs.Prelude.{ℕ, List}
 use Rattle.sw_token.specs.Spelling.{Spelled}
 use Rattle.sw_reader.specs.Spells.{spells, Wide}
 use Rattle.sw_reader.specs.Whole.{IsSpelledAs, IsSpelled, IsUnexpectedIn, IsTooDeepIn}
+use Rattle.sw_reader.specs.Whole.{IsShallow}
+use Rattle.sw_reader.specs.Opens.{opens}
 use Rattle.sw_tree.specs.declared.decl.Decl.{Decl}
 use Rattle.sw_grammar.specs.Nests.{El, shape_of}
 use Rattle.sw_grammar.specs.Decls.{program}
@@ -34,8 +36,17 @@ IsUnexpected id_of tokens n = IsUnexpectedIn (SpellsDecls id_of) tokens n
 abbrev pub IsProgramWithin : (List ℕ → ℕ) → ℕ → List Spelled → Type 0
 IsProgramWithin id_of depth tokens = IsSpelled (SpellsWithin id_of depth) tokens
 
--- A program's spelling begins with the first `n` tokens and the next, but none does that opens at
--- most `depth` nests.
+-- The last of the tokens opens a nest where `depth` nests are open before it.
+abbrev pub Opens : (List ℕ → ℕ) → ℕ → List Spelled → Type 0
+Opens id_of depth tokens = opens El shape_of (body id_of) depth (program id_of) tokens
+
+-- The token after the first `n` is the first that opens a nest where `depth` are open, and a
+-- program's spelling begins with it and those before it.
 abbrev pub IsTooDeep : (List ℕ → ℕ) → ℕ → List Spelled → ℕ → Type 0
-IsTooDeep id_of depth tokens n =
-    IsTooDeepIn (SpellsWithin id_of depth) (SpellsDecls id_of) tokens n
+IsTooDeep id_of depth tokens n = IsTooDeepIn (Opens id_of depth) (SpellsDecls id_of) tokens n
+
+-- The token after the first `n` can't be taken, and none before it opens a nest too many.
+pub record IsFirstUnexpected (id_of : List ℕ → ℕ) (depth : ℕ) (tokens : List Spelled)
+    (n : ℕ) : Type 0 where
+  pub unexpected : IsUnexpected id_of tokens n
+  pub shallow : IsShallow (Opens id_of depth) tokens n

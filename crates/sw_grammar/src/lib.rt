@@ -5,4 +5,4 @@
 
 mod laws;
 
-pub use laws::spellings_have_one_meaning;
+pub use laws::{spellings_have_a_depth, spellings_have_one_meaning};

@@ -1,23 +1,30 @@
 -- The readers of one token, step by step as the cursor takes them.
-use Rattle.std.proofs.Common.{◌≡◌, ℕ, ℤ, Bool, true, false, cond, not, ◌&&◌, List, [], ◌∷◌, length}
+use Rattle.std.proofs.Common.{◌≡◌, ℕ, zero, suc, ℤ, Bool, true, false, cond, not, ◌&&◌, List, [], ◌∷◌, length}
 use Rattle.std.proofs.Common.{refl, sym, ◌∙◌, ap, subst}
+use Rattle.std.proofs.Common.{◌<◌, arith}
 use Rattle.std.specs.Prelude.{Option, Some, None, Ok, Err}
+use Rattle.std.specs.Str.{IsUtf8, IsCharBoundary}
+use Rattle.std.proofs.lemmas.Str.{IsCharBoundary-after_ascii}
 use Rattle.sw_token.specs.declared.Fixity.{Fixity}
 use Rattle.sw_token.specs.declared.Fixity.TheVariants as fixities
 use Rattle.sw_token.specs.declared.Kind.{Kind}
 use Rattle.sw_token.specs.declared.Kind.TheVariants as kinds
 use Rattle.sw_token.specs.Kinds.{kind_of}
 use Rattle.sw_token.specs.Spelling.{Spelled}
-use Rattle.sw_reader.specs.Sets.{Set, has, starts, quoted, is_quoted, word, not_first, is_integer}
+use Rattle.sw_reader.specs.Sets.{Set, has, starts, quoted, is_quoted, is_quoted_operator, standing}
+use Rattle.sw_reader.specs.Sets.{word, integer, attribute, not_first, is_integer}
 use Rattle.sw_reader.specs.Form.{Terminal}
 use Rattle.sw_reader.specs.Quotes.{quote, quote_on_line, an_integer, int_value}
 use Rattle.sw_reader.specs.Relations.{head, is_first_on_line}
-use Rattle.sw_reader.specs.Reader.{Answer, pure, and_then, then_read, take_if, next, skipping}
-use Rattle.sw_reader.specs.Reader.Fault.{unexpected}
-use Rattle.sw_reader.specs.Outcome.{Gives, Takes, has_text, names, value_if, literal}
+use Rattle.sw_reader.specs.Reader.{Answer, refused, pure, and_then, then_read, take_if, next}
+use Rattle.sw_reader.specs.Reader.{opening, skipping}
+use Rattle.sw_reader.specs.Reader.Fault.{unexpected, too_deep}
+use Rattle.sw_reader.specs.Outcome.{Gives, Takes, has_text, text_of, stands, names, is_literal}
+use Rattle.sw_reader.specs.Outcome.{is_attribute, value_if, literal}
 use Rattle.sw_reader.specs.declared.stop.Stop.{Stop}
 use Rattle.sw_reader.specs.declared.stop.Stop.TheVariants as stops
 use Rattle.sw_reader.proofs.SetLaws.{has-quoted, has-not_first_is, has-word, has-integer}
+use Rattle.sw_reader.proofs.KindSets.{has-attribute, has-standing, attribute_text}
 
 pub stopped : {A : Type 0} (answer : Answer A) (stop : Stop) (count : ℕ) (left : List Spelled)
     → stop ≡ stops.Unexpected count → answer ≡ Err (unexpected count) → Gives answer (Err stop) left
@@ -48,7 +55,21 @@ pub starts_word : (token : Option Spelled) → names token ≡ starts word token
 starts_word None = refl
 starts_word (Some token) = sym (has-word token)
 
-first_line : (set : Set) (token : Option Spelled) → is_first_on_line token ≡ true
+pub starts_integer : (token : Option Spelled) → is_literal token ≡ starts integer token
+starts_integer None = refl
+starts_integer (Some token) = sym (has-integer token)
+
+pub starts_attribute : (token : Option Spelled) → is_attribute token ≡ starts attribute token
+starts_attribute None = refl
+starts_attribute (Some token) = sym (has-attribute token)
+
+pub starts_standing : (fixity : Fixity) (text : List ℕ) (token : Option Spelled)
+    → is_quoted_operator text ≡ true
+    → (stands fixity token && has_text text token) ≡ starts (standing fixity text) token
+starts_standing fixity text None h = refl
+starts_standing fixity text (Some token) h = sym (has-standing fixity text token h)
+
+pub first_line : (set : Set) (token : Option Spelled) → is_first_on_line token ≡ true
     → starts (not_first set) token ≡ false
 first_line set None h = refl
 first_line set (Some token) h = has-not_first_is set token
@@ -58,7 +79,7 @@ first_line set (Some token) h = has-not_first_is set token
     never true = refl
     never false = refl
 
-within_line : (set : Set) (token : Option Spelled) → is_first_on_line token ≡ false
+pub within_line : (set : Set) (token : Option Spelled) → is_first_on_line token ≡ false
     → starts (not_first set) token ≡ starts set token
 within_line set None h = refl
 within_line set (Some token) h = has-not_first_is set token
@@ -78,6 +99,35 @@ pub on_line_is : (text : List ℕ) (ts : List Spelled) → is_first_on_line (hea
 on_line_is text [] h = refl
 on_line_is text (token ∷ ts) h =
     ap (λ b. take_if b token.at ts) (within_line (quoted text) (Some token) h)
+
+pub opening_on_line_refuses : (text : List ℕ) (depth : ℕ) (ts : List Spelled)
+    → is_first_on_line (head ts) ≡ true
+    → opening depth (quote_on_line text) ts ≡ Err (unexpected (length ts))
+opening_on_line_refuses text zero ts h =
+    ap (λ b. cond b (Err (too_deep (length ts))) (refused ts))
+    (first_line (quoted text) (head ts) h)
+opening_on_line_refuses text (suc depth) ts h = on_line_refuses text ts h
+
+pub opening_on_line_is : (text : List ℕ) (depth : ℕ) (ts : List Spelled)
+    → is_first_on_line (head ts) ≡ false
+    → opening depth (quote_on_line text) ts ≡ opening depth (quote text) ts
+opening_on_line_is text zero ts h =
+    ap (λ b. cond b (Err (too_deep (length ts))) (refused ts))
+    (within_line (quoted text) (head ts) h)
+opening_on_line_is text (suc depth) ts h = on_line_is text ts h
+
+-- Behind the `@` of an attribute its text may be cut.
+pub attribute_cut : (token : Option Spelled) → IsUtf8 (text_of token)
+    → starts attribute token ≡ true → IsCharBoundary (text_of token) 1
+attribute_cut None utf8 h = absurd (cc)
+attribute_cut (Some token) utf8 h =
+    let is = attribute_text token.text (sym (has-attribute token) ∙ h) in
+    IsCharBoundary-after_ascii token.text 0 utf8 (omega (arith, ap length is.1))
+    (rw (is.1) (omega arith))
+
+pub attribute_some : (ts : List Spelled) → starts attribute (head ts) ≡ true → 0 < length ts
+attribute_some [] h = absurd (cc)
+attribute_some (token ∷ ts) h = omega arith
 
 integer_or_none : (kind : Kind) → value_if kind ≡ None → is_integer kind ≡ false
 integer_or_none kinds.Word h = refl

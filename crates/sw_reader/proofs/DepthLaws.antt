@@ -63,7 +63,7 @@ repeat_agrees set is_open f g same (suc n) s ts h =
     (then_agrees (f s) (g s) (repeat set is_open f n) (repeat set is_open g n) (same s)
     (repeat_agrees set is_open f g same n) ts) (λ _. refl) h
 
-item_agrees : {A : Type 0} (p q : Reader A) → Agrees p q → (state : List A × Bool)
+pub item_agrees : {A : Type 0} (p q : Reader A) → Agrees p q → (state : List A × Bool)
     → Agrees (read_item p state) (read_item q state)
 item_agrees p q same state =
     then_agrees (checked (may_start (not state.1)) p) (checked (may_start (not state.1)) q)
@@ -220,7 +220,7 @@ module _ {N : Type 0} (El : N → Type 0) (shape_of : N → Shape)
 
 -- Where no nest is named, none is too deep.
 
-never_then : {A B : Type 0} (p : Reader A) (f : A → Reader B)
+pub never_then : {A B : Type 0} (p : Reader A) (f : A → Reader B)
     → ((ts : List Spelled) → NotDeep (p ts)) → ((a : A) (ts : List Spelled) → NotDeep (f a ts))
     → (ts : List Spelled) → NotDeep (then_read p f ts)
 never_then {A} p f one two ts = by_answer (p ts) (one ts)
@@ -234,7 +234,7 @@ never_cond : {A : Type 0} (b : Bool) (x y : Answer A) → NotDeep x → NotDeep 
 never_cond true x y h k = h
 never_cond false x y h k = k
 
-never_next : {A : Type 0} (t : Terminal A) (ts : List Spelled) → NotDeep (next t ts)
+pub never_next : {A : Type 0} (t : Terminal A) (ts : List Spelled) → NotDeep (next t ts)
 never_next t [] = tt
 never_next t (token ∷ ts) = never_cond (has t.set token) (Ok (t.value token, ts))
     (Err (unexpected (suc (length ts)))) tt tt
@@ -252,7 +252,7 @@ never_repeat set is_open f each (suc n) s ts =
     (then_read (f s) (repeat set is_open f n) ts) (Ok (s, ts))
     (never_then (f s) (repeat set is_open f n) (each s) (never_repeat set is_open f each n) ts) tt
 
-never_skip : (text : List ℕ) (ts : List Spelled) → NotDeep (skipping text ts)
+pub never_skip : (text : List ℕ) (ts : List Spelled) → NotDeep (skipping text ts)
 never_skip text ts =
     never_cond (starts (quoted text) (head ts)) (then_read (next (quote text)) (λ _. pure true) ts)
     (Ok (false, ts))

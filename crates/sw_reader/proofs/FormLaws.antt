@@ -127,12 +127,12 @@ module _ {N : Type 0} (El : N → Type 0) (shape_of : N → Shape)
 
   -- Items of some depth are items of one depth.
 
-  deeper_more : {A : Type 0} {s : Shape} (p : Form El shape_of s A) (d e : ℕ) → d ≤ e
+  pub deeper_more : {A : Type 0} {s : Shape} (p : Form El shape_of s A) (d e : ℕ) → d ≤ e
       → (a b : List A × Bool) (us : List Spelled) → OneMore (spells El shape_of body d p) a b us
       → OneMore (spells El shape_of body e p) a b us
   deeper_more p d e less a b us h = OneMore-map (deeper d e less p) a b us h
 
-  join_more : {A : Type 0} {s : Shape} (p : Form El shape_of s A) (a b : List A × Bool)
+  pub join_more : {A : Type 0} {s : Shape} (p : Form El shape_of s A) (a b : List A × Bool)
       (us : List Spelled) → OneMore (Wide El shape_of body p) a b us
       → (d : ℕ) × OneMore (spells El shape_of body d p) a b us
   join_more p a b us h = (
@@ -183,7 +183,7 @@ module _ {N : Type 0} (El : N → Type 0) (shape_of : N → Shape)
       )
 
   -- an item that begins a line, where that is asked for
-  fill_led : {A : Type 0} {s : Shape} (p : Form El shape_of s A) → GoodItem s
+  pub fill_led : {A : Type 0} {s : Shape} (p : Form El shape_of s A) → GoodItem s
       → (asked : Bool) (from : ℕ)
       → Filled (Passing (may_start asked) (Wide El shape_of body p)) [] from
   fill_led {A} {s} p is asked from =
@@ -348,7 +348,7 @@ module _ {N : Type 0} (El : N → Type 0) (shape_of : N → Shape)
 
   module _ (d : ℕ) (inner : (n : N) → Reads (inside El shape_of body d n) (Inside n)
       (Without (shape_of n).ext) (read_inside El shape_of body d n)) where
-    abbrev starts_at : {s : Shape} {A : Type 0} (form : Form El shape_of s A) → s.ok ≡ true
+    abbrev pub starts_at : {s : Shape} {A : Type 0} (form : Form El shape_of s A) → s.ok ≡ true
         → (a : A) (ts : List Spelled) → spells El shape_of body d form a ts → StartsWith s ts
     starts_at form ok a ts h = starts_form El shape_of (inside El shape_of body d) form ok a ts h
 
@@ -408,7 +408,7 @@ module _ {N : Type 0} (El : N → Type 0) (shape_of : N → Shape)
         (λ a prefix rest h g. absurd (let clash : false ≡ true = h.0 in cc))
         (λ a ts h. (h.0, inl h.1)) (λ a ts h. (h.0, inl h.1))
 
-    is_turn : {s : Shape} {S : Type 0} (f : S → Form El shape_of s S) → (star s).ok ≡ true
+    pub is_turn : {s : Shape} {S : Type 0} (f : S → Form El shape_of s S) → (star s).ok ≡ true
         → IsTurn (λ now. spells El shape_of body d (f now)) (Without s.ext)
         (Without (star s).ext) s.first
     is_turn {s} f ok =
@@ -500,7 +500,7 @@ module _ {N : Type 0} (El : N → Type 0) (shape_of : N → Shape)
         let is = covers s claim ok in
         narrow (law_form p is.ok) (λ x token g. outside_within s.ext claim.ext token is.ext g)
 
-  law_inside : (d : ℕ) (n : N) → Reads (inside El shape_of body d n) (Inside n)
+  pub law_inside : (d : ℕ) (n : N) → Reads (inside El shape_of body d n) (Inside n)
       (Without (shape_of n).ext) (read_inside El shape_of body d n)
   law_inside zero n = record {
     wide = λ x ts h. absurd h;

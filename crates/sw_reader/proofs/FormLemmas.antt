@@ -27,12 +27,12 @@ same_bool true false h = absurd (cc)
 same_bool false true h = absurd (cc)
 same_bool false false h = refl
 
-in_either : (b : Bool) (set other : Set) (token : Spelled) → has set token ≡ true
+pub in_either : (b : Bool) (set other : Set) (token : Spelled) → has set token ≡ true
     → has (cond b (set ++ other) set) token ≡ true
 in_either true set other token h = has-append set other token ∙ or_left _ _ h
 in_either false set other token h = h
 
-starts_then : (s t : Shape) (us vs : List Spelled) → StartsWith s us → StartsWith t vs
+pub starts_then : (s t : Shape) (us vs : List Spelled) → StartsWith s us → StartsWith t vs
     → StartsWith (seq s t) (us ++ vs)
 starts_then s t [] [] h k = and_both _ _ h k
 starts_then s t [] (v ∷ vs) h k = ap (λ b. has (cond b (s.first ++ t.first) s.first) v) h
@@ -42,12 +42,12 @@ starts_then s t (u ∷ us) vs h k = in_either s.nullable s.first t.first u h
 clash : (b : Bool) → b ≡ true → b ≡ false → ⊥
 clash b h k = let both : true ≡ false = sym h ∙ k in cc
 
-starts_left : (s t short : Shape) (us : List Spelled) → s.nullable ≡ false → StartsWith s us
+pub starts_left : (s t short : Shape) (us : List Spelled) → s.nullable ≡ false → StartsWith s us
     → StartsWith (choice s t short) us
 starts_left s t short [] some h = absurd (clash _ h some)
 starts_left s t short (u ∷ us) some h = has-append s.first t.first u ∙ or_left _ _ h
 
-starts_right : (s t short : Shape) (us : List Spelled) → StartsWith t us
+pub starts_right : (s t short : Shape) (us : List Spelled) → StartsWith t us
     → StartsWith (choice s t short) us
 starts_right s t short [] h = h
 starts_right s t short (u ∷ us) h = has-append s.first t.first u ∙ or_right _ _ h
@@ -60,12 +60,12 @@ starts_turns s Turn some each a b us (turn _ next _ [] vs h rest) =
     absurd (clash _ (each a next [] h) some)
 starts_turns s Turn some each a b us (turn _ next _ (w ∷ ws) vs h rest) = each a next (w ∷ ws) h
 
-starts_inline : (s : Shape) (us : List Spelled) → s.nullable ≡ false → stays (head us) ≡ true
+pub starts_inline : (s : Shape) (us : List Spelled) → s.nullable ≡ false → stays (head us) ≡ true
     → StartsWith s us → StartsWith (inline s) us
 starts_inline s [] some calm h = absurd (clash _ h some)
 starts_inline s (u ∷ us) some calm h = has-not_first s.first u (not_true u.first calm) h
 
-starts_started : (s : Shape) (us : List Spelled) → s.nullable ≡ false → StartsWith s us
+pub starts_started : (s : Shape) (us : List Spelled) → s.nullable ≡ false → StartsWith s us
     → StartsWith (started s) us
 starts_started s [] some h = absurd (clash _ h some)
 starts_started s (u ∷ us) some h = h
@@ -103,7 +103,7 @@ covers s c h =
       some = and_right _ _ h;
     }
 
-starts_held : (s : Shape) (c : Claim) (us : List Spelled) → Covers s c → StartsWith s us
+pub starts_held : (s : Shape) (c : Claim) (us : List Spelled) → Covers s c → StartsWith s us
     → StartsWith (held s c) us
 starts_held s c [] is h = sym is.nullable ∙ h
 starts_held s c (u ∷ us) is h = is.first u h

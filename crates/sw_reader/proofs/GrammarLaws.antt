@@ -1,7 +1,7 @@
 -- The laws of a form of a grammar, of any depth: a list of tokens spells one value or has one
 -- unexpected token.
 use Rattle.std.proofs.Common.{◌≡◌, ℕ, ◌-◌, ◌≤◌, max, true, ◌⊎◌}
-use Rattle.std.proofs.Common.{inl, inr, List, [], ◌++◌, length, refl, sym, ◌∙◌, ap, subst}
+use Rattle.std.proofs.Common.{arith, inl, inr, List, [], ◌++◌, length, refl, sym, ◌∙◌, ap, subst}
 use Rattle.std.specs.Prelude.{Ok, Err}
 use Rattle.std.proofs.Math.Nat.{le-max_left, le-max_right}
 use Rattle.sw_token.specs.Spelling.{Spelled, IsSpelling}
@@ -10,14 +10,18 @@ use Rattle.sw_reader.specs.Relations.{Relation, head}
 use Rattle.sw_reader.specs.Reader.{Answer, Reader, pure, then_read, finish, whole}
 use Rattle.sw_reader.specs.Reader.Fault.{unexpected, too_deep}
 use Rattle.sw_reader.specs.Spells.{spells, Wide, reads}
-use Rattle.sw_reader.specs.Whole.{IsSpelled, IsUnexpectedIn, IsTooDeepIn}
+use Rattle.sw_reader.specs.Whole.{IsSpelled, IsUnexpectedIn, IsTooDeepIn, IsShallow}
+use Rattle.sw_reader.specs.Opens.{opens}
 use Rattle.sw_reader.proofs.ReaderLaws.{Without, Failed, Reads, ok_parts}
 use Rattle.sw_reader.proofs.LoopLaws.{same_ends}
 use Rattle.sw_reader.proofs.FormLaws.{deeper, law}
 use Rattle.sw_reader.proofs.DepthLaws.{NotDeep, Agrees, then_agrees, reads_deeper}
 use Rattle.sw_reader.proofs.DepthEnough.{deep_enough}
 use Rattle.sw_reader.proofs.WholeLaws.{IsEnd, whole_reads, whole_spells, whole_fails}
-use Rattle.sw_reader.proofs.WholeLaws.{unexpected_token, too_deep_token}
+use Rattle.sw_reader.proofs.WholeLaws.{unexpected_token, opened_begins, opened_token}
+use Rattle.sw_reader.proofs.WholeLaws.{first_opened, none_opened}
+use Rattle.sw_reader.proofs.Opening.{Opening}
+use Rattle.sw_reader.proofs.OpensLaws.{opens_law}
 
 module _ {N : Type 0} (El : N → Type 0) (shape_of : N → Shape)
     (body : (n : N) → Form El shape_of (shape_of n) (El n))
@@ -107,21 +111,60 @@ module _ {N : Type 0} (El : N → Type 0) (shape_of : N → Shape)
           inr (length ts - left, fault_is_unexpected (length ts) ts is left e)
       by_answer (Err (too_deep left)) e = absurd (deep_enough El shape_of body form ts left e)
 
+  abbrev O : ℕ → List Spelled → Type 0
+  O depth = opens El shape_of body depth form
+
+  opening_of : (depth : ℕ) → Opening (O depth) (reader depth)
+  opening_of depth = opens_law El shape_of body good depth form ok
+
+  -- Where the fault is at a token that can't be taken, none before it opens a nest too many; nor
+  -- does any token of what is read.
+  pub read_is_shallow : (depth : ℕ) (ts : List Spelled) (n : ℕ) → n ≤ length ts
+      → NotDeep (whole (reader depth) ts) → IsShallow (O depth) ts n
+  read_is_shallow depth ts n within calm =
+      none_opened (O depth) (reader depth) (opening_of depth) ts n within calm
+
+  -- A fault names the first token that opens a nest too many.
+  pub fault_is_too_deep : (depth : ℕ) (ts : List Spelled) → IsSpelling ts → (left : ℕ)
+      → whole (reader depth) ts ≡ Err (too_deep left)
+      → IsTooDeepIn (O depth) W ts (length ts - left)
+  fault_is_too_deep depth ts is left e =
+      let one = opened_begins (R depth) W ts is left
+      (whole_fails (R depth) W s.ext (reader depth) (law_of depth) ts (too_deep left) e) in
+      record {
+        within = one.0;
+        begun = one.1;
+        opens = opened_token (O depth) (reader depth) (opening_of depth) ts left e;
+        first = first_opened (O depth) (reader depth) (opening_of depth) ts left e;
+      }
+
+  -- What is spelled within a depth has no token that opens a nest too many.
+  pub spelled_is_shallow : (depth : ℕ) (ts : List Spelled) → IsSpelled (R depth) ts
+      → IsShallow (O depth) ts (length ts)
+  spelled_is_shallow depth ts h =
+      read_is_shallow depth ts (length ts) (omega arith)
+      (subst NotDeep (sym (spelled_is_read depth h.0 ts h.1.form)) tt)
+
   -- Within any depth there is a value, an unexpected token or one that opens a nest too many.
   pub value_or_fault : (depth : ℕ) (ts : List Spelled) → IsSpelling ts
       → IsSpelled (R depth) ts
-      ⊎ ((n : ℕ) × (IsUnexpectedIn W ts n ⊎ IsTooDeepIn (R depth) W ts n))
+      ⊎ ((n : ℕ) × ((IsUnexpectedIn W ts n × IsShallow (O depth) ts n)
+      ⊎ IsTooDeepIn (O depth) W ts n))
   value_or_fault depth ts is = by_answer (whole (reader depth) ts) refl
     where
       by_answer : (r : Answer A) → whole (reader depth) ts ≡ r
           → IsSpelled (R depth) ts
-          ⊎ ((n : ℕ) × (IsUnexpectedIn W ts n ⊎ IsTooDeepIn (R depth) W ts n))
+          ⊎ ((n : ℕ) × ((IsUnexpectedIn W ts n × IsShallow (O depth) ts n)
+          ⊎ IsTooDeepIn (O depth) W ts n))
       by_answer (Ok x) e =
           inl (x.0, record { spelling = is; form = read_is_spelled depth ts x.0 x.1 e })
       by_answer (Err (unexpected left)) e =
-          inr (length ts - left, inl (fault_is_unexpected depth ts is left e))
-      by_answer (Err (too_deep left)) e = inr (
-        length ts - left,
-        inr (too_deep_token (R depth) W ts is left
-            (whole_fails (R depth) W s.ext (reader depth) (law_of depth) ts (too_deep left) e)),
-      )
+          inr (
+            length ts - left,
+            inl (
+              fault_is_unexpected depth ts is left e,
+              read_is_shallow depth ts (length ts - left) (omega arith) (subst NotDeep (sym e) tt),
+            ),
+          )
+      by_answer (Err (too_deep left)) e =
+          inr (length ts - left, inr (fault_is_too_deep depth ts is left e))

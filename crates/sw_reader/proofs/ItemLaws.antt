@@ -68,20 +68,39 @@ reads_mark = reads_choose Skipped semicolon
     ∙ subst (λ b. AfterMark b (head rest)) h.0 g)
     (λ marked ts h. inl h) (λ marked ts h. inr h)
 
+abbrev pub after_item : Shape → Bool → Option Spelled → Type 0
+after_item s true token = Unit {0}
+after_item s false token = Outside s.ext token × Outside semicolon token
+
+-- what follows an item, by whether a `;` ends it
+abbrev pub AfterItem : {A : Type 0} → Shape → Follow (List A × Bool)
+AfterItem s state token = after_item s state.1 token
+
+-- the end may follow
+pub after_end : (s : Shape) (ended : Bool) → after_item s ended None
+after_end s true = tt
+after_end s false = (refl, refl)
+
+stopped : (s : Shape) (ended : Bool) (token : Option Spelled) → Outside (items_ext s) token
+    → after_item s ended token
+stopped s true token g = tt
+stopped s false token g = let outer = outside_parts (s.ext ++ semicolon) s.first token g in
+    outside_parts s.ext semicolon token outer.0
+
+pub after_not_ended : (s : Shape) → GoodItem s → (token : Option Spelled)
+    → starts s.first token ≡ true → is_first_on_line token ≡ true → after_item s false token
+after_not_ended s is None h k = absurd (cc)
+after_not_ended s is (Some token) h k = (
+  apart_back s.ext (first_only s.first) token is.next_line (has-first_only s.first token k h),
+  has-apart s.first semicolon token is.no_mark h,
+)
+
 module _ {A : Type 0} (s : Shape) (P V : Relation A) (p : Reader A) (is : GoodItem s)
     (law_p : Reads P V (Without s.ext) p) (begins : (a : A) (ts : List Spelled) → P a ts
     → StartsWith s ts)
     (led : (asked : Bool) (from : ℕ) → Filled (Passing (may_start asked) V) [] from) where
   abbrev State : Type 0
   State = List A × Bool
-
-  abbrev after_item : Bool → Option Spelled → Type 0
-  after_item true token = Unit {0}
-  after_item false token = Outside s.ext token × Outside semicolon token
-
-  -- what follows an item, by whether a `;` ends it
-  abbrev AfterItem : Follow State
-  AfterItem state token = after_item state.1 token
 
   reads_led : (state : State)
       → Reads (Passing (may_start (not state.1)) P) (Passing (may_start (not state.1)) V)
@@ -93,17 +112,17 @@ module _ {A : Type 0} (s : Shape) (P V : Relation A) (p : Reader A) (is : GoodIt
       (λ a ts h passes. (h, passes)) (led (not state.1))
 
   after_marked : (ended : Bool) (state : State) (x : A) (next : State) (right rest : List Spelled)
-      → Nothing (state.0 ++ x ∷ [], ended) next right → AfterItem next (head rest)
+      → Nothing (state.0 ++ x ∷ [], ended) next right → AfterItem s next (head rest)
       → AfterMark ended (head (right ++ rest))
   after_marked true state x next right rest h g = tt
   after_marked false state x next right rest h g =
-      let both : after_item false (head rest) =
-      subst (λ b. after_item b (head rest)) (ap (λ n. n.1) h.0) g in
+      let both : after_item s false (head rest) =
+      subst (λ b. after_item s b (head rest)) (ap (λ n. n.1) h.0) g in
       ap (λ ws. starts semicolon (head (ws ++ rest))) h.1 ∙ both.1
 
   after_led : (state : State) (x : A) (next : State) (right rest : List Spelled)
       → Then Skipped (λ ended. Nothing (state.0 ++ x ∷ [], ended)) next right
-      → AfterItem next (head rest) → Outside s.ext (head (right ++ rest))
+      → AfterItem s next (head rest) → Outside s.ext (head (right ++ rest))
   after_led state x next right rest h g = by_mark h.first
     where
       by_mark : Skipped h.value h.left → Outside s.ext (head (right ++ rest))
@@ -116,12 +135,12 @@ module _ {A : Type 0} (s : Shape) (P V : Relation A) (p : Reader A) (is : GoodIt
           ∙ apart_back s.ext semicolon mark.first.token is.next_mark mark.first.member
       by_mark (inr none) =
           let ended : next.1 ≡ false = ap (λ n. n.1) h.second.0 ∙ none.0 in
-          let both : after_item false (head rest) = subst (λ b. after_item b (head rest)) ended g in
+          let both : after_item s false (head rest) = subst (λ b. after_item s b (head rest)) ended g in
           let whole : right ++ rest ≡ rest =
           ap (λ ws. ws ++ rest) (h.whole ∙ (ap (λ ws. ws ++ h.right) none.1 ∙ h.second.1)) in
           ap (λ ws. starts s.ext (head ws)) whole ∙ both.0
 
-  reads_one_more : (state : State) → Reads (OneMore P state) (OneMore V state) AfterItem
+  pub reads_one_more : (state : State) → Reads (OneMore P state) (OneMore V state) (AfterItem s)
       (read_item p state)
   reads_one_more state =
       reads_then (OneMore V state) (reads_led state)
@@ -166,43 +185,29 @@ module _ {A : Type 0} (s : Shape) (P V : Relation A) (p : Reader A) (is : GoodIt
       let some = some_length s h.left is.some (begins h.value h.left h.first.0) in
       omega (arith, ap length h.whole, length-append h.left h.right)
 
-  stopped : (ended : Bool) (token : Option Spelled) → Outside (items_ext s) token
-      → after_item ended token
-  stopped true token g = tt
-  stopped false token g = let outer = outside_parts (s.ext ++ semicolon) s.first token g in
-      outside_parts s.ext semicolon token outer.0
-
-  after_not_ended : (token : Option Spelled) → starts s.first token ≡ true
-      → is_first_on_line token ≡ true → after_item false token
-  after_not_ended None h k = absurd (cc)
-  after_not_ended (Some token) h k = (
-    apart_back s.ext (first_only s.first) token is.next_line (has-first_only s.first token k h),
-    has-apart s.first semicolon token is.no_mark h,
-  )
-
   followed : (state next : State) (ts rest : List Spelled) → OneMore P state next ts
-      → AfterItem state (head (ts ++ rest))
+      → AfterItem s state (head (ts ++ rest))
   followed state next ts rest h = by_ended state.1 refl
     where
-      by_ended : (b : Bool) → state.1 ≡ b → after_item b (head (ts ++ rest))
+      by_ended : (b : Bool) → state.1 ≡ b → after_item s b (head (ts ++ rest))
       by_ended true e = tt
       by_ended false e =
           let leads : is_first_on_line (head h.left) ≡ true =
           ap (λ b. may_start (not b) (head h.left)) (sym e) ∙ h.first.1 in
-          after_not_ended (head (ts ++ rest)) (item_first state next ts rest h)
+          after_not_ended s is (head (ts ++ rest)) (item_first state next ts rest h)
           (ap is_first_on_line (item_head state next ts rest h) ∙ leads)
 
-  pub is_items_turn : IsTurn (OneMore P) AfterItem (Without (items_ext s)) s.first
+  pub is_items_turn : IsTurn (OneMore P) (AfterItem s) (Without (items_ext s)) s.first
   is_items_turn = record {
     takes = item_length;
     goes_on = item_first;
     ends = λ state token g. (outside_parts (s.ext ++ semicolon) s.first token g).1;
-    stopped = λ state token g. stopped state.1 token g;
+    stopped = λ state token g. stopped s state.1 token g;
     followed = λ state next ts rest h. by_state state next ts rest h;
   }
     where
       by_state : (state next : State) (ts rest : List Spelled) → OneMore P state next ts
-          → after_item state.1 (head (ts ++ rest))
+          → after_item s state.1 (head (ts ++ rest))
       by_state state next ts rest h = followed state next ts rest h
 
   always : {R : State → Relation State} (a b : State) (ts : List Spelled) → Turns R a b ts
@@ -222,10 +227,10 @@ module _ {A : Type 0} (s : Shape) (P V : Relation A) (p : Reader A) (is : GoodIt
 
   fits_items : (state last : State) (right rest : List Spelled) → Turns (OneMore P) state last right
       → Outside (items_ext s) (head rest)
-      → AfterItem state (head (right ++ rest))
-  fits_items state last right rest (stop _) g = stopped state.1 (head rest) g
+      → AfterItem s state (head (right ++ rest))
+  fits_items state last right rest (stop _) g = stopped s state.1 (head rest) g
   fits_items state last right rest (turn _ next _ us vs one others) g =
-      subst (λ ts. AfterItem state (head ts)) (sym (append_assoc us vs rest))
+      subst (λ ts. AfterItem s state (head ts)) (sym (append_assoc us vs rest))
       (followed state next us (vs ++ rest) one)
 
   pub reads_some_items : Reads (Then (OneMore P ([], true)) (Turns (OneMore P)))

@@ -8,7 +8,7 @@ use Rattle.sw_reader.specs.Form.{Shape, Form, is_item}
 use Rattle.sw_reader.specs.Relations.{head, may_start}
 use Rattle.sw_reader.specs.Reader.{Fault, Answer, Reader, pure, then_read, check, checked, skipping}
 use Rattle.sw_reader.specs.Reader.{read_item}
-use Rattle.sw_reader.specs.Reader.Fault.{unexpected}
+use Rattle.sw_reader.specs.Reader.Fault.{unexpected, too_deep}
 use Rattle.sw_reader.specs.Spells.{reads}
 use Rattle.sw_reader.specs.Form.Form.{more_items}
 use Rattle.sw_reader.specs.Outcome.{Gives}
@@ -26,6 +26,7 @@ pub refuses : {A B : Type 0} (first : Answer A) (second : Answer B) (stop : Stop
     → Refuses first second → Gives first (Err stop) left → Gives second (Err stop) other
 refuses first second (stops.Unexpected count) left other passes gives =
     passes (unexpected count) gives
+refuses first second (stops.TooDeep count) left other passes gives = passes (too_deep count) gives
 refuses first second stops.Memory left other passes gives = tt
 
 module _ {N : Type 0} (El : N → Type 0) (shape_of : N → Shape)

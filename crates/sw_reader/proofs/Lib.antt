@@ -10,8 +10,15 @@ pub mod DepthLaws
 pub mod Rising
 pub mod WholeLaws
 pub mod SetLaws
+pub mod KindSets
 pub mod CursorSteps
 pub mod TokensSpelled
 pub mod ItemLoops
+pub mod ListLoops
+pub mod NestReads
 pub mod DepthEnough
 pub mod GrammarLaws
+pub mod Opening
+pub mod OpeningLoops
+pub mod OpensStart
+pub mod OpensLaws

@@ -43,7 +43,7 @@ same_ends (u ∷ us) vs (x ∷ xs) ys same equal =
     let both = same_ends us vs xs ys tails equal in
     (ap (λ z. z ∷ us) heads ∙ ap (λ zs. x ∷ zs) both.0, both.1)
 
-no_token : (token : Option Spelled) → starts [] token ≡ false
+pub no_token : (token : Option Spelled) → starts [] token ≡ false
 unfolding has
 no_token None = refl
 no_token (Some token) = refl

@@ -57,7 +57,7 @@ Rises-from_increasing from (t ∷ ts) h = (
       (increasing_tail from (t.at ∷ map (λ token. token.at) ts) h),
 )
 
-rises : (ts : List Spelled) → IsStrictlyIncreasing (map (λ token. token.at) ts) → Rises 0 ts
+pub rises : (ts : List Spelled) → IsStrictlyIncreasing (map (λ token. token.at) ts) → Rises 0 ts
 rises [] h = tt
 rises (t ∷ ts) h = (omega arith, Rises-from_increasing t.at ts h)
 

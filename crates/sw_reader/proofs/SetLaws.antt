@@ -23,7 +23,7 @@ use Rattle.sw_reader.specs.Sets.{has, any, not_first, quoted, open_words, one_of
 use Rattle.sw_reader.proofs.SetLemmas.{and_left, and_right, and_both, or_left, or_right, not_true}
 use Rattle.sw_reader.proofs.SetLemmas.{implied, is_in-append, is_in-filter}
 
-same_truth : (a b : Bool) → (a ≡ true → b ≡ true) → (b ≡ true → a ≡ true) → a ≡ b
+pub same_truth : (a b : Bool) → (a ≡ true → b ≡ true) → (b ≡ true → a ≡ true) → a ≡ b
 same_truth true true h k = refl
 same_truth true false h k = sym (h refl)
 same_truth false true h k = k refl
@@ -32,13 +32,13 @@ same_truth false false h k = refl
 bit : Bool → ℕ
 bit b = cond b 1 0
 
-any_holds : (class other : ℕ) (first : Bool) → class ≡ other
+pub any_holds : (class other : ℕ) (first : Bool) → class ≡ other
     → is_in (any class) (2 * other + cond first 1 0) ≡ true
 any_holds class other true same =
     or_right _ _ (or_left _ _ (eq-eqb (2 * class + 1) (2 * other + 1) (omega arith)))
 any_holds class other false same = or_left _ _ (eq-eqb (2 * class) (2 * other + 0) (omega arith))
 
-or_cases : (a b : Bool) → (a || b) ≡ true → (a ≡ true) ⊎ (b ≡ true)
+pub or_cases : (a b : Bool) → (a || b) ≡ true → (a ≡ true) ⊎ (b ≡ true)
 or_cases true b h = inl refl
 or_cases false b h = inr h
 
@@ -46,7 +46,7 @@ bit_small : (first : Bool) → cond first 1 0 < 2
 bit_small true = omega arith
 bit_small false = omega arith
 
-any_says : (class other : ℕ) (first : Bool) → is_in (any class) (2 * other + cond first 1 0) ≡ true
+pub any_says : (class other : ℕ) (first : Bool) → is_in (any class) (2 * other + cond first 1 0) ≡ true
     → class ≡ other
 any_says class other first h = let small = bit_small first in elim (or_cases _ _ h) [
   | inl is ↦ (let same = eqb-true (2 * class) (2 * other + cond first 1 0) is in omega arith)
@@ -57,13 +57,13 @@ any_says class other first h = let small = bit_small first in elim (or_cases _ _
   ]
 ]
 
-fixity_small : (fixity : Fixity) → fixity_number fixity < 4
+pub fixity_small : (fixity : Fixity) → fixity_number fixity < 4
 fixity_small fixities.Infix = omega arith
 fixity_small fixities.Prefix = omega arith
 fixity_small fixities.Postfix = omega arith
 fixity_small fixities.None = omega arith
 
-if_small : (b : Bool) (n : ℕ) → n < 4 → cond b n 0 < 4
+pub if_small : (b : Bool) (n : ℕ) → n < 4 → cond b n 0 < 4
 if_small true n h = h
 if_small false n h = omega arith
 
@@ -85,14 +85,14 @@ in_four a b c d class h = elim (or_cases _ _ (sym (is_in-append a (b ++ (c ++ d)
   ]
 ]
 
-in_first : (a b : Set) (class : ℕ) → is_in a class ≡ true → is_in (a ++ b) class ≡ true
+pub in_first : (a b : Set) (class : ℕ) → is_in a class ≡ true → is_in (a ++ b) class ≡ true
 in_first a b class h = is_in-append a b class ∙ or_left _ _ h
 
-in_second : (a b : Set) (class : ℕ) → is_in b class ≡ true → is_in (a ++ b) class ≡ true
+pub in_second : (a b : Set) (class : ℕ) → is_in b class ≡ true → is_in (a ++ b) class ≡ true
 in_second a b class h = is_in-append a b class ∙ or_right _ _ h
 
 -- A token of the set of a text has the number of that text.
-quoted_says : (text other : List ℕ) (fixity : Fixity) (first : Bool)
+pub quoted_says : (text other : List ℕ) (fixity : Fixity) (first : Bool)
     → is_in (quoted other) (class_of text fixity first) ≡ true
     → text_number text ≡ index_of other
 quoted_says text other fixity first h = by_operator (nat_lt (index_of other) (length operators)) h
@@ -126,7 +126,7 @@ quoted_says text other fixity first h = by_operator (nat_lt (index_of other) (le
           ]
         ]
 
-quoted_holds : (text other : List ℕ) (fixity : Fixity) (first : Bool)
+pub quoted_holds : (text other : List ℕ) (fixity : Fixity) (first : Bool)
     → text_number text ≡ index_of other
     → is_in (quoted other) (class_of text fixity first) ≡ true
 quoted_holds text other fixity first same =
@@ -193,14 +193,14 @@ at_index text h = (bytes_eq-Decides _ text).0
     (passes_at_first (λ quoted. bytes_eq quoted text) quoted_texts []
     (ltb-true (index_of text) (length quoted_texts) h))
 
-number_quoted : (text : List ℕ) → is_quoted text ≡ true → text_number text ≡ index_of text
+pub number_quoted : (text : List ℕ) → is_quoted text ≡ true → text_number text ≡ index_of text
 number_quoted text h = ap (λ b. cond b (index_of text) (index_of text + sort_of (kind_of text))) h
 
-number_other : (text : List ℕ) → is_quoted text ≡ false
+pub number_other : (text : List ℕ) → is_quoted text ≡ false
     → text_number text ≡ index_of text + sort_of (kind_of text)
 number_other text h = ap (λ b. cond b (index_of text) (index_of text + sort_of (kind_of text))) h
 
-number_is_text : (text other : List ℕ) → is_quoted other ≡ true → text_number text ≡ index_of other
+pub number_is_text : (text other : List ℕ) → is_quoted other ≡ true → text_number text ≡ index_of other
     → text ≡ other
 number_is_text text other h same = by_quoted (is_quoted text) refl
   where
@@ -279,7 +279,7 @@ list_all_at test (x ∷ xs) zero d h less = and_left _ _ h
 list_all_at test (x ∷ xs) (suc i) d h less = list_all_at test xs i d (and_right _ _ h) (omega arith)
 
 -- What holds of each quoted text holds of one.
-of_quoted : (test : List ℕ → Bool) → list_all test quoted_texts ≡ true → (text : List ℕ)
+pub of_quoted : (test : List ℕ → Bool) → list_all test quoted_texts ≡ true → (text : List ℕ)
     → is_quoted text ≡ true → test text ≡ true
 of_quoted test h text is =
     ap test (sym (at_index text is)) ∙ list_all_at test quoted_texts (index_of text) [] h
@@ -294,13 +294,13 @@ prefix_within test (x ∷ xs) = by_test (test x) (prefix_within test xs)
     by_test true h = omega arith
     by_test false h = omega arith
 
-index_other : (text : List ℕ) → is_quoted text ≡ false → index_of text ≡ length quoted_texts
+pub index_other : (text : List ℕ) → is_quoted text ≡ false → index_of text ≡ length quoted_texts
 index_other text h =
     let most = prefix_within (λ quoted. bytes_eq quoted text) quoted_texts in
     let least = ltb-false (index_of text) (length quoted_texts) h in omega arith
 
 -- the class of a token whose text isn't quoted
-class_other : (text : List ℕ) (fixity : Fixity) → is_quoted text ≡ false
+pub class_other : (text : List ℕ) (fixity : Fixity) → is_quoted text ≡ false
     → kind_class text fixity ≡ 4 * (length quoted_texts + sort_of (kind_of text))
 class_other text fixity h =
     let number : text_number text ≡ length quoted_texts + sort_of (kind_of text) = number_other text h
@@ -311,7 +311,7 @@ class_other text fixity h =
     ap (λ b. cond b (fixity_number fixity) 0) high in
     omega arith
 
-class_quoted : (text : List ℕ) (fixity : Fixity) → is_quoted text ≡ true
+pub class_quoted : (text : List ℕ) (fixity : Fixity) → is_quoted text ≡ true
     → kind_class text fixity < 4 * length quoted_texts
 class_quoted text fixity h =
     let less = ltb-true (index_of text) (length quoted_texts) h in
@@ -398,7 +398,7 @@ unfolding kind_of literal_of unsigned_of number_in is_digit is_operator_byte is_
     word_kind ruled_words reserved_words mark_number
 names_are_open = refl
 
-one_of_says : (texts : List (List ℕ)) (text : List ℕ) (fixity : Fixity) (first : Bool)
+pub one_of_says : (texts : List (List ℕ)) (text : List ℕ) (fixity : Fixity) (first : Bool)
     → list_all (λ other. is_quoted other && is_name (kind_of other)) texts ≡ true
     → is_in (one_of texts) (class_of text fixity first) ≡ true → is_name (kind_of text) ≡ true
 one_of_says [] text fixity first h k = absurd (cc)
@@ -411,7 +411,7 @@ one_of_says (x ∷ texts) text fixity first h k =
       | inr there ↦ one_of_says texts text fixity first (and_right _ _ h) there
     ]
 
-one_of_holds : (texts : List (List ℕ)) (text : List ℕ) (fixity : Fixity) (first : Bool)
+pub one_of_holds : (texts : List (List ℕ)) (text : List ℕ) (fixity : Fixity) (first : Bool)
     → is_quoted text ≡ true
     → list_any (λ member. bytes_eq member text) texts ≡ true
     → is_in (one_of texts) (class_of text fixity first) ≡ true

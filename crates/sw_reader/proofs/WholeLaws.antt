@@ -2,20 +2,25 @@
 -- not both; and the reader finds which.
 use Rattle.std.proofs.Common.{◌≡◌, ℕ, suc, ◌-◌, ◌≤◌, ◌<◌, inl, inr, List, [], ◌∷◌, ◌++◌, length}
 use Rattle.std.proofs.Common.{take, drop, refl, sym, ◌∙◌, ap, subst, append_assoc, arith}
-use Rattle.std.proofs.Common.{length-append}
+use Rattle.std.proofs.Common.{length-append, Bool, true, false, ◌+◌}
+use Rattle.std.proofs.lemmas.Bool.{ltb-true, ltb-false}
 use Rattle.std.proofs.lemmas.List.{append-nil, take_at, take-take, take-append-drop}
+use Rattle.std.proofs.lemmas.List.{length-drop}
 use Rattle.std.proofs.lemmas.Bool.{cases_eq}
-use Rattle.std.specs.Prelude.{Some, None, Ok, Err}
+use Rattle.std.specs.Prelude.{Some, None, Ok, Err, nat_lt}
 use Rattle.sw_token.specs.Spelling.{Spelled, IsSpelling}
 use Rattle.sw_reader.specs.Sets.{Set}
 use Rattle.sw_reader.specs.Relations.{Relation, head, Nothing, Then}
-use Rattle.sw_reader.specs.Reader.{Fault, Reader, and_then, finish, whole}
+use Rattle.sw_reader.specs.Reader.{Fault, Answer, Reader, and_then, finish, whole}
 use Rattle.sw_reader.specs.Reader.Fault.{unexpected, too_deep}
 use Rattle.sw_reader.specs.Whole.{IsSpelledAs, IsSpelled, Begins, IsUnexpectedIn, IsTooDeepIn}
+use Rattle.sw_reader.specs.Whole.{IsShallow}
 use Rattle.sw_reader.proofs.ReaderLaws.{Follow, Outside, Without, Filled, Failed, passed, Reads}
 use Rattle.sw_reader.proofs.ReaderLaws.{ok_parts}
 use Rattle.sw_reader.proofs.ReaderLaws.{bind_ok, restate, narrow, reads_pure, reads_then}
-use Rattle.sw_reader.proofs.ReaderLaws.{refused_at_once}
+use Rattle.sw_reader.proofs.ReaderLaws.{refused_at_once, bind_err, bind_stop, left_of}
+use Rattle.sw_reader.proofs.DepthLaws.{NotDeep}
+use Rattle.sw_reader.proofs.Opening.{Opening}
 use Rattle.sw_reader.proofs.Rising.{end_of, IsSpelling-completed}
 
 -- The end
@@ -191,10 +196,11 @@ unexpected_token R ts is left bad =
     omega (arith, ap length bad.split, length-append bad.before bad.bad, bad.count) in
     subst (λ n. IsUnexpectedIn R ts n) same (unexpected_at R ts left is bad)
 
--- A fault says which token opens a nest too many.
-pub too_deep_token : {A : Type 0} (R W : Relation A) (ts : List Spelled) → IsSpelling ts
-    → (left : ℕ) → Failed R W IsEnd ts (too_deep left) → IsTooDeepIn R W ts (length ts - left)
-too_deep_token R W ts is left bad =
+-- A spelling begins with the token that opens a nest too many and those before it.
+pub opened_begins : {A : Type 0} (R W : Relation A) (ts : List Spelled) → IsSpelling ts
+    → (left : ℕ) → Failed R W IsEnd ts (too_deep left)
+    → (length ts - left < length ts) × Begins W (take (suc (length ts - left)) ts)
+opened_begins R W ts is left bad =
     let some : 0 < length bad.bad = bad.opens tt in
     let same : length bad.before ≡ length ts - left =
     omega (arith, ap length bad.split, length-append bad.before bad.bad, bad.count) in
@@ -208,9 +214,9 @@ too_deep_token R W ts is left bad =
     let taken : take (suc (length bad.before)) ts ≡ bad.before ++ (first.0 ∷ []) =
     take_one_more ts bad.before first.1 first.0 split in
     let one = bad.begun (end_of 0 (bad.before ++ (first.0 ∷ []))) in
-    subst (λ n. IsTooDeepIn R W ts n) same (record {
-      within = less;
-      begun = subst (Begins W) (sym taken) (
+    subst (λ n. (n < length ts) × Begins W (take (suc n) ts)) same (
+      less,
+      subst (Begins W) (sym taken) (
         one.value,
         one.filler,
         record {
@@ -219,15 +225,70 @@ too_deep_token R W ts is left bad =
               one.fills;
           form = subst (λ us. W one.value (us ++ one.filler)) opened one.spelled;
         },
-      );
-      refused = λ begins.
-          let begins' = subst (Begins R) taken begins in
-          bad.none begins'.0 ((bad.before ++ (first.0 ∷ [])) ++ begins'.1) []
-          (first.0 ∷ begins'.1) begins'.2.form refl
-          (append-nil ((bad.before ++ (first.0 ∷ [])) ++ begins'.1)
-          ∙ append_assoc bad.before (first.0 ∷ []) begins'.1)
-          (ap head (sym first.2));
-    })
+      ),
+    )
+
+-- Among tokens of which each that opens a nest too many is a fault of the reader, the one that it
+-- names is the first.
+
+module _ {A : Type 0} (Opens : List Spelled → Type 0) (p : Reader A) (opening : Opening Opens p)
+    (ts : List Spelled) where
+  finish_calm : (us : List Spelled) (left : ℕ) → finish us ≡ Err (too_deep left) → ⊥
+  finish_calm [] left e = let clash : ◌≡◌ {A = Answer (Unit {0})} (Ok (tt, [])) (Err (too_deep left))
+      = e in cc
+  finish_calm (u ∷ us) left e = let clash : ◌≡◌ {A = Answer (Unit {0})}
+      (Err (unexpected (suc (length us)))) (Err (too_deep left)) = e in cc
+
+  -- the reader's own fault, where all tokens are to be read
+  whole_deep : (left : ℕ) → whole p ts ≡ Err (too_deep left) → p ts ≡ Err (too_deep left)
+  whole_deep left e =
+      elim (bind_err (p ts) (λ x. and_then (finish x.1) (λ y. Ok (x.0, y.1))) (too_deep left) e) [
+        | inl one ↦ one
+        | inr two ↦ elim (bind_err (finish two.0.1) (λ y. Ok (two.0.0, y.1)) (too_deep left) two.2) [
+          | inl three ↦ absurd (finish_calm two.0.1 left three)
+          | inr four ↦ absurd (let clash : ◌≡◌ {A = Answer A} (Ok (two.0.0, four.0.1))
+              (Err (too_deep left)) = four.2 in cc)
+        ]
+      ]
+
+  pub opened_token : (left : ℕ) → whole p ts ≡ Err (too_deep left)
+      → Opens (take (suc (length ts - left)) ts)
+  opened_token left e =
+      let opened = opening.names ts left (whole_deep left e) in
+      let size : length opened.upto ≡ suc (length ts - left) =
+      omega (
+        arith,
+        opened.count,
+        ap length opened.split,
+        length-append opened.upto opened.more,
+        opening.some opened.upto opened.said,
+      ) in
+      subst Opens
+      (sym (ap (take (suc (length ts - left))) opened.split
+      ∙ take_at opened.upto opened.more (suc (length ts - left)) size)) opened.said
+
+  opened_fault : (m : ℕ) → m < length ts → Opens (take (suc m) ts)
+      → (left : ℕ) × (whole p ts ≡ Err (too_deep left)) × (length ts ≤ m + left)
+  opened_fault m less h =
+      let deep = opening.finds (take (suc m) ts) (drop (suc m) ts) h in
+      let text : take (suc m) ts ++ drop (suc m) ts ≡ ts = take-append-drop (suc m) ts in (
+        deep.0,
+        bind_stop (p ts) (λ x. and_then (finish x.1) (λ y. Ok (x.0, y.1))) (too_deep deep.0)
+            (ap p (sym text) ∙ deep.1),
+        omega (arith, deep.2, length-drop (suc m) ts),
+      )
+
+  pub first_opened : (left : ℕ) → whole p ts ≡ Err (too_deep left)
+      → IsShallow Opens ts (length ts - left)
+  first_opened left e m less h =
+      let deep = opened_fault m (omega arith) h in
+      let same : left ≡ deep.0 =
+      ap (λ r. elim r [ Ok x ↦ 0 | Err fault ↦ left_of fault ]) (sym e ∙ deep.1) in
+      omega (arith, deep.2, same)
+
+  pub none_opened : (n : ℕ) → n ≤ length ts → NotDeep (whole p ts) → IsShallow Opens ts n
+  none_opened n within calm m less h =
+      let deep = opened_fault m (omega arith) h in subst NotDeep deep.1 calm
 
 -- A fault is at a token or the end.
 pub fault_within : {A : Type 0} (R W : Relation A) (F : Follow A) (ts : List Spelled) (left : ℕ)
@@ -248,14 +309,13 @@ none_unexpected R ts n h k = elim (cases_eq n (length ts)) [
       ))
 ]
 
--- A list that is spelled within the limit has no token that opens a nest too many.
-pub none_too_deep : {A : Type 0} (R W : Relation A) (ts : List Spelled) (n : ℕ) → IsSpelled R ts
-    → ¬ IsTooDeepIn R W ts n
-none_too_deep R W ts n h k = k.refused (
-  h.0,
-  drop (suc n) ts,
-  subst (IsSpelledAs R h.0) (sym (take-append-drop (suc n) ts)) h.1,
-)
+-- There is one first token that opens a nest too many.
+pub one_too_deep : {A : Type 0} (Opens : List Spelled → Type 0) (R : Relation A)
+    (ts : List Spelled) (j k : ℕ) → IsTooDeepIn Opens R ts j → IsTooDeepIn Opens R ts k → j ≡ k
+one_too_deep Opens R ts j k h h' =
+    let not_before : j < k → ⊥ = λ less. h'.first j less h.opens in
+    let not_after : k < j → ⊥ = λ less. h.first k less h'.opens in
+    omega arith
 
 no_earlier : {A : Type 0} (R : Relation A) (ts : List Spelled) (j k : ℕ) → IsUnexpectedIn R ts j
     → IsUnexpectedIn R ts k → j < k → ⊥
@@ -280,3 +340,27 @@ one_unexpected R ts j k h h' =
     let not_before = no_earlier R ts j k h h' in
     let not_after = no_earlier R ts k j h' h in
     omega arith
+
+-- A token that can't be taken and one that opens a nest too many aren't both the first fault.
+pub unexpected_or_deep : {A : Type 0} (Opens : List Spelled → Type 0) (R : Relation A)
+    (ts : List Spelled) (j k : ℕ) → IsUnexpectedIn R ts j → IsShallow Opens ts j
+    → ¬ IsTooDeepIn Opens R ts k
+unexpected_or_deep Opens R ts j k h shallow deep = by_order (nat_lt k j) refl
+  where
+    by_order : (b : Bool) → nat_lt k j ≡ b → ⊥
+    by_order true is = shallow k (ltb-true k j is) deep.opens
+    by_order false is =
+        let order : j ≤ k = ltb-false k j is in
+        let within : k < length ts = deep.within in
+        let begun = deep.begun in
+        let split : take (suc k) ts ≡ take (suc j) ts ++ drop (suc j) (take (suc k) ts)
+        = sym (take-append-drop (suc j) (take (suc k) ts))
+        ∙ ap (λ us. us ++ drop (suc j) (take (suc k) ts))
+        (take-take (suc j) (suc k) ts (omega arith)) in
+        h.refused (omega arith) (
+          begun.0,
+          drop (suc j) (take (suc k) ts) ++ begun.1,
+          subst (IsSpelledAs R begun.0)
+              (ap (λ us. us ++ begun.1) split
+              ∙ append_assoc (take (suc j) ts) (drop (suc j) (take (suc k) ts)) begun.1) begun.2,
+        )

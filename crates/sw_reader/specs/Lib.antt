@@ -7,3 +7,4 @@ pub mod Quotes
 pub mod Terminals
 pub mod Whole
 pub mod Outcome
+pub mod Opens

@@ -63,6 +63,14 @@ abbrev pub is_integer : Kind → Bool
 is_integer (kinds.Int _) = true
 is_integer _ = false
 
+abbrev pub is_at : Kind → Bool
+is_at kinds.At = true
+is_at _ = false
+
+-- whether the text is that of an operator
+abbrev pub is_quoted_operator : List ℕ → Bool
+is_quoted_operator text = nat_lt (index_of text) (length operators)
+
 -- a number for each text that is quoted, and for each kind of the others
 abbrev pub text_number : List ℕ → ℕ
 text_number text =
@@ -123,6 +131,15 @@ quoted text =
     then any class ++ (any (class + 1) ++ (any (class + 2) ++ any (class + 3)))
     else any class
 
+-- the operator with this text, where it stands so among its neighbours
+abbrev pub standing : Fixity → List ℕ → Set
+standing fixity text = any (4 * index_of text + fixity_number fixity)
+
+-- the operators with one of these texts, where they stand so
+abbrev pub standing_of : Fixity → List (List ℕ) → Set
+standing_of fixity [] = []
+standing_of fixity (text ∷ texts) = standing fixity text ++ standing_of fixity texts
+
 -- the quoted words that may also name something
 abbrev pub open_words : List (List ℕ)
 open_words =
@@ -141,6 +158,12 @@ word = any (4 * length quoted_texts) ++ one_of open_words
 -- an integer literal
 abbrev pub integer : Set
 integer = any (4 * (length quoted_texts + 1))
+
+-- an `@` with a word
+abbrev pub attribute : Set
+attribute =
+    any (4 * (length quoted_texts + 2)) ++ one_of (codes "@main" ∷ codes "@globalActor"
+    ∷ codes "@Sendable" ∷ codes "@escaping" ∷ codes "@concurrent" ∷ [])
 
 -- the tokens of the set that are the first on their line
 abbrev pub first_only : Set → Set

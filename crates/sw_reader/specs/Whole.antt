@@ -26,10 +26,17 @@ pub record IsUnexpectedIn {A : Type 0} (R : Relation A) (tokens : List Spelled)
   pub refused : n < length tokens → ¬ Begins R (take (suc n) tokens)
   pub unfinished : n ≡ length tokens → ¬ IsSpelled R tokens
 
--- A spelling begins with the first `n` tokens and the next, but none within a limit does: `Narrow`
--- is the part of `Wide` that keeps it.
-pub record IsTooDeepIn {A : Type 0} (Narrow Wide : Relation A) (tokens : List Spelled)
-    (n : ℕ) : Type 0 where
+-- Where nests have a limit: `Opens` is said of tokens the last of which opens a nest too many.
+
+-- No token among the first `n` opens a nest too many.
+abbrev pub IsShallow : (List Spelled → Type 0) → List Spelled → ℕ → Type 0
+IsShallow Opens tokens n = (m : ℕ) → m < n → ¬ Opens (take (suc m) tokens)
+
+-- The token after the first `n` is the first that opens a nest too many, and some spelling begins
+-- with it and those before it.
+pub record IsTooDeepIn {A : Type 0} (Opens : List Spelled → Type 0) (R : Relation A)
+    (tokens : List Spelled) (n : ℕ) : Type 0 where
   pub within : n < length tokens
-  pub begun : Begins Wide (take (suc n) tokens)
-  pub refused : ¬ Begins Narrow (take (suc n) tokens)
+  pub begun : Begins R (take (suc n) tokens)
+  pub opens : Opens (take (suc n) tokens)
+  pub first : IsShallow Opens tokens n

@@ -1,18 +1,21 @@
 //! The tokens of a source that are left to read, and the steps over one token.
 
-ghost use Rattle.std.specs.Prelude.{◌≡◌, ◌<◌, length, All, IsTrue};
+ghost use Rattle.std.specs.Prelude.{◌≡◌, ◌<◌, length, map, drop, All, IsTrue, OnOk};
+ghost use Rattle.std.specs.List.{list_all, list_any};
 ghost use Rattle.sw_token.specs.Tokens.{IsTokens};
 ghost use Rattle.sw_token.specs.Spelling.{IsReadable, spelling_of};
-ghost use Rattle.sw_reader.specs.Sets.{is_quoted, quoted, starts};
+ghost use Rattle.sw_reader.specs.Sets.{is_quoted, is_quoted_operator, quoted, standing, starts};
+ghost use Rattle.sw_reader.specs.Sets.{one_of, standing_of, not_first, word, integer, attribute};
 ghost use Rattle.sw_reader.specs.Quotes.{quote, quote_on_line, a_word, an_integer};
-ghost use Rattle.sw_reader.specs.Relations.{head, is_first_on_line, may_start};
-ghost use Rattle.sw_reader.specs.Reader.{next, skipping, check, finish};
-ghost use Rattle.sw_reader.specs.Outcome.{Gives, Takes, has_text, names, literal};
+ghost use Rattle.sw_reader.specs.Relations.{head, is_first_on_line, may_start, stays};
+ghost use Rattle.sw_reader.specs.Reader.{next, opening, skipping, check, finish};
+ghost use Rattle.sw_reader.specs.Outcome.{Gives, Takes, has_text, text_of, stands, names};
+ghost use Rattle.sw_reader.specs.Outcome.{is_attribute, is_literal, literal};
 
 use super::stop::Stop;
 use std::marker::Model;
 use sw_text::Source;
-use sw_token::{Kind, Token};
+use sw_token::{Fixity, Kind, Token};
 
 /// The tokens that are left. Contracts see the list of them with their texts.
 #[derive(Drop)]
@@ -65,8 +68,61 @@ impl<'a> Cursor<'a> {
         }
     }
 
+    /// Whether the next token has one of these texts.
+    fn has_text_of(&self, texts: &[&str]) -> bool
+        ensures { result ≡ list_any (λ text. has_text text.now (head self.now)) texts.now }
+    {
+        texts.iter().any(|text| self.has_text(text))
+    }
+
+    /// Whether the next token has one of these texts, which are some that grammars quote.
+    pub fn sees_one_of(&self, texts: &[&str]) -> bool
+        requires { IsTrue (list_all is_quoted (map (λ text. text.now) texts.now)) }
+        ensures { result ≡ starts (one_of (map (λ text. text.now) texts.now)) (head self.now) }
+    {
+        self.has_text_of(texts)
+    }
+
+    /// Whether the next token has this text and isn't the first on its line.
+    pub fn sees_on_line(&self, text: &str) -> bool
+        requires { IsTrue (is_quoted text.now) }
+        ensures { result ≡ starts (not_first (quoted text.now)) (head self.now) }
+    {
+        if self.begins_line() {
+            return false;
+        }
+        self.sees(text)
+    }
+
+    /// Whether the next token stands so among its neighbours.
+    fn stands(&self, fixity: Fixity) -> bool
+        ensures { result ≡ stands fixity (head self.now) }
+    {
+        match self.left {
+            [] => false,
+            [token, ..] => token.fixity == fixity,
+        }
+    }
+
+    /// Whether the next token is the operator with this text and stands so among its neighbours.
+    pub fn sees_operator(&self, text: &str, fixity: Fixity) -> bool
+        requires { IsTrue (is_quoted_operator text.now) }
+        ensures { result ≡ starts (standing fixity text.now) (head self.now) }
+    {
+        self.stands(fixity) && self.has_text(text)
+    }
+
+    /// Whether the next token is an operator with one of these texts and stands so.
+    pub fn sees_operator_of(&self, texts: &[&str], fixity: Fixity) -> bool
+        requires { IsTrue (list_all is_quoted_operator (map (λ text. text.now) texts.now)) }
+        ensures { result
+            ≡ starts (standing_of fixity (map (λ text. text.now) texts.now)) (head self.now) }
+    {
+        self.stands(fixity) && self.has_text_of(texts)
+    }
+
     /// Whether the next token is the first on its line.
-    fn begins_line(&self) -> bool
+    pub fn begins_line(&self) -> bool
         ensures { result ≡ is_first_on_line (head self.now) }
     {
         match self.left {
@@ -76,12 +132,50 @@ impl<'a> Cursor<'a> {
     }
 
     /// Whether the next token is a word that names something.
-    fn sees_word(&self) -> bool
+    pub fn sees_word(&self) -> bool
+        ensures { result ≡ starts word (head self.now) }
+    {
+        self.is_name()
+    }
+
+    fn is_name(&self) -> bool
         ensures { result ≡ names (head self.now) }
     {
         match self.left {
             [] => false,
             [token, ..] => matches!(token.kind, Kind::Word),
+        }
+    }
+
+    /// Whether the next token is an integer literal.
+    pub fn sees_integer(&self) -> bool
+        ensures { result ≡ starts integer (head self.now) }
+    {
+        self.is_literal()
+    }
+
+    fn is_literal(&self) -> bool
+        ensures { result ≡ is_literal (head self.now) }
+    {
+        match self.left {
+            [] => false,
+            [token, ..] => matches!(token.kind, Kind::Int(_)),
+        }
+    }
+
+    /// Whether the next token is an `@` with a word.
+    pub fn sees_attribute(&self) -> bool
+        ensures { result ≡ starts attribute (head self.now) }
+    {
+        self.is_attribute()
+    }
+
+    fn is_attribute(&self) -> bool
+        ensures { result ≡ is_attribute (head self.now) }
+    {
+        match self.left {
+            [] => false,
+            [token, ..] => matches!(token.kind, Kind::At),
         }
     }
 
@@ -98,8 +192,24 @@ impl<'a> Cursor<'a> {
         }
     }
 
+    /// The text of the next token.
+    pub fn text(&self) -> &'a str
+        requires { 0 < length self.now }
+        ensures { result.now ≡ text_of (head self.now) }
+    {
+        self.source.slice(self.left[0].span)
+    }
+
+    /// What stands after the `@` of the next token.
+    pub fn attribute(&self) -> &'a str
+        requires { IsTrue (starts attribute (head self.now)) }
+        ensures { result.now ≡ drop 1 (text_of (head self.now)) }
+    {
+        &self.text()[1..]
+    }
+
     /// Takes the next token, and gives its position.
-    fn take(&mut self) -> u32
+    pub fn take(&mut self) -> u32
         requires { 0 < length self.old }
         ensures { Takes self.old result self.new }
     {
@@ -108,13 +218,25 @@ impl<'a> Cursor<'a> {
         at
     }
 
+    /// The number of tokens that are left.
+    pub fn count(&self) -> usize
+        ensures { result ≡ length self.now }
+    {
+        self.left.len()
+    }
+
     /// The refusal of the next token.
-    fn stop(&self) -> Stop
+    pub fn stop(&self) -> Stop
         ensures { result ≡ Stop.Unexpected (length self.now) }
     {
-        Stop::Unexpected {
-            left: self.left.len(),
-        }
+        Stop::Unexpected { left: self.count() }
+    }
+
+    /// The refusal of the next token as one that opens a nest too many.
+    fn too_deep(&self) -> Stop
+        ensures { result ≡ Stop.TooDeep (length self.now) }
+    {
+        Stop::TooDeep { left: self.count() }
     }
 
     /// Takes the token with this text, and gives its position.
@@ -137,6 +259,34 @@ impl<'a> Cursor<'a> {
             return Err(self.stop());
         }
         self.expect(text)
+    }
+
+    /// Takes the token with this text, which opens a nest, where `depth` more may be opened, and
+    /// gives its position.
+    pub fn open(&mut self, text: &str, depth: u32) -> Result<u32, Stop>
+        requires { IsTrue (is_quoted text.now) }
+        ensures opened { Gives (opening depth (quote text.now) self.old) result self.new }
+        ensures room { OnOk result (0 < depth) }
+    {
+        if !self.sees(text) {
+            return Err(self.stop());
+        }
+        if depth == 0 {
+            return Err(self.too_deep());
+        }
+        Ok(self.take())
+    }
+
+    /// The same of a token that may not be the first on its line.
+    pub fn open_on_line(&mut self, text: &str, depth: u32) -> Result<u32, Stop>
+        requires { IsTrue (is_quoted text.now) }
+        ensures opened { Gives (opening depth (quote_on_line text.now) self.old) result self.new }
+        ensures room { OnOk result (0 < depth) }
+    {
+        if self.begins_line() {
+            return Err(self.stop());
+        }
+        self.open(text, depth)
     }
 
     /// Takes a word that names something, and gives its position.
@@ -179,6 +329,16 @@ impl<'a> Cursor<'a> {
             return Ok(());
         }
         Err(self.stop())
+    }
+
+    /// Refuses the next token where it begins a line.
+    pub fn stay(&self) -> Result<(), Stop>
+        ensures { Gives (check stays self.now) result self.now }
+    {
+        if self.begins_line() {
+            return Err(self.stop());
+        }
+        Ok(())
     }
 
     /// Refuses a token that is left.

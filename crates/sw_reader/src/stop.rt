@@ -7,6 +7,8 @@ use std::alloc::{AllocError, AllocFailed};
 pub enum Stop {
     /// A token can't be taken. From it on `left` tokens are left; 0 stands for the end.
     Unexpected { left: usize },
+    /// A token opens a nest more than may be open. From it on `left` tokens are left.
+    TooDeep { left: usize },
     /// Memory for the tree ran out.
     Memory,
 }

@@ -6,3 +6,9 @@ returns-clause-decided c = laws.decided_within
 
 pub returns-clause-never_too_deep : goal.returns-clause-never_too_deep
 returns-clause-never_too_deep c = laws.never_too_deep
+
+pub returns-clause-one_too_deep : goal.returns-clause-one_too_deep
+returns-clause-one_too_deep c = laws.one_too_deep
+
+pub returns-clause-one_fault : goal.returns-clause-one_fault
+returns-clause-one_fault c = laws.one_fault
