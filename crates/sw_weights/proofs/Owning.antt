@@ -7,6 +7,7 @@ use Rattle.std.proofs.Common.{sym, ap, subst, arith}
 use Rattle.sw_token.specs.Spelling.{Spelled}
 use Rattle.sw_tree.proofs.Counting.{Weight, in_all, in_all-nil, in_all-cons, in_all-append}
 use Rattle.sw_reader.specs.Form.{Shape, Terminal, Form}
+use Rattle.sw_reader.specs.Form.Form.{some_items}
 use Rattle.sw_reader.specs.Relations.{Relation, Nothing, One, Then, Either, Only, Turns, stop, turn}
 use Rattle.sw_reader.specs.Relations.{Passing, may_start, OneMore, spelled}
 use Rattle.sw_reader.specs.Sets.{has}
@@ -77,6 +78,10 @@ module _ (of_token : Spelled → Weight) where
           → Owns base (Passing test P) w
       own_passing test first = record { owns = λ a tokens one. first.owns a tokens one.0 }
 
+      -- spellings that stand only under a condition
+      pub own_only : (is_so : Bool) → Owns base P w → Owns base (Only is_so P) w
+      own_only is_so first = record { owns = λ a tokens one. first.owns a tokens one.1 }
+
     -- a value that is dropped
     pub own_nothing : {base : Weight} {P : Relation A} → Owns base P (λ _. none)
     own_nothing = record { owns = λ a tokens one k. omega arith }
@@ -92,6 +97,24 @@ module _ (of_token : Spelled → Weight) where
           let less = lighter a k in
           omega arith;
     }
+
+    -- more may be left over
+    pub own_with : {base more : Weight} {P : Relation A} {w : A → Weight}
+        → ((k : ℕ) → base k ≤ more k) → Owns base P w → Owns more P w
+    own_with left first = own_more left (λ a k. omega arith) first
+
+  -- one after another, where the first takes from what is left over, and leaves the rest
+  pub own_from : {A B : Type 0} {base start : Weight} {P : Relation A} {Q : A → Relation B}
+      {w : B → Weight} (rest : Weight) (u : A → Weight) → ((k : ℕ) → rest k + start k ≤ base k)
+      → Owns start P u → ((a : A) → Owns (λ k. rest k + u a k) (Q a) w) → Owns base (Then P Q) w
+  own_from {base = base} {w = w} rest u less first second = record {
+    owns = λ b tokens both k.
+        let one = first.owns both.value both.left both.first k in
+        let two = (second both.value).owns b both.right both.second k in
+        let here = less k in
+        let all = ap (λ ts. in_all of_token ts k) both.whole in
+        omega (arith, all, in_all-append of_token both.left both.right k);
+  }
 
   -- one after another, where the value of the first is dropped
   pub own_past : {A B : Type 0} {base : Weight} {P : Relation A} {Q : A → Relation B} {w : B
@@ -137,6 +160,14 @@ module _ (of_token : Spelled → Weight) where
           in_all-cons w x [] k,
           in_all-nil w k,
         ))))
+
+    pub own_some_items : Owns none (spelled El shape_of table item) w
+        → Owns none (spelled El shape_of table (some_items item)) (λ read. in_all w read.0)
+    own_some_items each =
+        own_from none (λ (state : List A × Bool). in_all w state.0)
+        (λ k. omega (arith, in_all-nil w k)) (one_more_item each ([], true))
+        (λ state. own_with (λ k. omega arith)
+        (own_turns {w = λ (state : List A × Bool). in_all w state.0} (one_more_item each) state))
 
     pub own_items : Owns none (spelled El shape_of table item) w
         → Owns none (spelled El shape_of table (items item)) (λ read. in_all w read.0)

@@ -1,0 +1,10 @@
+pub mod Weighing
+pub mod NestWeights
+pub mod TypeRules
+pub mod ExprRules
+pub mod ClosureRules
+pub mod StmtRules
+pub mod DeclRules
+pub mod ProgramRules
+pub mod KeysDiffer
+pub mod NamesKnown
