@@ -1,0 +1,12 @@
+use Rattle.std.proofs.Common.{sym, ◌∙◌}
+use Rattle.sw_reader.proofs.CursorSteps.{first_line, within_line}
+use Rattle.sw_grammar.specs.Tokens.{expr_first}
+use Rattle.sw_parse_parts.proofs.operators.sees_expr_on_line.Goals as goal
+
+pub returns-then-begins_line : goal.returns-then-begins_line
+returns-then-begins_line c =
+    sym (first_line expr_first _ (sym c.begins_line.ensures ∙ c.if-begins_line.true))
+
+pub returns : goal.returns
+returns c = c.sees_expr.ensures
+    ∙ sym (within_line expr_first _ (sym c.begins_line.ensures ∙ c.if-begins_line.false))

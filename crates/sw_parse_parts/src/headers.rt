@@ -1,0 +1,293 @@
+//! What closures and tasks have before their statements.
+
+ghost use Rattle.std.specs.Prelude.{[], ◌∷◌, codes};
+ghost use Rattle.sw_reader.specs.Form.Form.{nest};
+ghost use Rattle.sw_reader.specs.Quotes.{quote};
+ghost use Rattle.sw_grammar.specs.Nests.{in_captures, in_closure_params, in_empty};
+ghost use Rattle.sw_grammar.specs.Types.{some_of, more_of};
+ghost use Rattle.sw_grammar.specs.Closures.{captured, captured_words, captures, captures_if};
+ghost use Rattle.sw_grammar.specs.Closures.{closure_param, closure_params, result_if, signature};
+ghost use Rattle.sw_grammar.specs.Closures.{signature_if, task_signature, task_signature_if};
+ghost use Rattle.sw_reader.specs.Outcome.{Gives};
+ghost use Rattle.sw_tree.specs.Names.{id_in};
+ghost use Rattle.sw_grammar.specs.Reading.{read};
+
+use super::types::type_tree;
+use super::words::word;
+use std::alloc::Global;
+use sw_list::ListOf;
+use sw_reader::{Cursor, Stop};
+use sw_tree::{ClosureParam, ClosureParamList, Name, NameList, Names, TypeTree};
+
+/// A capture list.
+#[tactic(auto, unfolding(sw_grammar::specs::Closures::captures))]
+pub fn captures(
+    alloc: Global,
+    names: &Names,
+    tokens: &mut Cursor<'_>,
+    depth: u32,
+) -> Result<NameList, Stop>
+    ensures { Gives (read (id_in names.now) depth (captures (id_in names.now)) tokens.old) result
+        tokens.new }
+{
+    let (_, words) = captured_list(alloc, names, tokens, depth)?;
+    Ok(words)
+}
+
+/// The words of a capture list, and where its `[` stands.
+fn captured_list(
+    alloc: Global,
+    names: &Names,
+    tokens: &mut Cursor<'_>,
+    depth: u32,
+) -> Result<(u32, NameList), Stop>
+    ensures { Gives (read (id_in names.now) depth (nest (quote (codes "[")) in_captures)
+        tokens.old) result tokens.new }
+{
+    let at = tokens.open("[", depth)?;
+    let inside = captured_words(alloc, names, tokens, depth - 1)?;
+    Ok((at, inside))
+}
+
+/// The words of a capture list up to its `]`.
+#[tactic(auto, unfolding(sw_grammar::specs::Closures::captured_words))]
+fn captured_words(
+    alloc: Global,
+    names: &Names,
+    tokens: &mut Cursor<'_>,
+    depth: u32,
+) -> Result<NameList, Stop>
+    ensures { Gives (read (id_in names.now) depth (captured_words (id_in names.now)) tokens.old)
+        result tokens.new }
+{
+    let first = captured(names, tokens, depth)?;
+    let words = more_captured(alloc, names, tokens, depth, first)?;
+    tokens.expect("]")?;
+    Ok(words)
+}
+
+/// A word of a capture list.
+#[tactic(auto, unfolding(sw_grammar::specs::Closures::captured))]
+fn captured(names: &Names, tokens: &mut Cursor<'_>, depth: u32) -> Result<Name, Stop>
+    ensures { Gives (read (id_in names.now) depth (captured (id_in names.now)) tokens.old) result
+        tokens.new }
+{
+    word(names, tokens)
+}
+
+/// The words of a capture list after the first, each with a `,` before it.
+fn more_captured(
+    alloc: Global,
+    names: &Names,
+    tokens: &mut Cursor<'_>,
+    depth: u32,
+    first: Name,
+) -> Result<NameList, Stop>
+    ensures { Gives (read (id_in names.now) depth (more_of (id_in names.now) (first ∷ [])
+        (captured (id_in names.now))) tokens.old) result tokens.new }
+{
+    let mut words = Vec::new(alloc);
+    words.push(first)?;
+    while tokens.skip(",") {
+        words.push(captured(names, tokens, depth)?)?;
+    }
+    Ok(ListOf::from_vec(words))
+}
+
+/// A capture list, where it comes.
+#[tactic(auto, unfolding(sw_grammar::specs::Closures::captures_if))]
+pub fn captures_if(
+    alloc: Global,
+    names: &Names,
+    tokens: &mut Cursor<'_>,
+    depth: u32,
+) -> Result<NameList, Stop>
+    ensures { Gives (read (id_in names.now) depth (captures_if (id_in names.now)) tokens.old)
+        result tokens.new }
+{
+    if !tokens.sees("[") {
+        return Ok(ListOf::new(alloc));
+    }
+    captures(alloc, names, tokens, depth)
+}
+
+/// A parameter of a closure.
+#[tactic(auto, unfolding(sw_grammar::specs::Closures::closure_param))]
+fn closure_param(
+    alloc: Global,
+    names: &Names,
+    tokens: &mut Cursor<'_>,
+    depth: u32,
+) -> Result<ClosureParam, Stop>
+    ensures { Gives (read (id_in names.now) depth (closure_param (id_in names.now)) tokens.old)
+        result tokens.new }
+{
+    let name = word(names, tokens)?;
+    tokens.expect(":")?;
+    let ty = type_tree(alloc, names, tokens, depth)?;
+    Ok(ClosureParam { name, ty })
+}
+
+/// The parameters of a closure, and where their `(` stands.
+fn closure_params(
+    alloc: Global,
+    names: &Names,
+    tokens: &mut Cursor<'_>,
+    depth: u32,
+) -> Result<(u32, ClosureParamList), Stop>
+    ensures { Gives (read (id_in names.now) depth (nest (quote (codes "(")) in_closure_params)
+        tokens.old) result tokens.new }
+{
+    let at = tokens.open("(", depth)?;
+    let inside = params_inside(alloc, names, tokens, depth - 1)?;
+    Ok((at, inside))
+}
+
+/// The parameters of a closure up to their `)`; there may be none.
+#[tactic(auto, unfolding(sw_grammar::specs::Closures::closure_params))]
+fn params_inside(
+    alloc: Global,
+    names: &Names,
+    tokens: &mut Cursor<'_>,
+    depth: u32,
+) -> Result<ClosureParamList, Stop>
+    ensures { Gives (read (id_in names.now) depth (closure_params (id_in names.now)) tokens.old)
+        result tokens.new }
+{
+    if tokens.sees(")") {
+        tokens.expect(")")?;
+        return Ok(ListOf::new(alloc));
+    }
+    some_params(alloc, names, tokens, depth)
+}
+
+/// One parameter at least, up to a `)`.
+fn some_params(
+    alloc: Global,
+    names: &Names,
+    tokens: &mut Cursor<'_>,
+    depth: u32,
+) -> Result<ClosureParamList, Stop>
+    ensures { Gives (read (id_in names.now) depth (some_of (id_in names.now) (codes ")")
+        (closure_param (id_in names.now))) tokens.old) result tokens.new }
+{
+    let first = closure_param(alloc, names, tokens, depth)?;
+    let params = more_params(alloc, names, tokens, depth, first)?;
+    tokens.expect(")")?;
+    Ok(params)
+}
+
+/// The parameters after the first, each with a `,` before it.
+fn more_params(
+    alloc: Global,
+    names: &Names,
+    tokens: &mut Cursor<'_>,
+    depth: u32,
+    first: ClosureParam,
+) -> Result<ClosureParamList, Stop>
+    ensures { Gives (read (id_in names.now) depth (more_of (id_in names.now) (first ∷ [])
+        (closure_param (id_in names.now))) tokens.old) result tokens.new }
+{
+    let mut params = Vec::new(alloc);
+    params.push(first)?;
+    while tokens.skip(",") {
+        params.push(closure_param(alloc, names, tokens, depth)?)?;
+    }
+    Ok(ListOf::from_vec(params))
+}
+
+/// `->` and a result type, or nothing.
+#[tactic(auto, unfolding(sw_grammar::specs::Closures::result_if))]
+fn result_if(
+    alloc: Global,
+    names: &Names,
+    tokens: &mut Cursor<'_>,
+    depth: u32,
+) -> Result<Option<TypeTree>, Stop>
+    ensures { Gives (read (id_in names.now) depth (result_if (id_in names.now)) tokens.old) result
+        tokens.new }
+{
+    if !tokens.sees("->") {
+        return Ok(None);
+    }
+    tokens.expect("->")?;
+    Ok(Some(type_tree(alloc, names, tokens, depth)?))
+}
+
+/// The parameters of a closure, and its result type.
+#[tactic(auto, unfolding(sw_grammar::specs::Closures::signature))]
+pub fn signature(
+    alloc: Global,
+    names: &Names,
+    tokens: &mut Cursor<'_>,
+    depth: u32,
+) -> Result<(ClosureParamList, Option<TypeTree>), Stop>
+    ensures { Gives (read (id_in names.now) depth (signature (id_in names.now)) tokens.old) result
+        tokens.new }
+{
+    let (_, params) = closure_params(alloc, names, tokens, depth)?;
+    let result = result_if(alloc, names, tokens, depth)?;
+    Ok((params, result))
+}
+
+/// The same, where they come.
+#[tactic(auto, unfolding(sw_grammar::specs::Closures::signature_if))]
+pub fn signature_if(
+    alloc: Global,
+    names: &Names,
+    tokens: &mut Cursor<'_>,
+    depth: u32,
+) -> Result<(ClosureParamList, Option<TypeTree>), Stop>
+    ensures { Gives (read (id_in names.now) depth (signature_if (id_in names.now)) tokens.old)
+        result tokens.new }
+{
+    if !tokens.sees("(") {
+        return Ok((ListOf::new(alloc), None));
+    }
+    signature(alloc, names, tokens, depth)
+}
+
+/// The brackets of a task's closure, and its result type.
+#[tactic(auto, unfolding(sw_grammar::specs::Closures::task_signature))]
+pub fn task_signature(
+    alloc: Global,
+    names: &Names,
+    tokens: &mut Cursor<'_>,
+    depth: u32,
+) -> Result<(ClosureParamList, Option<TypeTree>), Stop>
+    ensures { Gives (read (id_in names.now) depth (task_signature (id_in names.now)) tokens.old)
+        result tokens.new }
+{
+    empty(names, tokens, depth)?;
+    tokens.skip("async");
+    let result = result_if(alloc, names, tokens, depth)?;
+    Ok((ListOf::new(alloc), result))
+}
+
+/// The same, where they come.
+#[tactic(auto, unfolding(sw_grammar::specs::Closures::task_signature_if))]
+pub fn task_signature_if(
+    alloc: Global,
+    names: &Names,
+    tokens: &mut Cursor<'_>,
+    depth: u32,
+) -> Result<(ClosureParamList, Option<TypeTree>), Stop>
+    ensures { Gives (read (id_in names.now) depth (task_signature_if (id_in names.now))
+        tokens.old) result tokens.new }
+{
+    if !tokens.sees("(") {
+        return Ok((ListOf::new(alloc), None));
+    }
+    task_signature(alloc, names, tokens, depth)
+}
+
+/// `()`; gives where both brackets stand.
+#[tactic(auto, unfolding(sw_grammar::specs::Exprs::nothing))]
+pub fn empty(names: &Names, tokens: &mut Cursor<'_>, depth: u32) -> Result<(u32, u32), Stop>
+    ensures { Gives (read (id_in names.now) depth (nest (quote (codes "(")) in_empty) tokens.old)
+        result tokens.new }
+{
+    let at = tokens.open("(", depth)?;
+    let inside = tokens.expect(")")?;
+    Ok((at, inside))
+}

@@ -1,0 +1,310 @@
+//! Operators and literals, and the tokens with which parts begin.
+
+ghost use Rattle.std.specs.Prelude.{◌≡◌, ◌<◌, [], ◌∷◌, length, codes};
+ghost use Rattle.sw_reader.specs.Outcome.{Gives};
+ghost use Rattle.sw_reader.specs.Reader.{next};
+ghost use Rattle.sw_reader.specs.Relations.{head};
+ghost use Rattle.sw_reader.specs.Sets.{starts, one_of, not_first};
+ghost use Rattle.sw_grammar.specs.Tokens.{times, plus, compares, assign_ops, prefix_ops, infix_op};
+ghost use Rattle.sw_grammar.specs.Tokens.{literal_first, expr_first, stmt_first, an_equals};
+ghost use Rattle.sw_grammar.specs.Tokens.{prefix_of, infix_of, assign_of, infix_in, a_prefix};
+ghost use Rattle.sw_grammar.specs.Tokens.{an_assignment};
+ghost use Rattle.sw_parse_parts.specs.Taking.{TakesAs, infix_value, prefix_value, assign_value};
+ghost use Rattle.sw_parse_parts.specs.Taking.{literal_value};
+ghost use Rattle.sw_parse_parts.specs.Begin.{booleans, value_first, expr_words, stmt_words};
+
+use super::words::sees_value_word;
+use sw_reader::{Cursor, Stop};
+use sw_token::Fixity;
+use sw_tree::{AssignOp, Expr, InfixOp, PrefixOp};
+
+/// The operator with this text, between operands.
+fn infix_of(text: &str) -> InfixOp
+    ensures { result ≡ infix_of text.now }
+{
+    match text {
+        "*" => InfixOp::Multiply,
+        "/" => InfixOp::Divide,
+        "%" => InfixOp::Remainder,
+        "+" => InfixOp::Add,
+        "-" => InfixOp::Subtract,
+        "==" => InfixOp::Equal,
+        "!=" => InfixOp::NotEqual,
+        "<" => InfixOp::Less,
+        "<=" => InfixOp::LessEqual,
+        ">" => InfixOp::Greater,
+        ">=" => InfixOp::GreaterEqual,
+        "&&" => InfixOp::And,
+        _ => InfixOp::Or,
+    }
+}
+
+/// The operator of an assignment with this text.
+fn assign_of(text: &str) -> AssignOp
+    ensures { result ≡ assign_of text.now }
+{
+    match text {
+        "=" => AssignOp::Set,
+        "+=" => AssignOp::Add,
+        "-=" => AssignOp::Subtract,
+        "*=" => AssignOp::Multiply,
+        "/=" => AssignOp::Divide,
+        _ => AssignOp::Remainder,
+    }
+}
+
+/// Takes the next token as an operator between operands.
+fn take_infix(tokens: &mut Cursor<'_>) -> (InfixOp, u32)
+    requires { 0 < length tokens.old }
+    ensures { TakesAs infix_value tokens.old result tokens.new }
+{
+    let op = infix_of(tokens.text());
+    (op, tokens.take())
+}
+
+/// Whether the next token is one of the operators `*`, `/` and `%`.
+pub fn sees_times(tokens: &Cursor<'_>) -> bool
+    ensures { result ≡ starts times (head tokens.now) }
+{
+    let texts: [&str; 3] = ["*", "/", "%"];
+    tokens.sees_operator_of(texts.as_slice(), Fixity::Infix)
+}
+
+/// Whether the next token is one of the operators `+` and `-`.
+pub fn sees_plus(tokens: &Cursor<'_>) -> bool
+    ensures { result ≡ starts plus (head tokens.now) }
+{
+    let texts: [&str; 2] = ["+", "-"];
+    tokens.sees_operator_of(texts.as_slice(), Fixity::Infix)
+}
+
+/// Whether the next token is an operator that compares.
+pub fn sees_compare(tokens: &Cursor<'_>) -> bool
+    ensures { result ≡ starts compares (head tokens.now) }
+{
+    let texts: [&str; 6] = ["==", "!=", "<", "<=", ">", ">="];
+    tokens.sees_operator_of(texts.as_slice(), Fixity::Infix)
+}
+
+/// Whether the next token is an operator that assigns.
+pub fn sees_assign(tokens: &Cursor<'_>) -> bool
+    ensures { result ≡ starts assign_ops (head tokens.now) }
+{
+    let texts: [&str; 6] = ["=", "+=", "-=", "*=", "/=", "%="];
+    tokens.sees_operator_of(texts.as_slice(), Fixity::Infix)
+}
+
+/// Whether the next token is an operator before its operand.
+pub fn sees_prefix(tokens: &Cursor<'_>) -> bool
+    ensures { result ≡ starts prefix_ops (head tokens.now) }
+{
+    let texts: [&str; 2] = ["!", "-"];
+    tokens.sees_operator_of(texts.as_slice(), Fixity::Prefix)
+}
+
+/// Takes such an operator, and gives where it stands.
+pub fn infix_times(tokens: &mut Cursor<'_>) -> Result<(InfixOp, u32), Stop>
+    ensures { Gives (next (infix_in times (codes "*")) tokens.old) result tokens.new }
+{
+    if !sees_times(tokens) {
+        return Err(tokens.stop());
+    }
+    Ok(take_infix(tokens))
+}
+
+/// Takes such an operator, and gives where it stands.
+pub fn infix_plus(tokens: &mut Cursor<'_>) -> Result<(InfixOp, u32), Stop>
+    ensures { Gives (next (infix_in plus (codes "+")) tokens.old) result tokens.new }
+{
+    if !sees_plus(tokens) {
+        return Err(tokens.stop());
+    }
+    Ok(take_infix(tokens))
+}
+
+/// Takes such an operator, and gives where it stands.
+pub fn infix_compare(tokens: &mut Cursor<'_>) -> Result<(InfixOp, u32), Stop>
+    ensures { Gives (next (infix_in compares (codes "==")) tokens.old) result tokens.new }
+{
+    if !sees_compare(tokens) {
+        return Err(tokens.stop());
+    }
+    Ok(take_infix(tokens))
+}
+
+/// Takes such an operator, and gives where it stands.
+pub fn infix_and(tokens: &mut Cursor<'_>) -> Result<(InfixOp, u32), Stop>
+    ensures { Gives (next (infix_in (infix_op (codes "&&")) (codes "&&")) tokens.old) result
+        tokens.new }
+{
+    if !tokens.sees_operator("&&", Fixity::Infix) {
+        return Err(tokens.stop());
+    }
+    Ok(take_infix(tokens))
+}
+
+/// Takes such an operator, and gives where it stands.
+pub fn infix_or(tokens: &mut Cursor<'_>) -> Result<(InfixOp, u32), Stop>
+    ensures { Gives (next (infix_in (infix_op (codes "||")) (codes "||")) tokens.old) result
+        tokens.new }
+{
+    if !tokens.sees_operator("||", Fixity::Infix) {
+        return Err(tokens.stop());
+    }
+    Ok(take_infix(tokens))
+}
+
+/// Takes an operator before its operand, and gives where it stands.
+pub fn prefix_op(tokens: &mut Cursor<'_>) -> Result<(PrefixOp, u32), Stop>
+    ensures { Gives (next a_prefix tokens.old) result tokens.new }
+{
+    if !sees_prefix(tokens) {
+        return Err(tokens.stop());
+    }
+    Ok(take_prefix(tokens))
+}
+
+fn take_prefix(tokens: &mut Cursor<'_>) -> (PrefixOp, u32)
+    requires { 0 < length tokens.old }
+    ensures { TakesAs prefix_value tokens.old result tokens.new }
+{
+    let op = match tokens.text() {
+        "!" => PrefixOp::Not,
+        _ => PrefixOp::Negate,
+    };
+    (op, tokens.take())
+}
+
+/// Takes an operator that assigns, and gives where it stands.
+pub fn assign_op(tokens: &mut Cursor<'_>) -> Result<(AssignOp, u32), Stop>
+    ensures { Gives (next an_assignment tokens.old) result tokens.new }
+{
+    if !sees_assign(tokens) {
+        return Err(tokens.stop());
+    }
+    Ok(take_assign(tokens))
+}
+
+fn take_assign(tokens: &mut Cursor<'_>) -> (AssignOp, u32)
+    requires { 0 < length tokens.old }
+    ensures { TakesAs assign_value tokens.old result tokens.new }
+{
+    let op = assign_of(tokens.text());
+    (op, tokens.take())
+}
+
+/// Takes a `=` between operands.
+pub fn equals(tokens: &mut Cursor<'_>) -> Result<u32, Stop>
+    ensures { Gives (next an_equals tokens.old) result tokens.new }
+{
+    if !tokens.sees_operator("=", Fixity::Infix) {
+        return Err(tokens.stop());
+    }
+    Ok(tokens.take())
+}
+
+/// Whether the next token is a literal.
+pub fn sees_literal(tokens: &Cursor<'_>) -> bool
+    ensures { result ≡ starts literal_first (head tokens.now) }
+{
+    if tokens.sees_integer() {
+        return true;
+    }
+    sees_boolean(tokens)
+}
+
+fn sees_boolean(tokens: &Cursor<'_>) -> bool
+    ensures { result ≡ starts booleans (head tokens.now) }
+{
+    let texts: [&str; 2] = ["true", "false"];
+    tokens.sees_one_of(texts.as_slice())
+}
+
+/// A literal.
+#[tactic(auto, unfolding(sw_grammar::specs::Exprs::a_literal, sw_reader::specs::Terminals::literal))]
+pub fn a_literal(tokens: &mut Cursor<'_>) -> Result<Expr, Stop>
+    ensures { Gives (literal_value tokens.old) result tokens.new }
+{
+    if tokens.sees_integer() {
+        let (at, value) = tokens.integer()?;
+        return Ok(Expr::Int { at, value });
+    }
+    if tokens.sees("true") {
+        return Ok(Expr::Bool {
+            at: tokens.expect("true")?,
+            value: true,
+        });
+    }
+    Ok(Expr::Bool {
+        at: tokens.expect("false")?,
+        value: false,
+    })
+}
+
+/// Whether the next token is `let` or `var`.
+pub fn sees_binding(tokens: &Cursor<'_>) -> bool
+    ensures { result ≡ starts (one_of (codes "let" ∷ codes "var" ∷ [])) (head tokens.now) }
+{
+    let texts: [&str; 2] = ["let", "var"];
+    tokens.sees_one_of(texts.as_slice())
+}
+
+/// Whether the next token is a word that names a value, an integer literal or an operator before
+/// its operand.
+fn begins_value(tokens: &Cursor<'_>) -> bool
+    ensures { result ≡ starts value_first (head tokens.now) }
+{
+    if sees_value_word(tokens) {
+        return true;
+    }
+    if tokens.sees_integer() {
+        return true;
+    }
+    sees_prefix(tokens)
+}
+
+/// Whether a statement begins with the next token.
+pub fn sees_stmt(tokens: &Cursor<'_>) -> bool
+    ensures { result ≡ starts stmt_first (head tokens.now) }
+{
+    if begins_value(tokens) {
+        return true;
+    }
+    sees_stmt_word(tokens)
+}
+
+fn sees_stmt_word(tokens: &Cursor<'_>) -> bool
+    ensures { result ≡ starts stmt_words (head tokens.now) }
+{
+    let texts: [&str; 14] = [
+        "await", "true", "false", "self", "Task", "let", "var", "_", "if", "while", "switch",
+        "return", "break", "continue",
+    ];
+    tokens.sees_one_of(texts.as_slice())
+}
+
+/// Whether an expression begins with the next token, which isn't the first on its line.
+pub fn sees_expr_on_line(tokens: &Cursor<'_>) -> bool
+    ensures { result ≡ starts (not_first expr_first) (head tokens.now) }
+{
+    if tokens.begins_line() {
+        return false;
+    }
+    sees_expr(tokens)
+}
+
+fn sees_expr(tokens: &Cursor<'_>) -> bool
+    ensures { result ≡ starts expr_first (head tokens.now) }
+{
+    if begins_value(tokens) {
+        return true;
+    }
+    sees_expr_word(tokens)
+}
+
+fn sees_expr_word(tokens: &Cursor<'_>) -> bool
+    ensures { result ≡ starts expr_words (head tokens.now) }
+{
+    let texts: [&str; 7] = ["await", "true", "false", "self", "Task", "(", "{"];
+    tokens.sees_one_of(texts.as_slice())
+}

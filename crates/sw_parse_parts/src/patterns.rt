@@ -1,0 +1,103 @@
+//! Patterns of the arms of a `switch`.
+
+ghost use Rattle.std.specs.Prelude.{[], ◌∷◌, codes};
+ghost use Rattle.sw_reader.specs.Form.Form.{nest};
+ghost use Rattle.sw_reader.specs.Quotes.{quote};
+ghost use Rattle.sw_grammar.specs.Nests.{in_patterns};
+ghost use Rattle.sw_grammar.specs.Types.{more_of};
+ghost use Rattle.sw_grammar.specs.Stmts.{pattern, patterns_inside, patterns_if};
+ghost use Rattle.sw_reader.specs.Outcome.{Gives};
+ghost use Rattle.sw_tree.specs.Names.{id_in};
+ghost use Rattle.sw_grammar.specs.Reading.{read};
+
+use super::words::word;
+use std::alloc::Global;
+use sw_list::ListOf;
+use sw_reader::{Cursor, Stop};
+use sw_tree::{Names, Pattern, PatternList};
+
+/// The patterns of an arm, where they come.
+#[tactic(auto, unfolding(sw_grammar::specs::Stmts::patterns_if))]
+pub fn patterns_if(
+    alloc: Global,
+    names: &Names,
+    tokens: &mut Cursor<'_>,
+    depth: u32,
+) -> Result<PatternList, Stop>
+    ensures { Gives (read (id_in names.now) depth (patterns_if (id_in names.now)) tokens.old)
+        result tokens.new }
+{
+    if !tokens.sees("(") {
+        return Ok(ListOf::new(alloc));
+    }
+    let (_, patterns) = patterns(alloc, names, tokens, depth)?;
+    Ok(patterns)
+}
+
+/// The patterns of an arm, and where their `(` stands.
+fn patterns(
+    alloc: Global,
+    names: &Names,
+    tokens: &mut Cursor<'_>,
+    depth: u32,
+) -> Result<(u32, PatternList), Stop>
+    ensures { Gives (read (id_in names.now) depth (nest (quote (codes "(")) in_patterns)
+        tokens.old) result tokens.new }
+{
+    let at = tokens.open("(", depth)?;
+    let inside = patterns_inside(alloc, names, tokens, depth - 1)?;
+    Ok((at, inside))
+}
+
+/// Patterns up to a `)`.
+#[tactic(auto, unfolding(sw_grammar::specs::Stmts::patterns_inside))]
+fn patterns_inside(
+    alloc: Global,
+    names: &Names,
+    tokens: &mut Cursor<'_>,
+    depth: u32,
+) -> Result<PatternList, Stop>
+    ensures { Gives (read (id_in names.now) depth (patterns_inside (id_in names.now)) tokens.old)
+        result tokens.new }
+{
+    let first = pattern(names, tokens, depth)?;
+    let patterns = more_patterns(alloc, names, tokens, depth, first)?;
+    tokens.expect(")")?;
+    Ok(patterns)
+}
+
+/// The patterns after the first, each with a `,` before it.
+fn more_patterns(
+    alloc: Global,
+    names: &Names,
+    tokens: &mut Cursor<'_>,
+    depth: u32,
+    first: Pattern,
+) -> Result<PatternList, Stop>
+    ensures { Gives (read (id_in names.now) depth (more_of (id_in names.now) (first ∷ []) (pattern
+        (id_in names.now))) tokens.old) result tokens.new }
+{
+    let mut patterns = Vec::new(alloc);
+    patterns.push(first)?;
+    while tokens.skip(",") {
+        patterns.push(pattern(names, tokens, depth)?)?;
+    }
+    Ok(ListOf::from_vec(patterns))
+}
+
+/// A pattern.
+#[tactic(auto, unfolding(sw_grammar::specs::Stmts::pattern))]
+fn pattern(names: &Names, tokens: &mut Cursor<'_>, depth: u32) -> Result<Pattern, Stop>
+    ensures { Gives (read (id_in names.now) depth (pattern (id_in names.now)) tokens.old) result
+        tokens.new }
+{
+    if tokens.sees("_") {
+        return Ok(Pattern::Skip {
+            at: tokens.expect("_")?,
+        });
+    }
+    tokens.expect("let")?;
+    Ok(Pattern::Let {
+        name: word(names, tokens)?,
+    })
+}

@@ -1,0 +1,259 @@
+//! Written types.
+
+ghost use Rattle.std.specs.Prelude.{[], ◌∷◌, codes};
+ghost use Rattle.sw_reader.specs.Form.Form.{nest};
+ghost use Rattle.sw_reader.specs.Outcome.{Gives};
+ghost use Rattle.sw_reader.specs.Quotes.{quote};
+ghost use Rattle.sw_tree.specs.Names.{id_in};
+ghost use Rattle.sw_grammar.specs.Nests.{in_types, in_result, in_task_type};
+ghost use Rattle.sw_grammar.specs.Types.{type, round_type, marked_type, task_type};
+ghost use Rattle.sw_grammar.specs.Types.{types, payload, more_of, task_inner};
+ghost use Rattle.sw_grammar.specs.Stmts.{type_if};
+ghost use Rattle.sw_grammar.specs.Reading.{read};
+
+use super::words::{sendable, task_word, value_word};
+use std::alloc::Global;
+use sw_list::{Boxed, ListOf};
+use sw_reader::{Cursor, Stop};
+use sw_tree::{Names, TypeTree, TypeTreeList};
+
+/// A type.
+#[cycle(types)]
+pub fn type_tree(
+    alloc: Global,
+    names: &Names,
+    tokens: &mut Cursor<'_>,
+    depth: u32,
+) -> Result<TypeTree, Stop>
+    ensures { Gives (read (id_in names.now) depth (type (id_in names.now)) tokens.old) result
+        tokens.new }
+{
+    if tokens.sees("@Sendable") {
+        return marked_type(alloc, names, tokens, depth);
+    }
+    if tokens.sees("(") {
+        return round_type(alloc, names, tokens, depth);
+    }
+    if tokens.sees("Task") {
+        return task_type(alloc, names, tokens, depth);
+    }
+    Ok(TypeTree::Named {
+        name: value_word(names, tokens)?,
+    })
+}
+
+/// `@Sendable` and a function type.
+#[cycle(types)]
+#[tactic(auto, unfolding(sw_grammar::specs::Types::marked_type))]
+fn marked_type(
+    alloc: Global,
+    names: &Names,
+    tokens: &mut Cursor<'_>,
+    depth: u32,
+) -> Result<TypeTree, Stop>
+    ensures { Gives (read (id_in names.now) depth (marked_type (id_in names.now)) tokens.old)
+        result tokens.new }
+{
+    let mark = sendable(names, tokens)?;
+    let (at, params) = params(alloc, names, tokens, depth)?;
+    let (_, result) = result(alloc, names, tokens, depth)?;
+    Ok(TypeTree::Arrow {
+        at,
+        mark: Some(mark),
+        params,
+        result: Boxed::new(alloc, result)?,
+    })
+}
+
+/// A function type, or `()`.
+#[cycle(types)]
+#[tactic(auto, unfolding(sw_grammar::specs::Types::round_type))]
+fn round_type(
+    alloc: Global,
+    names: &Names,
+    tokens: &mut Cursor<'_>,
+    depth: u32,
+) -> Result<TypeTree, Stop>
+    ensures { Gives (read (id_in names.now) depth (round_type (id_in names.now)) tokens.old)
+        result tokens.new }
+{
+    let (at, params) = params(alloc, names, tokens, depth)?;
+    if tokens.sees("->") {
+        let (_, result) = result(alloc, names, tokens, depth)?;
+        return Ok(TypeTree::Arrow {
+            at,
+            mark: None,
+            params,
+            result: Boxed::new(alloc, result)?,
+        });
+    }
+    if !params.is_empty() {
+        return Err(tokens.stop());
+    }
+    Ok(TypeTree::Unit { at })
+}
+
+/// The types in brackets, and where their `(` stands.
+#[cycle(types)]
+fn params(
+    alloc: Global,
+    names: &Names,
+    tokens: &mut Cursor<'_>,
+    depth: u32,
+) -> Result<(u32, TypeTreeList), Stop>
+    ensures { Gives (read (id_in names.now) depth (nest (quote (codes "(")) in_types) tokens.old)
+        result tokens.new }
+{
+    let at = tokens.open("(", depth)?;
+    let inside = types(alloc, names, tokens, depth - 1)?;
+    Ok((at, inside))
+}
+
+/// The result of a function type, and where its `->` stands.
+#[cycle(types)]
+fn result(
+    alloc: Global,
+    names: &Names,
+    tokens: &mut Cursor<'_>,
+    depth: u32,
+) -> Result<(u32, TypeTree), Stop>
+    ensures { Gives (read (id_in names.now) depth (nest (quote (codes "->")) in_result)
+        tokens.old) result tokens.new }
+{
+    let at = tokens.open("->", depth)?;
+    let inside = type_tree(alloc, names, tokens, depth - 1)?;
+    Ok((at, inside))
+}
+
+/// `Task<T, Never>`, or the type with the name `Task`.
+#[cycle(types)]
+#[tactic(auto, unfolding(sw_grammar::specs::Types::task_type))]
+fn task_type(
+    alloc: Global,
+    names: &Names,
+    tokens: &mut Cursor<'_>,
+    depth: u32,
+) -> Result<TypeTree, Stop>
+    ensures { Gives (read (id_in names.now) depth (task_type (id_in names.now)) tokens.old) result
+        tokens.new }
+{
+    let name = task_word(names, tokens)?;
+    if !tokens.sees("<") {
+        return Ok(TypeTree::Named { name });
+    }
+    let (_, inner) = task_result(alloc, names, tokens, depth)?;
+    Ok(TypeTree::TaskOf {
+        at: name.at,
+        inner: Boxed::new(alloc, inner)?,
+    })
+}
+
+/// The result type of a task, and where its `<` stands.
+#[cycle(types)]
+fn task_result(
+    alloc: Global,
+    names: &Names,
+    tokens: &mut Cursor<'_>,
+    depth: u32,
+) -> Result<(u32, TypeTree), Stop>
+    ensures { Gives (read (id_in names.now) depth (nest (quote (codes "<")) in_task_type)
+        tokens.old) result tokens.new }
+{
+    let at = tokens.open("<", depth)?;
+    let inside = task_inner(alloc, names, tokens, depth - 1)?;
+    Ok((at, inside))
+}
+
+/// The result type of a task, after its `<`, up to its `>`.
+#[cycle(types)]
+#[tactic(auto, unfolding(sw_grammar::specs::Types::task_inner))]
+fn task_inner(
+    alloc: Global,
+    names: &Names,
+    tokens: &mut Cursor<'_>,
+    depth: u32,
+) -> Result<TypeTree, Stop>
+    ensures { Gives (read (id_in names.now) depth (task_inner (id_in names.now)) tokens.old)
+        result tokens.new }
+{
+    let inner = type_tree(alloc, names, tokens, depth)?;
+    tokens.expect(",")?;
+    tokens.expect("Never")?;
+    tokens.expect(">")?;
+    Ok(inner)
+}
+
+/// Types up to a `)`; there may be none.
+#[cycle(types)]
+#[tactic(auto, unfolding(sw_grammar::specs::Types::types, sw_grammar::specs::Types::payload))]
+fn types(
+    alloc: Global,
+    names: &Names,
+    tokens: &mut Cursor<'_>,
+    depth: u32,
+) -> Result<TypeTreeList, Stop>
+    ensures { Gives (read (id_in names.now) depth (types (id_in names.now)) tokens.old) result
+        tokens.new }
+{
+    if tokens.sees(")") {
+        tokens.expect(")")?;
+        return Ok(ListOf::new(alloc));
+    }
+    some_types(alloc, names, tokens, depth)
+}
+
+/// One type at least, up to a `)`.
+#[cycle(types)]
+#[tactic(auto, unfolding(sw_grammar::specs::Types::payload))]
+pub fn some_types(
+    alloc: Global,
+    names: &Names,
+    tokens: &mut Cursor<'_>,
+    depth: u32,
+) -> Result<TypeTreeList, Stop>
+    ensures { Gives (read (id_in names.now) depth (payload (id_in names.now)) tokens.old) result
+        tokens.new }
+{
+    let first = type_tree(alloc, names, tokens, depth)?;
+    let types = more_types(alloc, names, tokens, depth, first)?;
+    tokens.expect(")")?;
+    Ok(types)
+}
+
+/// The types of a list after the first, each with a `,` before it.
+#[cycle(types)]
+fn more_types(
+    alloc: Global,
+    names: &Names,
+    tokens: &mut Cursor<'_>,
+    depth: u32,
+    first: TypeTree,
+) -> Result<TypeTreeList, Stop>
+    ensures { Gives (read (id_in names.now) depth (more_of (id_in names.now) (first ∷ []) (type
+        (id_in names.now))) tokens.old) result tokens.new }
+{
+    let mut types = Vec::new(alloc);
+    types.push(first)?;
+    while tokens.skip(",") {
+        types.push(type_tree(alloc, names, tokens, depth)?)?;
+    }
+    Ok(ListOf::from_vec(types))
+}
+
+/// `: T`, or nothing.
+#[tactic(auto, unfolding(sw_grammar::specs::Stmts::type_if))]
+pub fn type_if(
+    alloc: Global,
+    names: &Names,
+    tokens: &mut Cursor<'_>,
+    depth: u32,
+) -> Result<Option<TypeTree>, Stop>
+    ensures { Gives (read (id_in names.now) depth (type_if (id_in names.now)) tokens.old) result
+        tokens.new }
+{
+    if !tokens.sees(":") {
+        return Ok(None);
+    }
+    tokens.expect(":")?;
+    Ok(Some(type_tree(alloc, names, tokens, depth)?))
+}

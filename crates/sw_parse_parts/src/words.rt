@@ -1,0 +1,102 @@
+//! The words that name something, and attributes.
+
+ghost use Rattle.std.specs.Prelude.{◌≡◌, ◌<◌, length, codes, IsTrue};
+ghost use Rattle.sw_reader.specs.Outcome.{Gives};
+ghost use Rattle.sw_reader.specs.Reader.{next};
+ghost use Rattle.sw_reader.specs.Relations.{head};
+ghost use Rattle.sw_reader.specs.Sets.{starts, word, quoted, attribute};
+ghost use Rattle.sw_tree.specs.Names.{id_in};
+ghost use Rattle.sw_grammar.specs.Tokens.{value_word, at_word, name_of, at_name, name_in, at_in};
+ghost use Rattle.sw_parse_parts.specs.Taking.{TakesAs};
+
+use sw_reader::{Cursor, Stop};
+use sw_tree::{Name, Names};
+
+/// Takes the next token as a name.
+fn take_name(names: &Names, tokens: &mut Cursor<'_>) -> Name
+    requires { 0 < length tokens.old }
+    ensures { TakesAs (name_of (id_in names.now)) tokens.old result tokens.new }
+{
+    let id = names.id_of(tokens.text());
+    let at = tokens.take();
+    Name { at, id }
+}
+
+/// Takes the next token, which is an attribute, as a name.
+fn take_attribute(names: &Names, tokens: &mut Cursor<'_>) -> Name
+    requires { IsTrue (starts attribute (head tokens.old)) }
+    ensures { TakesAs (at_name (id_in names.now)) tokens.old result tokens.new }
+{
+    let id = names.id_of(tokens.attribute());
+    let at = tokens.take();
+    Name { at, id }
+}
+
+/// Takes a word that names something.
+pub fn word(names: &Names, tokens: &mut Cursor<'_>) -> Result<Name, Stop>
+    ensures { Gives (next (name_in (id_in names.now) word (codes "print")) tokens.old) result
+        tokens.new }
+{
+    if !tokens.sees_word() {
+        return Err(tokens.stop());
+    }
+    Ok(take_name(names, tokens))
+}
+
+/// Whether the next token is a word that names a value: any that names something, but `Task`.
+pub fn sees_value_word(tokens: &Cursor<'_>) -> bool
+    ensures { result ≡ starts value_word (head tokens.now) }
+{
+    tokens.sees_word() && !tokens.sees("Task")
+}
+
+/// Takes a word that names a value.
+pub fn value_word(names: &Names, tokens: &mut Cursor<'_>) -> Result<Name, Stop>
+    ensures { Gives (next (name_in (id_in names.now) value_word (codes "print")) tokens.old) result
+        tokens.new }
+{
+    if !sees_value_word(tokens) {
+        return Err(tokens.stop());
+    }
+    Ok(take_name(names, tokens))
+}
+
+/// Takes the word `Task`.
+pub fn task_word(names: &Names, tokens: &mut Cursor<'_>) -> Result<Name, Stop>
+    ensures { Gives (next (name_in (id_in names.now) (quoted (codes "Task")) (codes "Task"))
+        tokens.old) result tokens.new }
+{
+    if !tokens.sees("Task") {
+        return Err(tokens.stop());
+    }
+    Ok(take_name(names, tokens))
+}
+
+/// Whether the next token is an attribute other than `@concurrent`.
+pub fn sees_attribute(tokens: &Cursor<'_>) -> bool
+    ensures { result ≡ starts at_word (head tokens.now) }
+{
+    tokens.sees_attribute() && !tokens.sees("@concurrent")
+}
+
+/// Takes an attribute other than `@concurrent`.
+pub fn attribute(names: &Names, tokens: &mut Cursor<'_>) -> Result<Name, Stop>
+    ensures { Gives (next (at_in (id_in names.now) at_word (codes "@Sendable")) tokens.old) result
+        tokens.new }
+{
+    if !sees_attribute(tokens) {
+        return Err(tokens.stop());
+    }
+    Ok(take_attribute(names, tokens))
+}
+
+/// Takes the attribute `@Sendable`.
+pub fn sendable(names: &Names, tokens: &mut Cursor<'_>) -> Result<Name, Stop>
+    ensures { Gives (next (at_in (id_in names.now) (quoted (codes "@Sendable"))
+        (codes "@Sendable")) tokens.old) result tokens.new }
+{
+    if !tokens.sees("@Sendable") {
+        return Err(tokens.stop());
+    }
+    Ok(take_attribute(names, tokens))
+}
