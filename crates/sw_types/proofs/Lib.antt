@@ -1,1 +1,10 @@
+pub mod DepthLemmas
+pub mod Filling
+pub mod Firsts
+pub mod LawLemmas
+pub mod Looking
+pub mod RankLemmas
+pub mod Searching
 pub mod UnmarkedLemmas
+pub mod Walking
+pub mod WithinLemmas

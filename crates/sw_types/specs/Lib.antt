@@ -1,4 +1,10 @@
 pub mod Accepts
+pub mod Cycles
+pub mod Depths
+pub mod Held
 pub mod Named
 pub mod Parts
+pub mod Paths
+pub mod Searches
 pub mod Sendable
+pub mod Walks

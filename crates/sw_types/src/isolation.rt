@@ -1,4 +1,4 @@
-/// The isolation of a function, closure or task body (SE-0306, SE-0313, SE-0316).
+/// The isolation of a function, closure or task body (SE-0306, SE-0313, SE-0316, SE-0461).
 #[derive(Clone, Copy, Debug, PartialEq, Eq)]
 pub enum Iso {
     /// Isolated to no actor.
@@ -7,6 +7,8 @@ pub enum Iso {
     Own,
     /// Isolated to a global actor, by number.
     Global(u32),
+    /// Isolated to no actor, and run where its caller runs: `nonisolated(nonsending)` (SE-0461).
+    Caller,
 }
 
 /// How a call crosses between isolations (SE-0306, SE-0338).

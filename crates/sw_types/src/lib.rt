@@ -3,13 +3,19 @@
 #![tactic(auto)]
 
 mod acceptance;
+mod holding;
 mod isolation;
+mod laws;
+mod ordering;
+mod returning;
 mod shape;
 mod shapes;
+mod tables;
 mod ty;
 
 pub use acceptance::accepts;
 pub use isolation::{CallKind, Iso};
+pub use laws::{ranked_shapes_hold_others, shapes_count_by_parts, shapes_send_by_parts};
 pub use shape::{CaseList, CaseShape, Part, PartList, Shape, ShapeKind, ShapeList};
-pub use shapes::{ShapeFault, Shapes};
+pub use shapes::{ShapeFault, Shapes, which_hold_themselves};
 pub use ty::{Ty, TyList};
