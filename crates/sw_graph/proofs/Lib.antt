@@ -1,2 +1,7 @@
+pub mod KindLemmas
 pub mod ListLemmas
+pub mod PayloadLemmas
 pub mod PointLemmas
+pub mod StraightLemmas
+pub mod TableLemmas
+pub mod WayLemmas

@@ -1,6 +1,6 @@
 -- An element of a list, by index.
 use Rattle.std.proofs.Common.{◌≡◌, ℕ, ◌+◌, zero, suc, List, [], ◌∷◌, ◌++◌, length, Some, subst}
-use Rattle.std.proofs.Common.{zero-add, suc-add, refl}
+use Rattle.std.proofs.Common.{◌-◌, ◌<◌, ◌≤◌, zero-add, suc-add, refl, ap, ◌∙◌, arith}
 use Rattle.std.specs.Prelude.{slice_get}
 use Rattle.std.specs.List.{All}
 use Rattle.std.proofs.lemmas.Option.{slice_get_within, get_or_from_slice_get}
@@ -23,3 +23,23 @@ pub slice_get_after : {A : Type 0} (xs ys : List A) (i : ℕ)
     → slice_get (xs ++ ys) (length xs + i) ≡ slice_get ys i
 slice_get_after [] ys i = rw zero-add refl
 slice_get_after (x ∷ xs) ys i = rw suc-add (slice_get_after xs ys i)
+
+-- an element of the first of two lists
+pub slice_get_front : {A : Type 0} (xs ys : List A) (i : ℕ) → i < length xs
+    → slice_get (xs ++ ys) i ≡ slice_get xs i
+slice_get_front [] ys i inside = absurd (omega arith)
+slice_get_front (x ∷ xs) ys zero inside = refl
+slice_get_front (x ∷ xs) ys (suc i) inside = slice_get_front xs ys i (omega arith)
+
+-- an element of the second of two lists
+pub slice_get_back : {A : Type 0} (xs ys : List A) (i : ℕ) → length xs ≤ i
+    → slice_get (xs ++ ys) i ≡ slice_get ys (i - length xs)
+slice_get_back xs ys i past =
+    ap (slice_get (xs ++ ys)) (let split : i ≡ length xs + (i - length xs) = omega arith in split)
+    ∙ slice_get_after xs ys (i - length xs)
+
+-- the element after some others
+pub at_seam : {A : Type 0} (earlier : List A) (x : A) (later : List A)
+    → slice_get (earlier ++ x ∷ later) (length earlier) ≡ Some x
+at_seam [] x later = refl
+at_seam (y ∷ earlier) x later = at_seam earlier x later

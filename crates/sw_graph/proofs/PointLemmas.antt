@@ -1,19 +1,19 @@
 -- Lemmas on the points of a function.
-use Rattle.std.proofs.Common.{◌≡◌, ℕ, suc, ◌+◌, ◌-◌, ◌<◌, ◌^◌, ◌≤◌, Option, Some, None, List, []}
-use Rattle.std.proofs.Common.{◌∷◌, ◌++◌, length, map, drop, get_or, refl, ap, sym, ◌∙◌, arith}
-use Rattle.std.proofs.Common.{length-append, add-one, zero-add, suc-add}
-use Rattle.std.proofs.lemmas.Option.{slice_get-map, slice_get_within}
+use Rattle.std.proofs.Common.{◌≡◌, ℕ, suc, ◌+◌, ◌-◌, ◌<◌, Some, List, []}
+use Rattle.std.proofs.Common.{◌∷◌, ◌++◌, length, map, drop, get_or, ap, sym, ◌∙◌, arith}
+use Rattle.std.proofs.Common.{length-append, add-one}
+use Rattle.std.proofs.lemmas.Option.{slice_get-map}
 use Rattle.std.proofs.Math.Seq.{drop-cons}
-use Rattle.std.proofs.lemmas.List.{length-map, drop_all}
-use Rattle.std.specs.Option.{option_map, option_and_then}
+use Rattle.std.proofs.lemmas.List.{length-map}
+use Rattle.std.specs.Option.{option_map}
 use Rattle.std.specs.List.{slice_get}
 use Rattle.sw_graph.specs.declared.instr.Block.{Block}
 use Rattle.sw_graph.specs.declared.instr.Instr.{Instr}
-use Rattle.sw_graph.specs.Points.{Point, Middle, End, points_of_block, points_of}
+use Rattle.sw_graph.specs.Points.{Middle, End, points_of_block, points_of}
 use Rattle.sw_graph.proofs.ListLemmas.{slice_get_before, slice_get_after}
 
 -- the point is an instruction of the first block
-middle_here : (block : Block) (rest : List Block) (index : ℕ) (i : Instr)
+pub middle_here : (block : Block) (rest : List Block) (index : ℕ) (i : Instr)
     → slice_get block.instrs index ≡ Some i
     → slice_get (points_of (block ∷ rest)) index ≡ Some (Middle i)
 unfolding points_of
@@ -23,7 +23,7 @@ middle_here block rest index i e =
     (slice_get-map Middle block.instrs index ∙ ap (option_map Middle) e))
 
 -- it is the last instruction of the first block
-end_here : (block : Block) (rest : List Block) (index : ℕ) → index ≡ length block.instrs
+pub end_here : (block : Block) (rest : List Block) (index : ℕ) → index ≡ length block.instrs
     → slice_get (points_of (block ∷ rest)) index ≡ Some (End block.last)
 unfolding points_of
 end_here block rest index e =
@@ -34,7 +34,8 @@ end_here block rest index e =
     ∙ slice_get_after (map Middle block.instrs) (End block.last ∷ []) 0 in
     slice_get_before (points_of_block block) (points_of rest) index (End block.last) at
 
-length-points_of_block : (block : Block) → length (points_of_block block) ≡ length block.instrs + 1
+pub length-points_of_block : (block : Block)
+    → length (points_of_block block) ≡ length block.instrs + 1
 length-points_of_block block =
     omega (
       arith,
@@ -43,7 +44,7 @@ length-points_of_block block =
     )
 
 -- it comes after the first block
-further : (block : Block) (rest : List Block) (index : ℕ) → length block.instrs < index
+pub further : (block : Block) (rest : List Block) (index : ℕ) → length block.instrs < index
     → slice_get (points_of (block ∷ rest)) index ≡ slice_get (points_of rest)
     (index - (length block.instrs + 1))
 unfolding points_of
@@ -55,34 +56,7 @@ further block rest index e =
     ∙ slice_get_after (points_of_block block) (points_of rest) (index - (length block.instrs + 1))
 
 -- the same, for the blocks from index k on
-at_block : (blocks : List Block) (k : ℕ) (block : Block) → k < length blocks
+pub at_block : (blocks : List Block) (k : ℕ) (block : Block) → k < length blocks
     → block ≡ get_or blocks k block → drop k blocks ≡ block ∷ drop (k + 1) blocks
 at_block blocks k block inside e =
     rw add-one (drop-cons blocks k block inside ∙ ap (λ b. b ∷ drop (suc k) blocks) (sym e))
-
-pub middle_at : (blocks : List Block) (k : ℕ) (block : Block) (index : ℕ) (i : Instr)
-    → k < length blocks → block ≡ get_or blocks k block → slice_get block.instrs index ≡ Some i
-    → slice_get (points_of (drop k blocks)) index ≡ Some (Middle i)
-middle_at blocks k block index i inside e h =
-    ap (λ bs. slice_get (points_of bs) index) (at_block blocks k block inside e)
-    ∙ middle_here block (drop (k + 1) blocks) index i h
-
-pub end_at : (blocks : List Block) (k : ℕ) (block : Block) (index : ℕ) → k < length blocks
-    → block ≡ get_or blocks k block → index ≡ length block.instrs
-    → slice_get (points_of (drop k blocks)) index ≡ Some (End block.last)
-end_at blocks k block index inside e h =
-    ap (λ bs. slice_get (points_of bs) index) (at_block blocks k block inside e)
-    ∙ end_here block (drop (k + 1) blocks) index h
-
-pub further_at : (blocks : List Block) (k : ℕ) (block : Block) (index : ℕ) → k < length blocks
-    → block ≡ get_or blocks k block → length block.instrs < index
-    → slice_get (points_of (drop k blocks)) index ≡ slice_get (points_of (drop (k + 1) blocks))
-    (index - (length block.instrs + 1))
-further_at blocks k block index inside e h =
-    ap (λ bs. slice_get (points_of bs) index) (at_block blocks k block inside e)
-    ∙ further block (drop (k + 1) blocks) index h
-
-pub none_at : (blocks : List Block) (k index : ℕ) → length blocks ≤ k
-    → slice_get (points_of (drop k blocks)) index ≡ None
-unfolding points_of
-none_at blocks k index h = rw (drop_all k blocks h) refl

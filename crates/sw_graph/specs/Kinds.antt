@@ -1,67 +1,264 @@
--- The kinds of the registers that instructions and last instructions ask for.
-use Rattle.std.specs.Prelude.{◌≡◌, ℕ, Bool, true, false, IsTrue, List, Some, length, slice_get}
+-- The kinds of registers that instructions and last instructions ask for. A value goes into a
+-- register, part, payload, box, parameter, capture, global or result only where its type is
+-- accepted, and a box only into a capture that is a box of the same type.
+use Rattle.std.specs.Prelude.{◌≡◌, ℕ, Bool, true, false, cond, ◌||◌, IsTrue, Option, Some, None}
+use Rattle.std.specs.Prelude.{List, [], ◌∷◌, length, map, take, drop, slice_get, IsSome}
 use Rattle.std.specs.List.{All}
+use Rattle.std.specs.Option.{option_map, option_and_then}
 use Rattle.sw_types.specs.declared.ty.Ty.{Ty, out-Ty}
 use Rattle.sw_types.specs.declared.ty.Ty.TheOpen as layer
 use Rattle.sw_types.specs.declared.ty.Ty.TheVariants.{Int, Bool as BoolType, Unit as Void, Task}
+use Rattle.sw_types.specs.declared.ty.Ty.TheVariants.{Func}
+use Rattle.sw_types.specs.declared.ty.Ty.TheVariants.{Named}
+use Rattle.sw_types.specs.declared.shape.Shape.{Shape}
+use Rattle.sw_types.specs.declared.shape.ShapeKind.{ShapeKind}
+use Rattle.sw_types.specs.declared.shape.ShapeKind.TheVariants.{Struct, Enum, Class, Actor}
 use Rattle.sw_types.specs.Accepts.{Accepts}
 use Rattle.sw_graph.specs.declared.function.Function.{Function}
+use Rattle.sw_graph.specs.declared.function.GlobalKind.{GlobalKind}
 use Rattle.sw_graph.specs.declared.function.RegKind.{RegKind}
 use Rattle.sw_graph.specs.declared.function.RegKind.TheVariants.{Plain, BoxOf}
 use Rattle.sw_graph.specs.declared.instr.Literal.{Literal}
 use Rattle.sw_graph.specs.declared.instr.Literal.TheVariants.{Int as IntOf, Bool as BoolOf}
+use Rattle.sw_graph.specs.declared.instr.UnOp.{UnOp}
+use Rattle.sw_graph.specs.declared.instr.UnOp.TheVariants.{Not, Neg}
+use Rattle.sw_graph.specs.declared.instr.BinOp.{BinOp}
+use Rattle.sw_graph.specs.declared.instr.BinOp.TheVariants.{Add, Sub, Mul, Div, Rem, Eq, Ne}
 use Rattle.sw_graph.specs.declared.instr.Operand.{Operand}
 use Rattle.sw_graph.specs.declared.instr.Instr.{Instr}
-use Rattle.sw_graph.specs.declared.instr.Instr.TheVariants.{Const, Print, NewTask}
+use Rattle.sw_graph.specs.declared.instr.Instr.TheVariants.{Const, Un, Bin, Print, Copy, Field}
+use Rattle.sw_graph.specs.declared.instr.Instr.TheVariants.{Payload, SetField, Make, NewObject}
+use Rattle.sw_graph.specs.declared.instr.Instr.TheVariants.{NewBox, NewActor, LoadBox, StoreBox}
+use Rattle.sw_graph.specs.declared.instr.Instr.TheVariants.{LoadProp, StoreProp, LoadGlobal}
+use Rattle.sw_graph.specs.declared.instr.Instr.TheVariants.{StoreGlobal, NewClosure, Call}
+use Rattle.sw_graph.specs.declared.instr.Instr.TheVariants.{CallClosure, NewTask, Await, Yield}
 use Rattle.sw_graph.specs.declared.instr.Last.{Last}
-use Rattle.sw_graph.specs.declared.instr.Last.TheVariants.{Return}
+use Rattle.sw_graph.specs.declared.instr.Last.TheVariants.{Jump, Branch, Switch, Return}
 
--- the type of a literal
+-- A value goes where its type is accepted. Whether the register or part is there is part of it.
+abbrev pub Goes : Option RegKind → Option RegKind → Type 0
+Goes (Some (Plain from)) (Some (Plain to)) = Accepts from to
+Goes _ _ = ⊥
+
+-- A capture is a value, or a box of the same type.
+abbrev pub IsCaptured : Option RegKind → Option RegKind → Type 0
+IsCaptured (Some (Plain from)) (Some (Plain to)) = Accepts from to
+IsCaptured (Some (BoxOf from)) (Some (BoxOf to)) = from ≡ to
+IsCaptured _ _ = ⊥
+
+-- each of the first goes to the place of its index, and there are as many of them as places
+abbrev pub Each : (Option RegKind → Option RegKind → Type 0) → List (Option RegKind) → List RegKind
+    → Type 0
+Each May [] [] = Unit {0}
+Each May (from ∷ froms) (to ∷ tos) = May from (Some to) × Each May froms tos
+Each May _ _ = ⊥
+
+-- the same, where the places are known
+abbrev pub EachOf : (Option RegKind → Option RegKind → Type 0) → List (Option RegKind)
+    → Option (List RegKind) → Type 0
+EachOf May froms (Some tos) = Each May froms tos
+EachOf May froms None = ⊥
+
+-- the kinds of operands
+abbrev pub kinds_of : List RegKind → List Operand → List (Option RegKind)
+kinds_of regs operands = map (λ operand. slice_get regs operand.reg) operands
+
+abbrev pub value : Ty → Option RegKind
+value ty = Some (Plain ty)
+
+-- the outermost form of the type of a value
+abbrev pub form_of : Option RegKind → Option (layer.Ty-F Ty)
+form_of (Some (Plain ty)) = Some (out-Ty ty)
+form_of _ = None
+
+-- what a box holds
+abbrev pub held : Option RegKind → Option RegKind
+held (Some (BoxOf ty)) = value ty
+held _ = None
+
 abbrev pub literal_type : Literal → Ty
-literal_type (IntOf value) = Int
-literal_type (BoolOf value) = BoolType
+literal_type (IntOf number) = Int
+literal_type (BoolOf holds) = BoolType
 
--- A value goes where its type is accepted, and a box only where a box of its type is.
-abbrev pub MayGo : RegKind → RegKind → Type 0
-MayGo (Plain from) (Plain to) = Accepts from to
-MayGo (BoxOf from) (BoxOf to) = from ≡ to
-MayGo _ _ = ⊥
+abbrev pub form_is_printable : Option (layer.Ty-F Ty) → Bool
+form_is_printable (Some layer.Int) = true
+form_is_printable (Some layer.Bool) = true
+form_is_printable _ = false
 
-abbrev pub layer_is_printable : layer.Ty-F Ty → Bool
-layer_is_printable layer.Int = true
-layer_is_printable layer.Bool = true
-layer_is_printable _ = false
+-- whether it is an integer or a truth value, which `print`, `==` and `!=` take
+abbrev pub is_printable : Option RegKind → Bool
+is_printable kind = form_is_printable (form_of kind)
 
--- whether the kind is a value that `print` takes
-abbrev pub is_printable : RegKind → Bool
-is_printable (Plain ty) = layer_is_printable (out-Ty ty)
-is_printable (BoxOf ty) = false
+-- the type of the operand and of the result
+abbrev pub un_type : UnOp → Ty
+un_type Not = BoolType
+un_type Neg = Int
 
--- The function gets all that it takes, in order, each where its kind may go.
-pub record GetsAll (regs : List RegKind) (given : List Operand) (function : Function) : Type 0 where
-  pub count : length given ≡ function.takes
-  pub each : (k : ℕ) (operand : Operand) (from to : RegKind) → slice_get given k ≡ Some operand
-      → slice_get regs operand.reg ≡ Some from → slice_get function.regs k ≡ Some to → MayGo from to
+abbrev pub TakesBoth : BinOp → Option RegKind → Option RegKind → Type 0
+TakesBoth Eq left right = IsTrue (is_printable left) × (left ≡ right)
+TakesBoth Ne left right = IsTrue (is_printable left) × (left ≡ right)
+TakesBoth _ left right = (left ≡ value Int) × (right ≡ value Int)
 
--- A task's function gets all that it takes, and the task has the type of its result.
-pub record IsTaskOf (regs : List RegKind) (r : ℕ) (given : List Operand)
-    (function : Function) : Type 0 where
-  pub takes : GetsAll regs given function
-  pub gives : slice_get regs r ≡ Some (Plain (Task function.result))
+abbrev pub bin_type : BinOp → Ty
+bin_type Add = Int
+bin_type Sub = Int
+bin_type Mul = Int
+bin_type Div = Int
+bin_type Rem = Int
+bin_type _ = BoolType
 
--- A literal is of its type, `print` takes integers and truth values and gives `Void`, and a task is
--- that of its function. Of the other instructions no kinds are asked yet.
-abbrev pub KindsFit : List Function → List RegKind → Instr → Type 0
-KindsFit functions regs (Const at r v) = slice_get regs r ≡ Some (Plain (literal_type v))
-KindsFit functions regs (Print at r ss) =
-    All (λ s. (kind : RegKind) → slice_get regs s.reg ≡ Some kind → IsTrue (is_printable kind)) ss
-    × (slice_get regs r ≡ Some (Plain Void))
-KindsFit functions regs (NewTask at r f cs) =
-    (function : Function) → slice_get functions f ≡ Some function → IsTaskOf regs r cs function
-KindsFit functions regs _ = Unit {0}
+abbrev pub is_struct : ShapeKind → Bool
+is_struct Struct = true
+is_struct _ = false
 
--- What is returned may go where the function's result is expected.
-abbrev pub ReturnFits : List RegKind → Ty → Last → Type 0
-ReturnFits regs result (Return (Some s)) = (kind : RegKind) → slice_get regs s.reg ≡ Some kind
-    → MayGo kind (Plain result)
-ReturnFits regs result _ = Unit {0}
+abbrev pub is_enum : ShapeKind → Bool
+is_enum Enum = true
+is_enum _ = false
+
+abbrev pub is_class : ShapeKind → Bool
+is_class Class = true
+is_class _ = false
+
+abbrev pub is_actor : ShapeKind → Bool
+is_actor Actor = true
+is_actor _ = false
+
+abbrev pub is_cell : ShapeKind → Bool
+is_cell kind = is_class kind || is_actor kind
+
+-- the shape with a number, where it is a declaration of that kind
+abbrev pub shape_at : List Shape → (ShapeKind → Bool) → ℕ → Option Shape
+shape_at shapes is_kind k =
+    option_and_then (λ shape. cond (is_kind shape.kind) (Some shape) None) (slice_get shapes k)
+
+abbrev pub number_of : Option (layer.Ty-F Ty) → Option ℕ
+number_of (Some (layer.Named k)) = Some k
+number_of _ = None
+
+-- the shape of a value's type, where it is a declaration of that kind
+abbrev pub shape_of : List Shape → (ShapeKind → Bool) → Option RegKind → Option Shape
+shape_of shapes is_kind kind =
+    option_and_then (shape_at shapes is_kind) (number_of (form_of kind))
+
+-- the kind of part i, and of all parts in order
+abbrev pub part : Option Shape → ℕ → Option RegKind
+part shape i =
+    option_and_then (λ s. option_map (λ part. Plain part.ty) (slice_get s.parts i)) shape
+
+abbrev pub parts : Option Shape → Option (List RegKind)
+parts shape = option_map (λ s. map (λ part. Plain part.ty) s.parts) shape
+
+-- the kinds of the payload of a case, in order
+abbrev pub payload : Option Shape → ℕ → Option (List RegKind)
+payload shape tag =
+    option_and_then (λ s. option_map (λ case. map Plain case.payload) (slice_get s.cases tag)) shape
+
+-- what a struct, or a case of an enum, is made of
+abbrev pub made_of : List Shape → ℕ → Option ℕ → Option (List RegKind)
+made_of shapes k None = parts (shape_at shapes is_struct k)
+made_of shapes k (Some tag) = payload (shape_at shapes is_enum k) tag
+
+-- the kinds of the registers that a function takes: captures, then `self`, then parameters
+abbrev pub taken : Function → List RegKind
+taken function = take function.takes function.regs
+
+abbrev pub types_of : List RegKind → Option (List Ty)
+types_of [] = Some []
+types_of (Plain ty ∷ kinds) = option_map (λ types. ty ∷ types) (types_of kinds)
+types_of (BoxOf ty ∷ kinds) = None
+
+-- A closure has the type of what its function takes after so many captures and of its result. A
+-- function type without the mark accepts one with it, so the mark may be missing.
+abbrev pub closure_of : ℕ → Function → Option RegKind
+closure_of captures function =
+    option_map (λ params. Plain (Func true params function.result))
+    (types_of (drop captures (taken function)))
+
+abbrev pub result_of : Option Function → Option RegKind
+result_of function = option_map (λ f. Plain f.result) function
+
+-- what a value of function type takes and gives
+abbrev pub params : Option (layer.Ty-F Ty) → Option (List RegKind)
+params (Some (layer.Func sendable types result)) = Some (map Plain types)
+params _ = None
+
+abbrev pub given : Option (layer.Ty-F Ty) → Option RegKind
+given (Some (layer.Func sendable types result)) = value result
+given _ = None
+
+-- the result of a task
+abbrev pub awaited : Option (layer.Ty-F Ty) → Option RegKind
+awaited (Some (layer.Task result)) = value result
+awaited _ = None
+
+-- The kinds of an instruction's operands and of its result. Where a payload stands and what it
+-- gives is told of its block.
+abbrev pub KindsFit : List Shape → List GlobalKind → List Function → List RegKind → Instr → Type 0
+KindsFit shapes globals functions regs (Const at r v) =
+    Goes (value (literal_type v)) (slice_get regs r)
+KindsFit shapes globals functions regs (Un at r op s) =
+    (slice_get regs s.reg ≡ value (un_type op)) × Goes (value (un_type op)) (slice_get regs r)
+KindsFit shapes globals functions regs (Bin at r op s t) =
+    TakesBoth op (slice_get regs s.reg) (slice_get regs t.reg)
+    × Goes (value (bin_type op)) (slice_get regs r)
+KindsFit shapes globals functions regs (Print at r ss) =
+    All (λ kind. IsTrue (is_printable kind)) (kinds_of regs ss)
+    × Goes (value Void) (slice_get regs r)
+KindsFit shapes globals functions regs (Copy at r s) =
+    Goes (slice_get regs s.reg) (slice_get regs r)
+KindsFit shapes globals functions regs (Field at r s i) =
+    Goes (part (shape_of shapes is_struct (slice_get regs s.reg)) i) (slice_get regs r)
+KindsFit shapes globals functions regs (Payload at r s i) =
+    IsSome (shape_of shapes is_enum (slice_get regs s.reg))
+KindsFit shapes globals functions regs (SetField at r i s) =
+    Goes (slice_get regs s.reg) (part (shape_of shapes is_struct (slice_get regs r.reg)) i)
+KindsFit shapes globals functions regs (Make at r k tag ss) =
+    EachOf Goes (kinds_of regs ss) (made_of shapes k tag)
+    × Goes (value (Named k)) (slice_get regs r)
+KindsFit shapes globals functions regs (NewObject at r k ss) =
+    EachOf Goes (kinds_of regs ss) (parts (shape_at shapes is_class k))
+    × Goes (value (Named k)) (slice_get regs r)
+KindsFit shapes globals functions regs (NewBox at r s) =
+    Goes (slice_get regs s.reg) (held (slice_get regs r))
+KindsFit shapes globals functions regs (NewActor at r k ss) =
+    EachOf Goes (kinds_of regs ss) (parts (shape_at shapes is_actor k))
+    × Goes (value (Named k)) (slice_get regs r)
+KindsFit shapes globals functions regs (LoadBox at r b) =
+    Goes (held (slice_get regs b.reg)) (slice_get regs r)
+KindsFit shapes globals functions regs (StoreBox at b s) =
+    Goes (slice_get regs s.reg) (held (slice_get regs b.reg))
+KindsFit shapes globals functions regs (LoadProp at r o i) =
+    Goes (part (shape_of shapes is_cell (slice_get regs o.reg)) i) (slice_get regs r)
+KindsFit shapes globals functions regs (StoreProp at o i s) =
+    Goes (slice_get regs s.reg) (part (shape_of shapes is_cell (slice_get regs o.reg)) i)
+KindsFit shapes globals functions regs (LoadGlobal at r g) =
+    Goes (option_map (λ global. Plain global.ty) (slice_get globals g)) (slice_get regs r)
+KindsFit shapes globals functions regs (StoreGlobal at g s) =
+    Goes (slice_get regs s.reg) (option_map (λ global. Plain global.ty) (slice_get globals g))
+KindsFit shapes globals functions regs (NewClosure at r f cs) =
+    EachOf IsCaptured (kinds_of regs cs)
+    (option_map (λ function. take (length cs) (taken function)) (slice_get functions f))
+    × Goes (option_and_then (closure_of (length cs)) (slice_get functions f)) (slice_get regs r)
+KindsFit shapes globals functions regs (Call at r kind f ss) =
+    EachOf Goes (kinds_of regs ss) (option_map taken (slice_get functions f))
+    × Goes (result_of (slice_get functions f)) (slice_get regs r)
+KindsFit shapes globals functions regs (CallClosure at r c ss) =
+    EachOf Goes (kinds_of regs ss) (params (form_of (slice_get regs c.reg)))
+    × Goes (given (form_of (slice_get regs c.reg))) (slice_get regs r)
+KindsFit shapes globals functions regs (NewTask at r f cs) =
+    EachOf IsCaptured (kinds_of regs cs) (option_map taken (slice_get functions f))
+    × Goes (option_map (λ function. Plain (Task function.result)) (slice_get functions f))
+    (slice_get regs r)
+KindsFit shapes globals functions regs (Await at r t) =
+    Goes (awaited (form_of (slice_get regs t.reg))) (slice_get regs r)
+KindsFit shapes globals functions regs (Yield at r) = Goes (value Void) (slice_get regs r)
+
+-- The kind of what a last instruction reads. A `Switch` has a block for each case of the enum.
+abbrev pub LastKindsFit : List Shape → List RegKind → Ty → Last → Type 0
+LastKindsFit shapes regs result (Jump to) = Unit {0}
+LastKindsFit shapes regs result (Branch s holds fails) = slice_get regs s.reg ≡ value BoolType
+LastKindsFit shapes regs result (Switch s to) =
+    option_map (λ shape. length shape.cases) (shape_of shapes is_enum (slice_get regs s.reg))
+    ≡ Some (length to)
+LastKindsFit shapes regs result (Return (Some s)) = Goes (slice_get regs s.reg) (value result)
+LastKindsFit shapes regs result (Return None) = Unit {0}

@@ -1,6 +1,15 @@
+pub mod Bodies
+pub mod CallKinds
+pub mod Clean
 pub mod Kinds
 pub mod Lent
+pub mod Limits
 pub mod Mentions
 pub mod OneProof
+pub mod Payloads
+pub mod Placed
 pub mod Points
+pub mod Straight
+pub mod Table
+pub mod Ways
 pub mod WellFormed

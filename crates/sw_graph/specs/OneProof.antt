@@ -2,6 +2,7 @@
 use Rattle.std.specs.Coded.{Coded-set, Unit-prop}
 use Rattle.std.proofs.Props.{props}
 use Rattle.sw_types.specs.declared.ty.Ty.{Ty}
+use Rattle.sw_types.specs.declared.ty.Ty.TheVariants.{Unit as Void}
 use Rattle.sw_types.specs.contracts.ty.Ty as ty
 use Rattle.sw_types.specs.declared.shape.Shape.{Shape}
 use Rattle.sw_graph.specs.declared.function.Function.{Function}
@@ -9,13 +10,23 @@ use Rattle.sw_graph.specs.declared.function.GlobalKind.{GlobalKind}
 use Rattle.sw_graph.specs.declared.function.RegKind.{RegKind}
 use Rattle.sw_graph.specs.declared.function.RegKind.TheVariants.{Plain, BoxOf}
 use Rattle.sw_graph.specs.contracts.function.RegKind as kind
+use Rattle.sw_graph.specs.declared.instr.BinOp.{BinOp}
+use Rattle.sw_graph.specs.declared.instr.BinOp.TheVariants.{Eq, Ne}
 use Rattle.sw_graph.specs.declared.instr.Instr.{Instr}
-use Rattle.sw_graph.specs.declared.instr.Instr.TheVariants.{Const, Print, NewTask, Make}
+use Rattle.sw_graph.specs.declared.instr.Instr.TheVariants.{Const, Un, Bin, Print, Copy, Field}
+use Rattle.sw_graph.specs.declared.instr.Instr.TheVariants.{Payload, SetField, Make, NewObject}
+use Rattle.sw_graph.specs.declared.instr.Instr.TheVariants.{NewBox, NewActor, LoadBox, StoreBox}
+use Rattle.sw_graph.specs.declared.instr.Instr.TheVariants.{LoadProp, StoreProp, LoadGlobal}
+use Rattle.sw_graph.specs.declared.instr.Instr.TheVariants.{StoreGlobal, NewClosure, Call}
+use Rattle.sw_graph.specs.declared.instr.Instr.TheVariants.{CallClosure, NewTask, Await, Yield}
 use Rattle.sw_graph.specs.declared.instr.Last.{Last}
-use Rattle.sw_graph.specs.declared.instr.Last.TheVariants.{Return}
-use Rattle.std.specs.Prelude.{List, Some, ℕ}
-use Rattle.sw_graph.specs.Kinds.{MayGo, KindsFit, ReturnFits}
-use Rattle.sw_graph.specs.WellFormed.{CaseFits, IsWellFormed}
+use Rattle.sw_graph.specs.declared.instr.Last.TheVariants.{Jump, Branch, Switch, Return}
+use Rattle.sw_graph.specs.declared.instr.Operand.{Operand}
+use Rattle.std.specs.Prelude.{List, [], ◌∷◌, Option, Some, None, ℕ, slice_get}
+use Rattle.sw_graph.specs.Kinds.{Goes, IsCaptured, Each, EachOf, TakesBoth, KindsFit, LastKindsFit}
+use Rattle.sw_graph.specs.Kinds.{value, literal_type}
+use Rattle.sw_graph.specs.Payloads.{Unpacks, PayloadFits}
+use Rattle.sw_graph.specs.WellFormed.{IsWellFormed}
 
 Ty-set : IsSet Ty
 Ty-set = Coded-set ty.the_row.coded
@@ -23,30 +34,99 @@ Ty-set = Coded-set ty.the_row.coded
 RegKind-set : IsSet RegKind
 RegKind-set = Coded-set kind.the_row.coded
 
-MayGo-prop : (from to : RegKind) → IsProp (MayGo from to)
-MayGo-prop (Plain from) (Plain to) = hlevel (props, Ty-set)
-MayGo-prop (BoxOf from) (BoxOf to) = hlevel (props, Ty-set)
-MayGo-prop (Plain from) (BoxOf to) = hlevel props
-MayGo-prop (BoxOf from) (Plain to) = hlevel props
+Goes-prop : (from to : Option RegKind) → IsProp (Goes from to)
+Goes-prop (Some (Plain from)) (Some (Plain to)) = hlevel (props, Ty-set)
+Goes-prop _ _ = hlevel props
 
-KindsFit-prop : (functions : List Function) (regs : List RegKind) (instr : Instr)
-    → IsProp (KindsFit functions regs instr)
-KindsFit-prop functions regs (Const at r v) = hlevel (props, RegKind-set)
-KindsFit-prop functions regs (Print at r ss) = hlevel (props, RegKind-set)
-KindsFit-prop functions regs (NewTask at r f cs) = hlevel (props, RegKind-set, MayGo-prop)
-KindsFit-prop functions regs _ = Unit-prop
+IsCaptured-prop : (from to : Option RegKind) → IsProp (IsCaptured from to)
+IsCaptured-prop (Some (Plain from)) (Some (Plain to)) = hlevel (props, Ty-set)
+IsCaptured-prop (Some (BoxOf from)) (Some (BoxOf to)) = hlevel (props, Ty-set)
+IsCaptured-prop _ _ = hlevel props
 
-ReturnFits-prop : (regs : List RegKind) (result : Ty) (last : Last)
-    → IsProp (ReturnFits regs result last)
-ReturnFits-prop regs result (Return (Some s)) = hlevel (props, MayGo-prop)
-ReturnFits-prop regs result _ = Unit-prop
+Each-prop : (May : Option RegKind → Option RegKind → Type 0)
+    → ((from to : Option RegKind) → IsProp (May from to))
+    → (froms : List (Option RegKind)) (tos : List RegKind) → IsProp (Each May froms tos)
+Each-prop May one [] [] = Unit-prop
+Each-prop May one (from ∷ froms) (to ∷ tos) =
+    let first = one from (Some to) in
+    let rest = Each-prop May one froms tos in hlevel (props, first, rest)
+Each-prop May one _ _ = hlevel props
 
-CaseFits-prop : (shapes : List Shape) (instr : Instr) → IsProp (CaseFits shapes instr)
-CaseFits-prop shapes (Make at r k (Some tag) ss) = hlevel props
-CaseFits-prop shapes _ = Unit-prop
+EachOf-prop : (May : Option RegKind → Option RegKind → Type 0)
+    → ((from to : Option RegKind) → IsProp (May from to))
+    → (froms : List (Option RegKind)) (tos : Option (List RegKind)) → IsProp (EachOf May froms tos)
+EachOf-prop May one froms (Some tos) = Each-prop May one froms tos
+EachOf-prop May one froms None = hlevel props
+
+all_go : (froms : List (Option RegKind)) (tos : Option (List RegKind))
+    → IsProp (EachOf Goes froms tos)
+all_go = EachOf-prop Goes Goes-prop
+
+all_captured : (froms : List (Option RegKind)) (tos : Option (List RegKind))
+    → IsProp (EachOf IsCaptured froms tos)
+all_captured = EachOf-prop IsCaptured IsCaptured-prop
+
+TakesBoth-prop : (op : BinOp) (left right : Option RegKind) → IsProp (TakesBoth op left right)
+TakesBoth-prop Eq left right = hlevel (props, RegKind-set)
+TakesBoth-prop Ne left right = hlevel (props, RegKind-set)
+TakesBoth-prop _ left right = hlevel (props, RegKind-set)
+
+KindsFit-prop : (shapes : List Shape) (globals : List GlobalKind) (functions : List Function)
+    (regs : List RegKind) (instr : Instr) → IsProp (KindsFit shapes globals functions regs instr)
+KindsFit-prop shapes globals functions regs (Const at r v) =
+    Goes-prop (value (literal_type v)) (slice_get regs r)
+KindsFit-prop shapes globals functions regs (Un at r op s) = hlevel (props, RegKind-set, Goes-prop)
+KindsFit-prop shapes globals functions regs (Bin at r op s t) =
+    hlevel (props, TakesBoth-prop, Goes-prop)
+KindsFit-prop shapes globals functions regs (Print at r ss) = hlevel (props, Goes-prop)
+KindsFit-prop shapes globals functions regs (Copy at r s) = Goes-prop _ _
+KindsFit-prop shapes globals functions regs (Field at r s i) = Goes-prop _ _
+KindsFit-prop shapes globals functions regs (Payload at r s i) = hlevel props
+KindsFit-prop shapes globals functions regs (SetField at r i s) = Goes-prop _ _
+KindsFit-prop shapes globals functions regs (Make at r k tag ss) = hlevel (props, all_go, Goes-prop)
+KindsFit-prop shapes globals functions regs (NewObject at r k ss) =
+    hlevel (props, all_go, Goes-prop)
+KindsFit-prop shapes globals functions regs (NewBox at r s) = Goes-prop _ _
+KindsFit-prop shapes globals functions regs (NewActor at r k ss) =
+    hlevel (props, all_go, Goes-prop)
+KindsFit-prop shapes globals functions regs (LoadBox at r b) = Goes-prop _ _
+KindsFit-prop shapes globals functions regs (StoreBox at b s) = Goes-prop _ _
+KindsFit-prop shapes globals functions regs (LoadProp at r o i) = Goes-prop _ _
+KindsFit-prop shapes globals functions regs (StoreProp at o i s) = Goes-prop _ _
+KindsFit-prop shapes globals functions regs (LoadGlobal at r g) = Goes-prop _ _
+KindsFit-prop shapes globals functions regs (StoreGlobal at g s) = Goes-prop _ _
+KindsFit-prop shapes globals functions regs (NewClosure at r f cs) =
+    hlevel (props, all_captured, Goes-prop)
+KindsFit-prop shapes globals functions regs (Call at r kind f ss) =
+    hlevel (props, all_go, Goes-prop)
+KindsFit-prop shapes globals functions regs (CallClosure at r c ss) =
+    hlevel (props, all_go, Goes-prop)
+KindsFit-prop shapes globals functions regs (NewTask at r f cs) =
+    hlevel (props, all_captured, Goes-prop)
+KindsFit-prop shapes globals functions regs (Await at r t) = Goes-prop _ _
+KindsFit-prop shapes globals functions regs (Yield at r) =
+    Goes-prop (value Void) (slice_get regs r)
+
+LastKindsFit-prop : (shapes : List Shape) (regs : List RegKind) (result : Ty) (last : Last)
+    → IsProp (LastKindsFit shapes regs result last)
+LastKindsFit-prop shapes regs result (Jump to) = Unit-prop
+LastKindsFit-prop shapes regs result (Branch s holds fails) = hlevel (props, RegKind-set)
+LastKindsFit-prop shapes regs result (Switch s to) = hlevel props
+LastKindsFit-prop shapes regs result (Return (Some s)) = Goes-prop _ _
+LastKindsFit-prop shapes regs result (Return None) = Unit-prop
+
+Unpacks-prop : (shapes : List Shape) (regs : List RegKind) (last : Last) (tag : ℕ) (s : Operand)
+    (i r : ℕ) → IsProp (Unpacks shapes regs last tag s i r)
+Unpacks-prop shapes regs (Switch subject to) tag s i r = hlevel (props, Goes-prop)
+Unpacks-prop shapes regs _ tag s i r = hlevel props
+
+PayloadFits-prop : (shapes : List Shape) (function : Function) (number : ℕ) (instr : Instr)
+    → IsProp (PayloadFits shapes function number instr)
+PayloadFits-prop shapes function number (Payload at r s i) = hlevel (props, Unpacks-prop)
+PayloadFits-prop shapes function number _ = Unit-prop
 
 pub IsWellFormed-prop : (shapes : List Shape) (globals : List GlobalKind)
     (functions : List Function) (entry : ℕ) (starts : List ℕ)
     → IsProp (IsWellFormed shapes globals functions entry starts)
 IsWellFormed-prop shapes globals functions entry starts =
-    hlevel (props, KindsFit-prop, ReturnFits-prop, CaseFits-prop)
+    hlevel (props, KindsFit-prop, LastKindsFit-prop, PayloadFits-prop)

@@ -1,7 +1,9 @@
 -- The points of a function: its instructions and the last instructions of its blocks, numbered in
 -- the order of the blocks.
-use Rattle.std.specs.Prelude.{ℕ, ◌<◌, ◌^◌, Option, List, [], ◌∷◌, ◌++◌, length, map, slice_get, All}
+use Rattle.std.specs.Prelude.{ℕ, ◌<◌, ◌^◌, Option, List, [], ◌∷◌, ◌++◌, length, map, take}
+use Rattle.std.specs.Prelude.{slice_get}
 use Rattle.std.specs.List.{flat_map}
+use Rattle.std.specs.Option.{option_map}
 use Rattle.sw_graph.specs.declared.instr.Instr.{Instr}
 use Rattle.sw_graph.specs.declared.instr.Last.{Last}
 use Rattle.sw_graph.specs.declared.instr.Block.{Block}
@@ -21,6 +23,11 @@ points_of blocks = flat_map points_of_block blocks
 -- what stands at point n of a function, if it has that point
 abbrev pub point_in : Function → ℕ → Option Point
 point_in function n = slice_get (points_of function.blocks) n
+
+-- the point at which block n of a function begins, if it has that block
+abbrev pub block_start : Function → ℕ → Option ℕ
+block_start function n =
+    option_map (λ block. length (points_of (take n function.blocks))) (slice_get function.blocks n)
 
 -- the points of a function have numbers of 32 bits
 abbrev pub IsNumbered : Function → Type 0

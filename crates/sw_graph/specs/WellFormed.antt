@@ -1,5 +1,5 @@
--- What every graph keeps: its numbers are in range, and its registers have the kinds that are asked
--- for.
+-- What every graph keeps: its numbers are in range, its registers have the kinds that are asked
+-- for, payloads are taken where their case is known, and registers are set before they are read.
 use Rattle.std.specs.Prelude.{◌≡◌, ℕ, ◌<◌, ◌≤◌, IsTrue, List, Some, length, slice_get}
 use Rattle.std.specs.List.{All}
 use Rattle.sw_types.specs.declared.ty.Ty.{Ty}
@@ -11,10 +11,11 @@ use Rattle.sw_graph.specs.declared.function.RegKind.{RegKind}
 use Rattle.sw_graph.specs.declared.function.RegKind.TheVariants.{Plain, BoxOf}
 use Rattle.sw_graph.specs.declared.instr.Block.{Block}
 use Rattle.sw_graph.specs.declared.instr.Instr.{Instr}
-use Rattle.sw_graph.specs.declared.instr.Instr.TheVariants.{Make}
 use Rattle.sw_graph.specs.declared.instr.Last.{Last}
-use Rattle.sw_graph.specs.Kinds.{KindsFit, ReturnFits}
+use Rattle.sw_graph.specs.Kinds.{KindsFit, LastKindsFit}
 use Rattle.sw_graph.specs.Mentions.{registers_of, functions_of, globals_of, shapes_of}
+use Rattle.sw_graph.specs.Payloads.{PayloadsFit}
+use Rattle.sw_graph.specs.Ways.{SetsBeforeReads}
 use Rattle.sw_graph.specs.Mentions.{last_registers, blocks_of}
 
 -- each number is below the count
@@ -26,30 +27,23 @@ abbrev pub type_in : RegKind → Ty
 type_in (Plain ty) = ty
 type_in (BoxOf ty) = ty
 
--- where a case of an enum is made, the enum has that case
-abbrev pub CaseFits : List Shape → Instr → Type 0
-CaseFits shapes (Make at r k (Some tag) ss) = (shape : Shape) → slice_get shapes k ≡ Some shape
-    → tag < length shape.cases
-CaseFits shapes _ = Unit {0}
-
 pub record InstrFits (shapes : List Shape) (globals : List GlobalKind) (functions : List Function)
     (function : Function) (instr : Instr) : Type 0 where
   pub registers : AllBelow (length function.regs) (registers_of instr)
   pub functions_in : AllBelow (length functions) (functions_of instr)
   pub globals_in : AllBelow (length globals) (globals_of instr)
   pub shapes_in : AllBelow (length shapes) (shapes_of instr)
-  pub case_in : CaseFits shapes instr
-  pub kinds : KindsFit functions function.regs instr
+  pub kinds : KindsFit shapes globals functions function.regs instr
 
-pub record LastFits (function : Function) (last : Last) : Type 0 where
+pub record LastFits (shapes : List Shape) (function : Function) (last : Last) : Type 0 where
   pub registers : AllBelow (length function.regs) (last_registers last)
   pub blocks_in : AllBelow (length function.blocks) (blocks_of last)
-  pub kinds : ReturnFits function.regs function.result last
+  pub kinds : LastKindsFit shapes function.regs function.result last
 
 pub record BlockFits (shapes : List Shape) (globals : List GlobalKind) (functions : List Function)
     (function : Function) (block : Block) : Type 0 where
   pub instrs : All (InstrFits shapes globals functions function) block.instrs
-  pub last : LastFits function block.last
+  pub last : LastFits shapes function block.last
 
 pub record FunctionFits (shapes : List Shape) (globals : List GlobalKind)
     (functions : List Function) (function : Function) : Type 0 where
@@ -59,6 +53,9 @@ pub record FunctionFits (shapes : List Shape) (globals : List GlobalKind)
   pub types : All (λ kind. IsTrue (is_within (length shapes) (type_in kind))) function.regs
   pub result : IsTrue (is_within (length shapes) function.result)
   pub blocks : All (BlockFits shapes globals functions function) function.blocks
+  pub payloads : (number : ℕ) (block : Block) → slice_get function.blocks number ≡ Some block
+      → PayloadsFit shapes function number block
+  pub sets : SetsBeforeReads function
 
 pub record IsWellFormed (shapes : List Shape) (globals : List GlobalKind)
     (functions : List Function) (entry : ℕ) (starts : List ℕ) : Type 0 where

@@ -2,6 +2,12 @@ use crate::instr::BlockList;
 use sw_list::ListOf;
 use sw_types::{Iso, Ty};
 
+/// How many registers a function that is compiled has at most.
+pub const MAX_REGISTERS: usize = 512;
+
+/// How many points a function that is compiled has at most.
+pub const MAX_POINTS: usize = 16_384;
+
 /// The kinds of a function's registers, by number.
 pub type RegList = ListOf<RegKind>;
 

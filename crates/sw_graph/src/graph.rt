@@ -1,9 +1,14 @@
-ghost use Rattle.std.specs.Prelude.{◌≡◌};
+ghost use Rattle.std.specs.Prelude.{◌≡◌, ◌+◌, ◌<◌, ◌^◌, slice_get, OnSome};
+ghost use Rattle.std.specs.Option.{option_and_then};
 ghost use Rattle.sw_graph.specs.OneProof.{IsWellFormed-prop};
 ghost use Rattle.sw_graph.specs.WellFormed.{IsWellFormed};
+ghost use Rattle.sw_graph.specs.Lent.{lent_point};
+ghost use Rattle.sw_graph.specs.Points.{point_in, block_start};
 
-use crate::function::{FunctionList, GlobalKinds};
+use crate::function::GlobalKinds;
+use crate::functions::Functions;
 use crate::instr::IdList;
+use crate::point::Point;
 use sw_types::Shapes;
 
 /// A program's control-flow graph. Its numbers are in range and its registers have the kinds that
@@ -12,7 +17,7 @@ use sw_types::Shapes;
 pub struct Graph {
     pub shapes: Shapes,
     pub globals: GlobalKinds,
-    pub functions: FunctionList,
+    pub functions: Functions,
     /// The function of the program's entry.
     pub entry: u32,
     /// The functions that give the globals their first values, in order of the globals.
@@ -25,7 +30,7 @@ impl Graph {
     pub fn new(
         shapes: Shapes,
         globals: GlobalKinds,
-        functions: FunctionList,
+        functions: Functions,
         entry: u32,
         starts: IdList,
     ) -> Graph
@@ -43,5 +48,23 @@ impl Graph {
             entry,
             starts,
         }
+    }
+
+    /// What stands at a point of a function, if the graph has that function and it has that point.
+    pub fn point(&self, function: u32, point: u32) -> Option<Point<'_>>
+        ensures point { lent_point result
+            ≡ option_and_then (λ f. point_in f point) (slice_get self.now.functions function) }
+        ensures numbered { OnSome result (point + 1 < 2 ^ 32) }
+    {
+        self.functions.point(function, point)
+    }
+
+    /// The point at which a block of a function begins, if the graph has that function and it has
+    /// that block.
+    pub fn block_start(&self, function: u32, block: u32) -> Option<u32>
+        ensures { result
+            ≡ option_and_then (λ f. block_start f block) (slice_get self.now.functions function) }
+    {
+        self.functions.block_start(function, block)
     }
 }

@@ -3,13 +3,21 @@
 #![tactic(auto)]
 
 mod function;
+mod functions;
 mod graph;
 mod instr;
+mod laws;
 mod point;
+mod table;
 
-pub use function::{BoolList, Function, FunctionList, GlobalKind, GlobalKinds, RegKind, RegList};
+pub use function::{
+    BoolList, Function, FunctionList, GlobalKind, GlobalKinds, MAX_POINTS, MAX_REGISTERS, RegKind,
+    RegList,
+};
+pub use functions::Functions;
 pub use graph::Graph;
 pub use instr::{
     BinOp, Block, BlockList, IdList, Instr, InstrList, Last, Literal, Operand, OperandList, UnOp,
 };
+pub use laws::{function_limits, registers_are_set, straight_graphs_fit};
 pub use point::Point;

@@ -1,9 +1,11 @@
 ghost use Rattle.std.specs.Prelude.{◌≡◌, slice_get};
-ghost use Rattle.sw_graph.specs.Points.{points_of, point_in};
+ghost use Rattle.sw_graph.specs.Points.{points_of_block};
+ghost use Rattle.sw_graph.specs.Table.{at_place};
 ghost use Rattle.sw_graph.specs.Lent.{lent_point};
 
 use crate::function::Function;
-use crate::instr::{BlockList, Instr, Last};
+use crate::instr::{Block, Instr, Last};
+use crate::table::Place;
 
 /// What stands at a point of a function.
 #[derive(Clone, Copy, Debug)]
@@ -15,29 +17,23 @@ pub enum Point<'a> {
 }
 
 impl Function {
-    /// What stands at a point, if the function has a point with that number. Points are the
-    /// instructions and last instructions in the order of the blocks. The search goes over the
-    /// blocks before the point.
-    pub fn point(&self, point: u32) -> Option<Point<'_>>
-        ensures { lent_point result ≡ point_in self.now point }
+    /// What stands at a place.
+    pub(crate) fn at(&self, place: Place) -> Option<Point<'_>>
+        ensures { lent_point result ≡ at_place self.now.blocks place }
     {
-        point_in(&self.blocks, point)
+        self.blocks.get(place.block as usize)?.point(place.index)
     }
 }
 
-fn point_in(blocks: &BlockList, point: u32) -> Option<Point<'_>>
-    ensures { lent_point result ≡ slice_get (points_of blocks.now) point }
-{
-    let mut index = point as usize;
-    for block in blocks.as_slice() {
-        let count = block.instrs.len();
-        if index < count {
-            return Some(Point::Middle(block.instrs.at(index)));
+impl Block {
+    /// What stands at an index among the points of the block.
+    pub(crate) fn point(&self, index: u32) -> Option<Point<'_>>
+        ensures { lent_point result ≡ slice_get (points_of_block self.now) index }
+    {
+        let index = index as usize;
+        if index == self.instrs.len() {
+            return Some(Point::End(&self.last));
         }
-        if index == count {
-            return Some(Point::End(&block.last));
-        }
-        index -= count + 1;
+        Some(Point::Middle(self.instrs.get(index)?))
     }
-    None
 }

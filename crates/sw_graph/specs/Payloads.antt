@@ -1,0 +1,56 @@
+-- Where payloads of an enum's cases are taken: at the front of the blocks that a switch leads to.
+use Rattle.std.specs.Prelude.{◌≡◌, ◌≢◌, ℕ, ◌<◌, Bool, true, false, cond, not, ◌||◌, IsTrue, Option}
+use Rattle.std.specs.Prelude.{Some}
+use Rattle.std.specs.Prelude.{List, [], ◌∷◌, slice_get}
+use Rattle.std.specs.List.{All}
+use Rattle.std.specs.Option.{option_and_then}
+use Rattle.sw_types.specs.declared.shape.Shape.{Shape}
+use Rattle.sw_graph.specs.declared.function.Function.{Function}
+use Rattle.sw_graph.specs.declared.function.RegKind.{RegKind}
+use Rattle.sw_graph.specs.declared.instr.Block.{Block}
+use Rattle.sw_graph.specs.declared.instr.Instr.{Instr}
+use Rattle.sw_graph.specs.declared.instr.Instr.TheVariants.{Payload}
+use Rattle.sw_graph.specs.declared.instr.Last.{Last}
+use Rattle.sw_graph.specs.declared.instr.Last.TheVariants.{Switch}
+use Rattle.sw_graph.specs.declared.instr.Operand.{Operand}
+use Rattle.sw_graph.specs.Kinds.{Goes, shape_of, is_enum, payload}
+use Rattle.sw_graph.specs.Mentions.{blocks_of}
+
+abbrev pub is_payload : Instr → Bool
+is_payload (Payload at r s i) = true
+is_payload _ = false
+
+abbrev pub has_payload : List Instr → Bool
+has_payload [] = false
+has_payload (instr ∷ instrs) = is_payload instr || has_payload instrs
+
+-- whether payloads stand in front alone, each behind other payloads
+abbrev pub in_front : List Instr → Bool
+in_front [] = true
+in_front (instr ∷ instrs) = cond (is_payload instr) (in_front instrs) (not (has_payload instrs))
+
+-- the kind of payload i of a case of an enum's value
+abbrev pub payload_at : List Shape → Option RegKind → ℕ → ℕ → Option RegKind
+payload_at shapes kind tag i =
+    option_and_then (λ kinds. slice_get kinds i) (payload (shape_of shapes is_enum kind) tag)
+
+-- The last instruction is a switch on the operand, and payload i of the case goes to the register.
+abbrev pub Unpacks : List Shape → List RegKind → Last → ℕ → Operand → ℕ → ℕ → Type 0
+Unpacks shapes regs (Switch subject to) tag s i r =
+    (subject.reg ≡ s.reg) × Goes (payload_at shapes (slice_get regs s.reg) tag i) (slice_get regs r)
+Unpacks shapes regs _ tag s i r = ⊥
+
+-- A payload stands in a block other than the first, and whatever leads to that block is a switch on
+-- its operand, for a case that has the payload. It leaves the operand as it is, which the payloads
+-- behind it read.
+abbrev pub PayloadFits : List Shape → Function → ℕ → Instr → Type 0
+PayloadFits shapes function number (Payload at r s i) =
+    (0 < number) × (r ≢ s.reg) × (All (λ (block : Block). (tag : ℕ)
+    → slice_get (blocks_of block.last) tag ≡ Some number
+    → Unpacks shapes function.regs block.last tag s i r) function.blocks)
+PayloadFits shapes function number _ = Unit {0}
+
+pub record PayloadsFit (shapes : List Shape) (function : Function) (number : ℕ) (block : Block)
+    : Type 0 where
+  pub front : IsTrue (in_front block.instrs)
+  pub each : All (PayloadFits shapes function number) block.instrs

@@ -1,0 +1,37 @@
+ghost use Rattle.std.specs.Prelude.{◌≡◌, ℕ, Bool, List, IsTrue, slice_get};
+ghost use Rattle.sw_types.specs.declared.shape.Shape.{Shape};
+ghost use Rattle.sw_graph.specs.declared.function.Function.{Function};
+ghost use Rattle.sw_graph.specs.declared.function.GlobalKind.{GlobalKind};
+ghost use Rattle.sw_graph.specs.declared.instr.Block.{Block};
+ghost use Rattle.sw_graph.specs.Payloads.{PayloadsFit};
+ghost use Rattle.sw_graph.specs.Straight.{is_straight, IsStraightGraph};
+ghost use Rattle.sw_graph.specs.Ways.{IsAnnotated, SetsBeforeReads};
+ghost use Rattle.sw_graph.specs.WellFormed.{IsWellFormed};
+
+use crate::function::{MAX_POINTS, MAX_REGISTERS};
+
+/// How it is shown that a function sets its registers before it reads them: by an annotation, or
+/// for a function of one block by a test that computes.
+pub fn registers_are_set()
+    ensures annotated { (function : Function) (annotation : ℕ → ℕ → Bool)
+        → IsAnnotated function annotation → SetsBeforeReads function }
+    ensures straight { (function : Function) → IsTrue (is_straight function)
+        → SetsBeforeReads function }
+    ensures straight_payloads { (shapes : List Shape) (function : Function)
+        → IsTrue (is_straight function)
+        → (number : ℕ) (block : Block) → slice_get function.blocks number ≡ Some block
+        → PayloadsFit shapes function number block }
+{}
+
+/// Graphs of straight functions, as tests make them by hand, are well formed.
+pub fn straight_graphs_fit()
+    ensures { (shapes : List Shape) (globals : List GlobalKind) (functions : List Function)
+        (entry : ℕ) (starts : List ℕ) → IsStraightGraph shapes globals functions entry starts
+        → IsWellFormed shapes globals functions entry starts }
+{}
+
+/// The limits of a function that is compiled.
+pub fn function_limits()
+    ensures registers { MAX_REGISTERS ≡ 512 }
+    ensures points { MAX_POINTS ≡ 16384 }
+{}
