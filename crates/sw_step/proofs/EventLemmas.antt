@@ -17,12 +17,12 @@ use Rattle.sw_value.specs.declared.job.Status.TheVariants.{Ready, Running, Waiti
 use Rattle.sw_value.specs.declared.state.State.{State}
 use Rattle.sw_value.specs.declared.state.TrapKind.{TrapKind}
 use Rattle.sw_value.specs.Job.{top_frame}
-use Rattle.sw_value.specs.State.{is_free, result_of, in_job, add_job, add_cell, halt}
+use Rattle.sw_value.specs.State.{is_free, result_of, in_job, add_job, add_cell, in_cell}
+use Rattle.sw_value.specs.State.{set_global, halt}
 use Rattle.sw_value.specs.Effect.{effect_of}
 use Rattle.sw_value.specs.Act.{execution_of, dispatch_of, act_by, act_of}
 use Rattle.sw_value.specs.Reach.{after_act, step_of}
 use Rattle.sw_value.proofs.ReachLemmas.{after_acts, step_by_act}
-use Rattle.sw_step.specs.declared.event.Event.{Event}
 use Rattle.sw_step.specs.declared.event.Event.TheVariants.{Nothing, Trapped}
 use Rattle.sw_step.specs.Event.{act_event, event_by, event_of}
 
@@ -33,11 +33,7 @@ Says o = event_by o ≡ Nothing → o ≡ None
 execution_says : (e : Effect) → Says (execution_of e)
 unfolding Says
 execution_says effect.Stuck h = refl
-execution_says (effect.Set r v next) h = cc
-execution_says (effect.Print r line next) h = cc
-execution_says (effect.Spawn r frame job cell next) h = cc
-execution_says (effect.Leave v) h = cc
-execution_says (effect.Halt kind at) h = cc
+execution_says _ h = cc
 
 and_then_says : {A : Type 0} (f : A → Option Act) → ((x : A) → Says (f x)) → (o : Option A)
     → Says (option_and_then f o)
@@ -85,14 +81,9 @@ trap_of kind at = Some (kind, at)
 -- the trap of a state, after an act
 halted_after : (j : ℕ) (state : State) (act : Act) (kind : TrapKind) (at : ℕ) → state.halted ≡ None
     → (act_event act ≡ Trapped kind at) ↔ ((after_act j act state).halted ≡ Some (kind, at))
-unfolding in_job add_job add_cell halt
+unfolding in_job add_job add_cell in_cell set_global halt
 halted_after j state Dispatch kind at none = (λ h. cc, λ h. cc)
 halted_after j state (Wake on r v) kind at none = (λ h. cc, λ h. cc)
-halted_after j state (Execute (effect.Set r v next)) kind at none = (λ h. cc, λ h. cc)
-halted_after j state (Execute (effect.Print r line next)) kind at none = (λ h. cc, λ h. cc)
-halted_after j state (Execute (effect.Spawn r frame job cell next)) kind at none =
-    (λ h. cc, λ h. cc)
-halted_after j state (Execute (effect.Leave v)) kind at none = (λ h. cc, λ h. cc)
 halted_after j state (Execute (effect.Halt k a)) kind at none = (to, back) where
   to : Trapped k a ≡ Trapped kind at → trap_of k a ≡ trap_of kind at
   to h =
@@ -107,7 +98,7 @@ halted_after j state (Execute (effect.Halt k a)) kind at none = (to, back) where
       let same_at : a ≡ at = ap
       (λ (o : Option (TrapKind × ℕ)). elim o [ None ↦ a | Some t ↦ t.1 ]) h in
       cc
-halted_after j state (Execute effect.Stuck) kind at none = (λ h. cc, λ h. cc)
+halted_after j state (Execute _) kind at none = (λ h. cc, λ h. cc)
 
 -- nothing happens where the machine is halted
 halted_acts : (graph : Graph) (state : State) (j : ℕ) (act : Act) → act_of graph state j ≡ Some act

@@ -1,4 +1,4 @@
+pub mod ArithmeticLemmas
 pub mod EventLemmas
 pub mod LineLemmas
-pub mod RunnableLemmas
 pub mod StepLemmas

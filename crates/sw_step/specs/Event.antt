@@ -14,12 +14,10 @@ use Rattle.sw_step.specs.declared.event.Event.TheVariants.{Trapped}
 -- a line that is printed and a trap have events of their own; an instruction that is stuck is not
 -- executed
 abbrev pub effect_event : Effect → Event
-effect_event (effect.Set r v next) = Ran
 effect_event (effect.Print r line next) = Printed line
-effect_event (effect.Spawn r frame job cell next) = Ran
-effect_event (effect.Leave v) = Ran
 effect_event (effect.Halt kind at) = Trapped kind at
 effect_event effect.Stuck = Nothing
+effect_event _ = Ran
 
 abbrev pub act_event : Act → Event
 act_event Dispatch = Dispatched

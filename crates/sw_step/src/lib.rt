@@ -2,9 +2,15 @@
 //! instruction. It knows nothing of lists of items.
 #![tactic(auto)]
 
+mod applying;
+mod arithmetic;
+mod calling;
+mod computing;
 mod event;
 mod execute;
+mod memory;
 mod operands;
+mod reading;
 mod stepping;
 
 pub use event::Event;

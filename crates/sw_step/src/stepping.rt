@@ -1,13 +1,13 @@
 ghost use Rattle.std.specs.Prelude.{◌≡◌, ℕ, ◌↔◌, ◌<◌, IfOk, OnOk, OnErr, length};
-ghost use Rattle.sw_value.specs.Runnable.{IsRunnable};
 ghost use Rattle.sw_value.specs.declared.state.TrapKind.{TrapKind};
 ghost use Rattle.sw_step.specs.declared.event.Event.TheVariants.{Nothing, Trapped};
 ghost use Rattle.sw_value.specs.Act.{execution_of, dispatch_of, act_by, act_of};
 ghost use Rattle.sw_value.specs.Reach.{after_act, step_of, Reached};
 ghost use Rattle.sw_step.specs.Event.{act_event, event_of};
 
+use crate::applying::apply;
 use crate::event::Event;
-use crate::execute::{apply, effect_of};
+use crate::execute::effect_of;
 use std::alloc::{AllocError, Global};
 use sw_graph::Graph;
 use sw_value::{Act, Effect, Frame, Job, State, Status};
@@ -15,7 +15,6 @@ use sw_value::{Act, Effect, Frame, Job, State, Status};
 /// Does what one item of a schedule says: the job with that number is dispatched, is woken or
 /// executes one instruction. Where memory runs out it leaves the state as it was.
 pub fn step(alloc: Global, graph: &Graph, state: &mut State, item: u32) -> Result<Event, AllocError>
-    requires runnable { IsRunnable graph.now }
     requires cells { length state.old.cells < 4294967295 }
 
     ensures steps { OnOk result (state.new ≡ step_of graph.now state.old item) }
@@ -36,7 +35,6 @@ pub fn step(alloc: Global, graph: &Graph, state: &mut State, item: u32) -> Resul
 
 #[tactic(auto, using(crate::proofs::StepLemmas::steps))]
 fn do_item(alloc: Global, graph: &Graph, state: &mut State, item: u32) -> Result<Event, AllocError>
-    requires runnable { IsRunnable graph.now }
     requires cells { length state.old.cells < 4294967295 }
     ensures steps { OnOk result (state.new ≡ step_of graph.now state.old item) }
     ensures event { IfOk result (λ event. event ≡ event_of graph.now state.old item) }
@@ -51,7 +49,6 @@ fn do_item(alloc: Global, graph: &Graph, state: &mut State, item: u32) -> Result
 /// What an item makes its job do.
 #[tactic(auto, unfolding(sw_value::specs::Act::act_of))]
 fn act_of(alloc: Global, graph: &Graph, state: &State, item: u32) -> Result<Option<Act>, AllocError>
-    requires runnable { IsRunnable graph.now }
     requires cells { length state.now.cells < 4294967295 }
     ensures { IfOk result (λ act. act ≡ act_of graph.now state.now item) }
 {
@@ -65,7 +62,6 @@ fn act_of(alloc: Global, graph: &Graph, state: &State, item: u32) -> Result<Opti
 }
 
 fn act_by(alloc: Global, graph: &Graph, state: &State, job: &Job) -> Result<Option<Act>, AllocError>
-    requires runnable { IsRunnable graph.now }
     requires cells { length state.now.cells < 4294967295 }
     ensures { IfOk result (λ act. act ≡ act_by graph.now state.now job.now job.now.status) }
 {
@@ -123,7 +119,7 @@ fn perform(alloc: Global, state: &mut State, item: u32, act: Act) -> Result<Even
 {
     match act {
         Act::Dispatch => {
-            state.dispatch(item);
+            state.dispatch(item)?;
             Ok(Event::Dispatched)
         }
         Act::Wake { ended, reg, value } => {

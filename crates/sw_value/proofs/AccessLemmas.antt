@@ -5,7 +5,6 @@ use Rattle.std.specs.Prelude.{option_and_then, is_some}
 use Rattle.std.specs.Option.{option_map}
 use Rattle.std.specs.List.{slice_get}
 use Rattle.sw_graph.specs.declared.graph.Graph.{Graph}
-use Rattle.sw_value.specs.declared.effect.Act.{Act}
 use Rattle.sw_value.specs.declared.effect.Effect.{Effect}
 use Rattle.sw_value.specs.declared.effect.Effect.TheVariants as effect
 use Rattle.sw_value.specs.declared.frame.Frame.{Frame}
@@ -23,17 +22,14 @@ use Rattle.sw_graph.specs.declared.instr.Instr.TheVariants as instr
 use Rattle.sw_graph.specs.Points.{Point, Middle, End}
 use Rattle.sw_value.specs.declared.race.Place.{Place}
 use Rattle.sw_value.proofs.ListLemmas.{some_injective}
-use Rattle.sw_value.specs.Access.{reference_at, box_at, part_at, global_at, read_by, write_by}
+use Rattle.sw_value.specs.Value.{reference_at}
+use Rattle.sw_value.specs.Access.{box_at, part_at, global_at, read_by, write_by}
 use Rattle.sw_value.specs.Access.{access_of, point_access, frame_access, job_access, next_access}
 
 -- only an effect that is stuck is not executed
 stuck_where_idle : (e : Effect) → execution_of e ≡ None → is_stuck e ≡ true
 stuck_where_idle effect.Stuck h = refl
-stuck_where_idle (effect.Set r v next) h = cc
-stuck_where_idle (effect.Print r line next) h = cc
-stuck_where_idle (effect.Spawn r frame job cell next) h = cc
-stuck_where_idle (effect.Leave v) h = cc
-stuck_where_idle (effect.Halt kind at) h = cc
+stuck_where_idle _ h = cc
 
 stuck_frame : (graph : Graph) (state : State) (j depth : ℕ) (frame : Frame)
     → is_stuck (effect_of graph state depth frame) ≡ true
@@ -94,15 +90,15 @@ names_map j f names (Some p) a h = sym (ap (λ x. x.job) (some_injective h)) ∙
 instr_names : (graph : Graph) (state : State) (j : ℕ) (frame : Frame) (i : Instr)
     → Names j (access_of graph state j frame i)
 instr_names graph state j frame (instr.LoadBox at r b) =
-    names_map j (read_by j at) (λ p. refl) (option_and_then (box_at state) (reference_at frame b))
+    names_map j (read_by j at) (λ p. refl) (option_and_then (box_at state) (reference_at frame.regs b))
 instr_names graph state j frame (instr.StoreBox at b s) =
-    names_map j (write_by j at) (λ p. refl) (option_and_then (box_at state) (reference_at frame b))
+    names_map j (write_by j at) (λ p. refl) (option_and_then (box_at state) (reference_at frame.regs b))
 instr_names graph state j frame (instr.LoadProp at r o i) =
     names_map j (read_by j at) (λ p. refl)
-    (option_and_then (part_at graph state i) (reference_at frame o))
+    (option_and_then (part_at graph state i) (reference_at frame.regs o))
 instr_names graph state j frame (instr.StoreProp at o i s) =
     names_map j (write_by j at) (λ p. refl)
-    (option_and_then (part_at graph state i) (reference_at frame o))
+    (option_and_then (part_at graph state i) (reference_at frame.regs o))
 instr_names graph state j frame (instr.LoadGlobal at r g) =
     names_map j (read_by j at) (λ p. refl) (global_at graph g)
 instr_names graph state j frame (instr.StoreGlobal at g s) =

@@ -1,4 +1,5 @@
 pub mod AccessLemmas
+pub mod BusyLemmas
 pub mod JobLemmas
 pub mod ListLemmas
 pub mod NeverRaces

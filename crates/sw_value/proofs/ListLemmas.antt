@@ -4,7 +4,7 @@ use Rattle.std.proofs.Common.{◌++◌, zero, suc, length, take, drop, reverse, 
 use Rattle.std.proofs.Common.{add-one}
 use Rattle.std.specs.List.{slice_get, slice_set, filter_map, cons_option}
 use Rattle.std.specs.Option.{option_to_list}
-use Rattle.std.proofs.lemmas.List.{length-set, take_all}
+use Rattle.std.proofs.lemmas.List.{length-set, take_all, set-append_left}
 use mathlib.Core.List.{reverse-cons}
 use Rattle.std.proofs.lemmas.List.Elements.{filter_map-append}
 use Rattle.std.proofs.lemmas.Option.{slice_get_past, slice_get-get_or}
@@ -24,8 +24,13 @@ pub changed_at_past : {A : Type 0} (g : A → A) (i : ℕ) (xs : List A) → len
 unfolding changed_at
 changed_at_past g i xs past = ap (λ o. changed_by o g i xs) (slice_get_past xs i past)
 
+pub changed_at_none : {A : Type 0} (g : A → A) (i : ℕ) (xs : List A) → slice_get xs i ≡ None
+    → changed_at g i xs ≡ xs
+unfolding changed_at
+changed_at_none g i xs e = ap (λ o. changed_by o g i xs) e
+
 -- an item that is put at an index, or changed there, is found there
-set_there : {A : Type 0} (xs : List A) (i : ℕ) (x y : A) → slice_get xs i ≡ Some x
+pub set_there : {A : Type 0} (xs : List A) (i : ℕ) (x y : A) → slice_get xs i ≡ Some x
     → slice_get (slice_set xs i y) i ≡ Some y
 set_there [] i x y e = cc
 set_there (z ∷ zs) zero x y e = refl
@@ -137,4 +142,40 @@ each_all f xs i ys past e = ap (each_of f) (sym (take_all i xs past)) ∙ e
 
 pub ruleset each = (each_none, each_more, each_lacks, each_all)
 
-pub ruleset changes = (changed_at_there, changed_at_past)
+-- an item that is replaced by one equal to it
+pub set_back : {A : Type 0} (xs : List A) (i : ℕ) (x y : A) → slice_get xs i ≡ Some x → y ≡ x
+    → slice_set xs i y ≡ xs
+set_back [] i x y e h = refl
+set_back (z ∷ zs) zero x y e h = ap (λ w. w ∷ zs) (h ∙ sym (some_injective e))
+set_back (z ∷ zs) (suc i) x y e h = ap (λ l. z ∷ l) (set_back zs i x y e h)
+
+pub get_before : {A : Type 0} (xs : List A) (i : ℕ) (x y : A) → slice_get (xs ++ y ∷ []) i ≡ Some x
+    → i < length xs → slice_get xs i ≡ Some x
+get_before [] i x y e inside = absurd (omega arith)
+get_before (z ∷ zs) zero x y e inside = e
+get_before (z ∷ zs) (suc i) x y e inside = get_before zs i x y e (omega arith)
+
+-- a change before an item that was added at the end
+pub push_changed : {A : Type 0} (g : A → A) (i : ℕ) (xs : List A) (x y : A)
+    → slice_get (xs ++ y ∷ []) i ≡ Some x → i < length xs
+    → changed_at g i xs ++ y ∷ [] ≡ slice_set (xs ++ y ∷ []) i (g x)
+push_changed g i xs x y e inside =
+    ap (λ l. l ++ y ∷ []) (changed_at_there g i xs x (get_before xs i x y e inside))
+    ∙ sym (set-append_left xs (y ∷ []) i (g x) inside)
+
+-- an item that is changed where there is one
+pub mapped_some : {A : Type 0} (g : A → A) (i : ℕ) (xs : List (Option A)) (x y : A)
+    → slice_get xs i ≡ Some (Some x) → y ≡ g x
+    → slice_set xs i (Some y) ≡ changed_at (option_map g) i xs
+mapped_some g i xs x y e h =
+    sym (changed_at_there (option_map g) i xs (Some x) e ∙ ap (λ z. slice_set xs i (Some z)) (sym h))
+
+pub mapped_none : {A : Type 0} (g : A → A) (i : ℕ) (xs : List (Option A)) (o : Option A)
+    → slice_get xs i ≡ Some o → o ≡ None → slice_set xs i o ≡ changed_at (option_map g) i xs
+mapped_none g i xs o e h =
+    sym (changed_at_there (option_map g) i xs o e
+    ∙ ap (λ z. slice_set xs i z) (ap (option_map g) h ∙ sym h))
+
+pub ruleset changes = (changed_at_there, changed_at_past, set_back)
+
+pub ruleset pushes = (push_changed, changed_at_past)

@@ -10,7 +10,6 @@ use Rattle.sw_graph.specs.Points.{Point, Middle, End, points_of, point_in}
 use Rattle.sw_graph.proofs.ListLemmas.{at_index}
 use Rattle.sw_value.specs.declared.frame.Frame.{Frame}
 use Rattle.sw_value.specs.declared.job.Job.{Job}
-use Rattle.sw_value.specs.declared.race.Access.{Access}
 use Rattle.sw_value.specs.declared.state.State.{State}
 use Rattle.sw_value.specs.Frame.{point_at}
 use Rattle.sw_value.specs.Effect.{is_stuck, effect_of}

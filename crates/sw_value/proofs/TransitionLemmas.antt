@@ -23,18 +23,21 @@ use Rattle.sw_value.specs.declared.effect.Effect.{Effect}
 use Rattle.sw_value.specs.declared.effect.Effect.TheVariants as effect
 use Rattle.sw_value.specs.declared.effect.Act.{Act}
 use Rattle.sw_value.specs.declared.effect.Act.TheVariants.{Dispatch, Wake, Execute}
-use Rattle.sw_value.specs.Frame.{finish_instr, take_result}
+use Rattle.sw_value.specs.Frame.{finish_instr, go_on, set_field, take_result}
 use Rattle.sw_value.specs.Job.{top_frame, is_running_status, is_running, in_top, dispatch, wake}
+use Rattle.sw_value.specs.Job.{enter, wait, rest}
 use Rattle.sw_value.specs.Job.{return_to, return_from, leave, new_job, ended_with, waits_for}
-use Rattle.sw_value.specs.State.{in_job, add_job, add_cell, halt, is_free, result_of}
+use Rattle.sw_value.specs.State.{in_job, add_job, add_cell, in_cell, set_global, halt, is_free}
+use Rattle.sw_value.specs.State.{result_of}
 use Rattle.sw_value.specs.Lists.{changed_at}
 use Rattle.sw_value.specs.Effect.{effect_of}
 use Rattle.sw_value.specs.Act.{execution_of, dispatch_of, act_by, act_of}
 use Rattle.sw_value.specs.Transition.{Transition, is_last_frame, entered_by, left_by, made_by}
 use Rattle.sw_value.specs.Transition.{followed_by, ends_by, transition_by, transition_of}
-use Rattle.sw_value.specs.Transition.{executor_in, runs_at, awaited_by, gained, Describes}
+use Rattle.sw_value.specs.Transition.{executor_of_top, executor_in, runs_at, awaited_by, gained, Describes}
 use Rattle.sw_value.specs.Reach.{after_act, step_of}
 use Rattle.sw_value.proofs.ListLemmas.{some_injective, length-changed_at, changed_at_found}
+use Rattle.sw_value.proofs.ListLemmas.{slice_get_end}
 use Rattle.sw_graph.proofs.ListLemmas.{slice_get_before}
 use Rattle.sw_value.proofs.ReachLemmas.{after_acts, step_by_act}
 use Rattle.sw_value.proofs.StaysInBounds.{HasRoom, effect_has_room}
@@ -151,49 +154,88 @@ wake_changes state j job on r v there waits =
       ends = refl;
     }
 
--- a frame goes on after its instruction, on its executor
-top_after : (job : Job) (frame : Frame) (r : ℕ) (v : Value) (next : ℕ) → top_frame job ≡ Some frame
-    → top_frame (in_top (finish_instr r v next) job) ≡ Some (finish_instr r v next frame)
+-- The state before and after an instruction of a job that runs, whose top frame is `frame`.
+record Executes (state after : State) (j : ℕ) (e : Effect) (job : Job)
+    (frame : Frame) (later : Job) : Type 0 where
+  there : slice_get state.jobs j ≡ Some job
+  runs : job.status ≡ Running
+  top : top_frame job ≡ Some frame
+  here : slice_get after.jobs j ≡ Some later
+  makes : made_by (Execute e) ≡ one_more state after
+
+-- the job goes on running
+goes_on : (state after : State) (j : ℕ) (e : Effect) (job : Job) (frame : Frame) (later : Job)
+    (above : Frame) → Executes state after j e job frame later → later.status ≡ job.status
+    → top_frame later ≡ Some above → left_by (Execute e) job ≡ None
+    → ends_by (Execute e) job ≡ false → Changes state after j (Execute e) job later
+goes_on state after j e job frame later above x same top no_leave no_end =
+    let was = busy job frame (ap is_running_status x.runs) x.top in
+    let is = busy later above (ap is_running_status (same ∙ x.runs)) top in
+    record {
+      here = x.here;
+      enters = kept (executor_in job) (executor_in later) frame.executor was;
+      leaves = no_leave ∙ kept (executor_in later) (executor_in job) above.executor is;
+      makes = x.makes;
+      follows = sym (ap waits_for x.runs);
+      ends = no_end ∙ sym (ap (λ s. is_some (ended_with s)) (same ∙ x.runs));
+    }
+
+-- the job gives its executor up, and has not ended
+gives_up : (state after : State) (j : ℕ) (e : Effect) (job : Job) (frame : Frame) (later : Job)
+    (status : Status) → Executes state after j e job frame later → later.status ≡ status
+    → is_running_status status ≡ false → is_some (ended_with status) ≡ false
+    → left_by (Execute e) job ≡ executor_of_top job → ends_by (Execute e) job ≡ false
+    → Changes state after j (Execute e) job later
+gives_up state after j e job frame later status x now stops unended leaves no_end =
+    let was = busy job frame (ap is_running_status x.runs) x.top in
+    let is = idle later (ap is_running_status now ∙ stops) in
+    record {
+      here = x.here;
+      enters = kept (executor_in job) (executor_in later) frame.executor was;
+      leaves = leaves ∙ ap (option_map executor_of_frame) x.top
+          ∙ got (executor_in later) (executor_in job) frame.executor is was;
+      makes = x.makes;
+      follows = sym (ap waits_for x.runs);
+      ends = no_end ∙ sym (ap (λ s. is_some (ended_with s)) now ∙ unended);
+    }
+
+-- the top frame is changed, and goes on
+top_after : (job : Job) (frame : Frame) (g : Frame → Frame) → top_frame job ≡ Some frame
+    → top_frame (in_top g job) ≡ Some (g frame)
 unfolding top_frame in_top
-top_after job frame r v next top =
-    let g = finish_instr r v next in
+top_after job frame g top =
     let place = length job.frames - 1 in
     ap (λ n. slice_get (changed_at g place job.frames) (n - 1))
     (length-changed_at g place job.frames)
     ∙ changed_at_found g place job.frames frame top
 
-after_running : (job : Job) (frame : Frame) (r : ℕ) (v : Value) (next : ℕ) → job.status ≡ Running
-    → top_frame job ≡ Some frame
-    → executor_in (in_top (finish_instr r v next) job) ≡ Some frame.executor
-unfolding in_top finish_instr
-after_running job frame r v next runs top =
-    busy (in_top (finish_instr r v next) job) (finish_instr r v next frame)
-    (ap is_running_status runs) (top_after job frame r v next top)
-
-after_not_ended : (job : Job) (r : ℕ) (v : Value) (next : ℕ) → job.status ≡ Running
-    → false ≡ is_some (ended_with (in_top (finish_instr r v next) job).status)
+status_after : (job : Job) (g : Frame → Frame) → (in_top g job).status ≡ job.status
 unfolding in_top
-after_not_ended job r v next runs = sym (ap (λ s. is_some (ended_with s)) runs)
+status_after job g = refl
 
-instr_changes : (state : State) (j : ℕ) (e : Effect) (job : Job) (frame : Frame) (r : ℕ) (v : Value)
-    (next : ℕ) → slice_get state.jobs j ≡ Some job → job.status ≡ Running
-    → top_frame job ≡ Some frame → left_by (Execute e) job ≡ None → made_by (Execute e) ≡ None
-    → ends_by (Execute e) job ≡ false
-    → Changes state (in_job (in_top (finish_instr r v next)) j state) j (Execute e) job
-    (in_top (finish_instr r v next) job)
-unfolding in_job
-instr_changes state j e job frame r v next there runs top no_leave no_job no_end =
-    let g = in_top (finish_instr r v next) in
-    let was = busy job frame (ap is_running_status runs) top in
-    let is = after_running job frame r v next runs top in
-    record {
-      here = changed_at_found g j state.jobs job there;
-      enters = kept (executor_in job) (executor_in (g job)) frame.executor was;
-      leaves = no_leave ∙ kept (executor_in (g job)) (executor_in job) frame.executor is;
-      makes = no_job ∙ sym (none_more state (in_job g j state) (length-changed_at g j state.jobs));
-      follows = sym (ap waits_for runs);
-      ends = no_end ∙ after_not_ended job r v next runs;
-    }
+-- a state whose jobs are those before, with one changed
+job_executes : (state after : State) (j : ℕ) (e : Effect) (job : Job) (frame : Frame)
+    (g : Job → Job) → slice_get state.jobs j ≡ Some job → job.status ≡ Running
+    → top_frame job ≡ Some frame → after.jobs ≡ changed_at g j state.jobs
+    → made_by (Execute e) ≡ None → Executes state after j e job frame (g job)
+job_executes state after j e job frame g there runs top changed no_job = record {
+  there = there;
+  runs = runs;
+  top = top;
+  here = ap (λ l. slice_get l j) changed ∙ changed_at_found g j state.jobs job there;
+  makes = no_job ∙ sym (none_more state after (ap length changed
+      ∙ length-changed_at g j state.jobs));
+}
+
+instr_changes : (state after : State) (j : ℕ) (e : Effect) (job : Job) (frame : Frame)
+    (g : Frame → Frame) → slice_get state.jobs j ≡ Some job → job.status ≡ Running
+    → top_frame job ≡ Some frame → after.jobs ≡ changed_at (in_top g) j state.jobs
+    → made_by (Execute e) ≡ None → left_by (Execute e) job ≡ None
+    → ends_by (Execute e) job ≡ false → Changes state after j (Execute e) job (in_top g job)
+instr_changes state after j e job frame g there runs top changed no_job no_leave no_end =
+    goes_on state after j e job frame (in_top g job) (g frame)
+    (job_executes state after j e job frame (in_top g) there runs top changed no_job)
+    (status_after job g) (top_after job frame g top) no_leave no_end
 
 task_changes : (state : State) (j : ℕ) (job : Job) (frame first : Frame) (r made c next : ℕ)
     → slice_get state.jobs j ≡ Some job → job.status ≡ Running → top_frame job ≡ Some frame
@@ -204,26 +246,87 @@ task_changes : (state : State) (j : ℕ) (job : Job) (frame first : Frame) (r ma
     (in_top (finish_instr r (value.Cell c) next) job)
 unfolding in_job add_cell add_job
 task_changes state j job frame first r made c next there runs top number =
-    let g = in_top (finish_instr r (value.Cell c) next) in
-    let after = in_job g j (add_cell (cell.TaskOf made) (add_job (new_job (first ∷ [])) state)) in
+    let g = finish_instr r (value.Cell c) next in
+    let after =
+    in_job (in_top g) j (add_cell (cell.TaskOf made) (add_job (new_job (first ∷ [])) state)) in
     let more = state.jobs ++ new_job (first ∷ []) ∷ [] in
-    let was = busy job frame (ap is_running_status runs) top in
-    let is = after_running job frame r (value.Cell c) next runs top in
-    record {
-      here = changed_at_found g j more job
+    goes_on state after j
+    (effect.Spawn r first made c next) job frame (in_top g job) (g frame)
+    (record {
+      there = there;
+      runs = runs;
+      top = top;
+      here = changed_at_found (in_top g) j more job
           (slice_get_before state.jobs (new_job (first ∷ []) ∷ []) j job there);
-      enters = kept (executor_in job) (executor_in (g job)) frame.executor was;
-      leaves = kept (executor_in (g job)) (executor_in job) frame.executor is;
       makes = ap Some number ∙ sym
           (some_more state after
           (omega (
             arith,
-            length-changed_at g j more,
+            length-changed_at (in_top g) j more,
             length-append state.jobs (new_job (first ∷ []) ∷ []),
           )));
-      follows = sym (ap waits_for runs);
-      ends = after_not_ended job r (value.Cell c) next runs;
-    }
+    }) (status_after job g) (top_after job frame g top) refl refl
+
+-- a frame is pushed
+entered_top : (frame : Frame) (next : ℕ) (job : Job) → top_frame (enter frame next job) ≡ Some frame
+unfolding top_frame enter
+entered_top frame next job =
+    let below = changed_at (go_on next) (length job.frames - 1) job.frames in
+    let place : length (below ++ frame ∷ []) - 1 ≡ length below =
+    omega (arith, length-append below (frame ∷ [])) in
+    ap (slice_get (below ++ frame ∷ [])) place ∙ slice_get_end below frame
+
+entered_status : (frame : Frame) (next : ℕ) (job : Job)
+    → (enter frame next job).status ≡ cond frame.crossing Ready job.status
+unfolding enter
+entered_status frame next job = refl
+
+call_changes : (state : State) (j : ℕ) (job : Job) (frame above : Frame) (next : ℕ)
+    → slice_get state.jobs j ≡ Some job → job.status ≡ Running → top_frame job ≡ Some frame
+    → Changes state (in_job (enter above next) j state) j (Execute (effect.Enter above next)) job
+    (enter above next job)
+unfolding in_job
+call_changes state j job frame above next there runs top = by above.crossing refl where
+  by : (b : Bool) → above.crossing ≡ b → Changes state (in_job (enter above next) j state) j
+      (Execute (effect.Enter above next)) job (enter above next job)
+  by true crosses =
+      gives_up state (in_job (enter above next) j state) j
+      (effect.Enter above next) job frame (enter above next job) Ready
+      (job_executes state (in_job (enter above next) j state) j
+      (effect.Enter above next) job frame (enter above next) there runs top refl refl)
+      (entered_status above next job ∙ ap (λ b. cond b Ready job.status) crosses) refl refl
+      (ap (λ b. cond b (executor_of_top job) None) crosses) refl
+  by false stays =
+      goes_on state (in_job (enter above next) j state) j
+      (effect.Enter above next) job frame (enter above next job) above
+      (job_executes state (in_job (enter above next) j state) j
+      (effect.Enter above next) job frame (enter above next) there runs top refl refl)
+      (entered_status above next job ∙ ap (λ b. cond b Ready job.status) stays)
+      (entered_top above next job) (ap (λ b. cond b (executor_of_top job) None) stays) refl
+
+-- a job waits, or rests
+wait_changes : (state : State) (j : ℕ) (job : Job) (frame : Frame) (on r next : ℕ)
+    → slice_get state.jobs j ≡ Some job → job.status ≡ Running → top_frame job ≡ Some frame
+    → Changes state (in_job (wait on r next) j state) j (Execute (effect.Wait on r next)) job
+    (wait on r next job)
+unfolding in_job wait
+wait_changes state j job frame on r next there runs top =
+    gives_up state (in_job (wait on r next) j state) j
+    (effect.Wait on r next) job frame (wait on r next job) (Waiting on r)
+    (job_executes state (in_job (wait on r next) j state) j
+    (effect.Wait on r next) job frame (wait on r next) there runs top refl refl) refl refl refl
+    refl refl
+
+rest_changes : (state : State) (j : ℕ) (job : Job) (frame : Frame) (r next : ℕ)
+    → slice_get state.jobs j ≡ Some job → job.status ≡ Running → top_frame job ≡ Some frame
+    → Changes state (in_job (rest r next) j state) j (Execute (effect.Rest r next)) job
+    (rest r next job)
+unfolding in_job rest
+rest_changes state j job frame r next there runs top =
+    gives_up state (in_job (rest r next) j state) j
+    (effect.Rest r next) job frame (rest r next job) Ready
+    (job_executes state (in_job (rest r next) j state) j
+    (effect.Rest r next) job frame (rest r next) there runs top refl refl) refl refl refl refl refl
 
 halt_changes : (state : State) (j : ℕ) (job : Job) (frame : Frame) (kind : TrapKind) (at : ℕ)
     → slice_get state.jobs j ≡ Some job → job.status ≡ Running → top_frame job ≡ Some frame
@@ -367,24 +470,64 @@ effect_described : (graph : Graph) (state : State) (j : ℕ) (job : Job) (frame 
     → slice_get state.jobs j ≡ Some job → job.status ≡ Running → top_frame job ≡ Some frame
     → (e : Effect) → HasRoom state e → (act : Act) → execution_of e ≡ Some act
     → described graph state j act
-unfolding described HasRoom
+unfolding described HasRoom in_job add_cell in_cell set_global
 effect_described graph state j job frame there runs top e room act h = by e room h where
   by : (e : Effect) → HasRoom state e → execution_of e ≡ Some act → described graph state j act
   by effect.Stuck _ h = cc
   by (effect.Set r v next) _ h =
       subst (described graph state j) (some_injective h)
       (describes_of graph state _ j (Execute (effect.Set r v next)) job _ there
-      (instr_changes state j
-      (effect.Set r v next) job frame r v next there runs top refl refl refl))
+      (instr_changes state _ j
+      (effect.Set r v next) job frame (finish_instr r v next) there runs top refl refl refl refl))
+  by (effect.SetField r i v next) _ h =
+      subst (described graph state j) (some_injective h)
+      (describes_of graph state _ j (Execute (effect.SetField r i v next)) job _ there
+      (instr_changes state _ j
+      (effect.SetField r i v next) job frame (set_field r i v next) there runs top refl refl refl
+      refl))
   by (effect.Print r line next) _ h =
       subst (described graph state j) (some_injective h)
       (describes_of graph state _ j (Execute (effect.Print r line next)) job _ there
-      (instr_changes state j
-      (effect.Print r line next) job frame r value.Unit next there runs top refl refl refl))
+      (instr_changes state _ j
+      (effect.Print r line next) job frame (finish_instr r value.Unit next) there runs top refl
+      refl refl refl))
+  by (effect.New r c number next) _ h =
+      subst (described graph state j) (some_injective h)
+      (describes_of graph state _ j (Execute (effect.New r c number next)) job _ there
+      (instr_changes state _ j
+      (effect.New r c number next) job frame
+      (finish_instr r (value.Cell number) next) there runs top refl refl refl refl))
+  by (effect.Write c slot v next) _ h =
+      subst (described graph state j) (some_injective h)
+      (describes_of graph state _ j (Execute (effect.Write c slot v next)) job _ there
+      (instr_changes state _ j
+      (effect.Write c slot v next) job frame (go_on next) there runs top refl refl refl refl))
+  by (effect.WriteGlobal g v next) _ h =
+      subst (described graph state j) (some_injective h)
+      (describes_of graph state _ j (Execute (effect.WriteGlobal g v next)) job _ there
+      (instr_changes state _ j
+      (effect.WriteGlobal g v next) job frame (go_on next) there runs top refl refl refl refl))
+  by (effect.Goto next) _ h =
+      subst (described graph state j) (some_injective h)
+      (describes_of graph state _ j (Execute (effect.Goto next)) job _ there
+      (instr_changes state _ j
+      (effect.Goto next) job frame (go_on next) there runs top refl refl refl refl))
+  by (effect.Enter above next) _ h =
+      subst (described graph state j) (some_injective h)
+      (describes_of graph state _ j (Execute (effect.Enter above next)) job _ there
+      (call_changes state j job frame above next there runs top))
   by (effect.Spawn r first made c next) room h =
       subst (described graph state j) (some_injective h)
       (describes_of graph state _ j (Execute (effect.Spawn r first made c next)) job _ there
       (task_changes state j job frame first r made c next there runs top room.1))
+  by (effect.Wait on r next) _ h =
+      subst (described graph state j) (some_injective h)
+      (describes_of graph state _ j (Execute (effect.Wait on r next)) job _ there
+      (wait_changes state j job frame on r next there runs top))
+  by (effect.Rest r next) _ h =
+      subst (described graph state j) (some_injective h)
+      (describes_of graph state _ j (Execute (effect.Rest r next)) job _ there
+      (rest_changes state j job frame r next there runs top))
   by (effect.Leave v) _ h =
       subst (described graph state j) (some_injective h)
       (describes_of graph state _ j (Execute (effect.Leave v)) job _ there

@@ -4,7 +4,6 @@ use Rattle.std.specs.Prelude.{is_some, option_map, option_and_then, unwrap_or, i
 use Rattle.sw_types.specs.declared.shape.Shape.{Shape}
 use Rattle.sw_graph.specs.declared.instr.Instr.{Instr}
 use Rattle.sw_graph.specs.declared.instr.Instr.TheVariants as instr
-use Rattle.sw_graph.specs.declared.instr.Operand.{Operand}
 use Rattle.sw_graph.specs.declared.graph.Graph.{Graph}
 use Rattle.sw_graph.specs.Points.{Point, Middle, End}
 use Rattle.sw_value.specs.declared.value.Value.{Value}
@@ -16,16 +15,12 @@ use Rattle.sw_value.specs.declared.race.Access.{Access}
 use Rattle.sw_value.specs.declared.race.Place.{Place}
 use Rattle.sw_value.specs.declared.race.Place.TheVariants.{Prop, Global, BoxOf}
 use Rattle.sw_value.specs.declared.state.State.{State}
-use Rattle.sw_value.specs.Value.{reference_of, operand_value}
+use Rattle.sw_value.specs.Value.{reference_at}
 use Rattle.sw_value.specs.Frame.{point_at}
 use Rattle.sw_value.specs.Job.{top_frame, is_running}
 use Rattle.sw_value.specs.Effect.{is_stuck, effect_of}
 
--- the cell that an operand refers to
-abbrev pub reference_at : Frame → Operand → Option ℕ
-reference_at frame o = option_and_then reference_of (operand_value frame.regs o)
-
-abbrev box_in : ℕ → HeapCell → Option Place
+abbrev pub box_in : ℕ → HeapCell → Option Place
 box_in c (cell.BoxOf held) = Some (BoxOf c)
 box_in c _ = None
 
@@ -34,17 +29,17 @@ abbrev pub box_at : State → ℕ → Option Place
 box_at state c = option_and_then (box_in c) (slice_get state.cells c)
 
 -- whether part i of a shape is a `var`
-abbrev is_var_part : List Shape → ℕ → ℕ → Bool
+abbrev pub is_var_part : List Shape → ℕ → ℕ → Bool
 is_var_part shapes k i =
     unwrap_or (option_and_then (λ s. option_map (λ p. p.mutable) (slice_get s.parts i))
     (slice_get shapes k)) false
 
-abbrev var_part : Graph → ℕ → ℕ → ℕ → List Value → Option Place
+abbrev pub var_part : Graph → ℕ → ℕ → ℕ → List Value → Option Place
 var_part graph c i k parts =
     option_and_then (λ _. if is_var_part graph.shapes k i then Some (Prop c i) else None)
     (slice_get parts i)
 
-abbrev part_in : Graph → ℕ → ℕ → HeapCell → Option Place
+abbrev pub part_in : Graph → ℕ → ℕ → HeapCell → Option Place
 part_in graph c i (cell.Object k parts) = var_part graph c i k parts
 part_in graph c i (cell.Actor k parts) = var_part graph c i k parts
 part_in graph c i _ = None
@@ -69,13 +64,13 @@ write_by j at place = record { job = j; at = at; place = place; writes = true }
 -- The access of an instruction: loads read and stores write. The `let`s are no locations.
 abbrev pub access_of : Graph → State → ℕ → Frame → Instr → Option Access
 access_of graph state j frame (instr.LoadBox at r b) =
-    option_map (read_by j at) (option_and_then (box_at state) (reference_at frame b))
+    option_map (read_by j at) (option_and_then (box_at state) (reference_at frame.regs b))
 access_of graph state j frame (instr.StoreBox at b s) =
-    option_map (write_by j at) (option_and_then (box_at state) (reference_at frame b))
+    option_map (write_by j at) (option_and_then (box_at state) (reference_at frame.regs b))
 access_of graph state j frame (instr.LoadProp at r o i) =
-    option_map (read_by j at) (option_and_then (part_at graph state i) (reference_at frame o))
+    option_map (read_by j at) (option_and_then (part_at graph state i) (reference_at frame.regs o))
 access_of graph state j frame (instr.StoreProp at o i s) =
-    option_map (write_by j at) (option_and_then (part_at graph state i) (reference_at frame o))
+    option_map (write_by j at) (option_and_then (part_at graph state i) (reference_at frame.regs o))
 access_of graph state j frame (instr.LoadGlobal at r g) =
     option_map (read_by j at) (global_at graph g)
 access_of graph state j frame (instr.StoreGlobal at g s) =

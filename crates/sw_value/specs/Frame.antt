@@ -4,17 +4,24 @@ use Rattle.std.specs.Prelude.{option_and_then, if◌then◌else◌}
 use Rattle.std.specs.Option.{option_map}
 use Rattle.sw_types.specs.declared.isolation.Iso.{Iso}
 use Rattle.sw_graph.specs.declared.graph.Graph.{Graph}
-use Rattle.sw_graph.specs.Points.{Point, point_in}
+use Rattle.sw_graph.specs.Points.{Point, point_in, block_start}
 use Rattle.sw_value.specs.declared.frame.TheConstants.{NO_REGISTER}
 use Rattle.sw_value.specs.declared.value.Value.{Value}
 use Rattle.sw_value.specs.declared.frame.Frame.{Frame}
-use Rattle.sw_value.specs.Value.{registers}
+use Rattle.sw_value.specs.Lists.{changed_at}
+use Rattle.sw_value.specs.Value.{registers, with_field}
 use Rattle.sw_value.specs.Executor.{executor_of}
 
 -- what stands at the point of a frame, if its function is there and has that point
 unfoldable pub point_at : Graph → Frame → Option Point
 point_at graph frame =
     option_and_then (λ function. point_in function frame.point)
+    (slice_get graph.functions frame.function)
+
+-- the point at which a block of the frame's function begins, if there is such a block
+unfoldable pub start_at : Graph → Frame → ℕ → Option ℕ
+start_at graph frame block =
+    option_and_then (λ function. block_start function block)
     (slice_get graph.functions frame.function)
 
 -- register r gets v; a number past the registers changes nothing
@@ -24,6 +31,15 @@ set_register r v frame = record frame { regs = slice_set frame.regs r (Some v) }
 -- an instruction has given register r the value v, and the frame goes on at point `next`
 unfoldable pub finish_instr : ℕ → Value → ℕ → Frame → Frame
 finish_instr r v next frame = record frame { regs = slice_set frame.regs r (Some v); point = next }
+
+-- the frame goes on at point `next`
+unfoldable pub go_on : ℕ → Frame → Frame
+go_on next frame = record frame { point = next }
+
+-- the struct in register r has v as its part i, and the frame goes on at point `next`
+unfoldable pub set_field : ℕ → ℕ → Value → ℕ → Frame → Frame
+set_field r i v next frame =
+    record frame { regs = changed_at (option_map (with_field i v)) r frame.regs; point = next }
 
 -- the frame above has returned v; the number of no register asks for no result
 unfoldable pub take_result : ℕ → Value → Frame → Frame

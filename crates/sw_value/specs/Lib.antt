@@ -1,5 +1,9 @@
 pub mod Access
 pub mod Act
+pub mod Arithmetic
+pub mod Busy
+pub mod Call
+pub mod Cell
 pub mod Effect
 pub mod Executor
 pub mod Frame

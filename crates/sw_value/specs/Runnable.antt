@@ -1,5 +1,4 @@
--- The graphs that the machine runs today: of literals, prints, detached tasks and returns, without
--- actors.
+-- Graphs of literals, prints, detached tasks and returns, without actors: their jobs share nothing.
 use Rattle.std.specs.Prelude.{◌≡◌, All}
 use Rattle.sw_types.specs.declared.isolation.Iso.TheVariants.{Free}
 use Rattle.sw_graph.specs.declared.instr.Instr.TheVariants as instr
@@ -8,7 +7,7 @@ use Rattle.sw_graph.specs.declared.function.Function.{Function}
 use Rattle.sw_graph.specs.declared.graph.Graph.{Graph}
 use Rattle.sw_graph.specs.Points.{Point, Middle, End, points_of, IsNumbered}
 
--- the machine runs what stands at the point
+-- what stands at the point is a literal, a print, a detached task or a return
 abbrev pub IsRunnablePoint : Point → Type 0
 IsRunnablePoint (Middle (instr.Const at r literal)) = Unit {0}
 IsRunnablePoint (Middle (instr.Print at r operands)) = Unit {0}
@@ -16,7 +15,7 @@ IsRunnablePoint (Middle (instr.NewTask at r f captures)) = Unit {0}
 IsRunnablePoint (End (last.Return operand)) = Unit {0}
 IsRunnablePoint _ = ⊥
 
--- the function is isolated to no actor, the machine runs all its points, and these are numbered
+-- the function is isolated to no actor, all its points are such, and these are numbered
 pub record IsRunnableFunction (function : Function) : Type 0 where
   pub free : function.iso ≡ Free
   pub points : All IsRunnablePoint (points_of function.blocks)

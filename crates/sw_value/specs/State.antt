@@ -1,8 +1,7 @@
 -- Changes of a state. Each has the name of the method of `State` that makes it.
-use Rattle.std.specs.Prelude.{ℕ, Bool, true, false, Option, Some, None, List, [], ◌∷◌, ◌++◌}
-use Rattle.std.specs.Prelude.{slice_get, ◌&&◌, not, option_and_then}
+use Rattle.std.specs.Prelude.{ℕ, Bool, true, Option, Some, List, [], ◌∷◌, ◌++◌}
+use Rattle.std.specs.Prelude.{slice_get, slice_set, not, option_and_then}
 use Rattle.std.specs.List.{list_any}
-use Rattle.std.specs.Option.{option_map_or}
 use Rattle.sw_value.specs.declared.value.Value.{Value}
 use Rattle.sw_value.specs.declared.cell.HeapCell.{HeapCell}
 use Rattle.sw_value.specs.declared.executor.Executor.{Executor}
@@ -11,8 +10,7 @@ use Rattle.sw_value.specs.declared.job.Job.{Job}
 use Rattle.sw_value.specs.declared.state.State.{State}
 use Rattle.sw_value.specs.declared.state.TrapKind.{TrapKind}
 use Rattle.sw_value.specs.Lists.{changed_at}
-use Rattle.sw_value.specs.Executor.{is_same}
-use Rattle.sw_value.specs.Job.{top_frame, is_running, ended_with}
+use Rattle.sw_value.specs.Job.{runs_on, ended_with}
 
 -- the state with job j changed by g
 unfoldable pub in_job : (Job → Job) → ℕ → State → State
@@ -26,14 +24,17 @@ add_job job state = record state { jobs = state.jobs ++ job ∷ [] }
 unfoldable pub add_cell : HeapCell → State → State
 add_cell cell state = record state { cells = state.cells ++ cell ∷ [] }
 
+-- the state with cell c changed by g
+unfoldable pub in_cell : (HeapCell → HeapCell) → ℕ → State → State
+in_cell g c state = record state { cells = changed_at g c state.cells }
+
+-- global g gets v; a number past the globals changes nothing
+unfoldable pub set_global : ℕ → Value → State → State
+set_global g v state = record state { globals = slice_set state.globals g (Some v) }
+
 -- a trap halts the machine
 unfoldable pub halt : TrapKind → ℕ → State → State
 halt kind at state = record state { halted = Some (kind, at) }
-
--- whether a job runs on an executor
-unfoldable pub runs_on : Executor → Job → Bool
-runs_on executor job =
-    is_running job && option_map_or (λ frame. is_same frame.executor executor) (top_frame job) false
 
 -- Whether one more job may begin to run on an executor: on the generic one always, on an actor's or
 -- a global actor's if no job runs on it (SE-0306, SE-0316).

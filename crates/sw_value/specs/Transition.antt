@@ -31,13 +31,21 @@ pub record Transition : Type 0 where
 abbrev pub is_last_frame : Job → Bool
 is_last_frame job = length job.frames == 1
 
+abbrev pub executor_of_top : Job → Option Executor
+executor_of_top job = option_map (λ frame. frame.executor) (top_frame job)
+
 -- a dispatch enters the executor of the top frame
 abbrev pub entered_by : Act → Job → Option Executor
-entered_by Dispatch job = option_map (λ frame. frame.executor) (top_frame job)
+entered_by Dispatch job = executor_of_top job
 entered_by _ job = None
 
--- a return leaves the executor of its frame where that frame crosses or is the last one
+-- A call that crosses leaves the executor of its caller, and so do a job that waits and one that
+-- rests. A return leaves the executor of its frame where that frame crosses or is the last one.
 abbrev pub left_by : Act → Job → Option Executor
+left_by (Execute (effect.Enter frame next)) job =
+    if frame.crossing then executor_of_top job else None
+left_by (Execute (effect.Wait on r next)) job = executor_of_top job
+left_by (Execute (effect.Rest r next)) job = executor_of_top job
 left_by (Execute (effect.Leave v)) job =
     option_and_then
     (λ frame. if frame.crossing || is_last_frame job then Some frame.executor else None)
@@ -76,8 +84,7 @@ transition_of graph state j = option_map (transition_by graph state j) (act_of g
 
 -- the executor on which a job runs
 abbrev pub executor_in : Job → Option Executor
-executor_in job = if is_running job then option_map (λ frame. frame.executor)
-    (top_frame job) else None
+executor_in job = if is_running job then executor_of_top job else None
 
 unfoldable pub runs_at : State → ℕ → Option Executor
 runs_at state j = option_and_then executor_in (slice_get state.jobs j)

@@ -28,12 +28,7 @@ pub fn start(alloc: Global, graph: &Graph) -> Result<State, AllocError>
         frames: start_frames(alloc, graph)?,
         status: Status::Ready,
     })?;
-    Ok(State {
-        cells: ListOf::new(alloc),
-        globals,
-        jobs,
-        halted: None,
-    })
+    State::new(alloc, ListOf::new(alloc), globals, jobs)
 }
 
 #[tactic(auto, unfolding(crate::specs::Start::start_frames))]
@@ -102,7 +97,7 @@ fn first_frame_of(number: u32, iso: Iso, regs: ValueSlots) -> Option<Frame>
 
 /// Registers of which the first have values.
 #[tactic(auto, unfolding(crate::specs::Value::registers))]
-fn registers(alloc: Global, count: usize, values: ValueList) -> Result<ValueSlots, AllocError>
+pub fn registers(alloc: Global, count: usize, values: ValueList) -> Result<ValueSlots, AllocError>
     ensures { IfOk result (λ regs. regs ≡ registers count values) }
 {
     let filled = values.len();

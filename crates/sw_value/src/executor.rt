@@ -6,7 +6,7 @@ ghost use Rattle.sw_value.specs.Executor.{is_same, executor_of};
 use crate::value::{Value, ValueSlots};
 use sw_types::Iso;
 
-/// Where a frame runs (SE-0306, SE-0316, SE-0338).
+/// Where a frame runs (SE-0306, SE-0316, SE-0338, SE-0461).
 #[derive(Clone, Copy, Debug, PartialEq, Eq)]
 pub enum Executor {
     /// The executor of what is isolated to no actor; any number of jobs run on it at once.
@@ -30,13 +30,13 @@ impl Executor {
         }
     }
 
-    /// The executor of a function with these first registers, or `None` where it is isolated to a
-    /// `self` that register 0 does not hold.
+    /// The executor of a function with these first registers, where it does not take its caller's;
+    /// `None` where it is isolated to a `self` that register 0 does not hold.
     pub fn of_isolation(iso: Iso, regs: &ValueSlots) -> Option<Executor>
         ensures { result ≡ executor_of iso regs.now }
     {
         match iso {
-            Iso::Free => Some(Executor::Generic),
+            Iso::Free | Iso::Caller => Some(Executor::Generic),
             Iso::Global(actor) => Some(Executor::Global(actor)),
             Iso::Own => match regs.get(0) {
                 Some(Some(value)) => actor_of(value),

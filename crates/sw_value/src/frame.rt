@@ -1,6 +1,7 @@
-ghost use Rattle.std.specs.Prelude.{◌≡◌};
+ghost use Rattle.std.specs.Prelude.{◌≡◌, ◌+◌, ◌<◌, ◌^◌, OnSome};
 ghost use Rattle.std.specs.Option.{option_copied};
-ghost use Rattle.sw_value.specs.Frame.{point_at, set_register, finish_instr, take_result};
+ghost use Rattle.sw_value.specs.Frame.{point_at, start_at, set_register, finish_instr};
+ghost use Rattle.sw_value.specs.Frame.{go_on, set_field, take_result};
 ghost use Rattle.sw_graph.specs.Lent.{lent_point};
 ghost use Rattle.sw_value.specs.Value.{value_at};
 
@@ -27,6 +28,9 @@ pub struct Frame {
     pub result: u32,
 }
 
+/// How many frames a job may have.
+pub const MAX_FRAMES: usize = 4_096;
+
 /// The result number of a frame that no other frame waits for. It stands for no register.
 pub const NO_REGISTER: u32 = 512;
 
@@ -34,12 +38,18 @@ impl Frame {
     /// What stands at the frame's point, if its function is there and has that point.
     #[tactic(auto, unfolding(crate::specs::Frame::point_at))]
     pub fn point_at<'a>(&self, graph: &'a Graph) -> Option<Point<'a>>
-        ensures { lent_point result ≡ point_at graph.now self.now }
+        ensures point { lent_point result ≡ point_at graph.now self.now }
+        ensures numbered { OnSome result (self.now.point + 1 < 2 ^ 32) }
     {
-        match graph.functions.get(self.function as usize) {
-            None => None,
-            Some(function) => function.point(self.point),
-        }
+        graph.point(self.function, self.point)
+    }
+
+    /// The point at which a block of the frame's function begins, if there is such a block.
+    #[tactic(auto, unfolding(crate::specs::Frame::start_at))]
+    pub fn start_at(&self, graph: &Graph, block: u32) -> Option<u32>
+        ensures { result ≡ start_at graph.now self.now block }
+    {
+        graph.block_start(self.function, block)
     }
 
     /// The value of a register, if it is there and has one.
@@ -69,6 +79,27 @@ impl Frame {
     {
         self.set_register(reg, value);
         self.point = next;
+    }
+
+    /// Goes on at `next`.
+    #[tactic(auto, unfolding(crate::specs::Frame::go_on))]
+    pub fn go_on(&mut self, next: u32)
+        ensures { self.new ≡ go_on next self.old }
+    {
+        self.point = next;
+    }
+
+    /// Gives the struct in a register another value as a part, and goes on at `next`.
+    #[tactic(auto, using(crate::proofs::ListLemmas::changes), unfolding(crate::specs::Frame::set_field))]
+    pub fn set_field(&mut self, reg: u32, part: u32, value: Value, next: u32)
+        ensures { self.new ≡ set_field reg part value next self.old }
+    {
+        self.point = next;
+        if (reg as usize) < self.regs.len() {
+            if let Some(group) = self.regs.at_mut(reg as usize) {
+                group.set_field(part, value);
+            }
+        }
     }
 
     /// Takes the result of the frame above into the register that it is for.

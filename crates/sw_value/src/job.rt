@@ -1,11 +1,10 @@
-ghost use Rattle.std.specs.Prelude.{◌≡◌, IfOk, ◌∷◌, []};
+ghost use Rattle.std.specs.Prelude.{◌≡◌, IfOk, OnOk, OnErr, ◌∷◌, []};
 ghost use Rattle.std.specs.Option.{option_copied};
-ghost use Rattle.sw_value.specs.Frame.{finish_instr};
-ghost use Rattle.sw_value.specs.Job.{top_frame, is_running, in_top, dispatch, wake, leave};
-ghost use Rattle.sw_value.specs.Job.{return_to, new_job};
-ghost use Rattle.sw_value.specs.State.{runs_on};
+ghost use Rattle.sw_value.specs.Frame.{finish_instr, go_on, set_field};
+ghost use Rattle.sw_value.specs.Job.{top_frame, is_running, in_top, dispatch, wake};
+ghost use Rattle.sw_value.specs.Job.{enter, wait};
+ghost use Rattle.sw_value.specs.Job.{rest, leave, return_to, new_job};
 
-use crate::executor::Executor;
 use crate::frame::{Frame, FrameList};
 use crate::value::Value;
 use std::alloc::{AllocError, Global};
@@ -71,20 +70,6 @@ impl Job {
         matches!(self.status, Status::Running)
     }
 
-    /// Whether the job runs on an executor.
-    #[tactic(auto, unfolding(crate::specs::State::runs_on))]
-    pub fn runs_on(&self, executor: Executor) -> bool
-        ensures { result ≡ runs_on executor self.now }
-    {
-        if !self.is_running() {
-            return false;
-        }
-        match self.top_frame() {
-            None => false,
-            Some(frame) => frame.executor.is_same(executor),
-        }
-    }
-
     /// Gives the job its executor.
     #[tactic(auto, unfolding(crate::specs::Job::dispatch))]
     pub fn dispatch(&mut self)
@@ -114,6 +99,67 @@ impl Job {
         if depth > 0 {
             self.frames.at_mut(depth - 1).finish_instr(reg, value, next);
         }
+    }
+
+    /// Gives the struct in a register of the top frame another value as a part; the frame goes on
+    /// at `next`.
+    #[tactic(auto, using(crate::proofs::ListLemmas::changes), unfolding(crate::specs::Job::in_top))]
+    pub fn set_field(&mut self, reg: u32, part: u32, value: Value, next: u32)
+        ensures { self.new ≡ in_top (set_field reg part value next) self.old }
+    {
+        let depth = self.frames.len();
+        if depth > 0 {
+            self.frames
+                .at_mut(depth - 1)
+                .set_field(reg, part, value, next);
+        }
+    }
+
+    /// The top frame goes on at `next`.
+    #[tactic(auto, using(crate::proofs::ListLemmas::changes), unfolding(crate::specs::Job::in_top))]
+    pub fn go_on(&mut self, next: u32)
+        ensures { self.new ≡ in_top (go_on next) self.old }
+    {
+        let depth = self.frames.len();
+        if depth > 0 {
+            self.frames.at_mut(depth - 1).go_on(next);
+        }
+    }
+
+    /// Puts a frame on top, for a call after which the frame below goes on at `next`.
+    #[tactic(auto, using(crate::proofs::ListLemmas::pushes), unfolding(crate::specs::Job::enter))]
+    pub fn enter(&mut self, frame: Frame, next: u32) -> Result<(), AllocError>
+        ensures ok { OnOk result (self.new ≡ enter frame next self.old) }
+        ensures err { OnErr result (self.new ≡ self.old) }
+    {
+        let crossing = frame.crossing;
+        let depth = self.frames.len();
+        self.frames.push(frame)?;
+        if depth > 0 {
+            self.frames.at_mut(depth - 1).go_on(next);
+        }
+        if crossing {
+            self.status = Status::Ready;
+        }
+        Ok(())
+    }
+
+    /// Gives the executor up until the job `on` has ended, whose result is for register `reg`.
+    #[tactic(auto, using(crate::proofs::ListLemmas::changes), unfolding(crate::specs::Job::in_top, crate::specs::Job::wait))]
+    pub fn wait(&mut self, on: u32, reg: u32, next: u32)
+        ensures { self.new ≡ wait on reg next self.old }
+    {
+        self.go_on(next);
+        self.status = Status::Waiting { job: on, reg };
+    }
+
+    /// Gives the executor up; register `reg` of the top frame gets the value of `Void`.
+    #[tactic(auto, using(crate::proofs::ListLemmas::changes), unfolding(crate::specs::Job::in_top, crate::specs::Job::rest))]
+    pub fn rest(&mut self, reg: u32, next: u32)
+        ensures { self.new ≡ rest reg next self.old }
+    {
+        self.finish_instr(reg, Value::Unit, next);
+        self.status = Status::Ready;
     }
 
     /// Returns a value from the top frame.

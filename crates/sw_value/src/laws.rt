@@ -11,7 +11,7 @@ ghost use Rattle.sw_value.specs.Runnable.{IsRunnable};
 ghost use Rattle.sw_value.specs.Start.{start_of};
 ghost use Rattle.sw_value.specs.Transition.{Transition, transition_of, Describes};
 
-use crate::frame::NO_REGISTER;
+use crate::frame::{MAX_FRAMES, NO_REGISTER};
 use crate::job::MAX_JOBS;
 
 /// No list of items, of any length, leads a runnable graph to a state that is racing.
@@ -63,6 +63,7 @@ pub fn steps_reach()
 
 /// The numbers that the definitions of the machine take from here.
 pub fn machine_numbers()
+    ensures frames { MAX_FRAMES ≡ 4096 }
     ensures jobs { MAX_JOBS ≡ 65536 }
     ensures no_register { NO_REGISTER ≡ 512 }
 {}

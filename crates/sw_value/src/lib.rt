@@ -4,6 +4,8 @@
 #![tactic(auto)]
 
 mod beginning;
+mod busy;
+mod call;
 mod cell;
 mod effect;
 mod executor;
@@ -15,10 +17,11 @@ mod state;
 mod value;
 
 pub use beginning::{first_frame, start};
-pub use cell::{CellList, HeapCell};
+pub use busy::ExecutorList;
+pub use cell::{CellList, HeapCell, Slot};
 pub use effect::{Act, Effect};
 pub use executor::Executor;
-pub use frame::{Frame, FrameList, NO_REGISTER};
+pub use frame::{Frame, FrameList, MAX_FRAMES, NO_REGISTER};
 pub use job::{Job, JobList, MAX_JOBS, Status};
 pub use laws::{
     idle_jobs_access_nothing, machine_numbers, races_are_decided, runnable_graphs_never_race,

@@ -1,13 +1,18 @@
-ghost use Rattle.std.specs.Prelude.{◌≡◌, OnOk, OnErr, ◌∷◌, []};
+ghost use Rattle.std.specs.Prelude.{◌≡◌, true, None, IfOk, OnOk, OnErr, ◌∷◌, []};
 ghost use Rattle.std.specs.Option.{option_copied};
 ghost use Rattle.std.specs.List.{list_any};
 ghost use Rattle.sw_value.specs.declared.cell.HeapCell.TheVariants.{TaskOf};
-ghost use Rattle.sw_value.specs.Frame.{finish_instr};
-ghost use Rattle.sw_value.specs.Job.{in_top, dispatch, wake, leave, new_job};
-ghost use Rattle.sw_value.specs.State.{in_job, add_job, add_cell, halt, runs_on, is_free};
+ghost use Rattle.sw_value.specs.Cell.{with_slot};
+ghost use Rattle.sw_value.specs.Frame.{finish_instr, go_on, set_field};
+ghost use Rattle.sw_value.specs.Busy.{is_exclusive, IsBusy};
+ghost use Rattle.sw_value.specs.Job.{in_top, dispatch, wake, enter, wait, rest, leave, new_job};
+ghost use Rattle.sw_value.specs.Job.{runs_on};
+ghost use Rattle.sw_value.specs.State.{in_job, add_job, add_cell, in_cell, set_global, halt};
+ghost use Rattle.sw_value.specs.State.{is_free};
 ghost use Rattle.sw_value.specs.State.{result_of};
 
-use crate::cell::{CellList, HeapCell};
+use crate::busy::{ExecutorList, admit, busy_of, is_among, moved, release, replace};
+use crate::cell::{CellList, HeapCell, Slot};
 use crate::executor::Executor;
 use crate::frame::Frame;
 use crate::job::{Job, JobList, Status};
@@ -35,9 +40,12 @@ pub struct State {
     pub jobs: JobList,
     /// The trap that halted the machine, and the byte offset of its instruction.
     pub halted: Option<(TrapKind, u32)>,
+    /// The executors other than the generic one that jobs run on, one for each such job.
+    busy: ExecutorList,
 }
 
 impl Model for State {
+    ghost use Rattle.sw_value.specs.Busy.{IsBusy};
     ghost use Rattle.sw_value.specs.Machine.{Machine, machine_code};
 
     ghost Value = { Machine };
@@ -50,18 +58,26 @@ impl Model for State {
       jobs = s.jobs;
       halted = s.halted;
     } };
+
+    ghost invariant = { λ s. IsBusy s.busy s.jobs };
 }
 
 /// Changes of one job of the state.
 #[tactic(auto, using(crate::proofs::ListLemmas::changes), unfolding(crate::specs::State::in_job))]
 impl State {
     /// Gives a job its executor.
-    pub fn dispatch(&mut self, job: u32)
-        ensures { self.new ≡ in_job dispatch job self.old }
+    pub fn dispatch(&mut self, job: u32) -> Result<(), AllocError>
+        ensures ok { OnOk result (self.new ≡ in_job dispatch job self.old) }
+        ensures err { OnErr result (self.new ≡ self.old) }
     {
         if (job as usize) < self.jobs.len() {
+            let there = self.jobs.at(job as usize);
+            let held = there.held();
+            let later = there.held_dispatched();
+            replace(&mut self.busy, held, later)?;
             self.jobs.at_mut(job as usize).dispatch();
         }
+        Ok(())
     }
 
     /// Gives a job the value that it waited for, in a register of its top frame.
@@ -69,6 +85,8 @@ impl State {
         ensures { self.new ≡ in_job (wake reg value) job self.old }
     {
         if (job as usize) < self.jobs.len() {
+            let held = self.jobs.at(job as usize).held();
+            release(&mut self.busy, held);
             self.jobs.at_mut(job as usize).wake(reg, value);
         }
     }
@@ -85,23 +103,147 @@ impl State {
         }
     }
 
-    /// Returns a value from a job's top frame.
-    pub fn leave(&mut self, job: u32, value: Value)
-        ensures { self.new ≡ in_job (leave value) job self.old }
+    /// Gives the struct in a register of a job's top frame another value as a part; the frame goes
+    /// on at `next`.
+    pub fn set_field(&mut self, job: u32, reg: u32, part: u32, value: Value, next: u32)
+        ensures { self.new ≡ in_job (in_top (set_field reg part value next)) job self.old }
     {
         if (job as usize) < self.jobs.len() {
+            self.jobs
+                .at_mut(job as usize)
+                .set_field(reg, part, value, next);
+        }
+    }
+
+    /// A job's top frame goes on at `next`.
+    pub fn go_on(&mut self, job: u32, next: u32)
+        ensures { self.new ≡ in_job (in_top (go_on next)) job self.old }
+    {
+        if (job as usize) < self.jobs.len() {
+            self.jobs.at_mut(job as usize).go_on(next);
+        }
+    }
+
+    /// Puts a frame on top of a job's, for a call after which the frame below goes on at `next`.
+    pub fn enter(&mut self, job: u32, frame: Frame, next: u32) -> Result<(), AllocError>
+        ensures ok { OnOk result (self.new ≡ in_job (enter frame next) job self.old) }
+        ensures err { OnErr result (self.new ≡ self.old) }
+    {
+        if (job as usize) < self.jobs.len() {
+            let there = self.jobs.at(job as usize);
+            let held = there.held();
+            let (out, put) = moved(held, there.held_entered(&frame));
+            admit(&mut self.busy, put)?;
+            match self.jobs.at_mut(job as usize).enter(frame, next) {
+                Ok(()) => release(&mut self.busy, out),
+                Err(error) => {
+                    release(&mut self.busy, put);
+                    return Err(error);
+                }
+            }
+        }
+        Ok(())
+    }
+
+    /// A job gives its executor up until the job `on` has ended, whose result is for register
+    /// `reg`.
+    pub fn wait(&mut self, job: u32, on: u32, reg: u32, next: u32)
+        ensures { self.new ≡ in_job (wait on reg next) job self.old }
+    {
+        if (job as usize) < self.jobs.len() {
+            let held = self.jobs.at(job as usize).held();
+            release(&mut self.busy, held);
+            self.jobs.at_mut(job as usize).wait(on, reg, next);
+        }
+    }
+
+    /// A job gives its executor up; register `reg` of its top frame gets the value of `Void`.
+    pub fn rest(&mut self, job: u32, reg: u32, next: u32)
+        ensures { self.new ≡ in_job (rest reg next) job self.old }
+    {
+        if (job as usize) < self.jobs.len() {
+            let held = self.jobs.at(job as usize).held();
+            release(&mut self.busy, held);
+            self.jobs.at_mut(job as usize).rest(reg, next);
+        }
+    }
+
+    /// Returns a value from a job's top frame.
+    pub fn leave(&mut self, job: u32, value: Value) -> Result<(), AllocError>
+        ensures ok { OnOk result (self.new ≡ in_job (leave value) job self.old) }
+        ensures err { OnErr result (self.new ≡ self.old) }
+    {
+        if (job as usize) < self.jobs.len() {
+            let there = self.jobs.at(job as usize);
+            let held = there.held();
+            let later = there.held_left();
+            replace(&mut self.busy, held, later)?;
             self.jobs.at_mut(job as usize).leave(value);
         }
+        Ok(())
     }
 }
 
 impl State {
+    /// A state that is not halted.
+    pub fn new(
+        alloc: Global,
+        cells: CellList,
+        globals: ValueSlots,
+        jobs: JobList,
+    ) -> Result<State, AllocError>
+        ensures { IfOk result (λ state. state ≡ record {
+          cells = cells;
+          globals = globals;
+          jobs = jobs;
+          halted = None;
+        }) }
+    {
+        let busy = busy_of(alloc, &jobs)?;
+        Ok(State {
+            cells,
+            globals,
+            jobs,
+            halted: None,
+            busy,
+        })
+    }
+
     /// Halts the machine.
     #[tactic(auto, unfolding(crate::specs::State::halt))]
     pub fn halt(&mut self, kind: TrapKind, at: u32)
         ensures { self.new ≡ halt kind at self.old }
     {
         self.halted = Some((kind, at));
+    }
+
+    /// Adds a cell.
+    #[tactic(auto, unfolding(crate::specs::State::add_cell))]
+    pub fn add_cell(&mut self, cell: HeapCell) -> Result<(), AllocError>
+        ensures ok { OnOk result (self.new ≡ add_cell cell self.old) }
+        ensures err { OnErr result (self.new ≡ self.old) }
+    {
+        self.cells.push(cell)
+    }
+
+    /// Puts a value into a slot of a cell.
+    #[tactic(auto, using(crate::proofs::ListLemmas::changes), unfolding(crate::specs::State::in_cell))]
+    pub fn set_slot(&mut self, cell: u32, slot: Slot, value: Value)
+        ensures { self.new ≡ in_cell (with_slot slot value) cell self.old }
+    {
+        if (cell as usize) < self.cells.len() {
+            self.cells.at_mut(cell as usize).set_slot(slot, value);
+        }
+    }
+
+    /// Gives a global a value.
+    #[tactic(auto, using(std::proofs::lemmas::List::set_past), unfolding(crate::specs::State::set_global))]
+    pub fn set_global(&mut self, global: u32, value: Value)
+        ensures { self.new ≡ set_global global value self.old }
+    {
+        if (global as usize) < self.globals.len() {
+            self.globals.set(global as usize, Some(value));
+        }
     }
 
     /// Adds a job with one frame, and then the cell of its task. Where memory runs out it adds
@@ -113,11 +255,11 @@ impl State {
         ensures err { OnErr result (self.new ≡ self.old) }
     {
         let made = Job::new(alloc, frame)?;
-        self.jobs.push(made)?;
-        match self.cells.push(HeapCell::TaskOf { job }) {
+        self.cells.push(HeapCell::TaskOf { job })?;
+        match self.jobs.push(made) {
             Ok(()) => Ok(()),
             Err(error) => {
-                let _ = self.jobs.pop();
+                let _ = self.cells.pop();
                 Err(error)
             }
         }
@@ -130,15 +272,16 @@ impl State {
     {
         match executor {
             Executor::Generic => true,
-            Executor::ActorOf(_) | Executor::Global(_) => !self.has_running_on(executor),
+            Executor::ActorOf(_) | Executor::Global(_) => !self.is_taken(executor),
         }
     }
 
-    /// Whether some job runs on an executor.
-    fn has_running_on(&self, executor: Executor) -> bool
+    /// Whether some job runs on an executor other than the generic one.
+    fn is_taken(&self, executor: Executor) -> bool
+        requires { is_exclusive executor ≡ true }
         ensures { result ≡ list_any (runs_on executor) self.now.jobs }
     {
-        self.jobs.as_slice().iter().any(|job| job.runs_on(executor))
+        is_among(&self.busy, executor)
     }
 
     /// What a job has ended with.

@@ -1,5 +1,7 @@
-ghost use Rattle.std.specs.Prelude.{◌≡◌, IfOk};
-ghost use Rattle.sw_value.specs.Value.{value_of, reference_of};
+ghost use Rattle.std.specs.Prelude.{◌≡◌, IfOk, slice_set};
+ghost use Rattle.std.specs.Option.{option_copied};
+ghost use Rattle.sw_value.specs.Value.{value_of, reference_of, integer_of, truth_of, tag_of, field_of};
+ghost use Rattle.sw_value.specs.Value.{with_field, payload_of, made};
 
 use std::alloc::{AllocError, Global};
 use sw_graph::Literal;
@@ -29,6 +31,16 @@ pub enum Value {
     Case { tag: u32, payload: ValueList },
 }
 
+/// Puts a value at an index; past the end nothing changes.
+#[tactic(auto, using(std::proofs::lemmas::List::set_past))]
+pub fn set_at(values: &mut ValueList, index: u32, value: Value)
+    ensures { values.new ≡ slice_set values.old index value }
+{
+    if (index as usize) < values.len() {
+        values.set(index as usize, value);
+    }
+}
+
 impl From<Literal> for Value {
     ghost from_gives = { λ literal value. value ≡ value_of literal };
 
@@ -49,6 +61,82 @@ impl Value {
             Value::Cell(cell) => Some(*cell),
             Value::Int(_) | Value::Bool(_) | Value::Unit | Value::Group(_) | Value::Case { .. } =>
                 None,
+        }
+    }
+
+    /// The integer that it is.
+    pub fn integer(&self) -> Option<i64>
+        ensures { result ≡ integer_of self.now }
+    {
+        match self {
+            Value::Int(number) => Some(*number),
+            Value::Bool(_) | Value::Unit | Value::Cell(_) | Value::Group(_) | Value::Case { .. } =>
+                None,
+        }
+    }
+
+    /// The truth value that it is.
+    pub fn truth(&self) -> Option<bool>
+        ensures { result ≡ truth_of self.now }
+    {
+        match self {
+            Value::Bool(truth) => Some(*truth),
+            Value::Int(_) | Value::Unit | Value::Cell(_) | Value::Group(_) | Value::Case { .. } =>
+                None,
+        }
+    }
+
+    /// The number of the case that it is.
+    pub fn tag(&self) -> Option<u32>
+        ensures { result ≡ tag_of self.now }
+    {
+        match self {
+            Value::Case { tag, .. } => Some(*tag),
+            Value::Int(_) | Value::Bool(_) | Value::Unit | Value::Cell(_) | Value::Group(_) => None,
+        }
+    }
+
+    /// A part of a struct.
+    pub fn field(&self, part: u32) -> Option<&Value>
+        ensures { option_copied result ≡ field_of part self.now }
+    {
+        match self {
+            Value::Group(parts) => parts.get(part as usize),
+            Value::Int(_) | Value::Bool(_) | Value::Unit | Value::Cell(_) | Value::Case { .. } =>
+                None,
+        }
+    }
+
+    /// Gives a struct another value as a part; what is no struct stays as it is.
+    pub fn set_field(&mut self, part: u32, value: Value)
+        ensures { self.new ≡ with_field part value self.old }
+    {
+        match self {
+            Value::Group(parts) => set_at(parts, part, value),
+            Value::Int(_) | Value::Bool(_) | Value::Unit | Value::Cell(_) | Value::Case { .. } => {}
+        }
+    }
+
+    /// A value of the payload of a case.
+    pub fn payload(&self, index: u32) -> Option<&Value>
+        ensures { option_copied result ≡ payload_of index self.now }
+    {
+        match self {
+            Value::Case { payload, .. } => payload.get(index as usize),
+            Value::Int(_) | Value::Bool(_) | Value::Unit | Value::Cell(_) | Value::Group(_) => None,
+        }
+    }
+
+    /// The struct of these parts, or the case with a number and this payload.
+    pub fn made(tag: Option<u32>, parts: ValueList) -> Value
+        ensures { result ≡ made tag parts }
+    {
+        match tag {
+            None => Value::Group(parts),
+            Some(tag) => Value::Case {
+                tag,
+                payload: parts,
+            },
         }
     }
 

@@ -1,0 +1,104 @@
+ghost use Rattle.std.specs.Prelude.{◌≡◌, option_and_then};
+ghost use Rattle.std.specs.Option.{option_copied};
+ghost use Rattle.sw_value.specs.Cell.{task_of};
+ghost use Rattle.sw_value.specs.declared.effect.Effect.TheVariants.{Wait};
+ghost use Rattle.sw_value.specs.Effect.{needs, cell_at, loaded, slot_at};
+ghost use Rattle.sw_value.specs.Value.{truth_of, tag_of, field_of, payload_of, reference_at};
+ghost use Rattle.sw_value.specs.Value.{value_at, operand_value};
+
+use sw_graph::Operand;
+use sw_value::{Effect, Frame, HeapCell, Slot, State, Value};
+
+/// The truth value of an operand.
+pub fn truth_at(frame: &Frame, operand: &Operand) -> Option<bool>
+    ensures { result ≡ option_and_then truth_of (operand_value frame.now.regs operand.now) }
+{
+    frame.value_at(operand.reg)?.truth()
+}
+
+/// The number of the case that an operand is.
+pub fn tag_at(frame: &Frame, operand: &Operand) -> Option<u32>
+    ensures { result ≡ option_and_then tag_of (operand_value frame.now.regs operand.now) }
+{
+    frame.value_at(operand.reg)?.tag()
+}
+
+/// A part of the struct of an operand.
+pub fn field_at<'a>(frame: &'a Frame, operand: &Operand, part: u32) -> Option<&'a Value>
+    ensures { option_copied result
+        ≡ option_and_then (field_of part) (operand_value frame.now.regs operand.now) }
+{
+    frame.value_at(operand.reg)?.field(part)
+}
+
+/// A value of the payload of the case of an operand.
+pub fn payload_at<'a>(frame: &'a Frame, operand: &Operand, index: u32) -> Option<&'a Value>
+    ensures { option_copied result
+        ≡ option_and_then (payload_of index) (operand_value frame.now.regs operand.now) }
+{
+    frame.value_at(operand.reg)?.payload(index)
+}
+
+/// The cell that an operand refers to, by number.
+fn reference_at(frame: &Frame, operand: &Operand) -> Option<u32>
+    ensures { result ≡ reference_at frame.now.regs operand.now }
+{
+    frame.value_at(operand.reg)?.reference()
+}
+
+/// The cell that an operand refers to.
+pub fn cell_at<'a>(state: &'a State, frame: &Frame, operand: &Operand) -> Option<&'a HeapCell>
+    ensures { option_copied result ≡ cell_at state.now frame.now operand.now }
+{
+    let cell = reference_at(frame, operand)?;
+    state.cells.get(cell as usize)
+}
+
+/// What the cell of an operand has in a slot.
+pub fn loaded<'a>(
+    state: &'a State,
+    frame: &Frame,
+    operand: &Operand,
+    slot: Slot,
+) -> Option<&'a Value>
+    ensures { option_copied result ≡ loaded state.now frame.now operand.now slot }
+{
+    cell_at(state, frame, operand)?.slot(slot)
+}
+
+/// The cell of an operand by number, if it has that slot.
+pub fn slot_at(state: &State, frame: &Frame, operand: &Operand, slot: Slot) -> Option<u32>
+    ensures { result ≡ slot_at state.now frame.now operand.now slot }
+{
+    let cell = reference_at(frame, operand)?;
+    let _old = state.cells.get(cell as usize)?.slot(slot)?;
+    Some(cell)
+}
+
+/// The value of a global.
+pub fn global_at(state: &State, global: u32) -> Option<&Value>
+    ensures { option_copied result ≡ value_at state.now.globals global }
+{
+    match state.globals.get(global as usize) {
+        Some(Some(value)) => Some(value),
+        Some(None) | None => None,
+    }
+}
+
+/// The job waits for that of the task that an operand refers to.
+pub fn await_effect(state: &State, frame: &Frame, next: u32, reg: u32, operand: &Operand) -> Effect
+    ensures { result ≡ needs (option_and_then task_of (cell_at state.now frame.now operand.now))
+        (λ job. Wait job reg next) }
+{
+    match task_at(state, frame, operand) {
+        None => Effect::Stuck,
+        Some(job) => Effect::Wait { job, reg, next },
+    }
+}
+
+/// The job of the task that an operand refers to.
+fn task_at(state: &State, frame: &Frame, operand: &Operand) -> Option<u32>
+    ensures { result ≡ option_and_then task_of (cell_at state.now frame.now operand.now) }
+{
+    cell_at(state, frame, operand)?.task()
+}
