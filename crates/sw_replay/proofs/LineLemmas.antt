@@ -1,18 +1,16 @@
 -- One item more of a replay.
-use Rattle.std.proofs.Common.{◌≡◌, ℕ, ◌+◌, ◌<◌, ◌≤◌, List, [], ◌∷◌, ◌++◌, length, take, get_or}
+use Rattle.std.proofs.Common.{◌≡◌, ℕ, ◌<◌, ◌≤◌, List, [], ◌∷◌, ◌++◌, length}
 use Rattle.std.proofs.Common.{refl, sym, ap, ◌∙◌, arith, append-nil}
 use Rattle.std.specs.List.{fold}
-use Rattle.std.proofs.lemmas.List.{append_assoc, length-take-le}
-use Rattle.std.proofs.lemmas.Option.{slice_get-get_or}
+use Rattle.std.proofs.lemmas.List.{append_assoc}
 use Rattle.sw_graph.specs.declared.graph.Graph.{Graph}
 use Rattle.sw_value.specs.declared.state.State.{State}
 use Rattle.sw_value.specs.Start.{start_of}
 use Rattle.sw_value.specs.Reach.{step_of, reach}
-use Rattle.sw_value.proofs.ListLemmas.{take_next}
 use Rattle.sw_value.proofs.ReachLemmas.{reach_push}
 use Rattle.sw_value.proofs.StaysInBounds as bounds
 use Rattle.sw_step.specs.Event.{event_of}
-use Rattle.sw_replay.specs.Output.{line_of, lines_from, lines_of}
+use Rattle.sw_replay.specs.Output.{IsPlayed, line_of, lines_from, lines_of}
 
 lines_from_push : (graph : Graph) (state : State) (items : List ℕ) (item : ℕ)
     → lines_from graph state (items ++ item ∷ []) ≡ lines_from graph state items
@@ -23,28 +21,29 @@ lines_from_push graph state (i ∷ items) item =
     (lines_from_push graph (step_of graph state i) items item)
     ∙ sym (append_assoc (line_of (event_of graph state i)) _ _)
 
--- the lines and the state after one item more
-pub lines_more : (graph : Graph) (items : List ℕ) (i : ℕ) → i < length items
-    → lines_of graph (take (i + 1) items) ≡ lines_of graph (take i items)
-    ++ line_of (event_of graph (reach graph (take i items)) (get_or items i 0))
+-- one item more
+pub played_push : (graph : Graph) (items : List ℕ) (item : ℕ) (state after : State)
+    (lines more : List ℕ) → IsPlayed graph items state lines → after ≡ step_of graph state item
+    → more ≡ lines ++ line_of (event_of graph state item)
+    → IsPlayed graph (items ++ item ∷ []) after more
 unfolding lines_of reach
-lines_more graph items i inside =
-    ap (lines_from graph (start_of graph))
-    (take_next items i (get_or items i 0) (slice_get-get_or items i 0 inside))
-    ∙ lines_from_push graph (start_of graph) (take i items) (get_or items i 0)
+played_push graph items item state after lines more is steps prints = record {
+  state_is =
+      steps ∙ (ap (λ s. step_of graph s item) is.state_is ∙ sym (reach_push graph items item));
+  lines_are =
+      prints
+      ∙ (rw (is.lines_are, is.state_is) (sym (lines_from_push graph (start_of graph) items item)));
+}
 
-pub reach_more : (graph : Graph) (items : List ℕ) (i : ℕ) → i < length items
-    → reach graph (take (i + 1) items) ≡ step_of graph (reach graph (take i items))
-    (get_or items i 0)
-reach_more graph items i inside =
-    ap (reach graph) (take_next items i (get_or items i 0) (slice_get-get_or items i 0 inside))
-    ∙ reach_push graph (take i items) (get_or items i 0)
+-- no item at all
+pub played_none : (graph : Graph) → IsPlayed graph [] (start_of graph) []
+unfolding lines_of reach
+played_none graph = record { state_is = refl; lines_are = refl }
 
--- the first items make fewer cells than there are numbers
-pub few_cells : (graph : Graph) (items : List ℕ) (i : ℕ) → i ≤ length items
-    → length items < 4294967295 → length (reach graph (take i items)).cells < 4294967295
-few_cells graph items i inside few =
-    omega (arith, bounds.few_cells graph (take i items), length-take-le i items inside)
+-- a played list has one cell for each item at most
+pub played_cells : (graph : Graph) (items : List ℕ) (state : State) (lines : List ℕ)
+    → IsPlayed graph items state lines → length state.cells ≤ length items
+played_cells graph items state lines is = rw is.state_is (bounds.few_cells graph items)
 
 pub few_jobs : (graph : Graph) (items : List ℕ) → length (reach graph items).jobs < 4294967296
 few_jobs graph items = let few = bounds.few_jobs graph items in omega (arith, few)

@@ -1,5 +1,5 @@
 -- Every list of items has one replay, and that of a runnable graph meets no race.
-use Rattle.std.proofs.Common.{◌≡◌, ◌≢◌, ℕ, suc, ◌+◌, ◌<◌, ◌≤◌, List, length, take, refl, ap, sym}
+use Rattle.std.proofs.Common.{◌≡◌, ℕ, suc, ◌<◌, List, length, take, refl, ap, sym}
 use Rattle.std.proofs.Common.{subst, ◌∙◌, arith, inl, inr, ◌⊎◌}
 use Rattle.std.proofs.lemmas.Bool.{cases_order, cases_lt}
 use Rattle.std.proofs.lemmas.List.{take_all}
@@ -12,7 +12,6 @@ use Rattle.sw_value.proofs.NeverRaces.{never_races}
 use Rattle.sw_value.proofs.RaceLemmas.{Decided, IsLeast, find_least, least_race, one_least_race}
 use Rattle.sw_replay.specs.declared.output.End.TheVariants.{Raced}
 use Rattle.sw_replay.specs.declared.output.Replay.{Replay}
-use Rattle.sw_replay.specs.Output.{end_of, end_by}
 use Rattle.sw_replay.specs.Replay.{IsRacingAt, replay_with, whole_replay, IsReplay}
 use Rattle.sw_replay.specs.Replay as replays
 

@@ -1,160 +1,278 @@
 -- The steps of a scan find what the definitions of schedule texts say: so the laws of scans hold of
 -- schedule texts.
-use Rattle.std.proofs.Common.{◌≡◌, ℕ, ◌^◌, ◌<◌, Bool, true, false, eqb, ltb, List, [], ◌∷◌, ◌++◌, length, take, drop, Some, Ok, Err, refl, ap, ◌∙◌, inl, inr, arith}
-use Rattle.std.specs.List.{list_all, prefix_len}
-use Rattle.std.proofs.lemmas.Bool.{cases_Bool, and_parts}
+use Rattle.std.proofs.Common.{◌≡◌, ◌≢◌, ℕ, ◌+◌, ◌<◌, Bool, true, false, eqb, ltb, List, [], ◌∷◌}
+use Rattle.std.proofs.Common.{◌++◌, length, take, drop, Result, Ok, Err, refl, sym, ap, subst, ◌∙◌}
+use Rattle.std.proofs.Common.{arith, length-append}
 use Rattle.std.proofs.lemmas.Bool.Decides.{nat_tests}
-use Rattle.std.proofs.lemmas.List.{length-take-le, take-append-drop, take_at}
-use Rattle.std.proofs.lemmas.List.Sums.{prefix_len-le-length}
+use Rattle.std.proofs.lemmas.List.{append_assoc, take_at, drop_at, take-append-drop}
 use Rattle.sw_bytes.specs.Classes.{is_blank, is_digit}
-use Rattle.sw_bytes.specs.Decimal.{number_of}
-use Rattle.sw_bytes.proofs.Prefixes.{prefix_passes, suffix_fails, prefix_len-append, prefix_len-yes}
 use Rattle.sw_scan.specs.declared.Step.TheVariants.{Skip, Take}
 use Rattle.sw_scan.proofs.Agreement.{StepHolds, Agrees, IsAny}
 use Rattle.sw_replay.specs.declared.items.TheConstants.{MAX_ITEMS}
+use Rattle.sw_replay.specs.declared.runs.Run.{Run}
 use Rattle.sw_replay.specs.declared.text.SchedFault.{SchedFault}
-use Rattle.sw_replay.specs.declared.text.SchedFault.TheVariants.{TooBig, TooMany}
-use Rattle.sw_replay.specs.Items.{IsSeparator, IsNumber, IsItem, IsItemFault, schedule_form}
+use Rattle.sw_replay.specs.declared.text.SchedFault.TheVariants.{BadItem, TooBig, TooMany}
+use Rattle.sw_replay.specs.declared.text.Found.{Found}
+use Rattle.sw_replay.specs.declared.text.Found.TheVariants as found
+use Rattle.sw_replay.specs.Items.{IsSeparator, BeginsApart, IsNumber, IsFitting, IsRun, IsItem}
+use Rattle.sw_replay.specs.Items.{IsItemFault, star, job_of, count_of, schedule_form}
 use Rattle.sw_replay.specs.Items as items
-use Rattle.sw_replay.specs.Reading.{fitting, item_step, digits_step, step}
-use Rattle.sw_replay.proofs.Numbers.{fits_some, fits_none}
+use Rattle.sw_replay.specs.Reading.{run_at, roomed, found_at, stepped, step}
+use Rattle.sw_replay.proofs.NumberSteps.{number_begins, no_number, Begins, begins}
+use Rattle.sw_replay.proofs.NumberSteps as numbers
+use Rattle.sw_replay.proofs.RunSteps.{run_once, run_bad, run_often, run_uncounted, run_big_count}
+use Rattle.sw_replay.proofs.RunSteps.{run_bad_count, run_big, once_is, often_is}
 
-digit_is_no_separator : (b : ℕ) → is_digit b ≡ true → is_blank b ≡ false
-unfolding is_digit is_blank
-digit_is_no_separator b h = grind (arith, nat_tests)
+-- a run's text with its job, its count and its length
+abbrev run_of : List ℕ → Run
+run_of text = record { job = job_of text; count = count_of text; len = length text }
 
--- a number begins with a digit, and so with no separator
-number_begins : (digits after : List ℕ) → IsNumber digits after
-    → (b : ℕ) × (more : List ℕ) × (digits ≡ b ∷ more) × (is_blank b ≡ false)
-number_begins [] after n = absurd (omega (arith, n.some))
-number_begins (b ∷ more) after n =
-    let digit = (and_parts (is_digit b) (list_all is_digit more) n.digits_alone).0 in
-    (b, more, refl, digit_is_no_separator b digit)
+-- a run begins with no separator
+run_begins : (text after : List ℕ) → IsRun text after
+    → (b : ℕ) × (more : List ℕ) × (text ++ after ≡ b ∷ more) × (is_blank b ≡ false)
+run_begins _ _ (items.once job after is apart) =
+    let begin = number_begins job after is.is_number in
+    (begin.0, begin.1 ++ after, ap (λ xs. xs ++ after) begin.2, begin.3)
+run_begins _ _ (items.often job count after is counts apart) =
+    let begin = number_begins job (star ∷ (count ++ after)) is.is_number in (
+      begin.0,
+      (begin.1 ++ star ∷ count) ++ after,
+      ap (λ xs. (xs ++ star ∷ count) ++ after) begin.2,
+      begin.3,
+    )
+
+run_found : (at : ℕ) (text after : List ℕ) → IsRun text after
+    → run_at at (text ++ after) ≡ Ok (run_of text)
+run_found at _ _ (items.once job after is apart) =
+    let parts = once_is job after is.is_number in
+    run_once at job after is apart ∙ rw (parts.0, parts.1) refl
+run_found at _ _ (items.often job count after is counts apart) =
+    let parts = often_is job count after is.is_number in
+    let long : length (job ++ star ∷ count) ≡ length job + 1 + length count =
+    omega (arith, length-append job (star ∷ count)) in
+    ap (run_at at) (append_assoc job (star ∷ count) after)
+    ∙ (run_often at job count after is counts apart ∙ rw (parts.0, parts.1, long) refl)
+
+past_blanks : (at before : ℕ) (bytes : List ℕ) (b : ℕ) (more : List ℕ) → bytes ≡ b ∷ more
+    → is_blank b ≡ false → step at before bytes ≡ stepped (roomed at before (run_at at bytes))
+unfolding step found_at
+past_blanks at before bytes b more e none = rw (e, none) refl
+
+item_found : (at before : ℕ) (text after : List ℕ) → IsItem before text after
+    → found_at at before (text ++ after) ≡ Ok (found.Run (run_of text))
+unfolding found_at
+item_found at before text after is =
+    let room : ltb MAX_ITEMS (before + count_of text) ≡ false =
+    grind (arith, nat_tests, is.few) in
+    let begin = run_begins text after is.is_run in
+    let there = rw begin.2 at (run_found at text after is.is_run) in
+    rw (begin.2, begin.3, there, room) refl
 
 -- what the form says is found
 
-skips : (at count : ℕ) (piece after : List ℕ) → IsSeparator piece after
-    → step at count (piece ++ after) ≡ Ok (Skip (length piece))
-unfolding step
-skips at count _ _ (items.separator byte after is) = rw is refl
+skips : (at before : ℕ) (piece after : List ℕ) → IsSeparator piece after
+    → step at before (piece ++ after) ≡ Ok (Skip (length piece))
+unfolding step found_at
+skips at before _ _ (items.separator byte after is) = rw is refl
 
-past_separators : (at count : ℕ) (bytes : List ℕ) (b : ℕ) (more : List ℕ) → bytes ≡ b ∷ more
-    → is_blank b ≡ false
-    → step at count bytes ≡ digits_step at count bytes (prefix_len is_digit bytes)
-unfolding step
-past_separators at count bytes b more e none = rw (e, none) refl
+run_step : (at before : ℕ) (text after : List ℕ) → IsRun text after
+    → step at before (text ++ after) ≡ stepped (roomed at before (Ok (run_of text)))
+run_step at before text after is =
+    let begin = run_begins text after is in
+    past_blanks at before (text ++ after) begin.0 begin.1 begin.2 begin.3
+    ∙ ap (λ o. stepped (roomed at before o)) (run_found at text after is)
 
-number_step : (at count : ℕ) (digits after : List ℕ) → IsNumber digits after
-    → step at count (digits ++ after)
-    ≡ item_step at count (length digits) (fitting (number_of digits))
-number_step at count digits after n =
-    let begins = number_begins digits after n in
-    let len = prefix_len-append is_digit digits after n.digits_alone n.whole in
-    let some : eqb (length digits) 0 ≡ false = grind (arith, nat_tests, n.some) in
-    past_separators at count (digits ++ after) begins.0 (begins.1 ++ after)
-    (ap (λ xs. xs ++ after) begins.2) begins.3
-    ∙ rw (len, some, take_at digits after (length digits) refl) refl
+takes : (at before : ℕ) (text after : List ℕ) → IsItem before text after
+    → step at before (text ++ after) ≡ Ok (Take (length text))
+takes at before text after is =
+    let room : ltb MAX_ITEMS (before + count_of text) ≡ false =
+    grind (arith, nat_tests, is.few) in
+    run_step at before text after is.is_run ∙ rw room refl
 
-takes : (at count : ℕ) (digits after : List ℕ) → IsItem count digits after
-    → step at count (digits ++ after) ≡ Ok (Take (length digits))
-takes at count digits after is =
-    let room : ltb count MAX_ITEMS ≡ true = grind (arith, nat_tests, is.few) in
-    number_step at count digits after is.is_number
-    ∙ (ap (item_step at count (length digits)) (fits_some (number_of digits) is.fits)
-    ∙ rw room refl)
+-- a fault of a run that begins with a number
+refused_by : (at before : ℕ) (job after : List ℕ) (fault : SchedFault) → IsNumber job after
+    → run_at at (job ++ after) ≡ Err fault → step at before (job ++ after) ≡ Err fault
+refused_by at before job after fault is e =
+    let begin = number_begins job after is in
+    past_blanks at before (job ++ after) begin.0 (begin.1 ++ after)
+    (ap (λ xs. xs ++ after) begin.2) begin.3
+    ∙ ap (λ o. stepped (roomed at before o)) e
 
-refuses : (at count : ℕ) (bytes : List ℕ) (fault : SchedFault) → IsItemFault at count bytes fault
-    → step at count bytes ≡ Err fault
-unfolding step
-refuses at count _ _ (items.bad_item byte after s d) = rw (s, d) refl
-refuses at count _ _ (items.too_big digits after n more) =
-    number_step at count digits after n
-    ∙ ap (item_step at count (length digits)) (fits_none (number_of digits) more)
-refuses at count _ _ (items.too_many digits after n fits full) =
-    let room : ltb count MAX_ITEMS ≡ false = grind (arith, nat_tests) in
-    number_step at count digits after n
-    ∙ (ap (item_step at count (length digits)) (fits_some (number_of digits) fits) ∙ rw room refl)
+bad_start_at : (at byte : ℕ) (after : List ℕ) → is_digit byte ≡ false
+    → run_at at (byte ∷ after) ≡ Err (BadItem at)
+unfolding run_at
+bad_start_at at byte after none = rw (no_number at (byte ∷ after) none) refl
+
+refuses : (at before : ℕ) (bytes : List ℕ) (fault : SchedFault) → IsItemFault at before bytes fault
+    → step at before bytes ≡ Err fault
+refuses at before _ _ (items.bad_start byte after blank digit) =
+    past_blanks at before (byte ∷ after) byte after refl blank
+    ∙ ap (λ o. stepped (roomed at before o)) (bad_start_at at byte after digit)
+refuses at before _ _ (items.big_job job after is big) =
+    refused_by at before job after _ is (run_big at job after is big)
+refuses at before _ _ (items.bad_behind_job job byte after is blank other) =
+    refused_by at before job (byte ∷ after) _ is.is_number
+    (run_bad at job byte after is blank other)
+refuses at before _ _ (items.no_count job after is none) =
+    refused_by at before job (star ∷ after) _ is.is_number (run_uncounted at job after is none)
+refuses at before _ _ (items.big_count job count after is counts big) =
+    refused_by at before job (star ∷ (count ++ after)) _ is.is_number
+    (run_big_count at job count after is counts big)
+refuses at before _ _ (items.bad_behind_count job count byte after is counts blank) =
+    refused_by at before job (star ∷ (count ++ byte ∷ after)) _ is.is_number
+    (run_bad_count at job count byte after is counts blank)
+refuses at before _ _ (items.too_many text after is full) =
+    let room : ltb MAX_ITEMS (before + count_of text) ≡ true = grind (arith, nat_tests) in
+    run_step at before text after is ∙ rw room refl
+
+-- Bytes are empty, or begin with a separator, an item or a fault.
+data Finds (at before : ℕ) (bytes : List ℕ) : Type 0 where
+  nothing : bytes ≡ [] → Finds at before bytes
+  piece : (text after : List ℕ) → bytes ≡ text ++ after → IsSeparator text after
+      → Finds at before bytes
+  item : (text after : List ℕ) → bytes ≡ text ++ after → IsItem before text after
+      → Finds at before bytes
+  fault : (it : SchedFault) → IsItemFault at before bytes it → Finds at before bytes
+
+-- a run is an item, or one too many
+by_room : (at before : ℕ) (text after : List ℕ) → IsRun text after
+    → Finds at before (text ++ after)
+by_room at before text after is = by (ltb MAX_ITEMS (before + count_of text)) refl where
+  by : (full : Bool) → ltb MAX_ITEMS (before + count_of text) ≡ full
+      → Finds at before (text ++ after)
+  by true e = fault (TooMany at) (items.too_many text after is (grind (arith, nat_tests)))
+  by false e =
+      item text after refl (record { is_run = is; few = grind (arith, nat_tests) })
+
+-- behind a count
+finds_count : (at before : ℕ) (job count after : List ℕ) → IsFitting job (star ∷ (count ++ after))
+    → IsFitting count after → Finds at before (job ++ star ∷ (count ++ after))
+finds_count at before job count [] is counts =
+    subst (Finds at before) (append_assoc job (star ∷ count) [])
+    (by_room at before (job ++ star ∷ count) [] (items.often job count [] is counts tt))
+finds_count at before job count (byte ∷ more) is counts = by (is_blank byte) refl where
+  by : (blank : Bool) → is_blank byte ≡ blank
+      → Finds at before (job ++ star ∷ (count ++ byte ∷ more))
+  by true e =
+      subst (Finds at before) (append_assoc job (star ∷ count) (byte ∷ more))
+      (by_room at before (job ++ star ∷ count) (byte ∷ more)
+      (items.often job count (byte ∷ more) is counts e))
+  by false e = fault _ (items.bad_behind_count job count byte more is counts e)
+
+-- behind a star
+finds_star : (at before : ℕ) (job after : List ℕ) → IsFitting job (star ∷ after)
+    → Finds at before (job ++ star ∷ after)
+finds_star at before job after is = by (begins after) where
+  by : Begins after → Finds at before (job ++ star ∷ after)
+  by (numbers.fit count rest e counts) =
+      subst (λ xs. Finds at before (job ++ star ∷ xs)) (sym e)
+      (finds_count at before job count rest (rw e at is) counts)
+  by (numbers.big count rest e counts big) =
+      subst (λ xs. Finds at before (job ++ star ∷ xs)) (sym e)
+      (fault _ (items.big_count job count rest (rw e at is) counts big))
+  by (numbers.none none) = fault _ (items.no_count job after is none)
+
+-- behind a job
+finds_job : (at before : ℕ) (job after : List ℕ) → IsFitting job after
+    → Finds at before (job ++ after)
+finds_job at before job [] is = by_room at before job [] (items.once job [] is tt)
+finds_job at before job (byte ∷ more) is = by_blank (is_blank byte) refl where
+  by_star : is_blank byte ≡ false → (starred : Bool) → eqb byte star ≡ starred
+      → Finds at before (job ++ byte ∷ more)
+  by_star blank true e =
+      let same : byte ≡ star = grind (arith, nat_tests) in
+      subst (λ b. Finds at before (job ++ b ∷ more)) (sym same)
+      (finds_star at before job more (subst (λ b. IsFitting job (b ∷ more)) same is))
+  by_star blank false e =
+      let other : byte ≢ star = λ same. grind (arith, nat_tests) in
+      fault _ (items.bad_behind_job job byte more is blank other)
+
+  by_blank : (blank : Bool) → is_blank byte ≡ blank → Finds at before (job ++ byte ∷ more)
+  by_blank true e = by_room at before job (byte ∷ more) (items.once job (byte ∷ more) is e)
+  by_blank false e = by_star e (eqb byte star) refl
+
+finds : (at before : ℕ) (bytes : List ℕ) → Finds at before bytes
+finds at before [] = nothing refl
+finds at before (byte ∷ more) = by_blank (is_blank byte) refl where
+  by_number : is_blank byte ≡ false → Begins (byte ∷ more) → Finds at before (byte ∷ more)
+  by_number blank (numbers.fit job after e is) =
+      subst (Finds at before) (sym e) (finds_job at before job after is)
+  by_number blank (numbers.big job after e is big) =
+      subst (Finds at before) (sym e) (fault (TooBig at) (items.big_job job after is big))
+  by_number blank (numbers.none none) = fault _ (items.bad_start byte more blank none)
+
+  by_blank : (blank : Bool) → is_blank byte ≡ blank → Finds at before (byte ∷ more)
+  by_blank true e = piece (byte ∷ []) more refl (items.separator byte more e)
+  by_blank false e = by_number e (begins (byte ∷ more))
+
+at_end : (at before : ℕ) → StepHolds schedule_form at before [] (step at before [])
+unfolding step found_at
+at_end at before = refl
 
 -- what is found the form says
-
-no_digits : (b : ℕ) (more : List ℕ) → eqb (prefix_len is_digit (b ∷ more)) 0 ≡ true
-    → is_digit b ≡ false
-no_digits b more e = elim (cases_Bool (is_digit b)) [
-  | inl d ↦ (let len = prefix_len-yes is_digit b more d in absurd (grind (arith, nat_tests)))
-  | inr d ↦ d
-]
-
-number_there : (bytes : List ℕ) → eqb (prefix_len is_digit bytes) 0 ≡ false
-    → IsNumber (take (prefix_len is_digit bytes) bytes) (drop (prefix_len is_digit bytes) bytes)
-number_there bytes e =
-    let long =
-    length-take-le (prefix_len is_digit bytes) bytes (prefix_len-le-length is_digit bytes) in
-    let some : 0 < prefix_len is_digit bytes = grind (arith, nat_tests) in
-    record {
-      digits_alone = prefix_passes is_digit bytes;
-      some = omega (arith, long, some);
-      whole = suffix_fails is_digit bytes;
-    }
-
--- a number that was found is an item, or is refused
-number_holds : (at count n : ℕ) (bytes : List ℕ) → IsNumber (take n bytes) (drop n bytes)
-    → StepHolds schedule_form at count bytes
-    (item_step at count n (fitting (number_of (take n bytes))))
-number_holds at count n bytes is = by_size (ltb (number_of (take n bytes)) (2 ^ 32)) refl where
-  refused : (fault : SchedFault) → IsItemFault at count (take n bytes ++ drop n bytes) fault
-      → IsItemFault at count bytes fault
-  refused fault h = rw take-append-drop at h
-
-  by_room : (room : Bool) → ltb count MAX_ITEMS ≡ room → number_of (take n bytes) < 2 ^ 32
-      → StepHolds schedule_form at count bytes
-      (item_step at count n (Some (number_of (take n bytes))))
-  by_room true e fits =
-      rw e (record { is_number = is; fits = fits; few = grind (arith, nat_tests) })
-  by_room false e fits =
-      rw e (refused (TooMany at) (items.too_many _ _ is fits (grind (arith, nat_tests))))
-
-  by_size : (small : Bool) → ltb (number_of (take n bytes)) (2 ^ 32) ≡ small
-      → StepHolds schedule_form at count bytes
-      (item_step at count n (fitting (number_of (take n bytes))))
-  by_size true e = rw e (by_room (ltb count MAX_ITEMS) refl (grind (arith, nat_tests)))
-  by_size false e = rw e (refused (TooBig at) (items.too_big _ _ is (grind (arith, nat_tests))))
-
-step_holds : (at count : ℕ) (bytes : List ℕ)
-    → StepHolds schedule_form at count bytes (step at count bytes)
-unfolding step
-step_holds at count [] = refl
-step_holds at count (b ∷ more) = by_blank (is_blank b) refl where
-  len : ℕ
-  len = prefix_len is_digit (b ∷ more)
-
-  by_digits : is_blank b ≡ false → (none : Bool) → eqb len 0 ≡ none
-      → StepHolds schedule_form at count (b ∷ more) (digits_step at count (b ∷ more) len)
-  by_digits s true e = rw e (items.bad_item b more s (no_digits b more e))
-  by_digits s false e = rw e (number_holds at count len (b ∷ more) (number_there (b ∷ more) e))
-
-  by_blank : (is : Bool) → is_blank b ≡ is
-      → StepHolds schedule_form at count (b ∷ more) (step at count (b ∷ more))
-  by_blank true e = rw e (items.separator b more e)
-  by_blank false e = rw e (by_digits e (eqb len 0) refl)
+step_holds : (at before : ℕ) (bytes : List ℕ)
+    → StepHolds schedule_form at before bytes (step at before bytes)
+step_holds at before bytes = by (finds at before bytes) where
+  by : Finds at before bytes → StepHolds schedule_form at before bytes (step at before bytes)
+  by (nothing e) =
+      subst (λ xs. StepHolds schedule_form at before xs (step at before xs)) (sym e)
+      (at_end at before)
+  by (piece text after e is) =
+      subst (λ xs. StepHolds schedule_form at before xs (step at before xs)) (sym e)
+      (rw (
+        skips at before text after is,
+        take_at text after (length text) refl,
+        drop_at text after (length text) refl,
+      ) is)
+  by (item text after e is) =
+      subst (λ xs. StepHolds schedule_form at before xs (step at before xs)) (sym e)
+      (rw (
+        takes at before text after is,
+        take_at text after (length text) refl,
+        drop_at text after (length text) refl,
+      ) is)
+  by (fault it is) = rw (refuses at before bytes it is) is
 
 some_separator : (piece after : List ℕ) → IsSeparator piece after → 0 < length piece
 some_separator _ _ (items.separator byte after is) = omega arith
 
+some_run : (text after : List ℕ) → IsRun text after → 0 < length text
+some_run _ _ (items.once job after is apart) = is.is_number.some
+some_run _ _ (items.often job count after is counts apart) =
+    omega (arith, is.is_number.some, length-append job (star ∷ count))
+
 pub agrees : Agrees schedule_form IsAny step
-unfolding step
+unfolding step found_at
 agrees = record {
-  ends = λ at count. refl;
+  ends = λ at before. refl;
   skips = skips;
   takes = takes;
   refuses = refuses;
-  holds = λ at count bytes sound. step_holds at count bytes;
+  holds = λ at before bytes sound. step_holds at before bytes;
   some_piece = some_separator;
-  some_item = λ count digits after is. is.is_number.some;
+  some_item = λ before text after is. some_run text after is.is_run;
   sound_piece = λ piece after is sound. tt;
-  sound_item = λ count digits after is sound. tt;
+  sound_item = λ before text after is sound. tt;
 }
 
--- a number that was found is an item
-pub found_item : (at count : ℕ) (bytes : List ℕ) (n : ℕ) → step at count bytes ≡ Ok (Take n)
-    → IsItem count (take n bytes) (drop n bytes)
-found_item at count bytes n e = rw e at (step_holds at count bytes)
+-- a run that was found is an item
+pub found_item : (at before : ℕ) (bytes : List ℕ) (n : ℕ) → step at before bytes ≡ Ok (Take n)
+    → IsItem before (take n bytes) (drop n bytes)
+found_item at before bytes n e = rw e at (step_holds at before bytes)
+
+same_run : (a b : Run) (one other : Result Found SchedFault) → one ≡ Ok (found.Run a)
+    → other ≡ Ok (found.Run b) → one ≡ other → a ≡ b
+same_run a b one other e f g = cc
+
+-- with its job and its count
+pub found_run : (at before : ℕ) (bytes : List ℕ) (run : Run)
+    → found_at at before bytes ≡ Ok (found.Run run)
+    → (run.job ≡ job_of (take run.len bytes)) × (run.count ≡ count_of (take run.len bytes))
+unfolding step
+found_run at before bytes run e =
+    let is = found_item at before bytes run.len (ap stepped e) in
+    let there = rw take-append-drop at (item_found at before (take run.len bytes)
+    (drop run.len bytes) is) in
+    let same = same_run run (run_of (take run.len bytes)) (found_at at before bytes)
+    (found_at at before bytes) e there refl in
+    (ap (λ r. r.job) same, ap (λ r. r.count) same)

@@ -1,5 +1,6 @@
 -- What comes of a list of items: the lines that they print, and how the machine stands after them.
-use Rattle.std.specs.Prelude.{ℕ, Bool, true, false, Option, Some, None, List, [], ◌∷◌, ◌++◌, length}
+use Rattle.std.specs.Prelude.{◌≡◌, ℕ, Bool, true, false, Option, Some, None, List, [], ◌∷◌, ◌++◌}
+use Rattle.std.specs.Prelude.{length}
 use Rattle.std.specs.Prelude.{count_by}
 use Rattle.sw_graph.specs.declared.graph.Graph.{Graph}
 use Rattle.sw_value.specs.declared.job.Job.{Job}
@@ -8,7 +9,7 @@ use Rattle.sw_value.specs.declared.job.Status.TheVariants.{Ended}
 use Rattle.sw_value.specs.declared.state.State.{State}
 use Rattle.sw_value.specs.declared.state.TrapKind.{TrapKind}
 use Rattle.sw_value.specs.Start.{start_of}
-use Rattle.sw_value.specs.Reach.{step_of}
+use Rattle.sw_value.specs.Reach.{step_of, reach}
 use Rattle.sw_step.specs.declared.event.Event.{Event}
 use Rattle.sw_step.specs.declared.event.Event.TheVariants.{Printed}
 use Rattle.sw_step.specs.Event.{event_of}
@@ -29,6 +30,11 @@ lines_from graph state (item ∷ items) =
 -- the lines that a program prints under a list of items
 unfoldable pub lines_of : Graph → List ℕ → List ℕ
 lines_of graph items = lines_from graph (start_of graph) items
+
+-- The items lead to the state, and print these lines.
+pub record IsPlayed (graph : Graph) (items : List ℕ) (state : State) (lines : List ℕ) : Type 0 where
+  pub state_is : state ≡ reach graph items
+  pub lines_are : lines ≡ lines_of graph items
 
 abbrev pub end_by : Option (TrapKind × ℕ) → End
 end_by None = Ran

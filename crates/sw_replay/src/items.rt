@@ -1,61 +1,46 @@
-ghost use Rattle.std.specs.Prelude.{◌≡◌, ◌≤◌, ◌<◌, [], ◌∷◌, ◌++◌, length, OnOk, OnErr};
+ghost use Rattle.std.specs.Prelude.{◌≡◌, ◌≤◌, length};
+ghost use Rattle.sw_replay.specs.Items.{written_out};
 
-use std::alloc::{AllocError, Global};
 use std::marker::Model;
 use sw_list::ListOf;
 
 /// The most items that a schedule has.
-pub const MAX_ITEMS: usize = 20_000;
+pub const MAX_ITEMS: usize = 1_000_000;
 
-/// The items of a schedule in order, at most [`MAX_ITEMS`]. Each is the number of a job that takes one step.
-/// Contracts see the list of the items.
+/// The items of a schedule in order, at most [`MAX_ITEMS`]. Each is the number of a job that takes
+/// one step. Contracts see the list of the items; it is kept as runs, each a job and how often the
+/// job stands in the list, one after the other.
 #[derive(Debug, Drop)]
 pub struct Schedule {
-    items: ListOf<u32>,
+    runs: ListOf<(u32, u32)>,
 }
 
 impl Model for Schedule {
     ghost use Rattle.std.specs.Prelude.{ℕ, ◌≤◌, List, length};
     ghost use Rattle.sw_replay.specs.declared.items.TheConstants.{MAX_ITEMS};
+    ghost use Rattle.sw_replay.specs.Items.{written_out};
 
     ghost Value = { List ℕ };
 
-    ghost view = { λ schedule. schedule.items };
+    ghost view = { λ schedule. written_out schedule.runs };
 
-    ghost invariant = { λ schedule. length schedule.items ≤ MAX_ITEMS };
+    ghost invariant = { λ schedule. length (written_out schedule.runs) ≤ MAX_ITEMS };
 }
 
 impl Schedule {
-    /// The schedule without items.
-    pub fn new(alloc: Global) -> Schedule
-        ensures { result ≡ [] }
+    /// The schedule of runs.
+    pub fn new(runs: ListOf<(u32, u32)>) -> Schedule
+        requires { length (written_out runs) ≤ MAX_ITEMS }
+        ensures { result ≡ written_out runs }
     {
-        Schedule {
-            items: ListOf::new(alloc),
-        }
+        Schedule { runs }
     }
 
-    /// Adds an item at the end.
-    pub fn push(&mut self, item: u32) -> Result<(), AllocError>
-        requires { length self.old < MAX_ITEMS }
-        ensures ok { OnOk result (self.new ≡ self.old ++ item ∷ []) }
-        ensures err { OnErr result (self.new ≡ self.old) }
-    {
-        self.items.push(item)
-    }
-
-    pub fn len(&self) -> usize
-        ensures value { result ≡ length self.now }
+    /// Lends the runs: a job, and how often it stands in the list. A run may be of no item.
+    pub fn runs(&self) -> &[(u32, u32)]
+        ensures value { written_out result.now ≡ self.now }
         ensures few { length self.now ≤ MAX_ITEMS }
     {
-        self.items.len()
-    }
-
-    /// Lends the items.
-    pub fn items(&self) -> &ListOf<u32>
-        ensures value { result.now ≡ self.now }
-        ensures few { length self.now ≤ MAX_ITEMS }
-    {
-        &self.items
+        self.runs.as_slice()
     }
 }

@@ -9,8 +9,8 @@ ghost use Rattle.sw_replay.specs.Replay.{whole_replay, IsReplay};
 use crate::items::MAX_ITEMS;
 use crate::text::SCHEDULE_LIMIT;
 
-/// Every text is the text of one list of items or has one first fault, and never both. A first fault
-/// is inside the text.
+/// Every text is the text of one list of items or has one first fault, and never both. A first
+/// fault is inside the text, or at its end.
 pub fn schedule_texts_have_one_reading()
     ensures some_reading { (bytes : List ℕ)
         → (outcome : Result (List ℕ) SchedFault) × HasItems bytes outcome }
@@ -20,7 +20,7 @@ pub fn schedule_texts_have_one_reading()
     ensures never_both { (bytes items : List ℕ) (fault : SchedFault)
         → IsItems bytes items → ¬ IsFirstFault bytes fault }
     ensures inside { (bytes : List ℕ) (fault : SchedFault)
-        → IsFirstFault bytes fault → position_of fault < length bytes }
+        → IsFirstFault bytes fault → position_of fault ≤ length bytes }
 {}
 
 /// The items of a text are numbers of 32 bits, and no more than a schedule has.
@@ -42,6 +42,6 @@ pub fn items_have_one_replay()
 
 /// The limits that the definitions of schedules take from here.
 pub fn schedule_limits()
-    ensures items { MAX_ITEMS ≡ 20000 }
+    ensures items { MAX_ITEMS ≡ 1000000 }
     ensures bytes { SCHEDULE_LIMIT ≡ 4194304 }
 {}

@@ -1,10 +1,13 @@
-//! Schedules: the items that a schedule text spells, and what an accepted program prints when they are replayed.
+//! Schedules: the items that a schedule text spells, and what an accepted program prints when they
+//! are replayed. The crate knows nothing of source texts, and of the machine only its start, its
+//! steps and what they print.
 #![tactic(auto)]
 
 mod items;
 mod laws;
 mod output;
 mod replaying;
+mod runs;
 mod text;
 
 pub use items::{MAX_ITEMS, Schedule};

@@ -1,8 +1,9 @@
-ghost use Rattle.std.specs.Prelude.{ℕ, ◌≡◌, ◌<◌, ◌≤◌, ◌^◌, ◌++◌, length, count_by, IfOk, OnOk};
-ghost use Rattle.sw_value.specs.Reach.{reach};
+ghost use Rattle.std.specs.Prelude.{ℕ, List, ◌≡◌, ◌+◌, ◌<◌, ◌≤◌, ◌^◌, ◌++◌, length, replicate};
+ghost use Rattle.std.specs.Prelude.{count_by, IfOk};
+ghost use Rattle.std.specs.Prelude.{OnOk, []};
 ghost use Rattle.sw_value.specs.Runnable.{IsRunnable};
-ghost use Rattle.sw_value.specs.Start.{start_of};
-ghost use Rattle.sw_replay.specs.Output.{line_of, lines_of, end_of, has_ended, ended_in, jobs_in};
+ghost use Rattle.sw_replay.specs.Items.{written_out};
+ghost use Rattle.sw_replay.specs.Output.{IsPlayed, line_of, end_of, has_ended, ended_in, jobs_in};
 ghost use Rattle.sw_replay.specs.Replay.{whole_replay, IsReplay};
 
 use crate::items::Schedule;
@@ -19,35 +20,61 @@ pub fn replay(alloc: Global, graph: &Graph, schedule: &Schedule) -> Result<Repla
     requires { IsRunnable graph.now }
     ensures { IfOk result (IsReplay graph.now schedule.now) }
 {
-    let replay = play(alloc, graph, schedule.items().as_slice())?;
+    let replay = play(alloc, graph, schedule.runs())?;
     Ok(replay)
 }
 
-fn play(alloc: Global, graph: &Graph, items: &[u32]) -> Result<Replay, AllocError>
+fn play(alloc: Global, graph: &Graph, runs: &[(u32, u32)]) -> Result<Replay, AllocError>
     requires runnable { IsRunnable graph.now }
-    requires few { length items.now < 4294967295 }
-    ensures { IfOk result (λ replay. replay ≡ whole_replay graph.now items.now) }
+    requires few { length (written_out runs.now) < 4294967295 }
+    ensures { IfOk result (λ replay. replay ≡ whole_replay graph.now (written_out runs.now)) }
 {
     let mut state = start(alloc, graph)?;
-    let lines = run(alloc, graph, &mut state, items)?;
-    Ok(outcome(lines, &state))
+    let mut lines = Vec::new(alloc);
+    play_runs(alloc, graph, &mut state, runs, &mut lines)?;
+    Ok(outcome(ListOf::from_vec(lines), &state))
 }
 
-/// Takes items one after the other from the start, and gives the lines that they print.
-#[tactic(auto, unfolding(crate::specs::Output::lines_of, sw_value::specs::Reach::reach))]
-fn run(alloc: Global, graph: &Graph, state: &mut State, items: &[u32]) -> Result<Line, AllocError>
+/// Takes the items of runs from the start, and adds the lines that they print.
+fn play_runs(
+    alloc: Global,
+    graph: &Graph,
+    state: &mut State,
+    runs: &[(u32, u32)],
+    lines: &mut Vec<u8>,
+) -> Result<(), AllocError>
     requires runnable { IsRunnable graph.now }
-    requires start { state.old ≡ start_of graph.now }
-    requires few { length items.now < 4294967295 }
-    ensures lines { IfOk result (λ lines. lines ≡ lines_of graph.now items.now) }
-    ensures steps { OnOk result (state.new ≡ reach graph.now items.now) }
+    requires start { IsPlayed graph.now [] state.old lines.old.items }
+    requires few { length (written_out runs.now) < 4294967295 }
+    ensures { OnOk result
+        (IsPlayed graph.now (written_out runs.now) state.new lines.new.items) }
 {
-    let mut lines = Vec::new(alloc);
-    for item in items {
-        let event = step(alloc, graph, state, *item)?;
-        add_line(&mut lines, event)?;
+    for run in runs {
+        play_run(alloc, graph, state, run.0, run.1, lines)?;
     }
-    Ok(ListOf::from_vec(lines))
+    Ok(())
+}
+
+/// Takes one item a number of times, after other items, and adds the lines that this prints.
+fn play_run(
+    alloc: Global,
+    graph: &Graph,
+    state: &mut State,
+    job: u32,
+    count: u32,
+    lines: &mut Vec<u8>,
+) -> Result<(), AllocError>
+    requires runnable { IsRunnable graph.now }
+    requires played { (items : List ℕ) × (length items + count < 4294967295)
+        × IsPlayed graph.now items state.old lines.old.items }
+    ensures { OnOk result ((items : List ℕ) → IsPlayed graph.now items state.old lines.old.items
+        → IsPlayed graph.now (items ++ replicate count job) state.new lines.new.items) }
+{
+    for _turn in 0..count {
+        let event = step(alloc, graph, state, job)?;
+        add_line(lines, event)?;
+    }
+    Ok(())
 }
 
 /// Adds the line of an event that has one.

@@ -1,14 +1,12 @@
-ghost use Rattle.std.specs.Prelude.{◌≡◌, ◌≢◌, ◌<◌, ◌≤◌, ◌^◌, length, IfOk, IfErr, IsTrue};
-ghost use Rattle.std.specs.List.{list_all};
-ghost use Rattle.sw_bytes.specs.Classes.{is_digit};
-ghost use Rattle.sw_bytes.specs.Decimal.{number_of};
+ghost use Rattle.std.specs.Prelude.{◌≡◌, ◌≢◌, ◌+◌, ◌<◌, ◌≤◌, ◌^◌, length, IfOk, IfErr};
 ghost use Rattle.sw_replay.specs.Items.{IsItems, IsFirstFault};
-ghost use Rattle.sw_replay.specs.Reading.{fitting, step, items_or_fault, Schedules};
+ghost use Rattle.sw_replay.specs.Reading.{found_at, items_or_fault, Schedules};
 
 use crate::items::{MAX_ITEMS, Schedule};
+use crate::runs::{Run, run_at};
 use std::alloc::{AllocError, Global};
-use sw_bytes::{digits_len, is_blank};
-use sw_scan::Step;
+use sw_bytes::is_blank;
+use sw_list::ListOf;
 use thiserror::Error;
 
 /// The most bytes of a schedule text.
@@ -42,8 +40,9 @@ impl From<AllocError> for SchedFault {
     }
 }
 
-/// The items of a schedule text: runs of decimal digits, with spaces, tabs, carriage returns and line
-/// feeds between them, which may also stand at both ends.
+/// The items of a schedule text: jobs `J`, and runs `J*C` of a job that stands in the list `C`
+/// times, with spaces, tabs, carriage returns and line feeds between them, which may also stand at
+/// both ends.
 pub fn schedule(alloc: Global, bytes: &[u8]) -> Result<Schedule, SchedFault>
     requires { length bytes.now ≤ SCHEDULE_LIMIT }
     ensures items { IfOk result (IsItems bytes.now) }
@@ -57,61 +56,46 @@ fn items_of(alloc: Global, bytes: &[u8]) -> Result<Schedule, SchedFault>
     requires { length bytes.now < 2 ^ 32 }
     ensures { Schedules (items_or_fault bytes.now) result }
 {
-    let mut items = Schedule::new(alloc);
+    let mut runs = ListOf::new(alloc);
+    let mut count = 0;
     let mut at = 0;
     loop {
-        let rest = &bytes[at..];
-        match step(rest, at as u32, items.len())? {
-            Step::End => return Ok(items),
-            Step::Skip(len) => at += len,
-            Step::Take(len) => {
-                items.push(value_of(&rest[..len]))?;
-                at += len;
+        match found_at(&bytes[at..], at as u32, count)? {
+            Found::End => return Ok(Schedule::new(runs)),
+            Found::Separator => at += 1,
+            Found::Run(run) => {
+                runs.push((run.job, run.count))?;
+                count += run.count as usize;
+                at += run.len;
             }
         }
     }
 }
 
-/// What the bytes, which stand at the offset `at` of a text after `count` items, begin with.
-#[tactic(auto, unfolding(crate::specs::Reading::step))]
-fn step(bytes: &[u8], at: u32, count: usize) -> Result<Step, SchedFault>
-    ensures { result ≡ step at count bytes.now }
+/// What bytes begin with.
+#[derive(Clone, Copy)]
+enum Found {
+    End,
+    Separator,
+    Run(Run),
+}
+
+/// What the bytes begin with, which stand at the offset `at` of a text after `count` items.
+#[tactic(auto, unfolding(crate::specs::Reading::found_at))]
+fn found_at(bytes: &[u8], at: u32, count: usize) -> Result<Found, SchedFault>
+    requires offset { at + length bytes.now < 2 ^ 32 }
+    requires count { count ≤ MAX_ITEMS }
+    ensures { result ≡ found_at at count bytes.now }
 {
     let Some(byte) = bytes.first().copied() else {
-        return Ok(Step::End);
+        return Ok(Found::End);
     };
     if is_blank(byte) {
-        return Ok(Step::Skip(1));
+        return Ok(Found::Separator);
     }
-    let len = digits_len(bytes);
-    if len == 0 {
-        return Err(SchedFault::BadItem { at });
+    let run = run_at(bytes, at)?;
+    if count + run.count as usize > MAX_ITEMS {
+        return Err(SchedFault::TooMany { at });
     }
-    match number_of(&bytes[..len]) {
-        None => Err(SchedFault::TooBig { at }),
-        Some(_) if count < MAX_ITEMS => Ok(Step::Take(len)),
-        Some(_) => Err(SchedFault::TooMany { at }),
-    }
-}
-
-/// The number of an item's digits.
-fn value_of(digits: &[u8]) -> u32
-    requires digits { IsTrue (list_all is_digit digits.now) }
-    requires fits { number_of digits.now < 2 ^ 32 }
-    ensures { result ≡ number_of digits.now }
-{
-    number_of(digits).unwrap_or(u32::MAX)
-}
-
-/// The number that digits spell, if it is one of 32 bits.
-fn number_of(digits: &[u8]) -> Option<u32>
-    requires { IsTrue (list_all is_digit digits.now) }
-    ensures { result ≡ fitting (number_of digits.now) }
-{
-    let mut number: u32 = 0;
-    for digit in digits {
-        let tens = number.checked_mul(10)?;
-        number = tens.checked_add(u32::from(*digit - b'0'))?;
-    }
-    Some(number)
+    Ok(Found::Run(run))
 }

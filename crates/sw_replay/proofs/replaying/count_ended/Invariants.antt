@@ -3,4 +3,5 @@ use Rattle.sw_replay.specs.Output.{has_ended}
 use Rattle.sw_replay.proofs.replaying.count_ended.Given as goal
 
 abbrev pub invariant-loop-job : goal.invariant-loop-job
-invariant-loop-job l = (l.ended ≡ count_by has_ended (take l.job-index l.jobs)) × (l.ended ≤ l.job-index)
+invariant-loop-job l =
+    (l.ended ≡ count_by has_ended (take l.job-index l.jobs)) × (l.ended ≤ l.job-index)

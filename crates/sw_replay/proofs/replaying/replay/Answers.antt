@@ -5,7 +5,6 @@ use Rattle.sw_replay.proofs.replaying.replay.Goals as goal
 
 pub returns : goal.returns
 returns c =
-    let items = c.as_slice.ensures ∙ c.items.ensures.value in
     subst (IsReplay c.args.graph.now c.args.schedule.now)
-    (sym (c.in_ok-replay.ensures ∙ ap (whole_replay c.args.graph.now) items))
+    (sym (c.in_ok-replay.ensures ∙ ap (whole_replay c.args.graph.now) c.runs.ensures.value))
     (runnable_whole c.args.graph.now c.requires c.args.schedule.now)

@@ -1,6 +1,6 @@
 use Rattle.sw_bytes.specs.Classes.{is_digit}
 use Rattle.sw_bytes.proofs.Prefixes.{prefix_passes}
-use Rattle.sw_replay.proofs.text.step.Goals as goal
+use Rattle.sw_replay.proofs.runs.number_at.Goals as goal
 
 pub number_of-requires : goal.number_of-requires
 number_of-requires c =

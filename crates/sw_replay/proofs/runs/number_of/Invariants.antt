@@ -1,7 +1,7 @@
 use Rattle.std.proofs.Common.{◌≡◌, ◌<◌, ◌^◌, drop}
 use Rattle.sw_bytes.specs.Decimal.{number_of}
 use Rattle.sw_replay.proofs.Numbers.{number_from}
-use Rattle.sw_replay.proofs.text.number_of.Given as goal
+use Rattle.sw_replay.proofs.runs.number_of.Given as goal
 
 abbrev pub invariant-loop-digit : goal.invariant-loop-digit
 invariant-loop-digit l =

@@ -1,7 +1,7 @@
 use Rattle.std.proofs.Common.{◌≡◌, ◌≤◌, ◌^◌, ◌*◌, ◌+◌, ◌-◌, get_or, arith, sym, ◌∙◌}
 use Rattle.sw_bytes.proofs.Digits.{digit_at}
 use Rattle.sw_replay.proofs.Numbers.{number_from-zero, number_from-drop, grown_too_big, number_done}
-use Rattle.sw_replay.proofs.text.number_of.Goals as goal
+use Rattle.sw_replay.proofs.runs.number_of.Goals as goal
 
 pub loop-digit-init : goal.loop-digit-init
 loop-digit-init c = (number_from-zero c.args.digits.now, omega arith)
