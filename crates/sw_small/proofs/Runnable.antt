@@ -81,7 +81,7 @@ items_short (item ∷ items) functions registers few =
       bodies = All-append IsNumbered piece.bodies rest.bodies one.bodies others.bodies;
     }
 
-program_numbered : (program : Small) → size_of program < 2 ^ 31
+pub program_numbered : (program : Small) → size_of program < 2 ^ 31
     → All IsNumbered (functions_of program)
 program_numbered program few =
     let inside = in_order (map item_plan program.items) 1 0 in

@@ -4,8 +4,8 @@ ghost use Rattle.sw_small.specs.Lower.{in_order, function_of, body_of, functions
 use super::tree::{Item, ItemList, Show, ShowList, Small};
 use std::alloc::{AllocError, Global};
 use sw_graph::{
-    Block, Function, FunctionList, Graph, Instr, InstrList, Last, Literal, Operand, RegKind,
-    RegList,
+    Block, Function, FunctionList, Functions, Graph, Instr, InstrList, Last, Literal, Operand,
+    RegKind, RegList,
 };
 use sw_list::{Boxed, ListOf};
 use sw_types::{Iso, Shapes, Ty};
@@ -188,12 +188,9 @@ pub fn lower(alloc: Global, program: &Small) -> Result<Graph, AllocError>
     requires size { size_of program.now < 2 ^ 31 }
     ensures lowered { IfOk result (IsLowered program.now) }
 {
-    let functions = functions(alloc, program)?;
+    let functions = Functions::new(alloc, functions(alloc, program)?)?;
     let Ok(shapes) = Shapes::new(alloc, ListOf::new(alloc)) else {
         return Err(AllocError);
     };
     Ok(Graph::new(shapes, ListOf::new(alloc), functions, 0, ListOf::new(alloc)))
 }
-
-#[cfg(test)]
-mod tests;

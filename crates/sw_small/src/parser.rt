@@ -166,6 +166,8 @@ pub fn parse(alloc: Global, source: &Source, tokens: &[Token]) -> Result<Small, 
         Err(Stop::Unexpected { left }) => Err(ParseFault::Unexpected {
             token: (tokens.len() - left) as u32,
         }),
+        // A small program opens no nest.
+        Err(Stop::TooDeep { .. }) => unreachable!(),
         Err(Stop::Memory) => Err(ParseFault::Memory),
     }
 }

@@ -7,7 +7,7 @@ pub type ShowList = ListOf<Show>;
 pub type ItemList = ListOf<Item>;
 
 /// `print(value)`. Positions are byte offsets.
-#[derive(Clone, Copy, Debug, PartialEq, Eq)]
+#[derive(Clone, Copy)]
 pub struct Show {
     /// Where the word `print` stands.
     pub at: u32,
@@ -17,7 +17,7 @@ pub struct Show {
 }
 
 /// One item of `main`.
-#[derive(Debug, Drop)]
+#[derive(Drop)]
 pub enum Item {
     Show(Show),
     /// `Task.detached { .. }`.
@@ -31,7 +31,7 @@ pub enum Item {
 }
 
 /// A small program: its entry.
-#[derive(Debug, Drop)]
+#[derive(Drop)]
 pub struct Small {
     /// Where the word `main` stands.
     pub main: u32,

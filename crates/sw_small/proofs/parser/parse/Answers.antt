@@ -3,12 +3,13 @@ use Rattle.std.proofs.lemmas.List.{length-map}
 use Rattle.std.specs.Prelude.{Err}
 use Rattle.sw_token.proofs.TokenLaws.{IsTokens-few}
 use Rattle.sw_token.specs.Spelling.{spelled, spelling_of}
-use Rattle.sw_reader.specs.Reader.Fault.{unexpected}
+use Rattle.sw_reader.specs.Reader.Fault.{unexpected, too_deep}
 use Rattle.sw_reader.specs.Outcome.{Gives}
 use Rattle.sw_reader.proofs.TokensSpelled.{tokens_spelled, tokens_readable}
 use Rattle.sw_small.specs.Reading.{whole_small}
 use Rattle.sw_small.specs.Small.{IsUnexpected}
 use Rattle.sw_small.proofs.SmallLaws.{read_small, read_unexpected, fault_within}
+use Rattle.sw_small.proofs.SmallLaws.{never_deep}
 use Rattle.sw_small.proofs.parser.parse.Goals as goal
 use Rattle.sw_small.proofs.parser.parse.Goals.{In-Err-Unexpected}
 
@@ -35,6 +36,14 @@ overflow_sub-result c = omega (
   fault_within (spelling_of c.args.source.now c.args.tokens.now) c.in-Err-Unexpected.left
       (failed c),
 )
+
+pub unreachable-requires : goal.unreachable-requires
+unreachable-requires c =
+    let deep : whole_small (spelling_of c.args.source.now c.args.tokens.now) ≡ Err
+    (too_deep c.in-Err-TooDeep.field-0-0) = ap whole_small (sym c.new.ensures)
+    ∙ subst (λ stop. Gives (whole_small c.new.result) (Err stop) c.whole.new.tokens)
+    c.in-Err-TooDeep.field-0-is c.in-Err-TooDeep.ensures in
+    never_deep (spelling_of c.args.source.now c.args.tokens.now) c.in-Err-TooDeep.field-0-0 deep
 
 pub returns-in-Ok-clause-found : goal.returns-in-Ok-clause-found
 returns-in-Ok-clause-found c =
