@@ -1,6 +1,9 @@
 use crate::head::{Form, Head, head_of};
 use std::alloc::{AllocError, Global};
 
+/// The room for a reply in bytes, where a case says nothing of it.
+const ROOM: usize = 1_048_576;
+
 /// A file of a call.
 #[derive(Drop)]
 pub struct CaseFile {
@@ -8,11 +11,25 @@ pub struct CaseFile {
     pub bytes: Vec<u8>,
 }
 
+/// The sink of a call.
+#[derive(Drop)]
+pub struct Room {
+    /// The most bytes of a put.
+    pub step: usize,
+    /// The most bytes that the sink holds.
+    pub room: usize,
+    /// The numbers of the puts that fail.
+    pub fails: Vec<u64>,
+}
+
 /// A call of the tool, and a reply.
 #[derive(Drop)]
 pub struct Case {
     pub words: Vec<String>,
     pub files: Vec<CaseFile>,
+    /// The numbers of the fetches that fail.
+    pub fails: Vec<u64>,
+    pub sink: Room,
     /// The exit status of the reply, where it is known.
     pub exit: Option<u8>,
     pub reply: Vec<u8>,
@@ -59,6 +76,17 @@ fn add_hexadecimal(bytes: &mut Vec<u8>, text: &str) -> Result<bool, AllocError> 
     Ok(true)
 }
 
+/// Adds numbers, each of them a line. It returns whether all of them are.
+fn add_numbers(numbers: &mut Vec<u64>, text: &str) -> Result<bool, AllocError> {
+    for line in text.split_ascii_whitespace() {
+        let Ok(number) = line.parse::<u64>() else {
+            return Ok(false);
+        };
+        numbers.push(number)?;
+    }
+    Ok(true)
+}
+
 /// Adds the bytes of a part. It returns whether they have their form.
 fn add_bytes(bytes: &mut Vec<u8>, text: &str, form: Form) -> Result<bool, AllocError> {
     match form {
@@ -87,6 +115,12 @@ impl Case {
         Case {
             words,
             files: Vec::new(alloc),
+            fails: Vec::new(alloc),
+            sink: Room {
+                step: ROOM,
+                room: ROOM,
+                fails: Vec::new(alloc),
+            },
             exit: None,
             reply: Vec::new(alloc),
         }
@@ -134,6 +168,12 @@ impl Case {
                 self.reply.extend_from_slice(body.as_bytes())?;
                 Ok(true)
             }
+            Some(Head::Fetches) => Ok(add_numbers(&mut self.fails, body)?),
+            Some(Head::Puts { step, room }) => {
+                self.sink.step = step;
+                self.sink.room = room;
+                Ok(add_numbers(&mut self.sink.fails, body)?)
+            }
             Some(Head::File { name, times, form }) => {
                 self.add_text(alloc, name, times, form, body)
             }
@@ -144,18 +184,33 @@ impl Case {
     /// Reads a case file. A text that isn't one is `None`.
     pub fn parse(alloc: Global, text: &str) -> Result<Option<Case>, AllocError> {
         let sections = sections(alloc, text)?;
-        let Some((words, others)) = sections.as_slice().split_first() else {
-            return Ok(None);
-        };
-        let mut case = Case::new(alloc, words_of(alloc, words.body.as_str(), '\n')?);
-        for section in others {
-            if !case.add_section(alloc, section)? {
-                return Ok(None);
-            }
+        match sections.as_slice().split_first() {
+            Some((words, others)) => Case::of_parts(alloc, words.body.as_str(), others),
+            None => Ok(None),
         }
-        if case.exit.is_none() {
-            return Ok(None);
+    }
+
+    /// The call of these words with its other parts, where each has its form and one is a reply.
+    fn of_parts(
+        alloc: Global,
+        words: &str,
+        sections: &[Section],
+    ) -> Result<Option<Case>, AllocError> {
+        let mut case = Case::new(alloc, words_of(alloc, words, '\n')?);
+        let have_form = case.add_sections(alloc, sections)?;
+        if have_form && case.exit.is_some() {
+            Ok(Some(case))
+        } else {
+            Ok(None)
         }
-        Ok(Some(case))
+    }
+
+    /// Adds parts of a case file. It returns whether each has its form.
+    fn add_sections(&mut self, alloc: Global, sections: &[Section]) -> Result<bool, AllocError> {
+        let mut have_form = true;
+        for section in sections {
+            have_form &= self.add_section(alloc, section)?;
+        }
+        Ok(have_form)
     }
 }

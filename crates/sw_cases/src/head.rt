@@ -14,6 +14,14 @@ pub enum Form {
 pub enum Head<'a> {
     /// The reply of a call with this exit status.
     Exit(u8),
+    /// The numbers of the fetches that fail.
+    Fetches,
+    /// The numbers of the puts that fail, into a sink with this room that writes at most `step`
+    /// bytes in a put.
+    Puts {
+        step: usize,
+        room: usize,
+    },
     /// The text of a file, which is repeated.
     File {
         name: &'a str,
@@ -49,12 +57,24 @@ fn times_and_form(text: &str) -> Option<(usize, Form)> {
     Some((times.parse::<usize>().ok()?, form_of(form)?))
 }
 
+/// The most bytes of a put, and the room of the sink.
+fn puts_of(text: &str) -> Option<Head<'_>> {
+    let (step, room) = cut(text);
+    let step = step.parse::<usize>().ok()?;
+    let room = room.parse::<usize>().ok()?;
+    Some(Head::Puts { step, room })
+}
+
 /// What a line begins, without the `---- ` and the line feed; `None` where it has no such form.
 pub fn head_of(line: &str) -> Option<Head<'_>> {
     let (name, rest) = cut(line);
-    if name == "exit" {
-        return Some(Head::Exit(rest.parse::<u8>().ok()?));
+    match name {
+        "exit" => Some(Head::Exit(rest.parse::<u8>().ok()?)),
+        "fetches" => Some(Head::Fetches),
+        "puts" => puts_of(rest),
+        _ => {
+            let (times, form) = times_and_form(rest)?;
+            Some(Head::File { name, times, form })
+        }
     }
-    let (times, form) = times_and_form(rest)?;
-    Some(Head::File { name, times, form })
 }

@@ -7,7 +7,9 @@
 //! A case file begins with the words, one a line. A line `---- NAME` begins the text of a file, and
 //! `---- exit STATUS` the reply. `---- NAME times N` repeats the text that follows; after `open`
 //! its last line feed isn't part of the text; after `hex` it is bytes in hexadecimal. Texts of one
-//! file that follow one another are one text.
+//! file that follow one another are one text. A line `---- fetches` begins the numbers of the
+//! fetches that fail, and `---- puts STEP ROOM` those of the puts that fail, into a sink of that
+//! room that writes at most `STEP` bytes in a put.
 #![tactic(auto)]
 
 mod case;
@@ -91,31 +93,42 @@ fn run_document<R: Files + Print + AllocGlobal + Clone + Drop>(
     path: &str,
 ) -> io::Result<()> {
     let text = fs::read_to_string(rt, path)?;
-    for mut case in shown_calls(rt.alloc(), text.as_str())? {
-        case.files = files_in(rt, "examples")?;
-        run_case(rt, tally, path, &case)?;
+    for case in shown_calls(rt.alloc(), text.as_str())? {
+        run_shown(rt, tally, path, case)?;
     }
     Ok(())
+}
+
+/// Makes a call that a document shows.
+fn run_shown<R: Files + Print + AllocGlobal + Clone + Drop>(
+    rt: &R,
+    tally: &mut Tally,
+    path: &str,
+    case: Case,
+) -> io::Result<()> {
+    let mut case = case;
+    case.files = files_in(rt, "examples")?;
+    run_case(rt, tally, path, &case)
+}
+
+/// Prints a number of calls, and returns how many of them are wrong.
+fn report<R: Print>(rt: &R, tally: &Tally, what: &str) -> io::Result<u64> {
+    let calls = tally.calls;
+    println!(rt; "{calls} {what}")?;
+    Ok(tally.wrong)
 }
 
 /// Makes all calls, prints their numbers and returns how many are wrong.
 fn run_all<R: Files + Print + AllocGlobal + Clone + Drop>(rt: &R) -> io::Result<u64> {
     let mut cases = Tally::new(true);
     run_topics(rt, &mut cases)?;
+    let wrong = report(rt, &cases, "cases")?;
     let mut differing = Tally::new(false);
     run_folder(rt, &mut differing, "differing")?;
+    let wrong = wrong.saturating_add(report(rt, &differing, "cases with another reply")?);
     let mut shown = Tally::new(true);
     run_document(rt, &mut shown, "shown.md")?;
-    let (cases_made, differing_made, shown_made) = (cases.calls, differing.calls, shown.calls);
-    println!(rt; "{cases_made} cases")?;
-    println!(rt; "{differing_made} cases with another reply")?;
-    println!(rt; "{shown_made} calls that the documents show")?;
-    Ok(
-        cases
-            .wrong
-            .saturating_add(differing.wrong)
-            .saturating_add(shown.wrong),
-    )
+    Ok(wrong.saturating_add(report(rt, &shown, "calls that the documents show")?))
 }
 
 fn main(rt: HostRuntime) -> io::Result<ExitCode> {

@@ -5,8 +5,14 @@ use std::alloc::{AllocError, Global};
 use sw_check::run_words;
 use sw_outside::{MemShelf, MemSink};
 
-/// The room for a reply in bytes.
-const ROOM: usize = 1_048_576;
+/// The files of a case in memory.
+fn shelf_of(alloc: Global, case: &Case) -> Result<MemShelf, AllocError> {
+    let mut shelf = MemShelf::new(alloc, case.fails.as_slice())?;
+    for file in &case.files {
+        shelf.add(file.name.as_str(), file.bytes.as_slice())?;
+    }
+    Ok(shelf)
+}
 
 /// The exit status of a call, and the bytes that it wrote.
 #[derive(Drop)]
@@ -18,11 +24,9 @@ pub struct Outcome {
 impl Outcome {
     /// Makes the call of a case over its files in memory.
     pub fn of(alloc: Global, case: &Case) -> Result<Outcome, AllocError> {
-        let mut shelf = MemShelf::new(alloc, &[])?;
-        for file in &case.files {
-            shelf.add(file.name.as_str(), file.bytes.as_slice())?;
-        }
-        let mut sink = MemSink::new(alloc, ROOM, &[], ROOM)?;
+        let mut shelf = shelf_of(alloc, case)?;
+        let sink = &case.sink;
+        let mut sink = MemSink::new(alloc, sink.step.max(1), sink.fails.as_slice(), sink.room)?;
         let exit = run_words(alloc, &case.words, &mut shelf, &mut sink).status();
         let bytes = Vec::from_slice(alloc, sink.bytes())?;
         Ok(Outcome { exit, bytes })

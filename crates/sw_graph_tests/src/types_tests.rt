@@ -10,10 +10,11 @@ fn holds(rt: &impl Abort, what: &str, is_so: bool) {
 
 /// `(Int) -> Bool`, marked `@Sendable` or not.
 fn predicate(alloc: Global, sendable: bool) -> Result<Ty, AllocError> {
+    let result = Boxed::new(alloc, Ty::Bool)?;
     Ok(Ty::Func {
         sendable,
         params: ListOf::one(alloc, Ty::Int)?,
-        result: Boxed::new(alloc, Ty::Bool)?,
+        result,
     })
 }
 
@@ -21,44 +22,29 @@ fn task_of(alloc: Global, given: Ty) -> Result<Ty, AllocError> {
     Ok(Ty::Task(Boxed::new(alloc, given)?))
 }
 
-/// A function type may lose its mark, and not gain it.
+/// A function type may lose its mark and not gain it; inside another type the mark counts like any
+/// other part.
 #[test]
-fn marks_at_the_top(rt: HostRuntime) -> Result<(), Fail> {
+fn marks_of_function_types(rt: HostRuntime) -> Result<(), Fail> {
     let alloc = rt.alloc();
     let marked = predicate(alloc, true)?;
     let plain = predicate(alloc, false)?;
     holds(&rt, "a mark may be dropped", accepts(&marked, &plain));
     holds(&rt, "a mark may not be added", !accepts(&plain, &marked));
-    holds(&rt, "a mark may be kept", accepts(&marked, &marked));
-    holds(
-        &rt,
-        "a function is no truth value",
-        !accepts(&marked, &Ty::Bool),
-    );
-    Ok(())
-}
-
-/// Inside another type the mark counts like any other part.
-#[test]
-fn marks_inside(rt: HostRuntime) -> Result<(), Fail> {
-    let alloc = rt.alloc();
-    let marked = task_of(alloc, predicate(alloc, true)?)?;
-    let plain = task_of(alloc, predicate(alloc, false)?)?;
+    let marked = task_of(alloc, marked)?;
+    let plain = task_of(alloc, plain)?;
     holds(
         &rt,
         "a task of a marked function",
         !accepts(&marked, &plain),
     );
     holds(&rt, "a task of itself", accepts(&marked, &marked));
-    holds(&rt, "another shape", !accepts(&Ty::Named(0), &Ty::Named(1)));
     Ok(())
 }
 
 #[test]
 fn types_without_shapes(rt: HostRuntime) -> Result<(), Fail> {
-    let alloc = rt.alloc();
-    let shapes = Shapes::new(alloc, ListOf::new(alloc))?;
-    holds(&rt, "no shapes", shapes.list().is_empty());
+    let shapes = Shapes::new(rt.alloc(), ListOf::new(rt.alloc()))?;
     holds(&rt, "Int is Sendable", shapes.is_sendable(&Ty::Int));
     holds(&rt, "Int has a part", shapes.parts(&Ty::Int) == 1);
     holds(&rt, "Void has none", shapes.parts(&Ty::Unit) == 0);

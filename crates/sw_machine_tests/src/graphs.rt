@@ -1,65 +1,26 @@
-//! Graphs made by hand that the machine runs.
-ghost use Rattle.std.specs.Prelude.{◌≡◌, pos, false, true, None, [], ◌∷◌, IfOk};
+//! A graph made by hand that the machine runs.
+ghost use Rattle.std.specs.Prelude.{◌≡◌, true, None, [], ◌∷◌, IfOk, All};
+ghost use Rattle.std.specs.Prelude.{false};
 ghost use Rattle.sw_types.specs.declared.isolation.Iso.TheVariants.{Free};
 ghost use Rattle.sw_types.specs.declared.ty.Ty.TheVariants.{Int, Task, Unit as Void};
 ghost use Rattle.sw_graph.specs.declared.function.RegKind.TheVariants.{Plain};
-ghost use Rattle.sw_graph.specs.declared.instr.Instr.TheVariants.{Const, Print, NewTask};
+ghost use Rattle.sw_graph.specs.declared.instr.Instr.TheVariants.{NewTask};
 ghost use Rattle.sw_graph.specs.declared.instr.Last.TheVariants.{Return};
-ghost use Rattle.sw_graph.specs.declared.instr.Literal.TheVariants.{Int as Number};
-ghost use Rattle.sw_graph.specs.WellFormed.{IsWellFormed};
+ghost use Rattle.sw_graph.specs.Points.{IsNumbered};
+ghost use Rattle.sw_graph.specs.Straight.{IsStraightGraph};
 ghost use Rattle.sw_value.specs.Runnable.{IsRunnable};
 
 use std::alloc::{AllocError, Global};
 use std::test::Fail;
 use sw_graph::{
-    Block, Function, FunctionList, GlobalKind, Graph, Instr, InstrList, Last, Literal, Operand,
-    RegKind, RegList,
+    Block, Function, FunctionList, Functions, GlobalKind, GlobalKinds, Graph, IdList, Instr, Last,
+    RegKind,
 };
 use sw_list::{Boxed, ListOf};
 use sw_types::{Iso, Shapes, Ty};
 
-/// The literal at byte 52, into the register `r`.
-fn literal(r: u32, value: i64) -> Instr
-    ensures { result ≡ Const 52 r (Number value) }
-{
-    Instr::Const {
-        at: 52,
-        r,
-        v: Literal::Int(value),
-    }
-}
-
-/// The print at byte 46 of the register `reg`.
-fn print(alloc: Global, r: u32, reg: u32) -> Result<Instr, AllocError>
-    ensures { IfOk result (λ instr. instr ≡ Print 46 r (record { reg = reg; at = 52 } ∷ [])) }
-{
-    Ok(Instr::Print {
-        at: 46,
-        r,
-        ss: ListOf::one(alloc, Operand { reg, at: 52 })?,
-    })
-}
-
-/// The start, at byte 20, of a task of the function `f`.
-fn task(alloc: Global, r: u32, f: u32) -> Instr
-    ensures { result ≡ NewTask 20 r f [] }
-{
-    Instr::NewTask {
-        at: 20,
-        r,
-        f,
-        cs: ListOf::new(alloc),
-    }
-}
-
-fn task_kind(alloc: Global) -> Result<RegKind, AllocError>
-    ensures { IfOk result (λ kind. kind ≡ Plain (Task Void)) }
-{
-    Ok(RegKind::Plain(Ty::Task(Boxed::new(alloc, Ty::Unit)?)))
-}
-
-/// A function of one block that returns nothing.
-fn body(alloc: Global, instrs: InstrList, regs: RegList) -> Result<Function, AllocError>
+/// A function that starts a task of function 0, and returns nothing.
+fn starter(alloc: Global) -> Result<Function, AllocError>
     ensures { IfOk result (λ function. function ≡ record {
       key = 33;
       iso = Free;
@@ -68,10 +29,22 @@ fn body(alloc: Global, instrs: InstrList, regs: RegList) -> Result<Function, All
       sending = [];
       sends = false;
       result = Void;
-      regs = regs;
-      blocks = record { instrs = instrs; last = Return None } ∷ [];
+      regs = Plain (Task Void) ∷ [];
+      blocks = record { instrs = NewTask 20 0 0 [] ∷ []; last = Return None } ∷ [];
     }) }
 {
+    let task = Instr::NewTask {
+        at: 20,
+        r: 0,
+        f: 0,
+        cs: ListOf::new(alloc),
+    };
+    let block = Block {
+        instrs: ListOf::one(alloc, task)?,
+        last: Last::Return { s: None },
+    };
+    let blocks = ListOf::one(alloc, block)?;
+    let kind = RegKind::Plain(Ty::Task(Boxed::new(alloc, Ty::Unit)?));
     Ok(Function {
         key: 33,
         iso: Iso::Free,
@@ -80,100 +53,9 @@ fn body(alloc: Global, instrs: InstrList, regs: RegList) -> Result<Function, All
         sending: ListOf::new(alloc),
         sends: false,
         result: Ty::Unit,
-        regs,
-        blocks: ListOf::one(
-            alloc,
-            Block {
-                instrs,
-                last: Last::Return { s: None },
-            },
-        )?,
+        regs: ListOf::one(alloc, kind)?,
+        blocks,
     })
-}
-
-/// The graph of these functions, the first of them the entry.
-fn graph_of(alloc: Global, functions: FunctionList) -> Result<Graph, Fail>
-    requires { IsWellFormed [] [] functions 0 [] }
-    ensures { IfOk result (λ graph. graph.functions ≡ functions) }
-{
-    let shapes = Shapes::new(alloc, ListOf::new(alloc))?;
-    Ok(Graph::new(shapes, ListOf::new(alloc), functions, 0, ListOf::new(alloc)))
-}
-
-/// A function that prints a number.
-fn printing(alloc: Global, value: i64) -> Result<Function, AllocError>
-    ensures { IfOk result (λ function. function ≡ record {
-      key = 33;
-      iso = Free;
-      is_async = false;
-      takes = 0;
-      sending = [];
-      sends = false;
-      result = Void;
-      regs = Plain Int ∷ Plain Void ∷ [];
-      blocks = record {
-        instrs = Const 52 0 (Number value) ∷ Print 46 1 (record { reg = 0; at = 52 } ∷ []) ∷ [];
-        last = Return None;
-      } ∷ [];
-    }) }
-{
-    let instrs = ListOf::two(alloc, literal(0, value), print(alloc, 1, 0)?)?;
-    let regs = ListOf::two(alloc, RegKind::Plain(Ty::Int), RegKind::Plain(Ty::Unit))?;
-    body(alloc, instrs, regs)
-}
-
-/// A `main` that prints 7.
-#[tactic(auto, unfolding(sw_graph::specs::Points::points_of))]
-pub fn seven(alloc: Global) -> Result<Graph, Fail>
-    ensures { IfOk result IsRunnable }
-{
-    graph_of(alloc, ListOf::one(alloc, printing(alloc, 7)?)?)
-}
-
-/// The instructions of a task of function 1 and of a print of 30.
-fn task_and_print(alloc: Global) -> Result<InstrList, AllocError>
-    ensures { IfOk result (λ instrs. instrs ≡
-        NewTask 20 0 1 [] ∷ Const 52 1 (Number (pos 30)) ∷ Print 46 2 (record { reg = 1; at = 52 } ∷ []) ∷ []) }
-{
-    let mut instrs = ListOf::two(alloc, task(alloc, 0, 1), literal(1, 30))?;
-    instrs.push(print(alloc, 2, 1)?)?;
-    Ok(instrs)
-}
-
-/// A `main` that starts a task which prints 10, and then prints 30.
-#[tactic(auto, unfolding(sw_graph::specs::Points::points_of))]
-pub fn with_a_task(alloc: Global) -> Result<Graph, Fail>
-    ensures { IfOk result IsRunnable }
-{
-    let mut regs = ListOf::two(alloc, task_kind(alloc)?, RegKind::Plain(Ty::Int))?;
-    regs.push(RegKind::Plain(Ty::Unit))?;
-    let main = body(alloc, task_and_print(alloc)?, regs)?;
-    graph_of(alloc, ListOf::two(alloc, main, printing(alloc, 10)?)?)
-}
-
-/// A `main` that starts a task of itself.
-#[tactic(auto, unfolding(sw_graph::specs::Points::points_of))]
-pub fn endless(alloc: Global) -> Result<Graph, Fail>
-    ensures { IfOk result IsRunnable }
-{
-    let instrs = ListOf::one(alloc, task(alloc, 0, 0))?;
-    let main = body(alloc, instrs, ListOf::one(alloc, task_kind(alloc)?)?)?;
-    graph_of(alloc, ListOf::one(alloc, main)?)
-}
-
-/// Two global `var`s whose first values functions 1 and 2 give.
-#[tactic(auto, unfolding(sw_graph::specs::Points::points_of))]
-pub fn two_globals(alloc: Global) -> Result<Graph, Fail>
-    ensures { IfOk result IsRunnable }
-{
-    let mut functions = ListOf::new(alloc);
-    functions.push(body(alloc, ListOf::new(alloc), ListOf::new(alloc))?)?;
-    functions.push(body(alloc, ListOf::new(alloc), ListOf::new(alloc))?)?;
-    functions.push(body(alloc, ListOf::new(alloc), ListOf::new(alloc))?)?;
-    let globals = ListOf::two(alloc, integer(), integer())?;
-    let starts = ListOf::two(alloc, 1, 2)?;
-    let shapes = Shapes::new(alloc, ListOf::new(alloc))?;
-    Ok(Graph::new(shapes, globals, functions, 0, starts))
 }
 
 fn integer() -> GlobalKind
@@ -184,4 +66,33 @@ fn integer() -> GlobalKind
         mutable: true,
         actor: None,
     }
+}
+
+/// The graph of these functions, the first of them the entry.
+#[tactic(auto, using(sw_graph::proofs::StraightLemmas::straight_graph))]
+fn graph_of(
+    alloc: Global,
+    globals: GlobalKinds,
+    functions: FunctionList,
+    starts: IdList,
+) -> Result<Graph, Fail>
+    requires numbered { All IsNumbered functions }
+    requires straight { IsStraightGraph [] globals functions 0 starts }
+    ensures { IfOk result (λ graph. graph.functions ≡ functions) }
+{
+    let functions = Functions::new(alloc, functions)?;
+    let shapes = Shapes::new(alloc, ListOf::new(alloc))?;
+    Ok(Graph::new(shapes, globals, functions, 0, starts))
+}
+
+/// Two global `var`s, whose first values functions 1 and 2 give. Each of the three functions starts
+/// a task of the entry.
+#[tactic(auto, unfolding(sw_graph::specs::Points::points_of))]
+pub fn starters(alloc: Global) -> Result<Graph, Fail>
+    ensures { IfOk result IsRunnable }
+{
+    let mut functions = ListOf::two(alloc, starter(alloc)?, starter(alloc)?)?;
+    functions.push(starter(alloc)?)?;
+    let globals = ListOf::two(alloc, integer(), integer())?;
+    graph_of(alloc, globals, functions, ListOf::two(alloc, 1, 2)?)
 }

@@ -1,16 +1,11 @@
-//! Tests of the machine, of schedules and of replays, by their public calls: that a call succeeds
-//! while there is memory, and what no clause says. The sample graphs of the machine stand here once.
+//! Tests of the machine by its public calls: what no text reaches, as globals with first values,
+//! and the limit of jobs. The sample graphs of the machine stand here once. The crate has no item
+//! of its own.
 #![tactic(auto)]
 
 #[cfg(test)]
 mod graphs;
 #[cfg(test)]
-mod replay_tests;
-#[cfg(test)]
-mod schedule_tests;
+mod machine_tests;
 #[cfg(test)]
 mod shown;
-#[cfg(test)]
-mod state_tests;
-#[cfg(test)]
-mod step_tests;

@@ -11,6 +11,6 @@ pub fn is_text<T: Debug>(
     want: &str,
 ) -> Result<(), Fail> {
     let got = format!(in alloc; "{value:?}")?;
-    assert_eq!(rt; got.as_str(), want);
+    assert!(rt; got.as_str() == want, "{got}");
     Ok(())
 }

@@ -1,10 +1,9 @@
-//! Tests of the solver and of region states, by their public calls: what no clause says, and
-//! answers that were worked out by hand. The crate has no item of its own.
+//! Tests of the solver and of region states, by their public calls: operations whose answers were
+//! worked out by hand, and two flows whose facts count their own joins. The crate has no item of its
+//! own.
 #![tactic(auto)]
 
 #[cfg(test)]
 mod partition_tests;
 #[cfg(test)]
 mod ring_tests;
-#[cfg(test)]
-mod sweep_tests;

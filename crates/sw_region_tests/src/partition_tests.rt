@@ -1,12 +1,12 @@
 //! A state through each operation, with answers worked out by hand.
-ghost use Rattle.std.specs.Prelude.{◌≡◌, ◌∷◌, [], ◌<◌, length, IfOk};
+ghost use Rattle.std.specs.Prelude.{◌≡◌, ◌∷◌, [], length, IfOk};
 
 use std::alloc::{AllocError, Global};
 use std::marker::Brand;
-use std::sync::ledger::{Blank, Ledger};
+use std::process::Abort;
 use std::test::Fail;
 use sw_partition::Partition;
-use sw_solve::{Lattice, Steps};
+use sw_solve::Steps;
 
 /// `Here` and elements 1 to 5, with the sites 10, 20 and 30.
 fn six(alloc: Global) -> Result<Partition, AllocError>
@@ -16,69 +16,55 @@ fn six(alloc: Global) -> Result<Partition, AllocError>
     Partition::new(alloc, 6, &[10, 20, 30])
 }
 
+/// For each element the site that gave it away, `free`, or `here` where it is with `Here`.
+fn shown(alloc: Global, p: &Partition) -> Result<String, AllocError>
+    requires { length p.now.labels ≡ 6 }
+{
+    let mut text = String::new(alloc);
+    for x in 0..6 {
+        let part = match p.need(x) {
+            Some(site) => format!(in alloc; "{site} ")?,
+            None if p.is_free(x) => String::from_str(alloc, "free ")?,
+            None => String::from_str(alloc, "here ")?,
+        };
+        text.push_str(part.as_str())?;
+    }
+    Ok(text)
+}
+
+/// Asserts what is shown of a state.
+fn is_shown(rt: &impl Abort, alloc: Global, p: &Partition, want: &str) -> Result<(), Fail>
+    requires { length p.now.labels ≡ 6 }
+{
+    let got = shown(alloc, p)?;
+    assert!(rt; got.as_str() == want, "{got}");
+    Ok(())
+}
+
 #[test]
-fn operations_change_who_is_given_away(rt: HostRuntime) -> Result<(), Fail> {
-    let mut p = six(rt.alloc())?;
+fn a_class_is_given_away(rt: HostRuntime) -> Result<(), Fail> {
+    let alloc = rt.alloc();
+    let mut p = six(alloc)?;
     p.join(1, 2);
     p.give(2, 20);
-    assert_eq!(rt;
-        (p.need(1), p.need(2), p.need(3)),
-        (Some(20), Some(20), None)
-    );
     p.give(1, 10);
     p.put(3, 1);
-    assert_eq!(rt; p.need(3), Some(10));
     p.fresh(1);
-    assert_eq!(rt;
-        (p.need(1), p.is_free(1), p.need(2)),
-        (None, true, Some(10))
-    );
-    p.join(0, 2);
-    p.join(4, 0);
-    assert_eq!(rt;
-        (p.need(4), p.is_free(4), p.is_free(2)),
-        (None, false, false)
-    );
-    p.give(4, 30);
-    assert_eq!(rt;
-        (p.need(0), p.need(4), p.need(2)),
-        (None, Some(30), Some(10))
-    );
-    p.put(5, 0);
-    assert_eq!(rt; (p.need(5), p.is_free(5)), (None, false));
-    p.put(4, 4);
-    assert_eq!(rt; p.need(4), Some(30));
-    p.fresh(4);
-    assert_eq!(rt; (p.need(4), p.is_free(4)), (None, true));
-    Ok(())
-}
-
-/// What joins of two states answer, and what can be seen of the state after them.
-fn joined<L: Ledger>(
-    alloc: Global,
-    blank: Blank,
-) -> Result<((bool, bool, bool), (Option<u32>, Option<u32>, bool)), AllocError>
-    requires name { blank.name ≡ L.name }
-    requires parts { blank.parts ≡ L.parts }
-    requires some { 0 < blank.parts }
-{
-    let mut steps = Steps::<L>::new(blank);
-    let mut a = six(alloc)?;
-    a.join(1, 2);
-    let mut b = a.copy(alloc)?;
-    let same = a.join_with(&b, &mut steps);
-    b.join(2, 3);
-    b.give(3, 20);
-    b.join(4, 0);
-    let rose = a.join_with(&b, &mut steps);
-    let again = a.join_with(&b, &mut steps);
-    Ok(((same, rose, again), (a.need(1), a.need(4), a.is_free(4))))
+    is_shown(&rt, alloc, &p, "here free 10 10 free free ")
 }
 
 #[test]
-fn a_join_takes_in_what_is_new(rt: HostRuntime) -> Result<(), Fail> {
-    let (answers, seen) = joined::<Brand>(rt.alloc(), Blank::new(1))?;
-    assert_eq!(rt; answers, (false, true, false));
-    assert_eq!(rt; seen, (Some(20), None, false));
-    Ok(())
+fn what_is_with_here_is_kept(rt: HostRuntime) -> Result<(), Fail> {
+    let alloc = rt.alloc();
+    let mut p = six(alloc)?;
+    p.join(0, 2);
+    p.give(2, 30);
+    p.join(4, 0);
+    p.put(5, 0);
+    is_shown(&rt, alloc, &p, "here free 30 free here here ")
+}
+
+#[test]
+fn a_counter_takes_no_bytes(rt: HostRuntime) {
+    assert!(rt; size_of::<Steps<Brand>>() == 0);
 }

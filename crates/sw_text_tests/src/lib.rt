@@ -1,17 +1,20 @@
-//! Tests of the crates from lists and bytes up to breaches, by their public calls: what no clause
-//! says, as that a call succeeds while there is memory. The crate has no item of its own.
+//! Tests of the crates from lists up to breaches, by their public calls: what no clause says, as
+//! that a call succeeds while there is memory, and what the system's files and output do. The crate
+//! has no item of its own.
 #![tactic(auto)]
 
 #[cfg(test)]
 mod breach_tests;
 #[cfg(test)]
-mod bytes_tests;
-#[cfg(test)]
 mod files_tests;
 #[cfg(test)]
 mod list_tests;
 #[cfg(test)]
-mod memory_tests;
+mod output_tests;
+#[cfg(test)]
+mod reading_tests;
+#[cfg(test)]
+mod shown;
 #[cfg(test)]
 mod text_tests;
 #[cfg(test)]

@@ -2,7 +2,7 @@ use std::alloc::{AllocError, Global};
 use std::process::Abort;
 use std::test::Fail;
 use sw_text::Source;
-use sw_token::{Fixity, Kind, LexFault, Token, tokens};
+use sw_token::{Fixity, Token, tokens};
 
 /// The tokens of a text, each as its kind, its fixity if it has one and its span, with `^` where it
 /// is the first of its line.
@@ -113,101 +113,5 @@ fn texts_with_their_tokens(rt: HostRuntime) -> Result<(), Fail> {
         let shown = tokens_shown(&rt, rt.alloc(), text)?;
         assert!(rt; shown.as_str() == *wanted, "{text:?}: {shown}");
     }
-    Ok(())
-}
-
-/// Texts with their lexical faults.
-const FAULTS: [(&str, LexFault); 32] = [
-    ("7a", LexFault::BadChar { at: 1 }),
-    ("12_\u{e9}", LexFault::BadChar { at: 3 }),
-    ("0x", LexFault::BadChar { at: 2 }),
-    ("0xg", LexFault::BadChar { at: 2 }),
-    ("0b2", LexFault::BadChar { at: 2 }),
-    ("0o8", LexFault::BadChar { at: 2 }),
-    ("0b12", LexFault::BadChar { at: 3 }),
-    ("0x_1", LexFault::BadChar { at: 2 }),
-    ("0X1", LexFault::BadChar { at: 1 }),
-    ("00x1", LexFault::BadChar { at: 2 }),
-    ("9223372036854775808", LexFault::TooBig { at: 0 }),
-    ("-9223372036854775809", LexFault::TooBig { at: 0 }),
-    ("0x8000000000000000", LexFault::TooBig { at: 0 }),
-    ("99999999999999999999a", LexFault::TooBig { at: 0 }),
-    ("@", LexFault::BadChar { at: 0 }),
-    ("@ main", LexFault::BadChar { at: 0 }),
-    ("@1", LexFault::BadChar { at: 0 }),
-    ("ab \u{301}", LexFault::BadChar { at: 3 }),
-    ("\"a\"", LexFault::BadChar { at: 0 }),
-    ("a & b", LexFault::BadChar { at: 2 }),
-    ("a | b", LexFault::BadChar { at: 2 }),
-    ("--1", LexFault::BadChar { at: 0 }),
-    ("x=-1", LexFault::BadChar { at: 1 }),
-    ("*/", LexFault::BadChar { at: 0 }),
-    ("<-", LexFault::BadChar { at: 0 }),
-    ("/*", LexFault::Unclosed { at: 0 }),
-    ("a /* /* */", LexFault::Unclosed { at: 2 }),
-    ("/*/", LexFault::Unclosed { at: 0 }),
-    ("//\n/*", LexFault::Unclosed { at: 3 }),
-    ("\u{a0}x", LexFault::BadChar { at: 0 }),
-    ("\u{0}", LexFault::BadChar { at: 0 }),
-    ("a ? b", LexFault::BadChar { at: 2 }),
-];
-
-#[test]
-fn texts_with_their_faults(rt: HostRuntime) -> Result<(), Fail> {
-    for (text, fault) in &FAULTS {
-        assert!(rt; text.len() < 100);
-        let source = Source::new(rt.alloc(), text.as_bytes())?;
-        let outcome = tokens(rt.alloc(), &source).map(|_| ());
-        assert!(rt; outcome == Err(*fault), "{text:?}");
-    }
-    Ok(())
-}
-
-/// A text of 65,536 semicolons, and what follows them.
-fn full_text(alloc: Global, after: &str) -> Result<Vec<u8>, AllocError> {
-    let mut text = vec![in alloc; b';'; 65_536]?;
-    text.extend_from_slice(after.as_bytes())?;
-    Ok(text)
-}
-
-/// What follows 65,536 tokens, and the fault, if it is one.
-const AFTER_THE_MOST: [(&str, Result<(), LexFault>); 7] = [
-    ("", Ok(())),
-    (" // no token\n", Ok(())),
-    (" ;", Err(LexFault::TooMany { at: 65_537 })),
-    ("0x", Err(LexFault::TooMany { at: 65_536 })),
-    ("9223372036854775808", Err(LexFault::TooBig { at: 65_536 })),
-    ("?", Err(LexFault::BadChar { at: 65_536 })),
-    ("/*", Err(LexFault::Unclosed { at: 65_536 })),
-];
-
-#[test]
-fn after_the_most_tokens(rt: HostRuntime) -> Result<(), Fail> {
-    for (after, wanted) in &AFTER_THE_MOST {
-        let text = full_text(rt.alloc(), after)?;
-        assert!(rt; text.len() < 100_000);
-        let source = Source::new(rt.alloc(), text.as_slice())?;
-        let outcome = tokens(rt.alloc(), &source).map(|_| ());
-        assert!(rt; outcome == *wanted, "{after:?}");
-    }
-    Ok(())
-}
-
-/// The words that the grammar keeps, in the order of their numbers.
-const KEY_WORDS: &str = "actor async await break case class continue default else enum false final \
-    func if in init let nonisolated return self sending static struct switch true var while Any as \
-    associatedtype catch defer deinit do extension fallthrough fileprivate for guard import inout \
-    internal is nil operator precedencegroup private protocol public repeat rethrows Self \
-    subscript super throw throws try typealias where";
-
-#[test]
-fn key_words(rt: HostRuntime) -> Result<(), Fail> {
-    let mut wanted = 0;
-    for token in read(&rt, rt.alloc(), KEY_WORDS)?.iter() {
-        assert!(rt; wanted < 59);
-        assert!(rt; token.kind == Kind::Key(wanted));
-        wanted += 1;
-    }
-    assert!(rt; wanted == 59);
     Ok(())
 }
