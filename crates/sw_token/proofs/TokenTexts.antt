@@ -2,7 +2,7 @@
 use Rattle.std.proofs.Common.{◌≡◌, ℕ, ◌<◌, Bool, true, false, ◌||◌, ◌&&◌, ltb, eqb, List, [], ◌∷◌}
 use Rattle.std.proofs.Common.{◌++◌, length, take, drop, codes, eqb-true, refl, sym, ap, ◌∙◌, subst}
 use Rattle.std.proofs.Common.{inl, inr, arith}
-use Rattle.std.specs.Prelude.{bytes_eq, encode_utf8_all, None, Some}
+use Rattle.std.specs.Prelude.{bytes_eq, encode_utf8_all}
 use Rattle.std.specs.Char.{is_ascii_alphabetic, is_ascii_alphanumeric}
 use Rattle.std.specs.List.{list_all}
 use Rattle.std.specs.Str.{all_scalars}
@@ -17,8 +17,8 @@ use Rattle.sw_token.specs.declared.literals.Literal.TheVariants.{Decimal}
 use Rattle.sw_token.specs.Bytes.{is_operator_byte, is_mark}
 use Rattle.sw_token.specs.Words.{is_word_start, is_word_char, IsWord}
 use Rattle.sw_token.specs.Words as words
-use Rattle.sw_token.specs.Literals.{head_of, unsigned_of, literal_of, number_in}
-use Rattle.sw_token.specs.Operators.{is_operator, begins_comment, runs_on, IsRun, run_len}
+use Rattle.sw_token.specs.Literals.{unsigned_of, literal_of, number_in}
+use Rattle.sw_token.specs.Operators.{is_operator, runs_on, IsRun, run_len}
 use Rattle.sw_token.specs.Tokens.{IsToken}
 use Rattle.sw_token.specs.Tokens as tokens
 use Rattle.sw_token.specs.Spelling.{IsTokenText}
