@@ -1,9 +1,9 @@
 -- What the headers of closures and tasks weigh.
-use Rattle.std.proofs.Common.{◌≡◌, ℕ, ◌+◌, ◌≤◌, Bool, true, false, List, [], ◌∷◌, None, Some, Option}
+use Rattle.std.proofs.Common.{ℕ, List}
 use Rattle.std.proofs.Common.{codes, refl, arith}
 use Rattle.sw_reader.specs.Sets.{quoted, word}
 use Rattle.sw_reader.specs.Relations.{Relation}
-use Rattle.sw_tree.proofs.Counting.{Weight, in_all, in_option}
+use Rattle.sw_tree.proofs.Counting.{in_all, in_option}
 use Rattle.sw_weights.proofs.Owning.{none, Owns, own_done, own_then, own_either, own_past}
 use Rattle.sw_grammar.specs.Nests.{Nest, El}
 use Rattle.sw_grammar.specs.Nests.Nest.{in_captures, in_closure_params}

@@ -1,16 +1,15 @@
 -- What declarations weigh.
-use Rattle.std.proofs.Common.{◌≡◌, ℕ, ◌+◌, ◌≤◌, Bool, true, false, List, [], ◌∷◌, ◌++◌, None, Some}
+use Rattle.std.proofs.Common.{ℕ, ◌+◌, ◌≤◌, Bool, true, false, List, [], ◌∷◌, None, Some}
 use Rattle.std.proofs.Common.{Option, codes, refl, arith}
-use Rattle.sw_reader.specs.Form.{Shape}
 use Rattle.sw_reader.specs.Form.Form.{either}
 use Rattle.sw_reader.specs.Relations.{Relation}
 use Rattle.sw_reader.specs.Sets.{quoted, word}
-use Rattle.sw_tree.proofs.Counting.{Weight, in_all, in_option, in_all-append}
+use Rattle.sw_tree.proofs.Counting.{in_all, in_option, in_all-append}
 use Rattle.sw_tree.specs.declared.name.Name.{Name}
 use Rattle.sw_tree.specs.declared.decl.PropTree.{PropTree}
 use Rattle.sw_tree.specs.declared.decl.Written.{Written}
 use Rattle.sw_tree.specs.declared.decl.Written.TheVariants as writtens
-use Rattle.sw_weights.proofs.Owning.{none, Owns, own_done, own_then, own_either, own_only, own_past}
+use Rattle.sw_weights.proofs.Owning.{none, Owns, own_done, own_then, own_either, own_past}
 use Rattle.sw_weights.proofs.Owning.{own_with, own_from, own_items}
 use Rattle.sw_grammar.specs.Nests.{Nest, El, shape_of, Member}
 use Rattle.sw_grammar.specs.Nests.Nest.{in_payload, in_params, in_entry, in_global_actor}

@@ -1,16 +1,14 @@
 -- What expressions weigh.
-use Rattle.std.proofs.Common.{◌≡◌, ℕ, ◌+◌, ◌≤◌, Bool, true, false, IsTrue, List, [], ◌∷◌, ◌++◌}
+use Rattle.std.proofs.Common.{ℕ, ◌+◌, ◌≤◌, Bool, true, false, List, [], ◌∷◌, ◌++◌}
 use Rattle.std.proofs.Common.{None, Some, Option, codes, refl, arith}
-use Rattle.sw_token.specs.Spelling.{Spelled}
 use Rattle.sw_reader.specs.Sets.{Set, quoted, word}
 use Rattle.sw_reader.specs.Form.{Shape}
 use Rattle.sw_reader.specs.Form.Form.{turns, done, terminal}
 use Rattle.sw_reader.specs.Quotes.{an_integer}
-use Rattle.sw_reader.specs.Relations.{Relation, One}
+use Rattle.sw_reader.specs.Relations.{Relation}
 use Rattle.sw_reader.specs.Terminals.{literal, ◌>>=◌}
-use Rattle.sw_tree.proofs.Counting.{Weight, in_all, in_option, in_all-append}
+use Rattle.sw_tree.proofs.Counting.{in_all, in_option, in_all-append}
 use Rattle.sw_tree.specs.declared.name.Name.{Name}
-use Rattle.sw_tree.specs.declared.operator.InfixOp.{InfixOp}
 use Rattle.sw_tree.specs.declared.expr.Expr.{Expr}
 use Rattle.sw_tree.specs.declared.expr.Expr.TheVariants as exprs
 use Rattle.sw_tree.specs.declared.expr.Arg.{Arg}
@@ -18,10 +16,10 @@ use Rattle.sw_tree.specs.declared.expr.Link.{Link as Operand}
 use Rattle.sw_tree.specs.declared.stmt.Block.{roll-Block}
 use Rattle.sw_weights.proofs.Owning.{none, Owns, own_done, own_token, own_then, own_either, own_only}
 use Rattle.sw_weights.proofs.Owning.{own_past, own_turns, own_with, own_from, own_when}
-use Rattle.sw_grammar.specs.Nests.{Nest, El, shape_of, Form, Link, Inside}
+use Rattle.sw_grammar.specs.Nests.{Nest, El, Form, Link, Inside}
 use Rattle.sw_grammar.specs.Nests.Nest.{in_round, in_args, in_member, in_closure, in_task}
-use Rattle.sw_grammar.specs.Tokens.{value_word, times, plus, compares, infix_op, infix_in, a_prefix}
-use Rattle.sw_grammar.specs.Exprs.{with_members, chained, linked, closure_at, argument, members}
+use Rattle.sw_grammar.specs.Tokens.{value_word, times, plus, compares, infix_op, infix_in}
+use Rattle.sw_grammar.specs.Exprs.{with_members, chained, linked, closure_at, members}
 use Rattle.sw_grammar.specs.Exprs.{call, member, after_word, after_operand, a_literal, after_task_dot}
 use Rattle.sw_grammar.specs.Exprs.{after_task, bracketed, me, closure, other_primary, postfix}
 use Rattle.sw_grammar.specs.Exprs.{negated, unary, more_times, product, more_plus, sum}

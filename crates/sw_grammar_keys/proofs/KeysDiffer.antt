@@ -1,8 +1,7 @@
 -- The keys of a program's nodes are counted in its tokens, so they differ.
-use Rattle.std.proofs.Common.{◌≡◌, ℕ, suc, ◌+◌, ◌≤◌, List, [], ◌∷◌, map, nat_eq, arith}
+use Rattle.std.proofs.Common.{ℕ, suc, ◌≤◌, List, [], ◌∷◌, arith}
 use Rattle.std.proofs.lemmas.Grind.{common_steps}
-use Rattle.std.specs.List.{IsDistinct}
-use Rattle.sw_token.specs.Spelling.{Spelled, IsSpelling}
+use Rattle.sw_token.specs.Spelling.{Spelled}
 use Rattle.sw_reader.proofs.Rising.{Rises, rises}
 use Rattle.sw_tree.proofs.Counting.{Weight, hits, in_all, InOrder, IsDistinct-covers}
 use Rattle.sw_tree.proofs.Counting as counting

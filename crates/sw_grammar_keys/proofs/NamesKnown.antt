@@ -1,6 +1,6 @@
 -- Each name of a program stands in one of its tokens, so it has a text where they have.
 use Rattle.std.proofs.Common.{◌≡◌, ℕ, ◌+◌, ◌*◌, ◌≤◌, ◌<◌, Bool, true, IsTrue, List, [], ◌∷◌, ◌++◌}
-use Rattle.std.proofs.Common.{All, length, drop, refl, sym, ◌∙◌, false, arith, if◌then◌else◌}
+use Rattle.std.proofs.Common.{length, drop, refl, sym, ◌∙◌, false, arith, if◌then◌else◌}
 use Rattle.std.proofs.lemmas.Grind.{common_steps}
 use Rattle.std.proofs.lemmas.List.Elements.{recursion_from_All}
 use Rattle.std.specs.List.{AllByRecursion}

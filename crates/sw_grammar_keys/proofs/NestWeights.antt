@@ -1,8 +1,6 @@
 -- What the values weigh that are no trees of their own: those of nests, headers and lists of members.
-use Rattle.std.proofs.Common.{ℕ, ◌+◌, Bool, List, Option}
-use Rattle.sw_reader.specs.Form.{Shape}
+use Rattle.std.proofs.Common.{ℕ, ◌+◌, List, Option}
 use Rattle.sw_tree.proofs.Counting.{Weight, in_all, in_option}
-use Rattle.sw_tree.specs.declared.name.Name.{Name}
 use Rattle.sw_tree.specs.declared.stmt.IfArm.{IfArm}
 use Rattle.sw_tree.specs.declared.stmt.CaseArm.{CaseArm}
 use Rattle.sw_tree.specs.declared.stmt.Block.{Block}

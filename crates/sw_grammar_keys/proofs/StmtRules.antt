@@ -1,24 +1,19 @@
 -- What statements weigh.
-use Rattle.std.proofs.Common.{◌≡◌, ℕ, ◌+◌, ◌≤◌, Bool, true, false, not, List, [], ◌∷◌, ◌++◌, None}
-use Rattle.std.proofs.Common.{Some, Option, codes, refl, arith}
-use Rattle.sw_reader.specs.Form.{Shape}
+use Rattle.std.proofs.Common.{ℕ, Bool, true, false, not, List, [], ◌∷◌, None}
+use Rattle.std.proofs.Common.{Some, codes, refl, arith}
 use Rattle.sw_reader.specs.Relations.{Relation, One, may_start, stays}
-use Rattle.sw_reader.specs.Sets.{quoted, word}
+use Rattle.sw_reader.specs.Sets.{word}
 use Rattle.sw_tree.specs.Place.{is_place}
-use Rattle.sw_tree.proofs.Counting.{Weight, in_all, in_option, in_all-append}
+use Rattle.sw_tree.proofs.Counting.{in_all, in_option, in_all-append}
 use Rattle.sw_tree.specs.declared.expr.Expr.{Expr}
 use Rattle.sw_tree.specs.declared.expr.Expr.TheVariants as exprs
-use Rattle.sw_tree.specs.declared.stmt.Stmt.{Stmt}
-use Rattle.sw_tree.specs.declared.stmt.CaseArm.{CaseArm}
-use Rattle.sw_tree.specs.declared.stmt.IfArm.{IfArm}
-use Rattle.sw_tree.specs.declared.stmt.Block.{Block}
 use Rattle.sw_weights.proofs.Owning.{none, Owns, own_done, own_token, own_then, own_either, own_only}
 use Rattle.sw_weights.proofs.Owning.{own_past, own_turns, own_with, own_from, own_when, own_passing}
 use Rattle.sw_weights.proofs.Owning.{own_items, own_some_items}
 use Rattle.sw_grammar.specs.Nests.{Nest, El, shape_of}
 use Rattle.sw_grammar.specs.Nests.Nest.{in_block, in_switch, in_patterns}
 use Rattle.sw_grammar.specs.Tokens.{value_word, an_assignment}
-use Rattle.sw_grammar.specs.Stmts.{block_of, if_arm, case_arm, Arms, Cases, block, value, type_if}
+use Rattle.sw_grammar.specs.Stmts.{block_of, case_arm, Arms, Cases, block, value, type_if}
 use Rattle.sw_grammar.specs.Stmts.{binding, bind, discard, after_place, word_stmt, self_stmt}
 use Rattle.sw_grammar.specs.Stmts.{task_stmt, plain_stmt, arm, else_part, if_stmt, while_stmt}
 use Rattle.sw_grammar.specs.Stmts.{switch_stmt, return_stmt, break_stmt, continue_stmt, stmt}

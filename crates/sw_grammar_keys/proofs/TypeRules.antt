@@ -1,18 +1,15 @@
 -- What types weigh, and lists that commas part.
-use Rattle.std.proofs.Common.{◌≡◌, ℕ, ◌+◌, ◌≤◌, Bool, true, IsTrue, List, [], ◌∷◌, ◌++◌, codes}
-use Rattle.std.proofs.Common.{None, Some, Option, refl, arith}
-use Rattle.sw_token.specs.Spelling.{Spelled}
-use Rattle.sw_reader.specs.Sets.{Set, has, word, attribute, within, quoted}
+use Rattle.std.proofs.Common.{◌≡◌, ℕ, ◌+◌, true, List, [], ◌∷◌, codes}
+use Rattle.std.proofs.Common.{None, Some, refl, arith}
+use Rattle.sw_reader.specs.Sets.{Set, word, attribute, within, quoted}
 use Rattle.sw_reader.specs.Form.{Shape}
-use Rattle.sw_reader.specs.Form.Form.{nest, terminal}
+use Rattle.sw_reader.specs.Form.Form.{nest}
 use Rattle.sw_reader.specs.Relations.{Relation, One, spelled}
 use Rattle.sw_reader.specs.Quotes.{quote, quote_on_line}
 use Rattle.sw_reader.proofs.SetLemmas.{has-within}
 use Rattle.sw_tree.proofs.Counting.{Weight, in_all, in_option, in_all-append}
-use Rattle.sw_tree.specs.declared.type_tree.TypeTree.{TypeTree}
-use Rattle.sw_tree.specs.declared.name.Name.{Name}
 use Rattle.sw_weights.proofs.Owning.{none, Owns, own_done, own_token, own_then, own_either, own_only}
-use Rattle.sw_weights.proofs.Owning.{own_past, own_turns, own_nest, own_with, own_from}
+use Rattle.sw_weights.proofs.Owning.{own_past, own_turns, own_nest, own_from}
 use Rattle.sw_grammar.specs.Nests.{Nest, El, shape_of, Form}
 use Rattle.sw_grammar.specs.Nests.Nest.{in_types, in_result, in_task_type}
 use Rattle.sw_grammar.specs.Tokens.{name_in, at_in, value_word, infix_in, a_prefix}

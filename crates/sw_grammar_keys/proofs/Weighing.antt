@@ -1,6 +1,6 @@
 -- A weight of everything that trees hold, by laws that say what each form of node adds to its parts,
 -- and that tokens weigh what they give.
-use Rattle.std.proofs.Common.{ℕ, ℤ, zero, ◌+◌, ◌≤◌, Bool, IsTrue, List, codes, Option, ◌++◌}
+use Rattle.std.proofs.Common.{ℕ, ℤ, ◌+◌, ◌≤◌, Bool, IsTrue, List, Option}
 use Rattle.sw_token.specs.Spelling.{Spelled}
 use Rattle.sw_reader.specs.Sets.{has, word, attribute}
 use Rattle.sw_tree.proofs.Counting.{Weight, in_all, in_option}
