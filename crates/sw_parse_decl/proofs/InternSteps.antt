@@ -1,0 +1,131 @@
+-- The names of tokens, interned token by token.
+use Rattle.std.proofs.Common.{◌≡◌, ℕ, ◌+◌, ◌<◌, ◌≤◌, true, false, List, [], ◌∷◌, ◌++◌, length}
+use Rattle.std.proofs.Common.{drop, refl, sym, ◌∙◌, ap, arith}
+use Rattle.sw_token.specs.declared.Kind.{Kind}
+use Rattle.sw_token.specs.declared.Kind.TheVariants as kinds
+use Rattle.sw_token.specs.Kinds.{kind_of}
+use Rattle.sw_token.specs.Spelling.{Spelled}
+use Rattle.sw_reader.specs.Outcome.{Takes, text_of}
+use Rattle.sw_reader.specs.Relations.{head}
+use Rattle.sw_reader.specs.Sets.{Set, starts, word, attribute, is_name, is_at}
+use Rattle.sw_reader.proofs.SetLaws.{has-word}
+use Rattle.sw_reader.proofs.KindSets.{has-attribute}
+use Rattle.sw_tree.proofs.NamesLemmas.{length-with_text}
+use Rattle.sw_tree.specs.Names.{with_text, with_texts, predeclared}
+use Rattle.sw_grammar_keys.specs.Interned.{name_texts, texts_in}
+use Rattle.sw_parse_decl.specs.Parts.{next_texts}
+
+pub some_tokens : (set : Set) (ts : List Spelled) → starts set (head ts) ≡ true → 0 < length ts
+some_tokens set [] h = absurd (cc)
+some_tokens set (token ∷ ts) h = omega arith
+
+word_kind : (kind : Kind) (text : List ℕ) → is_name kind ≡ true → name_texts kind text ≡ text ∷ []
+word_kind kinds.Word text is = refl
+word_kind kinds.At text is = absurd (cc)
+word_kind kinds.Underscore text is = absurd (cc)
+word_kind (kinds.Key _) text is = absurd (cc)
+word_kind (kinds.Int _) text is = absurd (cc)
+word_kind (kinds.Op _) text is = absurd (cc)
+word_kind (kinds.Mark _) text is = absurd (cc)
+
+at_kind : (kind : Kind) (text : List ℕ) → is_at kind ≡ true
+    → name_texts kind text ≡ drop 1 text ∷ []
+at_kind kinds.Word text is = absurd (cc)
+at_kind kinds.At text is = refl
+at_kind kinds.Underscore text is = absurd (cc)
+at_kind (kinds.Key _) text is = absurd (cc)
+at_kind (kinds.Int _) text is = absurd (cc)
+at_kind (kinds.Op _) text is = absurd (cc)
+at_kind (kinds.Mark _) text is = absurd (cc)
+
+other_kind : (kind : Kind) (text : List ℕ) → is_name kind ≡ false → is_at kind ≡ false
+    → name_texts kind text ≡ []
+other_kind kinds.Word text is is' = absurd (cc)
+other_kind kinds.At text is is' = absurd (cc)
+other_kind kinds.Underscore text is is' = refl
+other_kind (kinds.Key _) text is is' = refl
+other_kind (kinds.Int _) text is is' = refl
+other_kind (kinds.Op _) text is is' = refl
+other_kind (kinds.Mark _) text is is' = refl
+
+-- What the next token adds to the texts.
+
+pub word_adds : (texts : List (List ℕ)) (ts : List Spelled) → starts word (head ts) ≡ true
+    → with_texts texts (next_texts ts) ≡ with_text texts (text_of (head ts))
+unfolding with_texts
+word_adds texts [] h = absurd (cc)
+word_adds texts (token ∷ ts) h =
+    ap (λ more. with_texts texts more)
+    (word_kind (kind_of token.text) token.text (sym (has-word token) ∙ h))
+
+pub attribute_adds : (texts : List (List ℕ)) (ts : List Spelled)
+    → starts attribute (head ts) ≡ true
+    → with_texts texts (next_texts ts) ≡ with_text texts (drop 1 (text_of (head ts)))
+unfolding with_texts
+attribute_adds texts [] h = absurd (cc)
+attribute_adds texts (token ∷ ts) h =
+    ap (λ more. with_texts texts more)
+    (at_kind (kind_of token.text) token.text (sym (has-attribute token) ∙ h))
+
+pub none_added : (texts : List (List ℕ)) (ts : List Spelled) → starts word (head ts) ≡ false
+    → starts attribute (head ts) ≡ false → texts ≡ with_texts texts (next_texts ts)
+unfolding with_texts
+none_added texts [] h k = refl
+none_added texts (token ∷ ts) h k =
+    sym (ap (λ more. with_texts texts more) (other_kind (kind_of token.text) token.text
+    (sym (has-word token) ∙ h) (sym (has-attribute token) ∙ k)))
+
+with_both : (texts more others : List (List ℕ))
+    → with_texts texts (more ++ others) ≡ with_texts (with_texts texts more) others
+unfolding with_texts
+with_both texts [] others = refl
+with_both texts (text ∷ more) others = with_both (with_text texts text) more others
+
+-- After the next token as before it, all texts are those at the end.
+pub taken : (texts new all : List (List ℕ)) (ts left : List Spelled) (at : ℕ) → Takes ts at left
+    → new ≡ with_texts texts (next_texts ts) → with_texts texts (texts_in ts) ≡ all
+    → with_texts new (texts_in left) ≡ all
+taken texts new all [] left at takes is same = absurd takes
+taken texts new all (token ∷ ts) left at takes is same =
+    ap (λ more. with_texts more (texts_in left)) is
+    ∙ (ap (λ us. with_texts (with_texts texts (next_texts (token ∷ ts))) (texts_in us)) takes.1
+    ∙ (sym (with_both texts (name_texts (kind_of token.text) token.text) (texts_in ts)) ∙ same))
+
+-- A token adds one text at most.
+one_at_most : (kind : Kind) (text : List ℕ) (texts : List (List ℕ))
+    → length (with_texts texts (name_texts kind text)) ≤ length texts + 1
+unfolding with_texts
+one_at_most kinds.Word text texts = length-with_text texts text
+one_at_most kinds.At text texts = length-with_text texts (drop 1 text)
+one_at_most kinds.Underscore text texts = omega arith
+one_at_most (kinds.Key _) text texts = omega arith
+one_at_most (kinds.Int _) text texts = omega arith
+one_at_most (kinds.Op _) text texts = omega arith
+one_at_most (kinds.Mark _) text texts = omega arith
+
+pub room_left : (texts new : List (List ℕ)) (ts left : List Spelled) (at : ℕ) → Takes ts at left
+    → new ≡ with_texts texts (next_texts ts) → length texts + length ts < 4294967295
+    → length new + length left < 4294967295
+room_left texts new [] left at takes is less = absurd takes
+room_left texts new (token ∷ ts) left at takes is less =
+    omega (
+      arith,
+      ap length is,
+      one_at_most (kind_of token.text) token.text texts,
+      ap length takes.1,
+    )
+
+pub takes_one : (ts left : List Spelled) (at : ℕ) → Takes ts at left → length left < length ts
+takes_one [] left at takes = absurd takes
+takes_one (token ∷ ts) left at takes = omega (arith, ap length takes.1)
+
+-- no token more
+pub none_left : (texts all : List (List ℕ)) (ts : List Spelled) → length ts ≤ 0
+    → with_texts texts (texts_in ts) ≡ all → texts ≡ all
+unfolding with_texts
+none_left texts all [] less same = same
+none_left texts all (token ∷ ts) less same = absurd (omega arith)
+
+pub predeclared_few : length predeclared ≡ 13
+unfolding predeclared
+predeclared_few = refl

@@ -1,0 +1,9 @@
+pub mod CommaLoops
+pub mod DeclSets
+pub mod NestSteps
+pub mod MemberLists
+pub mod MemberLoops
+pub mod MarkSteps
+pub mod DeclLoops
+pub mod InternSteps
+pub mod ProgramFaults

@@ -1,0 +1,176 @@
+-- Programs and faults of tokens: what reading them gives, and that there is one answer.
+use Rattle.std.proofs.Common.{◌≡◌, ℕ, ◌-◌, ◌≤◌, ◌<◌, ◌⊎◌, inl, inr, List, [], length, refl, sym}
+use Rattle.std.proofs.Common.{◌∙◌, ap, arith, subst, length-append}
+use Rattle.std.proofs.lemmas.List.Elements.{All-from_recursion}
+use Rattle.std.specs.Prelude.{Ok, Err}
+use Rattle.sw_token.specs.Spelling.{Spelled, IsSpelling}
+use Rattle.sw_reader.specs.Reader.{Answer, Fault}
+use Rattle.sw_reader.specs.Reader.Fault.{unexpected, too_deep}
+use Rattle.sw_reader.specs.Outcome.{Gives}
+use Rattle.sw_reader.specs.declared.stop.Stop.{Stop}
+use Rattle.sw_reader.proofs.ReaderLaws.{Failed, left_of, ok_parts}
+use Rattle.sw_reader.proofs.FormLaws.{law}
+use Rattle.sw_reader.proofs.GrammarLaws.{read_is_spelled, spelled_is_read, fault_is_unexpected}
+use Rattle.sw_reader.proofs.GrammarLaws.{read_is_shallow, fault_is_too_deep}
+use Rattle.sw_reader.proofs.DepthLaws.{NotDeep}
+use Rattle.sw_grammar.proofs.ProgramLaws as laws
+use Rattle.sw_reader.proofs.WholeLaws.{IsEnd, whole_fails}
+use Rattle.sw_tree.proofs.NamesLemmas.{ids_of_interned}
+use Rattle.sw_tree.specs.Contents.{AreKeyed, AreNamed}
+use Rattle.sw_tree.specs.Names.{id_in, predeclared, with_texts}
+use Rattle.sw_tree.specs.declared.decl.Decl.{Decl}
+use Rattle.sw_grammar.specs.Nests.{El, shape_of}
+use Rattle.sw_grammar.specs.Grammar.{body, good}
+use Rattle.sw_grammar.specs.Decls.{program}
+use Rattle.sw_grammar.specs.Program.{Spells, SpellsWithin, SpellsDecls}
+use Rattle.sw_grammar.specs.Reading.{read}
+use Rattle.sw_grammar_keys.specs.Interned.{texts_in, AreInterned}
+use Rattle.sw_grammar_keys.proofs.KeysDiffer.{spelled_are_keyed}
+use Rattle.sw_grammar_keys.proofs.NamesKnown.{spelled_are_named}
+use Rattle.sw_parse_decl.specs.Programs.{most_nests, texts_of, IsProgramOf, whole_program}
+use Rattle.sw_parse_decl.specs.Programs.{IsSyntaxFault}
+use Rattle.sw_parse_decl.specs.declared.fault.ParseFault.{ParseFault}
+use Rattle.sw_parse_decl.specs.declared.fault.ParseFault.TheVariants as faults
+
+-- Reading the tokens from left to right stops with this fault.
+abbrev pub Stops : List Spelled → Fault → Type 0
+Stops tokens fault = whole_program (id_in (texts_of tokens)) tokens ≡ Err fault
+
+failed : (tokens : List Spelled) (fault : Fault) → Stops tokens fault
+    → Failed (SpellsWithin (id_in (texts_of tokens)) most_nests)
+    (SpellsDecls (id_in (texts_of tokens))) IsEnd tokens fault
+failed tokens fault stops =
+    let id_of = id_in (texts_of tokens) in
+    whole_fails (SpellsWithin id_of most_nests) (SpellsDecls id_of) _
+    (read id_of most_nests (program id_of))
+    (law El shape_of (body id_of) good most_nests (program id_of) refl) tokens fault stops
+
+-- A fault is at a token or the end.
+pub fault_within : (tokens : List Spelled) (fault : Fault) → Stops tokens fault
+    → left_of fault ≤ length tokens
+fault_within tokens fault stops =
+    let bad = failed tokens fault stops in
+    omega (arith, ap length bad.split, length-append bad.before bad.bad, bad.count)
+
+-- What is read is the program of the tokens.
+pub read_program : (tokens : List Spelled) → IsSpelling tokens → (decls : List Decl)
+    (rest : List Spelled) → whole_program (id_in (texts_of tokens)) tokens ≡ Ok (decls, rest)
+    → IsProgramOf decls tokens
+read_program tokens is decls rest e =
+    let id_of = id_in (texts_of tokens) in
+    record {
+      spelling = is;
+      form = read_is_spelled El shape_of (body id_of) good (program id_of) refl most_nests tokens
+          decls rest e;
+    }
+
+pub unexpected_at : (tokens : List Spelled) → IsSpelling tokens → (left : ℕ)
+    → Stops tokens (unexpected left)
+    → IsSyntaxFault tokens (faults.Unexpected (length tokens - left))
+unexpected_at tokens is left stops =
+    let id_of = id_in (texts_of tokens) in
+    record {
+      unexpected = fault_is_unexpected El shape_of (body id_of) good (program id_of) refl
+          most_nests tokens is left stops;
+      shallow = read_is_shallow El shape_of (body id_of) good (program id_of) refl most_nests
+          tokens (length tokens - left) (omega arith) (subst NotDeep (sym stops) tt);
+    }
+
+pub too_deep_at : (tokens : List Spelled) → IsSpelling tokens → (left : ℕ)
+    → Stops tokens (too_deep left) → IsSyntaxFault tokens (faults.TooDeep (length tokens - left))
+too_deep_at tokens is left stops =
+    let id_of = id_in (texts_of tokens) in
+    fault_is_too_deep El shape_of (body id_of) good (program id_of) refl most_nests tokens is left
+    stops
+
+-- The tokens are a program or have a fault.
+pub decided : (tokens : List Spelled) → IsSpelling tokens
+    → ((decls : List Decl) × IsProgramOf decls tokens)
+    ⊎ ((fault : ParseFault) × IsSyntaxFault tokens fault)
+decided tokens is = by (whole_program (id_in (texts_of tokens)) tokens) refl
+  where
+    by : (answer : Answer (List Decl)) → whole_program (id_in (texts_of tokens)) tokens ≡ answer
+        → ((decls : List Decl) × IsProgramOf decls tokens)
+        ⊎ ((fault : ParseFault) × IsSyntaxFault tokens fault)
+    by (Ok read) e = inl (read.0, read_program tokens is read.0 read.1 e)
+    by (Err (unexpected left)) e =
+        inr (faults.Unexpected (length tokens - left), unexpected_at tokens is left e)
+    by (Err (too_deep left)) e =
+        inr (faults.TooDeep (length tokens - left), too_deep_at tokens is left e)
+
+reads : (tokens : List Spelled) (decls : List Decl) → IsProgramOf decls tokens
+    → whole_program (id_in (texts_of tokens)) tokens ≡ Ok (decls, [])
+reads tokens decls given =
+    let id_of = id_in (texts_of tokens) in
+    spelled_is_read El shape_of (body id_of) good (program id_of) refl most_nests decls tokens
+    given.form
+
+pub one_program : (tokens : List Spelled) (a b : List Decl) → IsProgramOf a tokens
+    → IsProgramOf b tokens → a ≡ b
+one_program tokens a b h k = (ok_parts {A = List Decl} (sym (reads tokens a h) ∙ reads tokens b
+    k)).0
+
+-- What is spelled within the limit is spelled.
+wide : (tokens : List Spelled) (decls : List Decl) → IsProgramOf decls tokens
+    → Spells (id_in (texts_of tokens)) decls tokens
+wide tokens decls given = record { spelling = given.spelling; form = (most_nests, given.form) }
+
+pub never_both : (tokens : List Spelled) (decls : List Decl) (fault : ParseFault)
+    → IsProgramOf decls tokens → ¬ (IsSyntaxFault tokens fault)
+never_both tokens decls (faults.Unexpected n) h k =
+    laws.never_both (id_in (texts_of tokens)) tokens n (decls, wide tokens decls h) k.unexpected
+never_both tokens decls (faults.TooDeep n) h k =
+    laws.never_too_deep (id_in (texts_of tokens)) most_nests tokens n (decls, h) k
+never_both tokens decls faults.Memory h k = k
+
+pub one_fault : (tokens : List Spelled) (a b : ParseFault) → IsSyntaxFault tokens a
+    → IsSyntaxFault tokens b → a ≡ b
+one_fault tokens (faults.Unexpected m) (faults.Unexpected n) h k =
+    ap faults.Unexpected
+    (laws.one_unexpected (id_in (texts_of tokens)) tokens m n h.unexpected k.unexpected)
+one_fault tokens (faults.Unexpected m) (faults.TooDeep n) h k =
+    absurd (laws.one_fault (id_in (texts_of tokens)) most_nests tokens m n h k)
+one_fault tokens (faults.TooDeep m) (faults.Unexpected n) h k =
+    absurd (laws.one_fault (id_in (texts_of tokens)) most_nests tokens n m k h)
+one_fault tokens (faults.TooDeep m) (faults.TooDeep n) h k =
+    ap faults.TooDeep
+    (laws.one_too_deep (id_in (texts_of tokens)) most_nests tokens m n h k)
+one_fault tokens faults.Memory b h k = absurd h
+one_fault tokens a faults.Memory h k = absurd k
+
+-- Programs are trees with keys of their own and names with texts.
+
+pub keyed_program : (tokens : List Spelled) (decls : List Decl) → IsProgramOf decls tokens
+    → AreKeyed decls
+keyed_program tokens decls given =
+    spelled_are_keyed (id_in (texts_of tokens)) decls tokens (wide tokens decls given)
+
+interned : (tokens : List Spelled) → AreInterned (texts_of tokens) tokens
+unfolding texts_of
+interned tokens =
+    All-from_recursion (λ text. id_in (with_texts predeclared (texts_in tokens)) text
+    < length (with_texts predeclared (texts_in tokens))) (texts_in tokens)
+    (ids_of_interned predeclared (texts_in tokens))
+
+pub named_program : (tokens : List Spelled) (decls : List Decl) → IsProgramOf decls tokens
+    → AreNamed (texts_of tokens) decls
+named_program tokens decls given =
+    spelled_are_named (texts_of tokens) decls tokens (interned tokens) (wide tokens decls given)
+
+-- What the code reads with the names that it has interned.
+
+module _ (tokens first again : List Spelled) (names : List (List ℕ)) (left : List Spelled)
+    (interned : names ≡ texts_of first) (same : first ≡ tokens) (same' : again ≡ tokens) where
+  whole_is : whole_program (id_in (texts_of tokens)) tokens ≡ whole_program (id_in names) again
+  whole_is =
+      ap (λ texts. whole_program (id_in texts) tokens) (sym (interned ∙ ap texts_of same))
+      ∙ ap (whole_program (id_in names)) (sym same')
+
+  pub reads_program : (decls : List Decl) → whole_program (id_in names) again ≡ Ok (decls, left)
+      → IsSpelling tokens → IsProgramOf decls tokens
+  reads_program decls e is = read_program tokens is decls left (whole_is ∙ e)
+
+  pub stops_with : (stop : Stop) (fault : Fault)
+      → ((answer : Answer (List Decl)) → Gives answer (Err stop) left → answer ≡ Err fault)
+      → Gives (whole_program (id_in names) again) (Err stop) left → Stops tokens fault
+  stops_with stop fault named gives = whole_is ∙ named (whole_program (id_in names) again) gives

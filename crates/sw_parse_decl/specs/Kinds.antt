@@ -1,0 +1,42 @@
+-- The members of each kind of type.
+use Rattle.std.specs.Prelude.{ℕ, Bool, List, [], ◌++◌, codes}
+use Rattle.sw_reader.specs.Form.{Shape, alt, solid}
+use Rattle.sw_reader.specs.Form.Form.{either, more_items}
+use Rattle.sw_reader.specs.Reader.{Reader, then_read, pure}
+use Rattle.sw_reader.specs.Sets.{Set, quoted}
+use Rattle.sw_reader.specs.Terminals.{items}
+use Rattle.sw_grammar.specs.Nests.{Form, Member, method_first}
+use Rattle.sw_grammar.specs.Tokens.{type_ext, expr_ext, infix_op}
+use Rattle.sw_grammar.specs.Decls.{field, prop, init, enum_cases, method_member, global_first}
+use Rattle.sw_grammar.specs.Reading.{read}
+use Rattle.sw_parse_decl.specs.declared.kinds.TypeKind.{TypeKind}
+use Rattle.sw_parse_decl.specs.declared.kinds.TypeKind.TheVariants as kinds
+
+-- what a type of this kind may have
+abbrev pub member_shape : TypeKind → Shape
+member_shape kinds.Struct = alt (solid global_first type_ext 0) (solid method_first [] 1)
+member_shape kinds.Enum =
+    alt (solid (quoted (codes "case")) (quoted (codes "(") ++ quoted (codes ",")) 0)
+    (solid method_first [] 1)
+member_shape kinds.Class =
+    alt (solid global_first (type_ext ++ infix_op (codes "=") ++ expr_ext) 0)
+    (alt (solid (quoted (codes "init")) [] 1) (solid method_first [] 1))
+
+abbrev pub member_of : (id_of : List ℕ → ℕ) (kind : TypeKind) → Form (member_shape kind) Member
+member_of id_of kinds.Struct = either (field id_of) (method_member id_of)
+member_of id_of kinds.Enum = either (enum_cases id_of) (method_member id_of)
+member_of id_of kinds.Class =
+    either (prop id_of) (either (init id_of) (method_member id_of))
+
+-- what such members begin with
+abbrev pub member_first : TypeKind → Set
+member_first kind = (member_shape kind).first
+
+-- reads such members, up to a token that begins none
+abbrev pub members_of : (List ℕ → ℕ) → ℕ → TypeKind → Reader (List Member)
+members_of id_of depth kind =
+    then_read (read id_of depth (items (member_of id_of kind))) (λ state. pure state.0)
+
+-- the answer of all members, of which some are read
+abbrev pub rest_of : (List ℕ → ℕ) → ℕ → TypeKind → List Member × Bool → Reader (List Member × Bool)
+rest_of id_of depth kind state = read id_of depth (more_items state (member_of id_of kind))

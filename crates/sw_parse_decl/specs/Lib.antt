@@ -1,0 +1,6 @@
+pub mod Nested
+pub mod Members
+pub mod Kinds
+pub mod Entries
+pub mod Parts
+pub mod Programs

@@ -1,0 +1,63 @@
+-- Parts of the rule of declarations that are functions of their own.
+use Rattle.std.specs.Prelude.{ℕ, Bool, List, [], ◌∷◌, codes}
+use Rattle.sw_reader.specs.Sets.{quoted}
+use Rattle.sw_reader.specs.Form.{Shape, alt, one, seq, solid}
+use Rattle.sw_reader.specs.Form.Form.{terminal, either, more_items}
+use Rattle.sw_reader.specs.Reader.{Reader, then_read, pure}
+use Rattle.sw_reader.specs.Terminals.{◌>>=◌, items}
+use Rattle.sw_token.specs.Kinds.{kind_of}
+use Rattle.sw_token.specs.Spelling.{Spelled}
+use Rattle.sw_tree.specs.declared.decl.Decl.{Decl}
+use Rattle.sw_tree.specs.declared.decl.Written.TheVariants as written
+use Rattle.sw_grammar.specs.Nests.{Form}
+use Rattle.sw_grammar.specs.Tokens.{at_in, expr_ext}
+use Rattle.sw_grammar.specs.Decls.{annotated_first, entry, global_actor, annotated, nonisolated}
+use Rattle.sw_grammar.specs.Decls.{concurrent, func_decl, struct_decl, enum_decl, actor_decl, decl}
+use Rattle.sw_grammar.specs.Reading.{read}
+use Rattle.sw_grammar_keys.specs.Interned.{name_texts}
+
+abbrev pub annotated_shape : Shape
+annotated_shape = solid annotated_first expr_ext 0
+
+-- a declaration with the attribute `@main`
+abbrev pub after_main : (id_of : List ℕ → ℕ)
+    → Form (seq (one (at_in id_of (quoted (codes "@main")) (codes "@main")))
+    (alt (solid (quoted (codes "struct")) [] 2) annotated_shape)) Decl
+after_main id_of = do
+  mark ← terminal (at_in id_of (quoted (codes "@main")) (codes "@main"))
+  either (entry id_of) (annotated id_of (written.At mark))
+
+-- a declaration with the attribute `@globalActor`
+abbrev pub after_global_actor : (id_of : List ℕ → ℕ)
+    → Form (seq (one (at_in id_of (quoted (codes "@globalActor")) (codes "@globalActor")))
+    (alt (solid (quoted (codes "actor")) [] 2) annotated_shape)) Decl
+after_global_actor id_of = do
+  mark ← terminal (at_in id_of (quoted (codes "@globalActor")) (codes "@globalActor"))
+  either (global_actor id_of) (annotated id_of (written.At mark))
+
+abbrev func_shape : Shape
+func_shape = solid (quoted (codes "func")) [] 1
+
+-- a declaration without an attribute that names an actor
+abbrev pub other_decl : (id_of : List ℕ → ℕ)
+    → Form (alt (seq (solid (quoted (codes "nonisolated")) (quoted (codes "(")) 0) func_shape)
+    (alt (seq (solid (quoted (codes "@concurrent")) (quoted (codes "nonisolated")) 0) func_shape)
+    (alt (solid (quoted (codes "struct")) [] 1) (alt (solid (quoted (codes "enum")) [] 1)
+    (alt (solid (quoted (codes "actor")) [] 1) annotated_shape))))) Decl
+other_decl id_of =
+    either (nonisolated id_of >>= func_decl id_of) (either (concurrent id_of >>= func_decl id_of)
+    (either (struct_decl id_of) (either (enum_decl id_of) (either (actor_decl id_of)
+    (annotated id_of written.Absent)))))
+
+-- reads declarations, up to a token that begins none
+abbrev pub decls_of : (List ℕ → ℕ) → ℕ → Reader (List Decl)
+decls_of id_of depth = then_read (read id_of depth (items (decl id_of))) (λ state. pure state.0)
+
+-- the answer of all declarations, of which some are read
+abbrev pub rest_of : (List ℕ → ℕ) → ℕ → List Decl × Bool → Reader (List Decl × Bool)
+rest_of id_of depth state = read id_of depth (more_items state (decl id_of))
+
+-- the texts of the names that the next token may give
+abbrev pub next_texts : List Spelled → List (List ℕ)
+next_texts [] = []
+next_texts (token ∷ _) = name_texts (kind_of token.text) token.text

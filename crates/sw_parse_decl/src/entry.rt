@@ -1,0 +1,168 @@
+//! The entry of a program, and global actors.
+
+ghost use Rattle.std.specs.Prelude.{codes};
+ghost use Rattle.sw_reader.specs.Outcome.{Gives};
+ghost use Rattle.sw_tree.specs.Names.{id_in};
+ghost use Rattle.sw_grammar.specs.Decls.{entry_inside, global_actor_inside, entry, global_actor};
+ghost use Rattle.sw_grammar.specs.Exprs.{nothing};
+ghost use Rattle.sw_grammar.specs.Nests.Nest.{in_empty, in_entry, in_global_actor};
+ghost use Rattle.sw_grammar.specs.Reading.{read};
+ghost use Rattle.sw_reader.specs.Quotes.{quote};
+ghost use Rattle.sw_parse_decl.specs.Nested.{made, inner};
+ghost use Rattle.sw_parse_decl.specs.Entries.{main_isolation, main_of};
+
+use crate::bodies::Bodies;
+use crate::functions::declared;
+use std::alloc::Global;
+use sw_parse_parts::{attribute, equals, sees_attribute};
+use sw_reader::{Cursor, Stop};
+use sw_tree::{Block, Decl, Name, Names, Written};
+
+/// What an entry has beside its word.
+#[derive(Drop)]
+struct Main {
+    written: Written,
+    /// Where the word `main` stands.
+    at: u32,
+    is_async: bool,
+    body: Block,
+}
+
+/// The isolation of `main`.
+fn main_isolation(names: &Names, tokens: &mut Cursor<'_>, depth: u32) -> Result<Written, Stop>
+    ensures { Gives (read (id_in names.now) depth (main_isolation (id_in names.now)) tokens.old)
+        result tokens.new }
+{
+    if sees_attribute(tokens) {
+        return Ok(Written::At(attribute(names, tokens)?));
+    }
+    if tokens.sees("nonisolated") {
+        tokens.expect("nonisolated")?;
+        return Ok(Written::Nonisolated);
+    }
+    Ok(Written::Absent)
+}
+
+/// `static func main()`, its block and the `}` of the entry.
+#[tactic(auto, unfolding(sw_grammar::specs::Decls::entry_inside))]
+fn entry_inside<B: Bodies>(
+    alloc: Global,
+    bodies: &B,
+    names: &Names,
+    tokens: &mut Cursor<'_>,
+    depth: u32,
+) -> Result<Main, Stop>
+    ensures { Gives (made main_of (read (id_in names.now) depth (entry_inside (id_in names.now)))
+        tokens.old) result tokens.new }
+{
+    let written = main_isolation(names, tokens, depth)?;
+    tokens.expect("static")?;
+    tokens.expect("func")?;
+    let at = tokens.expect("main")?;
+    empty_round(names, tokens, depth)?;
+    let is_async = tokens.skip("async");
+    let body = bodies.block(alloc, names, tokens, depth)?;
+    tokens.skip(";");
+    tokens.expect("}")?;
+    Ok(Main {
+        written,
+        at,
+        is_async,
+        body,
+    })
+}
+
+/// `static let shared = made()` and the `}` of the global actor; gives the word `made`.
+#[tactic(auto, unfolding(sw_grammar::specs::Decls::global_actor_inside))]
+fn global_actor_inside(names: &Names, tokens: &mut Cursor<'_>, depth: u32) -> Result<Name, Stop>
+    ensures { Gives (read (id_in names.now) depth (global_actor_inside (id_in names.now))
+        tokens.old) result tokens.new }
+{
+    tokens.expect("static")?;
+    tokens.expect("let")?;
+    tokens.expect("shared")?;
+    equals(tokens)?;
+    let made = declared(names, tokens, depth)?;
+    empty_round(names, tokens, depth)?;
+    tokens.skip(";");
+    tokens.expect("}")?;
+    Ok(made)
+}
+
+/// The entry of a program, after its `@main`.
+#[tactic(auto, unfolding(sw_grammar::specs::Decls::entry))]
+pub fn entry<B: Bodies>(
+    alloc: Global,
+    bodies: &B,
+    names: &Names,
+    tokens: &mut Cursor<'_>,
+    depth: u32,
+) -> Result<Decl, Stop>
+    ensures { Gives (read (id_in names.now) depth (entry (id_in names.now)) tokens.old) result
+        tokens.new }
+{
+    tokens.expect("struct")?;
+    let word = declared(names, tokens, depth)?;
+    let main = entry_body(alloc, bodies, names, tokens, depth)?;
+    Ok(Decl::Entry {
+        word,
+        written: main.written,
+        at: main.at,
+        is_async: main.is_async,
+        body: main.body,
+    })
+}
+
+/// A global actor, after its `@globalActor`.
+#[tactic(auto, unfolding(sw_grammar::specs::Decls::global_actor))]
+pub fn global_actor(names: &Names, tokens: &mut Cursor<'_>, depth: u32) -> Result<Decl, Stop>
+    ensures { Gives (read (id_in names.now) depth (global_actor (id_in names.now)) tokens.old)
+        result tokens.new }
+{
+    tokens.expect("actor")?;
+    let word = declared(names, tokens, depth)?;
+    let made = global_actor_body(names, tokens, depth)?;
+    Ok(Decl::GlobalActor { word, made })
+}
+
+/// What stands in the `{` and `}` of an entry.
+fn entry_body<B: Bodies>(
+    alloc: Global,
+    bodies: &B,
+    names: &Names,
+    tokens: &mut Cursor<'_>,
+    depth: u32,
+) -> Result<Main, Stop>
+    ensures { Gives (made main_of (inner (id_in names.now) depth (quote (codes "{")) in_entry)
+        tokens.old) result tokens.new }
+{
+    tokens.open("{", depth)?;
+    entry_inside(alloc, bodies, names, tokens, depth - 1)
+}
+
+/// What stands in the `{` and `}` of a global actor.
+fn global_actor_body(names: &Names, tokens: &mut Cursor<'_>, depth: u32) -> Result<Name, Stop>
+    ensures { Gives (inner (id_in names.now) depth (quote (codes "{")) in_global_actor tokens.old)
+        result tokens.new }
+{
+    tokens.open("{", depth)?;
+    global_actor_inside(names, tokens, depth - 1)
+}
+
+/// `(` and `)`; gives the position of the `)`.
+fn empty_round(names: &Names, tokens: &mut Cursor<'_>, depth: u32) -> Result<u32, Stop>
+    ensures { Gives (inner (id_in names.now) depth (quote (codes "(")) in_empty tokens.old) result
+        tokens.new }
+{
+    tokens.open("(", depth)?;
+    nothing(names, tokens, depth - 1)
+}
+
+/// The `)` of empty brackets.
+#[tactic(auto, unfolding(sw_grammar::specs::Exprs::nothing))]
+fn nothing(names: &Names, tokens: &mut Cursor<'_>, depth: u32) -> Result<u32, Stop>
+    ensures { Gives (read (id_in names.now) depth (nothing (id_in names.now)) tokens.old) result
+        tokens.new }
+{
+    tokens.expect(")")
+}

@@ -1,0 +1,97 @@
+//! The isolation that is written before a declaration.
+
+ghost use Rattle.std.specs.Prelude.{◌≡◌, codes};
+ghost use Rattle.sw_reader.specs.Outcome.{Gives};
+ghost use Rattle.sw_reader.specs.Reader.{next};
+ghost use Rattle.sw_reader.specs.Sets.{quoted};
+ghost use Rattle.sw_tree.specs.Names.{id_in};
+ghost use Rattle.sw_grammar.specs.Tokens.{plain_at_word, at_in};
+ghost use Rattle.sw_grammar.specs.Decls.{isolation_inside, nonisolated, concurrent, async_if};
+ghost use Rattle.sw_grammar.specs.Decls.{needs_async};
+ghost use Rattle.sw_grammar.specs.Nests.Nest.{in_isolation};
+ghost use Rattle.sw_grammar.specs.Reading.{read};
+ghost use Rattle.sw_parse_decl.specs.Nested.{inner};
+ghost use Rattle.sw_reader.specs.Quotes.{quote};
+
+use sw_parse_parts::attribute;
+use sw_reader::{Cursor, Stop};
+use sw_tree::{Name, Names, Written};
+
+/// `nonisolated` or `nonisolated(nonsending)`.
+#[tactic(auto, unfolding(sw_grammar::specs::Decls::nonisolated))]
+pub fn nonisolated(names: &Names, tokens: &mut Cursor<'_>, depth: u32) -> Result<Written, Stop>
+    ensures { Gives (read (id_in names.now) depth (nonisolated (id_in names.now)) tokens.old)
+        result tokens.new }
+{
+    tokens.expect("nonisolated")?;
+    if tokens.sees("(") {
+        round_isolation(names, tokens, depth)?;
+        return Ok(Written::Nonsending);
+    }
+    Ok(Written::Nonisolated)
+}
+
+/// What stands in the `(` and `)` of `nonisolated`.
+fn round_isolation(names: &Names, tokens: &mut Cursor<'_>, depth: u32) -> Result<u32, Stop>
+    ensures { Gives (inner (id_in names.now) depth (quote (codes "(")) in_isolation tokens.old)
+        result tokens.new }
+{
+    tokens.open("(", depth)?;
+    isolation_inside(names, tokens, depth - 1)
+}
+
+/// `nonsending` and the `)`; gives the position of the word.
+#[tactic(auto, unfolding(sw_grammar::specs::Decls::isolation_inside))]
+fn isolation_inside(names: &Names, tokens: &mut Cursor<'_>, depth: u32) -> Result<u32, Stop>
+    ensures { Gives (read (id_in names.now) depth (isolation_inside (id_in names.now)) tokens.old)
+        result tokens.new }
+{
+    let at = tokens.expect("nonsending")?;
+    tokens.expect(")")?;
+    Ok(at)
+}
+
+/// `@concurrent`, which a `nonisolated` may follow.
+#[tactic(auto, unfolding(sw_grammar::specs::Decls::concurrent))]
+pub fn concurrent(names: &Names, tokens: &mut Cursor<'_>, depth: u32) -> Result<Written, Stop>
+    ensures { Gives (read (id_in names.now) depth (concurrent (id_in names.now)) tokens.old) result
+        tokens.new }
+{
+    tokens.expect("@concurrent")?;
+    tokens.skip("nonisolated");
+    Ok(Written::Concurrent)
+}
+
+/// Whether a function with this isolation has to be `async`.
+fn needs_async(written: &Written) -> bool
+    ensures { result ≡ needs_async written.now }
+{
+    match written {
+        Written::Absent => false,
+        Written::At(_) => false,
+        Written::Nonisolated => false,
+        Written::Concurrent => true,
+        Written::Nonsending => true,
+    }
+}
+
+/// Whether `async` comes, which it has to where the isolation asks for it.
+#[tactic(auto, unfolding(sw_grammar::specs::Decls::async_if))]
+pub fn async_if(
+    names: &Names,
+    tokens: &mut Cursor<'_>,
+    depth: u32,
+    written: &Written,
+) -> Result<bool, Stop>
+    ensures { Gives (read (id_in names.now) depth (async_if (id_in names.now) written.now)
+        tokens.old) result tokens.new }
+{
+    if tokens.sees("async") {
+        tokens.expect("async")?;
+        return Ok(true);
+    }
+    if needs_async(written) {
+        return Err(tokens.stop());
+    }
+    Ok(false)
+}

@@ -1,0 +1,304 @@
+//! The members of types.
+
+ghost use Rattle.std.specs.Prelude.{◌≡◌, ◌++◌, [], ◌∷◌, codes};
+ghost use Rattle.sw_reader.specs.Outcome.{Gives};
+ghost use Rattle.sw_tree.specs.Names.{id_in};
+ghost use Rattle.sw_grammar.specs.Decls.{method_member, value_if, field_after, field, prop_after};
+ghost use Rattle.sw_grammar.specs.Decls.{prop};
+ghost use Rattle.sw_grammar.specs.Decls.{init, enum_case, enum_cases};
+ghost use Rattle.sw_grammar.specs.Types.{more_of};
+ghost use Rattle.sw_grammar.specs.Nests.Nest.{in_payload};
+ghost use Rattle.sw_grammar.specs.Reading.{read};
+ghost use Rattle.sw_reader.specs.Quotes.{quote};
+ghost use Rattle.sw_parse_decl.specs.Nested.{inner};
+ghost use Rattle.sw_parse_decl.specs.Members.{collected, with_member, and_member};
+
+use crate::bodies::Bodies;
+use crate::functions::{declared, method, params};
+use std::alloc::Global;
+use sw_list::ListOf;
+use sw_parse_parts::{some_types, type_tree};
+use sw_reader::{Cursor, Stop};
+use sw_token::Fixity;
+use sw_tree::{
+    CaseList, CaseTree, Expr, FuncList, InitList, InitTree, Names, PropList, PropTree,
+    TypeTreeList, Written,
+};
+
+/// The members of a type, by their kinds.
+#[derive(Drop)]
+pub struct Members {
+    pub props: PropList,
+    pub inits: InitList,
+    pub funcs: FuncList,
+    pub cases: CaseList,
+}
+
+impl Members {
+    /// No members.
+    pub fn new(alloc: Global) -> Members
+        ensures { result ≡ collected [] }
+    {
+        Members {
+            props: ListOf::new(alloc),
+            inits: ListOf::new(alloc),
+            funcs: ListOf::new(alloc),
+            cases: ListOf::new(alloc),
+        }
+    }
+}
+
+/// One more method.
+#[tactic(auto, unfolding(sw_grammar::specs::Decls::method_member))]
+pub fn method_member<B: Bodies>(
+    alloc: Global,
+    bodies: &B,
+    names: &Names,
+    tokens: &mut Cursor<'_>,
+    depth: u32,
+    members: Members,
+) -> Result<Members, Stop>
+    ensures { Gives (and_member members (read (id_in names.now) depth (method_member (id_in
+        names.now)))
+        tokens.old) result tokens.new }
+{
+    let func = method(alloc, bodies, names, tokens, depth)?;
+    let mut members = members;
+    members.funcs.push(func)?;
+    Ok(members)
+}
+
+/// `=` and an expression, or nothing.
+#[tactic(auto, unfolding(sw_grammar::specs::Decls::value_if))]
+fn value_if<B: Bodies>(
+    alloc: Global,
+    bodies: &B,
+    names: &Names,
+    tokens: &mut Cursor<'_>,
+    depth: u32,
+) -> Result<Option<Expr>, Stop>
+    ensures { Gives (read (id_in names.now) depth (value_if (id_in names.now)) tokens.old) result
+        tokens.new }
+{
+    if tokens.sees_operator("=", Fixity::Infix) {
+        return Ok(Some(bodies.value(alloc, names, tokens, depth)?));
+    }
+    Ok(None)
+}
+
+/// A struct's field after its `let` or `var`.
+#[tactic(auto, unfolding(sw_grammar::specs::Decls::field_after))]
+fn field_after(
+    alloc: Global,
+    names: &Names,
+    tokens: &mut Cursor<'_>,
+    depth: u32,
+    mutable: bool,
+    members: Members,
+) -> Result<Members, Stop>
+    ensures { Gives (and_member members
+        (read (id_in names.now) depth (field_after (id_in names.now) mutable)) tokens.old) result
+        tokens.new }
+{
+    let word = declared(names, tokens, depth)?;
+    tokens.expect(":")?;
+    let ty = type_tree(alloc, names, tokens, depth)?;
+    let mut members = members;
+    members.props.push(PropTree {
+        written: Written::Absent,
+        mutable,
+        word,
+        ty: Some(ty),
+        value: None,
+    })?;
+    Ok(members)
+}
+
+/// A struct's field.
+#[tactic(auto, unfolding(sw_grammar::specs::Decls::field))]
+pub fn field(
+    alloc: Global,
+    names: &Names,
+    tokens: &mut Cursor<'_>,
+    depth: u32,
+    members: Members,
+) -> Result<Members, Stop>
+    ensures { Gives (and_member members (read (id_in names.now) depth (field (id_in names.now)))
+        tokens.old) result tokens.new }
+{
+    if tokens.skip("let") {
+        return field_after(alloc, names, tokens, depth, false, members);
+    }
+    tokens.expect("var")?;
+    field_after(alloc, names, tokens, depth, true, members)
+}
+
+/// A property after its `let` or `var`.
+#[tactic(auto, unfolding(sw_grammar::specs::Decls::prop_after))]
+fn prop_after<B: Bodies>(
+    alloc: Global,
+    bodies: &B,
+    names: &Names,
+    tokens: &mut Cursor<'_>,
+    depth: u32,
+    mutable: bool,
+    members: Members,
+) -> Result<Members, Stop>
+    ensures { Gives (and_member members
+        (read (id_in names.now) depth (prop_after (id_in names.now) mutable)) tokens.old) result
+        tokens.new }
+{
+    let word = declared(names, tokens, depth)?;
+    let mut members = members;
+    if tokens.skip(":") {
+        let ty = type_tree(alloc, names, tokens, depth)?;
+        let value = value_if(alloc, bodies, names, tokens, depth)?;
+        members.props.push(PropTree {
+            written: Written::Absent,
+            mutable,
+            word,
+            ty: Some(ty),
+            value,
+        })?;
+        return Ok(members);
+    }
+    let value = bodies.value(alloc, names, tokens, depth)?;
+    members.props.push(PropTree {
+        written: Written::Absent,
+        mutable,
+        word,
+        ty: None,
+        value: Some(value),
+    })?;
+    Ok(members)
+}
+
+/// A property of a class or an actor.
+#[tactic(auto, unfolding(sw_grammar::specs::Decls::prop))]
+pub fn prop<B: Bodies>(
+    alloc: Global,
+    bodies: &B,
+    names: &Names,
+    tokens: &mut Cursor<'_>,
+    depth: u32,
+    members: Members,
+) -> Result<Members, Stop>
+    ensures { Gives (and_member members (read (id_in names.now) depth (prop (id_in names.now)))
+        tokens.old) result tokens.new }
+{
+    if tokens.skip("let") {
+        return prop_after(alloc, bodies, names, tokens, depth, false, members);
+    }
+    tokens.expect("var")?;
+    prop_after(alloc, bodies, names, tokens, depth, true, members)
+}
+
+/// An initialiser.
+#[tactic(auto, unfolding(sw_grammar::specs::Decls::init))]
+pub fn init<B: Bodies>(
+    alloc: Global,
+    bodies: &B,
+    names: &Names,
+    tokens: &mut Cursor<'_>,
+    depth: u32,
+    members: Members,
+) -> Result<Members, Stop>
+    ensures { Gives (and_member members (read (id_in names.now) depth (init (id_in names.now)))
+        tokens.old) result tokens.new }
+{
+    let at = tokens.expect("init")?;
+    let params = params(alloc, names, tokens, depth)?;
+    let body = bodies.block(alloc, names, tokens, depth)?;
+    let mut members = members;
+    members.inits.push(InitTree { at, params, body })?;
+    Ok(members)
+}
+
+/// The cases of an enum in one declaration.
+#[tactic(auto, unfolding(sw_grammar::specs::Decls::enum_cases))]
+pub fn enum_cases(
+    alloc: Global,
+    names: &Names,
+    tokens: &mut Cursor<'_>,
+    depth: u32,
+    members: Members,
+) -> Result<Members, Stop>
+    ensures { Gives (and_member members (read (id_in names.now) depth (enum_cases (id_in
+        names.now)))
+        tokens.old) result tokens.new }
+{
+    tokens.expect("case")?;
+    let first = enum_case(alloc, names, tokens, depth)?;
+    let mut more = more_cases(alloc, names, tokens, depth, first)?.into_vec();
+    let Members {
+        props,
+        inits,
+        funcs,
+        cases,
+    } = members;
+    let mut cases = cases.into_vec();
+    cases.append(&mut more)?;
+    Ok(Members {
+        props,
+        inits,
+        funcs,
+        cases: ListOf::from_vec(cases),
+    })
+}
+
+/// The cases after the first, each with a `,` before it.
+fn more_cases(
+    alloc: Global,
+    names: &Names,
+    tokens: &mut Cursor<'_>,
+    depth: u32,
+    first: CaseTree,
+) -> Result<CaseList, Stop>
+    ensures { Gives (read (id_in names.now) depth
+        (more_of (id_in names.now) (first ∷ []) (enum_case (id_in names.now))) tokens.old)
+        result tokens.new }
+{
+    let mut cases = Vec::new(alloc);
+    cases.push(first)?;
+    while tokens.sees(",") {
+        tokens.expect(",")?;
+        cases.push(enum_case(alloc, names, tokens, depth)?)?;
+    }
+    Ok(ListOf::from_vec(cases))
+}
+
+/// A case of an enum.
+#[tactic(auto, unfolding(sw_grammar::specs::Decls::enum_case))]
+fn enum_case(
+    alloc: Global,
+    names: &Names,
+    tokens: &mut Cursor<'_>,
+    depth: u32,
+) -> Result<CaseTree, Stop>
+    ensures { Gives (read (id_in names.now) depth (enum_case (id_in names.now)) tokens.old) result
+        tokens.new }
+{
+    let word = declared(names, tokens, depth)?;
+    if tokens.sees("(") {
+        let types = payload(alloc, names, tokens, depth)?;
+        return Ok(CaseTree { word, types });
+    }
+    Ok(CaseTree {
+        word,
+        types: ListOf::new(alloc),
+    })
+}
+
+/// The types of a case, in `(` and `)`.
+fn payload(
+    alloc: Global,
+    names: &Names,
+    tokens: &mut Cursor<'_>,
+    depth: u32,
+) -> Result<TypeTreeList, Stop>
+    ensures { Gives (inner (id_in names.now) depth (quote (codes "(")) in_payload tokens.old) result
+        tokens.new }
+{
+    tokens.open("(", depth)?;
+    some_types(alloc, names, tokens, depth - 1)
+}
