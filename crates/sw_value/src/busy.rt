@@ -122,13 +122,13 @@ pub fn replace(
     ensures err { OnErr result (busy.new ≡ busy.old) }
 {
     let (out, put) = moved(held, later);
-    admit(busy, put)?;
+    occupy(busy, put)?;
     release(busy, out);
     Ok(())
 }
 
 /// Puts an executor in. Where memory runs out nothing changes.
-pub fn admit(busy: &mut ExecutorList, put: Option<Executor>) -> Result<(), AllocError>
+pub fn occupy(busy: &mut ExecutorList, put: Option<Executor>) -> Result<(), AllocError>
     ensures ok { OnOk result (IsReplaced None put busy.old busy.new) }
     ensures err { OnErr result (busy.new ≡ busy.old) }
     ensures more { OnOk result ((e : Executor) → times e busy.old ≤ times e busy.new) }
@@ -191,7 +191,7 @@ pub fn busy_of(alloc: Global, jobs: &JobList) -> Result<ExecutorList, AllocError
 {
     let mut busy = ListOf::new(alloc);
     for job in jobs.as_slice() {
-        admit(&mut busy, job.held())?;
+        occupy(&mut busy, job.held())?;
     }
     Ok(busy)
 }

@@ -11,7 +11,7 @@ ghost use Rattle.sw_value.specs.State.{in_job, add_job, add_cell, in_cell, set_g
 ghost use Rattle.sw_value.specs.State.{is_free};
 ghost use Rattle.sw_value.specs.State.{result_of};
 
-use crate::busy::{ExecutorList, admit, busy_of, is_among, moved, release, replace};
+use crate::busy::{ExecutorList, busy_of, is_among, moved, occupy, release, replace};
 use crate::cell::{CellList, HeapCell, Slot};
 use crate::executor::Executor;
 use crate::frame::Frame;
@@ -133,7 +133,7 @@ impl State {
             let there = self.jobs.at(job as usize);
             let held = there.held();
             let (out, put) = moved(held, there.held_entered(&frame));
-            admit(&mut self.busy, put)?;
+            occupy(&mut self.busy, put)?;
             match self.jobs.at_mut(job as usize).enter(frame, next) {
                 Ok(()) => release(&mut self.busy, out),
                 Err(error) => {
