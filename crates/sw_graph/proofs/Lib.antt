@@ -1,4 +1,5 @@
 pub mod KindLemmas
+pub mod LimitLemmas
 pub mod ListLemmas
 pub mod PayloadLemmas
 pub mod PointLemmas

@@ -262,7 +262,9 @@ pub straight_graph : {shapes : List Shape} {globals : List GlobalKind} {function
 straight_graph {shapes} {globals} {functions} is = record {
   entry_in = is.entry_in;
   starts_in = is.starts_in;
+  first_values = is.first_values;
   types = is.types;
+  limits = is.limits;
   each = λ k d inside.
       straight_fits shapes globals functions (get_or functions k d) (is.each k d inside);
 }

@@ -60,6 +60,12 @@ length-places_from number (block ∷ blocks) =
     )
 
 -- What stands at the place of a point is what stands at the point.
+-- a table has a place for each point
+pub length_places : (function : Function) (table : PointTable) → table ≡ table_of function
+    → length table.places ≡ length (points_of function.blocks)
+length_places function table is =
+    ap (λ t. length t.places) is ∙ length-places_from 0 function.blocks
+
 told : (before blocks : List Block) (point : ℕ)
     → option_and_then (at_place (before ++ blocks))
     (slice_get (places_from (length before) blocks) point) ≡ slice_get (points_of blocks) point

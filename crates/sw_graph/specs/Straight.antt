@@ -11,6 +11,7 @@ use Rattle.sw_graph.specs.declared.instr.Block.{Block}
 use Rattle.sw_graph.specs.declared.instr.Instr.{Instr}
 use Rattle.sw_graph.specs.declared.instr.Last.{Last}
 use Rattle.sw_graph.specs.declared.instr.Last.TheVariants.{Jump, Branch, Switch, Return}
+use Rattle.sw_graph.specs.Limits.{IsWithinLimits}
 use Rattle.sw_graph.specs.Mentions.{set_by, reads, last_registers}
 use Rattle.sw_graph.specs.Payloads.{has_payload}
 use Rattle.sw_graph.specs.Ways.{is_number}
@@ -60,5 +61,7 @@ pub record IsStraightGraph (shapes : List Shape) (globals : List GlobalKind)
     (functions : List Function) (entry : ℕ) (starts : List ℕ) : Type 0 where
   pub entry_in : entry < length functions
   pub starts_in : AllBelow (length functions) starts
+  pub first_values : length starts ≡ length globals
   pub types : All (λ global. IsTrue (is_within (length shapes) global.ty)) globals
+  pub limits : All IsWithinLimits functions
   pub each : All (StraightFits shapes globals functions) functions

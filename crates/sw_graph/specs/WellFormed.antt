@@ -1,5 +1,6 @@
--- What every graph keeps: its numbers are in range, its registers have the kinds that are asked
--- for, payloads are taken where their case is known, and registers are set before they are read.
+-- What every graph keeps: its numbers are in range, each global has a first value, its functions
+-- are within the limits, its registers have the kinds that are asked for, payloads are taken where
+-- their case is known, and registers are set before they are read.
 use Rattle.std.specs.Prelude.{◌≡◌, ℕ, ◌<◌, ◌≤◌, IsTrue, List, Some, length, slice_get}
 use Rattle.std.specs.List.{All}
 use Rattle.sw_types.specs.declared.ty.Ty.{Ty}
@@ -13,6 +14,7 @@ use Rattle.sw_graph.specs.declared.instr.Block.{Block}
 use Rattle.sw_graph.specs.declared.instr.Instr.{Instr}
 use Rattle.sw_graph.specs.declared.instr.Last.{Last}
 use Rattle.sw_graph.specs.Kinds.{KindsFit, LastKindsFit}
+use Rattle.sw_graph.specs.Limits.{IsWithinLimits}
 use Rattle.sw_graph.specs.Mentions.{registers_of, functions_of, globals_of, shapes_of}
 use Rattle.sw_graph.specs.Payloads.{PayloadsFit}
 use Rattle.sw_graph.specs.Ways.{SetsBeforeReads}
@@ -61,5 +63,7 @@ pub record IsWellFormed (shapes : List Shape) (globals : List GlobalKind)
     (functions : List Function) (entry : ℕ) (starts : List ℕ) : Type 0 where
   pub entry_in : entry < length functions
   pub starts_in : AllBelow (length functions) starts
+  pub first_values : length starts ≡ length globals
   pub types : All (λ global. IsTrue (is_within (length shapes) global.ty)) globals
+  pub limits : All IsWithinLimits functions
   pub each : All (FunctionFits shapes globals functions) functions

@@ -2,10 +2,10 @@ use crate::instr::BlockList;
 use sw_list::ListOf;
 use sw_types::{Iso, Ty};
 
-/// How many registers a function that is compiled has at most.
+/// How many registers a function of a graph has at most.
 pub const MAX_REGISTERS: usize = 512;
 
-/// How many points a function that is compiled has at most.
+/// How many points a function of a graph has at most.
 pub const MAX_POINTS: usize = 16_384;
 
 /// The kinds of a function's registers, by number.
@@ -51,4 +51,19 @@ pub struct Function {
     pub result: Ty,
     pub regs: RegList,
     pub blocks: BlockList,
+}
+
+/// What a function has too many of.
+#[derive(Clone, Copy, Debug, PartialEq, Eq)]
+pub enum Excess {
+    Registers,
+    Points,
+}
+
+/// A function that is larger than a graph's functions may be.
+#[derive(Clone, Copy, Debug, PartialEq, Eq)]
+pub struct TooLarge {
+    /// The byte offset of its key token.
+    pub key: u32,
+    pub of: Excess,
 }

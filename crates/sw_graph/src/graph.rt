@@ -11,8 +11,8 @@ use crate::instr::IdList;
 use crate::point::Point;
 use sw_types::Shapes;
 
-/// A program's control-flow graph. Its numbers are in range and its registers have the kinds that
-/// its instructions ask for.
+/// A program's control-flow graph. Its numbers are in range, its functions are within the limits and
+/// its registers have the kinds that its instructions ask for.
 #[derive(Debug, Drop)]
 pub struct Graph {
     pub shapes: Shapes,

@@ -1,8 +1,9 @@
-ghost use Rattle.std.specs.Prelude.{◌≡◌, ℕ, Bool, List, IsTrue, slice_get};
+ghost use Rattle.std.specs.Prelude.{◌≡◌, ℕ, Bool, List, None, IsTrue, All, slice_get};
 ghost use Rattle.sw_types.specs.declared.shape.Shape.{Shape};
 ghost use Rattle.sw_graph.specs.declared.function.Function.{Function};
 ghost use Rattle.sw_graph.specs.declared.function.GlobalKind.{GlobalKind};
 ghost use Rattle.sw_graph.specs.declared.instr.Block.{Block};
+ghost use Rattle.sw_graph.specs.Limits.{IsWithinLimits, first_too_large};
 ghost use Rattle.sw_graph.specs.Payloads.{PayloadsFit};
 ghost use Rattle.sw_graph.specs.Straight.{is_straight, IsStraightGraph};
 ghost use Rattle.sw_graph.specs.Ways.{IsAnnotated, SetsBeforeReads};
@@ -30,7 +31,15 @@ pub fn straight_graphs_fit()
         → IsWellFormed shapes globals functions entry starts }
 {}
 
-/// The limits of a function that is compiled.
+/// No function of a list is too large exactly where each is within the limits.
+pub fn large_functions_are_found()
+    ensures within { (functions : List Function) → first_too_large functions ≡ None
+        → All IsWithinLimits functions }
+    ensures none { (functions : List Function) → All IsWithinLimits functions
+        → first_too_large functions ≡ None }
+{}
+
+/// The limits of a function of a graph.
 pub fn function_limits()
     ensures registers { MAX_REGISTERS ≡ 512 }
     ensures points { MAX_POINTS ≡ 16384 }

@@ -19,13 +19,14 @@ use Rattle.sw_graph.specs.declared.function.RegKind.TheVariants.{Plain}
 use Rattle.sw_graph.specs.declared.instr.Instr.{Instr}
 use Rattle.sw_graph.specs.declared.instr.Instr.TheVariants.{NewTask}
 use Rattle.sw_graph.specs.declared.instr.Last.TheVariants.{Return}
-use Rattle.sw_types.specs.declared.shape.Shape.{Shape}
 use Rattle.sw_graph.specs.Kinds.{Goes, IsCaptured, Each, EachOf, taken, is_printable}
 use Rattle.sw_graph.specs.Payloads.{has_payload}
 use Rattle.sw_graph.specs.Straight.{has_value, reads_in_order, is_straight}
 use Rattle.sw_graph.specs.WellFormed.{type_in, InstrFits, BlockFits, FunctionFits, IsWellFormed}
 use Rattle.sw_graph.proofs.KindLemmas.{goes_to, int_within, void_within, task_within}
 use Rattle.sw_graph.proofs.KindLemmas.{int_printable}
+use Rattle.sw_graph.specs.Limits.{first_too_large}
+use Rattle.sw_graph.proofs.LimitLemmas.{all_within}
 use Rattle.sw_graph.proofs.ListLemmas.{at_seam}
 use Rattle.sw_graph.proofs.PayloadLemmas.{no_payload-append}
 use Rattle.sw_graph.proofs.StraightLemmas.{reads_in_order-append, straight_payloads}
@@ -268,12 +269,15 @@ item_fits functions (Task at body shows) small = record {
       (λ k d inside. show_fits functions (get_or shows k d))) enough;
 }
 
-pub program_fits : (program : Small) → IsWellFormed [] [] (functions_of program) 0 []
-program_fits program =
+pub program_fits : (program : Small) → first_too_large (functions_of program) ≡ None
+    → IsWellFormed [] [] (functions_of program) 0 []
+program_fits program within =
     let functions = functions_of program in
     record {
       entry_in = omega arith;
       starts_in = All-nil (λ n. n < length functions);
+      first_values = refl;
+      limits = all_within functions within;
       types = All-nil (λ (global : GlobalKind). IsTrue (is_within 0 global.ty));
       each = body_fits functions program.main false (map item_plan program.items) 0
           (All-map (PlanFits functions) item_plan program.items
@@ -281,9 +285,8 @@ program_fits program =
           (omega arith);
     }
 
-pub lowered_fits : (shapes : List Shape) (globals : List GlobalKind) (functions : List Function)
-    (starts : List ℕ) (program : Small) → shapes ≡ [] → globals ≡ []
-    → functions ≡ functions_of program → starts ≡ []
-    → IsWellFormed shapes globals functions 0 starts
-lowered_fits shapes globals functions starts program a b d e =
-    rw (a, b, d, e) (program_fits program)
+pub lowered_fits : (functions : List Function) (program : Small) → functions ≡ functions_of program
+    → first_too_large functions ≡ None → IsWellFormed [] [] functions 0 []
+lowered_fits functions program is within =
+    subst (λ fs. IsWellFormed [] [] fs 0 []) (sym is)
+    (program_fits program (ap first_too_large (sym is) ∙ within))

@@ -1,9 +1,12 @@
 -- Every small program has one graph.
 use mathlib.Core.HLevel.{is_prop→PathP}
-use Rattle.std.proofs.Common.{◌≡◌, [], refl, sym, ◌∙◌}
+use Rattle.std.proofs.Common.{◌≡◌, [], refl, sym, ap, ◌∙◌}
+use Rattle.std.specs.Prelude.{None}
 use Rattle.sw_graph.specs.declared.graph.Graph.{Graph}
 use Rattle.sw_graph.specs.OneProof.{IsWellFormed-prop}
+use Rattle.sw_graph.specs.Limits.{first_too_large}
 use Rattle.sw_graph.specs.WellFormed.{IsWellFormed}
+use Rattle.sw_graph.proofs.LimitLemmas.{none_too_large}
 use Rattle.sw_small.specs.declared.tree.Small.{Small}
 use Rattle.sw_small.specs.Lower.{functions_of, IsLowered}
 use Rattle.sw_small.proofs.GraphFits.{program_fits}
@@ -23,18 +26,25 @@ same_graph a b shapes globals functions entry starts = λ i. record {
       a.well_formed b.well_formed i;
 }
 
-pub some_graph : (program : Small) → (graph : Graph) × IsLowered program graph
-some_graph program = (
+pub some_graph : (program : Small) → first_too_large (functions_of program) ≡ None
+    → (graph : Graph) × IsLowered program graph
+some_graph program within = (
   record {
     shapes = [];
     globals = [];
     functions = functions_of program;
     entry = 0;
     starts = [];
-    well_formed = program_fits program;
+    well_formed = program_fits program within;
   },
   record { functions = refl; entry = refl; starts = refl; globals = refl; shapes = refl },
 )
+
+pub lowered_within : (program : Small) (graph : Graph) → IsLowered program graph
+    → first_too_large (functions_of program) ≡ None
+lowered_within program graph is =
+    ap first_too_large (sym is.functions)
+    ∙ none_too_large graph.functions graph.well_formed.limits
 
 pub one_graph : (program : Small) (a b : Graph) → IsLowered program a → IsLowered program b → a ≡ b
 one_graph program a b is_a is_b =

@@ -1,7 +1,8 @@
-ghost use Rattle.std.specs.Prelude.{◌≡◌, ◌⊎◌, ℕ, List};
+ghost use Rattle.std.specs.Prelude.{◌≡◌, ◌⊎◌, ℕ, None, List};
 ghost use Rattle.sw_graph.specs.declared.graph.Graph.{Graph};
 ghost use Rattle.sw_small.specs.declared.tree.Small.{Small};
-ghost use Rattle.sw_small.specs.Lower.{IsLowered};
+ghost use Rattle.sw_graph.specs.Limits.{first_too_large};
+ghost use Rattle.sw_small.specs.Lower.{functions_of, IsLowered};
 ghost use Rattle.sw_small.specs.Small.{IsSmall, IsUnexpected, Spells};
 ghost use Rattle.sw_token.specs.Spelling.{IsSpelling, Spelled};
 
@@ -13,8 +14,12 @@ pub fn spellings_have_one_meaning()
     ensures one_unexpected { (tokens : List Spelled) (a b : ℕ) → IsUnexpected tokens a → IsUnexpected tokens b → a ≡ b }
 {}
 
-/// Every program has one graph. So what is said of some graph that is lowered from it holds of each.
+/// A program without a function that is too large has a graph, and no program has two. So what is said of some graph
+/// that is lowered from it holds of each.
 pub fn programs_have_one_graph()
-    ensures some_graph { (program : Small) → (graph : Graph) × IsLowered program graph }
+    ensures some_graph { (program : Small) → first_too_large (functions_of program) ≡ None
+        → (graph : Graph) × IsLowered program graph }
+    ensures none_too_large { (program : Small) (graph : Graph) → IsLowered program graph
+        → first_too_large (functions_of program) ≡ None }
     ensures one_graph { (program : Small) (a b : Graph) → IsLowered program a → IsLowered program b → a ≡ b }
 {}

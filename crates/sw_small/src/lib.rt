@@ -8,7 +8,7 @@ mod lowering;
 mod parser;
 mod tree;
 
-pub use fault::ParseFault;
+pub use fault::{LowerFault, ParseFault};
 pub use laws::{programs_have_one_graph, spellings_have_one_meaning};
 pub use lowering::lower;
 pub use parser::parse;

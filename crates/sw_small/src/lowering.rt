@@ -1,6 +1,11 @@
 ghost use Rattle.std.specs.Prelude.{◌≡◌, ℕ, ◌+◌, ◌^◌, ◌<◌, ◌≤◌, true, [], ◌∷◌, ◌++◌, length, map, sum_by, IfOk, OnOk};
+ghost use Rattle.std.specs.Prelude.{Some, None, IsErrOf};
+ghost use Rattle.sw_graph.specs.declared.function.TooLarge.{TooLarge};
+ghost use Rattle.sw_graph.specs.Limits.{first_too_large};
+ghost use Rattle.sw_graph.specs.WellFormed.{IsWellFormed};
 ghost use Rattle.sw_small.specs.Lower.{in_order, function_of, body_of, functions_of, show_plan, item_plan, item_size, size_of, IsLowered};
 
+use super::fault::LowerFault;
 use super::tree::{Item, ItemList, Show, ShowList, Small};
 use std::alloc::{AllocError, Global};
 use sw_graph::{
@@ -183,12 +188,30 @@ fn functions(alloc: Global, program: &Small) -> Result<FunctionList, AllocError>
     Ok(ListOf::from_vec(functions))
 }
 
-/// The graph of a small program.
-pub fn lower(alloc: Global, program: &Small) -> Result<Graph, AllocError>
+/// The graph of a small program, or its first function that is too large.
+pub fn lower(alloc: Global, program: &Small) -> Result<Graph, LowerFault>
     requires size { size_of program.now < 2 ^ 31 }
     ensures lowered { IfOk result (IsLowered program.now) }
+    ensures within { IfOk result (λ _. first_too_large (functions_of program.now) ≡ None) }
+    ensures too_large { (function : TooLarge) → IsErrOf result (LowerFault.TooLarge function)
+        → first_too_large (functions_of program.now) ≡ Some function }
 {
     let functions = Functions::new(alloc, functions(alloc, program)?)?;
+    if let Some(function) = functions.too_large() {
+        return Err(LowerFault::TooLarge { function });
+    }
+    Ok(graph_of(alloc, functions)?)
+}
+
+/// The graph of functions without shapes and globals, the first of them the entry.
+fn graph_of(alloc: Global, functions: Functions) -> Result<Graph, AllocError>
+    requires fits { IsWellFormed [] [] functions 0 [] }
+    ensures functions { IfOk result (λ graph. graph.functions ≡ functions) }
+    ensures entry { IfOk result (λ graph. graph.entry ≡ 0) }
+    ensures starts { IfOk result (λ graph. graph.starts ≡ []) }
+    ensures globals { IfOk result (λ graph. graph.globals ≡ []) }
+    ensures shapes { IfOk result (λ graph. graph.shapes ≡ []) }
+{
     let Ok(shapes) = Shapes::new(alloc, ListOf::new(alloc)) else {
         return Err(AllocError);
     };

@@ -1,5 +1,5 @@
 /// A location that jobs can race on: memory that more than one job may reach, and that may change.
-#[derive(Clone, Copy, Debug, PartialEq, Eq)]
+#[derive(Clone, Copy, Debug, PartialEq, Eq, Hash)]
 pub enum Place {
     /// A `var` part of an object or an actor, by the number of its cell and the part's index.
     Prop { cell: u32, part: u32 },

@@ -12,8 +12,9 @@ new-requires c =
           (program_numbered c.args.program.now c.requires.size);
     }
 
-pub new-requires-6 : goal.new-requires-6
-new-requires-6 c =
-    lowered_fits _ _ _ _ c.args.program.now (c.in-Ok.ensures.shapes ∙ c.new-2.ensures)
-    c.new-4.ensures (c.in_ok-functions-2.ensures.functions ∙ c.in_ok-functions.ensures)
-    c.new-5.ensures
+pub graph_of-requires : goal.graph_of-requires
+graph_of-requires c = record {
+  fits = lowered_fits c.in_ok-functions-2.functions c.args.program.now
+      (c.in_ok-functions-2.ensures.functions ∙ c.in_ok-functions.ensures)
+      (sym c.too_large.ensures ∙ c.in_default.is);
+}
