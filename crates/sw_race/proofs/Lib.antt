@@ -1,2 +1,7 @@
+pub mod IndexLemmas
+pub mod LeastLemmas
 pub mod LiveLemmas
+pub mod TargetLemmas
+pub mod UpdateLemmas
+pub mod UsesLemmas
 pub mod WithLemmas

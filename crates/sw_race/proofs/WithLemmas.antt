@@ -20,11 +20,11 @@ use Rattle.sw_race.specs.With.{IsRaceOf, other_of, IsLeastRaceOf, is_same_place,
 use Rattle.sw_race.specs.With.{ordered, IsFound}
 
 -- the test of two locations
-and_left : (a b : Bool) → a && b ≡ true → a ≡ true
+pub and_left : (a b : Bool) → a && b ≡ true → a ≡ true
 and_left true b e = refl
 and_left false b e = cc
 
-and_right : (a b : Bool) → a && b ≡ true → b ≡ true
+pub and_right : (a b : Bool) → a && b ≡ true → b ≡ true
 and_right true b e = e
 and_right false b e = cc
 
@@ -34,7 +34,7 @@ same_numbers a b e = grind (arith, nat_tests)
 same_number : (a : ℕ) → eqb a a ≡ true
 same_number a = grind (arith, nat_tests)
 
-place_is : (p q : Place) → is_same_place p q ≡ true → p ≡ q
+pub place_is : (p q : Place) → is_same_place p q ≡ true → p ≡ q
 place_is (Prop c i) (Prop d k) e =
     let cells = same_numbers c d (and_left (eqb c d) (eqb i k) e) in
     let parts = same_numbers i k (and_right (eqb c d) (eqb i k) e) in
@@ -48,12 +48,12 @@ place_is (BoxOf c) (Prop d k) e = cc
 place_is (BoxOf c) (Global h) e = cc
 place_is (BoxOf c) (BoxOf d) e = ap BoxOf (same_numbers c d e)
 
-place_same : (p : Place) → is_same_place p p ≡ true
+pub place_same : (p : Place) → is_same_place p p ≡ true
 place_same (Prop c i) = ap (λ b. b && eqb i i) (same_number c) ∙ same_number i
 place_same (Global g) = same_number g
 place_same (BoxOf c) = same_number c
 
-or_swap : (a b : Bool) → a || b ≡ true → b || a ≡ true
+pub or_swap : (a b : Bool) → a || b ≡ true → b || a ≡ true
 or_swap true true e = refl
 or_swap true false e = refl
 or_swap false true e = refl

@@ -1,2 +1,5 @@
+pub mod Index
 pub mod Live
+pub mod Target
+pub mod Uses
 pub mod With

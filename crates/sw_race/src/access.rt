@@ -115,7 +115,7 @@ fn write_by(job: u32, at: u32, place: Place) -> Access
 }
 
 /// The cell that an operand refers to, by number.
-fn reference_at(frame: &Frame, operand: &Operand) -> Option<u32>
+pub fn reference_at(frame: &Frame, operand: &Operand) -> Option<u32>
     ensures { result ≡ reference_at frame.now.regs operand.now }
 {
     frame.value_at(operand.reg)?.reference()
@@ -188,7 +188,7 @@ fn is_var_part(graph: &Graph, shape: u32, part: u32) -> bool
 }
 
 /// The global with a number, if it is a `var`.
-fn global_at(graph: &Graph, global: u32) -> Option<Place>
+pub fn global_at(graph: &Graph, global: u32) -> Option<Place>
     ensures { result ≡ global_at graph.now global }
 {
     if graph.globals.get(global as usize)?.mutable {

@@ -1,4 +1,5 @@
 ghost use Rattle.std.specs.Prelude.{◌≡◌, ◌<◌, ◌^◌, length};
+ghost use Rattle.sw_race.specs.Index.{IsFoundOfAll};
 ghost use Rattle.sw_race.specs.With.{IsFound, IsFirstRival, is_same_place, are_rivals, ordered};
 
 use crate::access::next_access;
@@ -14,6 +15,20 @@ pub fn race_with(graph: &Graph, state: &State, job: u32) -> Option<Race>
     let access = next_access(graph, state, job)?;
     let rival = first_rival(graph, state, access)?;
     Some(ordered(access, rival))
+}
+
+/// The least race of a state, if it is racing.
+#[tactic(auto, using(crate::proofs::LeastLemmas::searches))]
+pub fn least_race(graph: &Graph, state: &State) -> Option<Race>
+    requires { length state.now.jobs < 2 ^ 32 }
+    ensures { IsFoundOfAll graph.now state.now result }
+{
+    for number in 0..state.jobs.len() as u32 {
+        if let Some(race) = race_with(graph, state, number) {
+            return Some(race);
+        }
+    }
+    None
 }
 
 /// The access of the first other job that conflicts with an access.

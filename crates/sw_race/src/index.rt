@@ -1,0 +1,191 @@
+use crate::target::{Target, job_target, target_at};
+use crate::uses::{UsesByPlace, is_alone, take_in, take_out};
+use crate::with::{least_race, race_with};
+use indexmap::IndexMap;
+use std::alloc::{AllocError, Global};
+use std::marker::Model;
+use sw_graph::Graph;
+use sw_list::ListOf;
+use sw_value::{Race, State};
+
+/// An index of the locations that running jobs are about to access. It stands for one state after
+/// another: after each item `update` tells the race of the job that the item names, in a time that
+/// doesn't grow with the number of jobs unless there is one. Contracts see the target of each job.
+#[derive(Drop)]
+pub struct RaceIndex {
+    targets: ListOf<Option<Target>>,
+    uses: UsesByPlace,
+    /// Set only where no two targets clash.
+    clear: bool,
+}
+
+impl Model for RaceIndex {
+    ghost use Rattle.std.specs.Prelude.{List, Option};
+    ghost use Rattle.std.specs.Coded.{coded_list, coded_option};
+    ghost use Rattle.sw_race.specs.declared.target.Target.{Target};
+    ghost use Rattle.sw_race.specs.contracts.target.Target as target;
+    ghost use Rattle.sw_race.specs.Index.{IsIndexed};
+
+    ghost Value = { List (Option Target) };
+
+    ghost coded = { coded_list (coded_option target.the_row.coded) };
+
+    ghost view = { λ i. i.targets };
+
+    ghost invariant = { λ i. IsIndexed i.uses i.clear i.targets };
+}
+
+impl RaceIndex {
+    ghost use Rattle.std.specs.Prelude.{◌≡◌, ◌+◌, ◌<◌, ◌≤◌, ◌^◌, ℕ, Option, List, [], ◌∷◌, ◌++◌};
+    ghost use Rattle.std.specs.Prelude.{None, Some, true, length, slice_set, IfOk, OnOk, OnErr};
+    ghost use Rattle.sw_race.specs.declared.target.Target.{Target};
+    ghost use Rattle.sw_race.specs.Index.{Stands, IsOneBehind, IsFoundOfAll, HasNoRival, kept_up};
+    ghost use Rattle.sw_race.specs.With.{IsFound};
+
+    /// The index that stands for a state.
+    pub fn new(alloc: Global, graph: &Graph, state: &State) -> Result<RaceIndex, AllocError>
+        requires jobs { length state.now.jobs < 2 ^ 32 }
+        ensures { IfOk result (Stands graph.now state.now) }
+    {
+        let mut index = RaceIndex::empty(alloc);
+        for job in state.jobs.as_slice() {
+            index.add(job_target(graph, job))?;
+        }
+        Ok(index)
+    }
+
+    /// Follows an item of a job from the state for which the index stands, and gives the race of that
+    /// job with the least other job. Where memory runs out the index stays as it was.
+    pub fn update(
+        &mut self,
+        graph: &Graph,
+        state: &State,
+        job: u32,
+    ) -> Result<Option<Race>, AllocError>
+        requires behind { IsOneBehind graph.now self.old state.now job }
+        requires jobs { length state.now.jobs < 2 ^ 32 }
+        ensures race { IfOk result (IsFound graph.now state.now job) }
+        ensures stands { OnOk result (Stands graph.now state.now self.new) }
+        ensures err { OnErr result (self.new ≡ self.old) }
+    {
+        let next = target_at(graph, state, job);
+        self.keep_up(state.jobs.len(), job, next)?;
+        if self.has_no_rival(next) {
+            return Ok(None);
+        }
+        Ok(race_with(graph, state, job))
+    }
+
+    /// The least race of the state for which the index stands, if that is racing. It looks at no job
+    /// where the targets of no two jobs ever clashed.
+    pub fn least_race(&self, graph: &Graph, state: &State) -> Option<Race>
+        requires stands { Stands graph.now state.now self.now }
+        requires jobs { length state.now.jobs < 2 ^ 32 }
+        ensures { IsFoundOfAll graph.now state.now result }
+    {
+        if self.clear {
+            return None;
+        }
+        least_race(graph, state)
+    }
+
+    /// The index of no job.
+    fn empty(alloc: Global) -> RaceIndex
+        ensures { result ≡ [] }
+    {
+        RaceIndex {
+            targets: ListOf::new(alloc),
+            uses: IndexMap::new(alloc),
+            clear: true,
+        }
+    }
+
+    /// Adds a job with its target.
+    fn add(&mut self, next: Option<Target>) -> Result<(), AllocError>
+        requires room { length self.old < 2 ^ 32 }
+        ensures ok { OnOk result (self.new ≡ self.old ++ next ∷ []) }
+        ensures err { OnErr result (self.new ≡ self.old) }
+    {
+        let number = self.targets.len();
+        self.grow()?;
+        match self.replace(number, next) {
+            Ok(()) => Ok(()),
+            Err(error) => {
+                self.shrink();
+                Err(error)
+            }
+        }
+    }
+
+    /// Gives a job its next target, after a job without one is added if there are more jobs.
+    fn keep_up(&mut self, jobs: usize, job: u32, next: Option<Target>) -> Result<(), AllocError>
+        requires room { length self.old < 2 ^ 32 }
+        ensures ok { OnOk result (self.new ≡ kept_up jobs job next self.old) }
+        ensures err { OnErr result (self.new ≡ self.old) }
+    {
+        let grows = self.targets.len() < jobs;
+        if !grows {
+            return self.set(job, next);
+        }
+        self.grow()?;
+        match self.set(job, next) {
+            Ok(()) => Ok(()),
+            Err(error) => {
+                self.shrink();
+                Err(error)
+            }
+        }
+    }
+
+    /// Adds a job without target.
+    fn grow(&mut self) -> Result<(), AllocError>
+        ensures ok { OnOk result (self.new ≡ self.old ++ None ∷ []) }
+        ensures err { OnErr result (self.new ≡ self.old) }
+    {
+        self.targets.push(None)
+    }
+
+    /// Takes the last job away, which has no target.
+    fn shrink(&mut self)
+        requires { (targets : List (Option Target)) × (self.old ≡ targets ++ None ∷ []) }
+        ensures { (targets : List (Option Target)) → self.old ≡ targets ++ None ∷ []
+            → self.new ≡ targets }
+    {
+        let _last = self.targets.pop();
+    }
+
+    /// Gives the job with a number another target; a number past the jobs changes nothing.
+    #[tactic(auto, using(std::proofs::lemmas::List::set_past))]
+    fn set(&mut self, job: u32, next: Option<Target>) -> Result<(), AllocError>
+        requires room { length self.old < 2 ^ 33 }
+        ensures ok { OnOk result (self.new ≡ slice_set self.old job next) }
+        ensures err { OnErr result (self.new ≡ self.old) }
+    {
+        if (job as usize) < self.targets.len() {
+            self.replace(job as usize, next)?;
+        }
+        Ok(())
+    }
+
+    /// Gives a job another target.
+    fn replace(&mut self, job: usize, next: Option<Target>) -> Result<(), AllocError>
+        requires inside { job < length self.old }
+        requires room { length self.old < 2 ^ 33 }
+        ensures ok { OnOk result (self.new ≡ slice_set self.old job next) }
+        ensures err { OnErr result (self.new ≡ self.old) }
+    {
+        let old = *self.targets.at(job);
+        take_in(&mut self.uses, next)?;
+        take_out(&mut self.uses, old);
+        self.targets.set(job, next);
+        self.clear = self.clear && is_alone(&self.uses, next);
+        Ok(())
+    }
+
+    /// Whether the target of a job clashes with that of no other job.
+    fn has_no_rival(&self, target: Option<Target>) -> bool
+        ensures { result ≡ true → HasNoRival self.now target }
+    {
+        is_alone(&self.uses, target)
+    }
+}
