@@ -5,3 +5,4 @@ pub mod ReplayLemmas
 pub mod RunSteps
 pub mod ScheduleLaws
 pub mod ScheduleSteps
+pub mod WatchLemmas

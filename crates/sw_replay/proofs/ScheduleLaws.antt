@@ -162,7 +162,7 @@ written_out-push runs job count =
       length-replicate count job,
     )
 
-written_out-both : (runs more : List (ℕ × ℕ))
+pub written_out-both : (runs more : List (ℕ × ℕ))
     → written_out (runs ++ more) ≡ written_out runs ++ written_out more
 written_out-both [] more = refl
 written_out-both (first ∷ runs) more =

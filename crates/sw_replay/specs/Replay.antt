@@ -1,8 +1,9 @@
 -- The replay of a list of items, which is watched for races: it stops at the first state that is
 -- racing.
-use Rattle.std.specs.Prelude.{ℕ, ◌<◌, ◌≤◌, List, length, take}
+use Rattle.std.specs.Prelude.{ℕ, ◌<◌, ◌≤◌, Option, Some, None, List, length, take}
 use Rattle.sw_graph.specs.declared.graph.Graph.{Graph}
 use Rattle.sw_value.specs.declared.race.Race.{Race}
+use Rattle.sw_value.specs.declared.state.State.{State}
 use Rattle.sw_value.specs.Racing.{Racing, IsLeastRace}
 use Rattle.sw_value.specs.Reach.{reach}
 use Rattle.sw_replay.specs.declared.output.End.{End}
@@ -24,6 +25,11 @@ replay_with end graph items =
       ended = ended_in state;
       jobs = jobs_in state;
     }
+
+-- how it ends in a state: with the race, if there is one, and else as the machine stands
+abbrev pub end_after : Option Race → State → End
+end_after None state = end_of state
+end_after (Some race) state = Raced race
 
 -- the replay that takes all items
 abbrev pub whole_replay : Graph → List ℕ → Replay

@@ -29,8 +29,8 @@ pub fn items_of_texts()
     ensures few { (bytes items : List ℕ) → IsItems bytes items → length items ≤ MAX_ITEMS }
 {}
 
-/// Every list of items has one replay. That of a graph that the machine runs today takes all items,
-/// since none of its instructions accesses a location.
+/// Every list of items has one replay. That of a graph whose instructions access no location takes
+/// all items.
 pub fn items_have_one_replay()
     ensures some { (graph : Graph) (items : List ℕ) →
         (replay : Replay) × IsReplay graph items replay }

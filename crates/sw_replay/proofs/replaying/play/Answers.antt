@@ -1,9 +1,14 @@
-use Rattle.sw_replay.proofs.LineLemmas.{few_jobs, played_none}
+use Rattle.sw_replay.specs.Items.{written_out}
+use Rattle.sw_replay.proofs.WatchLemmas.{few_in, replay_is}
 use Rattle.sw_replay.proofs.replaying.play.Goals as goal
 
-pub play_runs-requires-clause-start : goal.play_runs-requires-clause-start
-play_runs-requires-clause-start c =
-    rw (c.in_ok-state.ensures, c.new-lines.ensures.items) (played_none c.args.graph.now)
-
 pub outcome-requires : goal.outcome-requires
-outcome-requires c = rw c.in_ok-play_runs.ensures.state_is (few_jobs c.args.graph.now _)
+outcome-requires c =
+    few_in c.args.graph.now (written_out c.args.runs.now) c.play_runs.new.progress
+    c.in_ok-race.race c.in_ok-race.ensures.whole c.in_ok-race.ensures.stopped
+
+pub returns : goal.returns
+returns c =
+    replay_is c.args.graph.now (written_out c.args.runs.now) c.play_runs.new.progress
+    c.in_ok-race.race c.from_vec.result c.outcome.result c.in_ok-race.ensures.whole
+    c.in_ok-race.ensures.stopped c.from_vec.ensures c.outcome.ensures
