@@ -1,0 +1,8 @@
+pub mod Annotations
+pub mod FirstValues
+pub mod Kinded
+pub mod Kinds
+pub mod Operands
+pub mod Standing
+pub mod Stuck
+pub mod Supplied

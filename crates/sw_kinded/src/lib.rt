@@ -1,0 +1,11 @@
+//! What every state of the machine keeps that items lead to: each value has the kind of its place,
+//! so that no running job is ever stuck. It has definitions and proofs alone, and knows nothing of
+//! how a step is taken, of races or of regions.
+#![tactic(auto)]
+
+mod laws;
+
+pub use laws::{
+    annotations_show_supplies, graphs_are_supplied, kinded_states_fit, machine_is_never_stuck,
+    steps_keep_kinds, supplies_are_needed,
+};
