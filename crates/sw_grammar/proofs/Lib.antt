@@ -1,1 +1,6 @@
 pub mod ProgramLaws
+pub mod TypesAlike
+pub mod ExprsAlike
+pub mod ClosuresAlike
+pub mod StmtsAlike
+pub mod BodiesAlike

@@ -114,7 +114,7 @@ module _ {N : Type 0} (El : N → Type 0) (shape_of : N → Shape)
   abbrev O : ℕ → List Spelled → Type 0
   O depth = opens El shape_of body depth form
 
-  opening_of : (depth : ℕ) → Opening (O depth) (reader depth)
+  pub opening_of : (depth : ℕ) → Opening (O depth) (reader depth)
   opening_of depth = opens_law El shape_of body good depth form ok
 
   -- Where the fault is at a token that can't be taken, none before it opens a nest too many; nor

@@ -18,6 +18,8 @@ pub mod ListLoops
 pub mod NestReads
 pub mod DepthEnough
 pub mod GrammarLaws
+pub mod FrontLaws
+pub mod Alike
 pub mod Opening
 pub mod OpeningLoops
 pub mod OpensStart

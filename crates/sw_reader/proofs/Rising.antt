@@ -95,3 +95,23 @@ IsSpelling-completed before bad filler is fills = is_spelling 0 (before ++ fille
     (texts_fills (end_of 0 before) filler fills))
     (Rises-append 0 before filler (Rises-prefix 0 before bad (rises (before ++ bad) is.rising))
     (Rises-fills (end_of 0 before) filler fills))
+
+Rises-rest : (from : ℕ) (us vs : List Spelled) → Rises from (us ++ vs) → Rises (end_of from us) vs
+Rises-rest from [] vs h = h
+Rises-rest from (u ∷ us) vs h = Rises-rest (suc u.at) us vs h.1
+
+texts_rest : (us vs : List Spelled) → AllByRecursion HasTokenText (us ++ vs)
+    → AllByRecursion HasTokenText vs
+texts_rest [] vs h = h
+texts_rest (u ∷ us) vs h = texts_rest us vs h.1
+
+-- The first tokens of a spelling are a spelling, and so are those after them.
+pub IsSpelling-first : (us vs : List Spelled) → IsSpelling (us ++ vs) → IsSpelling us
+IsSpelling-first us vs is = is_spelling 0 us
+    (texts_prefix us vs (recursion_from_All HasTokenText (us ++ vs) is.texts))
+    (Rises-prefix 0 us vs (rises (us ++ vs) is.rising))
+
+pub IsSpelling-rest : (us vs : List Spelled) → IsSpelling (us ++ vs) → IsSpelling vs
+IsSpelling-rest us vs is = is_spelling (end_of 0 us) vs
+    (texts_rest us vs (recursion_from_All HasTokenText (us ++ vs) is.texts))
+    (Rises-rest 0 us vs (rises (us ++ vs) is.rising))

@@ -8,3 +8,4 @@ pub mod Terminals
 pub mod Whole
 pub mod Outcome
 pub mod Opens
+pub mod Fronts

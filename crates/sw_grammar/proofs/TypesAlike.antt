@@ -1,0 +1,182 @@
+-- Which tokens a type has doesn't depend on the indices of names; and lists that commas part.
+use Rattle.std.proofs.Common.{◌≡◌, ℕ, List, [], ◌∷◌, ◌++◌, codes, refl}
+use Rattle.sw_token.specs.declared.Fixity.TheVariants as fixities
+use Rattle.sw_reader.specs.Sets.{Set, quoted}
+use Rattle.sw_reader.specs.Form.{Shape}
+use Rattle.sw_reader.specs.Form.Form.{terminal, nest}
+use Rattle.sw_reader.specs.Quotes.{quote}
+use Rattle.sw_reader.specs.Reader.{Reader}
+use Rattle.sw_reader.specs.Terminals.{expect}
+use Rattle.sw_reader.proofs.Alike.{Alike, Any, Same, same_done, same_token, same_token_of}
+use Rattle.sw_reader.proofs.Alike.{same_then, same_either, same_unless, same_turns, same_nest}
+use Rattle.sw_reader.proofs.Alike.{same_rule}
+use Rattle.sw_tree.specs.declared.expr.Expr.{Expr}
+use Rattle.sw_tree.specs.declared.type_tree.TypeTree.{TypeTree}
+use Rattle.sw_tree.specs.Place.{is_place}
+use Rattle.sw_grammar.specs.Nests.{Nest, El, shape_of, Form, Link}
+use Rattle.sw_grammar.specs.Nests.Nest.{in_types, in_payload, in_result, in_task_type, in_round}
+use Rattle.sw_grammar.specs.Nests.Nest.{in_args, in_member, in_empty, in_captures}
+use Rattle.sw_grammar.specs.Nests.Nest.{in_closure_params, in_closure, in_task, in_block, in_switch}
+use Rattle.sw_grammar.specs.Nests.Nest.{in_patterns, in_params, in_isolation, in_entry}
+use Rattle.sw_grammar.specs.Nests.Nest.{in_global_actor, in_struct, in_enum, in_class}
+use Rattle.sw_grammar.specs.Tokens.{name_in, at_in, name_of, at_name, value_word}
+use Rattle.sw_grammar.specs.Exprs.{with_members}
+use Rattle.sw_grammar.specs.Types.{is_empty, round_type, marked_type, task_type, named_type, type}
+use Rattle.sw_grammar.specs.Types.{more_of, some_of, list_of, types, task_inner}
+
+-- Of members it is asked that they make a place of a place, and of no other expression.
+abbrev pub LinksAlike : List Link → List Link → Type 0
+LinksAlike links others =
+    (base other : Expr) → is_place base ≡ is_place other
+    → is_place (with_members base links) ≡ is_place (with_members other others)
+
+-- What is asked of the values of a nest: what the grammar looks at after it.
+abbrev pub NestAlike : (n : Nest) → El n → El n → Type 0
+NestAlike in_types a b = is_empty a ≡ is_empty b
+NestAlike in_payload a b = Unit {0}
+NestAlike in_result a b = Unit {0}
+NestAlike in_task_type a b = Unit {0}
+NestAlike in_round a b = Unit {0}
+NestAlike in_args a b = Unit {0}
+NestAlike in_member a b = LinksAlike a b
+NestAlike in_empty a b = Unit {0}
+NestAlike in_captures a b = Unit {0}
+NestAlike in_closure_params a b = Unit {0}
+NestAlike in_closure a b = Unit {0}
+NestAlike in_task a b = Unit {0}
+NestAlike in_block a b = Unit {0}
+NestAlike in_switch a b = Unit {0}
+NestAlike in_patterns a b = Unit {0}
+NestAlike in_params a b = Unit {0}
+NestAlike in_isolation a b = Unit {0}
+NestAlike in_entry a b = Unit {0}
+NestAlike in_global_actor a b = Unit {0}
+NestAlike in_struct a b = Unit {0}
+NestAlike in_enum a b = Unit {0}
+NestAlike in_class a b = Unit {0}
+
+-- the nests of bodies, and of no declaration
+abbrev pub OfBody : Nest → Type 0
+OfBody in_types = Unit {0}
+OfBody in_payload = ⊥
+OfBody in_result = Unit {0}
+OfBody in_task_type = Unit {0}
+OfBody in_round = Unit {0}
+OfBody in_args = Unit {0}
+OfBody in_member = Unit {0}
+OfBody in_empty = Unit {0}
+OfBody in_captures = Unit {0}
+OfBody in_closure_params = Unit {0}
+OfBody in_closure = Unit {0}
+OfBody in_task = Unit {0}
+OfBody in_block = Unit {0}
+OfBody in_switch = Unit {0}
+OfBody in_patterns = Unit {0}
+OfBody in_params = ⊥
+OfBody in_isolation = ⊥
+OfBody in_entry = ⊥
+OfBody in_global_actor = ⊥
+OfBody in_struct = ⊥
+OfBody in_enum = ⊥
+OfBody in_class = ⊥
+
+-- two forms of this grammar, where at most `depth` nests may be opened, and `F` and `G` read what
+-- stands in them
+abbrev pub SameForm : ℕ → ((n : Nest) → Reader (El n)) → ((n : Nest) → Reader (El n)) → {s : Shape}
+    {A : Type 0} → (A → A → Type 0) → Form s A → Form s A → Type 0
+SameForm depth F G P p q = Same {shape_of = shape_of} depth F G P p q
+
+-- `f` and `g` give the indices of names.
+module _ (f g : List ℕ → ℕ) (depth : ℕ) (F G : (n : Nest) → Reader (El n)) where
+  abbrev Alike-form : {s : Shape} {A : Type 0} → (A → A → Type 0) → Form s A → Form s A → Type 0
+  Alike-form P p q = SameForm depth F G P p q
+
+  pub same_quote : (text : List ℕ) → Alike-form Any (expect text) (expect text)
+  same_quote text = same_token (quote text)
+
+  pub same_name : (set : Set) (text : List ℕ)
+      → Alike-form Any (terminal (name_in f set text)) (terminal (name_in g set text))
+  same_name set text = same_token_of set text fixities.None (name_of f) (name_of g)
+
+  pub same_at : (set : Set) (text : List ℕ)
+      → Alike-form Any (terminal (at_in f set text)) (terminal (at_in g set text))
+  same_at set text = same_token_of set text fixities.None (at_name f) (at_name g)
+
+  -- Lists.
+  module _ {A : Type 0} {s : Shape} (p q : Form s A) (item : Alike-form Any p q) where
+    pub same_more_of : (first others : List A)
+        → Alike-form Any (more_of f first p) (more_of g others q)
+    same_more_of first others =
+        same_turns Any (λ _ _ _. refl) tt (λ _ _ _. same_then (same_quote (codes ","))
+        (λ _ _ _. same_then item (λ _ _ _. same_done tt)))
+
+    pub same_some_of : (text : List ℕ) → Alike-form Any (some_of f text p) (some_of g text q)
+    same_some_of text =
+        same_then item (λ a b _. same_then (same_more_of (a ∷ []) (b ∷ []))
+        (λ _ _ _. same_then (same_quote text) (λ _ _ _. same_done tt)))
+
+    pub same_list_of : (text : List ℕ) → Alike-form Any (list_of f text p) (list_of g text q)
+    same_list_of text =
+        same_either (same_then (same_quote text) (λ _ _ _. same_done tt)) (same_some_of text)
+
+  module _ (nests : (n : Nest) → OfBody n → Alike (NestAlike n) (F n) (G n)) where
+    pub same_opened : (text : List ℕ) (n : Nest) → OfBody n
+        → Alike-form (λ a b. NestAlike n a.1 b.1) (nest (quote text) n) (nest (quote text) n)
+    same_opened text n of_body = same_nest (quote text) n (NestAlike n) (nests n of_body)
+
+    same_round_type : Alike-form Any (round_type f) (round_type g)
+    unfolding round_type
+    same_round_type =
+        same_rule (same_then (same_opened (codes "(") in_types tt) (λ _ _ is. same_unless is
+        (same_then (same_opened (codes "->") in_result tt) (λ _ _ _. same_done tt))
+        (same_done tt)))
+
+    same_marked_type : Alike-form Any (marked_type f) (marked_type g)
+    unfolding marked_type
+    same_marked_type =
+        same_rule (same_then (same_at (quoted (codes "@Sendable")) (codes "@Sendable")) (λ _ _ _.
+        same_then (same_opened (codes "(") in_types tt) (λ _ _ _.
+        same_then (same_opened (codes "->") in_result tt) (λ _ _ _. same_done tt))))
+
+    same_task_type : Alike-form Any (task_type f) (task_type g)
+    unfolding task_type
+    same_task_type =
+        same_rule (same_then (same_name (quoted (codes "Task")) (codes "Task")) (λ _ _ _.
+        same_either (same_then (same_opened (codes "<") in_task_type tt) (λ _ _ _. same_done tt))
+        (same_done tt)))
+
+    same_named_type : Alike-form Any (named_type f) (named_type g)
+    unfolding named_type
+    same_named_type =
+        same_rule (same_then (same_name value_word (codes "print")) (λ _ _ _. same_done tt))
+
+    pub same_type : Alike-form Any (type f) (type g)
+    unfolding type
+    same_type =
+        same_rule (same_either same_marked_type (same_either same_round_type
+        (same_either same_task_type same_named_type)))
+
+    pub same_task_inner : Alike-form Any (task_inner f) (task_inner g)
+    unfolding task_inner
+    same_task_inner =
+        same_rule (same_then same_type (λ _ _ _. same_then (same_quote (codes ",")) (λ _ _ _.
+        same_then (same_quote (codes "Never")) (λ _ _ _. same_then (same_quote (codes ">"))
+        (λ _ _ _. same_done tt)))))
+
+    -- Of types it is asked whether there are none.
+    pub same_types : Alike-form (λ a b. is_empty a ≡ is_empty b) (types f) (types g)
+    unfolding types
+    same_types =
+        same_rule (same_either (same_then (same_quote (codes ")")) (λ _ _ _. same_done refl))
+        (same_then same_type (λ a b _. same_then
+        (same_turns (λ xs ys. is_empty xs ≡ is_empty ys) (λ _ _ _. refl) refl
+        (λ xs ys _. same_then (same_quote (codes ",")) (λ _ _ _.
+        same_then same_type (λ x y _. same_done (never_empty xs ys x y)))))
+        (λ _ _ is. same_then (same_quote (codes ")")) (λ _ _ _. same_done is)))))
+      where
+        never_empty : (xs ys : List TypeTree) (x y : TypeTree)
+            → is_empty (xs ++ x ∷ []) ≡ is_empty (ys ++ y ∷ [])
+        never_empty [] [] x y = refl
+        never_empty [] (_ ∷ _) x y = refl
+        never_empty (_ ∷ _) [] x y = refl
+        never_empty (_ ∷ _) (_ ∷ _) x y = refl
