@@ -5,6 +5,7 @@ pub mod ExprRules
 pub mod ClosureRules
 pub mod StmtRules
 pub mod DeclRules
+pub mod DeclsFew
 pub mod ProgramRules
 pub mod KeysDiffer
 pub mod NamesKnown

@@ -1,8 +1,9 @@
-//! That the declarations of a spelling make a program: their nodes have keys of their own and their
-//! names have texts. This crate knows the grammar's forms and what a tree holds. It knows no parser.
+//! That the declarations of a spelling make a program: their nodes have keys of their own, their
+//! names have texts, and they are no more than the tokens. This crate knows the grammar's forms and
+//! what a tree holds. It knows no parser.
 #![tactic(auto)]
 
-ghost use Rattle.std.specs.Prelude.{ℕ, List};
+ghost use Rattle.std.specs.Prelude.{ℕ, ◌≤◌, List, length};
 ghost use Rattle.sw_token.specs.Spelling.{Spelled};
 ghost use Rattle.sw_tree.specs.Contents.{AreKeyed, AreNamed};
 ghost use Rattle.sw_tree.specs.Names.{id_in};
@@ -17,4 +18,10 @@ pub fn spelled_declarations_are_programs()
         → Spells id_of decls tokens → AreKeyed decls }
     ensures named { (texts : List (List ℕ)) (decls : List Decl) (tokens : List Spelled)
         → AreInterned texts tokens → Spells (id_in texts) decls tokens → AreNamed texts decls }
+{}
+
+/// Each declaration of a spelling has a token of its own.
+pub fn spelled_declarations_are_few()
+    ensures { (id_of : List ℕ → ℕ) (decls : List Decl) (tokens : List Spelled)
+        → Spells id_of decls tokens → length decls ≤ length tokens }
 {}

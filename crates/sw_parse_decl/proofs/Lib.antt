@@ -1,6 +1,5 @@
 pub mod CommaLoops
 pub mod DeclSets
-pub mod NestSteps
 pub mod MemberLists
 pub mod MemberLoops
 pub mod MarkSteps

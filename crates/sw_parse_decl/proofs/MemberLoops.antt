@@ -27,7 +27,7 @@ use Rattle.sw_reader.proofs.ReaderLaws.{bind_step, bind_stop, ok_parts}
 use Rattle.sw_grammar.specs.Nests.{El, shape_of, Member}
 use Rattle.sw_grammar.specs.Grammar.{body, good}
 use Rattle.sw_grammar.specs.Reading.{read}
-use Rattle.sw_parse_decl.specs.Nested.{made}
+use Rattle.sw_parse_parts.specs.Nested.{made}
 use Rattle.sw_parse_decl.specs.Kinds.{member_shape, member_of, member_first, members_of, rest_of}
 use Rattle.sw_parse_decl.specs.Members.{collected, with_member, and_member}
 use Rattle.sw_parse_decl.specs.declared.kinds.TypeKind.{TypeKind}

@@ -25,6 +25,7 @@ use Rattle.sw_grammar.specs.Decls.{program}
 use Rattle.sw_grammar.specs.Program.{Spells, SpellsWithin, SpellsDecls}
 use Rattle.sw_grammar.specs.Reading.{read}
 use Rattle.sw_grammar_keys.specs.Interned.{texts_in, AreInterned}
+use Rattle.sw_grammar_keys.proofs.DeclsFew.{spelled_are_few}
 use Rattle.sw_grammar_keys.proofs.KeysDiffer.{spelled_are_keyed}
 use Rattle.sw_grammar_keys.proofs.NamesKnown.{spelled_are_named}
 use Rattle.sw_parse_decl.specs.Programs.{most_nests, texts_of, IsProgramOf, whole_program}
@@ -144,6 +145,12 @@ pub keyed_program : (tokens : List Spelled) (decls : List Decl) → IsProgramOf 
     → AreKeyed decls
 keyed_program tokens decls given =
     spelled_are_keyed (id_in (texts_of tokens)) decls tokens (wide tokens decls given)
+
+-- Programs have no more declarations than tokens.
+pub few_program : (tokens : List Spelled) (decls : List Decl) → IsProgramOf decls tokens
+    → length decls ≤ length tokens
+few_program tokens decls given =
+    spelled_are_few (id_in (texts_of tokens)) decls tokens (wide tokens decls given)
 
 interned : (tokens : List Spelled) → AreInterned (texts_of tokens) tokens
 unfolding texts_of

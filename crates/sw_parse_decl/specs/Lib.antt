@@ -1,4 +1,3 @@
-pub mod Nested
 pub mod Members
 pub mod Kinds
 pub mod Entries

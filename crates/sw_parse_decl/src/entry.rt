@@ -8,7 +8,7 @@ ghost use Rattle.sw_grammar.specs.Exprs.{nothing};
 ghost use Rattle.sw_grammar.specs.Nests.Nest.{in_empty, in_entry, in_global_actor};
 ghost use Rattle.sw_grammar.specs.Reading.{read};
 ghost use Rattle.sw_reader.specs.Quotes.{quote};
-ghost use Rattle.sw_parse_decl.specs.Nested.{made, inner};
+ghost use Rattle.sw_parse_parts.specs.Nested.{made, nested};
 ghost use Rattle.sw_parse_decl.specs.Entries.{main_isolation, main_of};
 
 use crate::bodies::Bodies;
@@ -133,7 +133,7 @@ fn entry_body<B: Bodies>(
     tokens: &mut Cursor<'_>,
     depth: u32,
 ) -> Result<Main, Stop>
-    ensures { Gives (made main_of (inner (id_in names.now) depth (quote (codes "{")) in_entry)
+    ensures { Gives (made main_of (nested (id_in names.now) depth (quote (codes "{")) in_entry)
         tokens.old) result tokens.new }
 {
     tokens.open("{", depth)?;
@@ -142,7 +142,7 @@ fn entry_body<B: Bodies>(
 
 /// What stands in the `{` and `}` of a global actor.
 fn global_actor_body(names: &Names, tokens: &mut Cursor<'_>, depth: u32) -> Result<Name, Stop>
-    ensures { Gives (inner (id_in names.now) depth (quote (codes "{")) in_global_actor tokens.old)
+    ensures { Gives (nested (id_in names.now) depth (quote (codes "{")) in_global_actor tokens.old)
         result tokens.new }
 {
     tokens.open("{", depth)?;
@@ -151,7 +151,7 @@ fn global_actor_body(names: &Names, tokens: &mut Cursor<'_>, depth: u32) -> Resu
 
 /// `(` and `)`; gives the position of the `)`.
 fn empty_round(names: &Names, tokens: &mut Cursor<'_>, depth: u32) -> Result<u32, Stop>
-    ensures { Gives (inner (id_in names.now) depth (quote (codes "(")) in_empty tokens.old) result
+    ensures { Gives (nested (id_in names.now) depth (quote (codes "(")) in_empty tokens.old) result
         tokens.new }
 {
     tokens.open("(", depth)?;

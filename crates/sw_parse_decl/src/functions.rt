@@ -10,7 +10,7 @@ ghost use Rattle.sw_grammar.specs.Types.{more_of};
 ghost use Rattle.sw_grammar.specs.Nests.Nest.{in_params};
 ghost use Rattle.sw_grammar.specs.Reading.{read};
 ghost use Rattle.sw_reader.specs.Quotes.{quote};
-ghost use Rattle.sw_parse_decl.specs.Nested.{inner};
+ghost use Rattle.sw_parse_parts.specs.Nested.{nested};
 
 use crate::bodies::Bodies;
 use crate::isolations::{async_if, concurrent, nonisolated};
@@ -120,7 +120,7 @@ fn round_params(
     tokens: &mut Cursor<'_>,
     depth: u32,
 ) -> Result<ParamList, Stop>
-    ensures { Gives (inner (id_in names.now) depth (quote (codes "(")) in_params tokens.old) result
+    ensures { Gives (nested (id_in names.now) depth (quote (codes "(")) in_params tokens.old) result
         tokens.new }
 {
     tokens.open("(", depth)?;

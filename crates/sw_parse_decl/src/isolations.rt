@@ -10,7 +10,7 @@ ghost use Rattle.sw_grammar.specs.Decls.{isolation_inside, nonisolated, concurre
 ghost use Rattle.sw_grammar.specs.Decls.{needs_async};
 ghost use Rattle.sw_grammar.specs.Nests.Nest.{in_isolation};
 ghost use Rattle.sw_grammar.specs.Reading.{read};
-ghost use Rattle.sw_parse_decl.specs.Nested.{inner};
+ghost use Rattle.sw_parse_parts.specs.Nested.{nested};
 ghost use Rattle.sw_reader.specs.Quotes.{quote};
 
 use sw_parse_parts::attribute;
@@ -33,7 +33,7 @@ pub fn nonisolated(names: &Names, tokens: &mut Cursor<'_>, depth: u32) -> Result
 
 /// What stands in the `(` and `)` of `nonisolated`.
 fn round_isolation(names: &Names, tokens: &mut Cursor<'_>, depth: u32) -> Result<u32, Stop>
-    ensures { Gives (inner (id_in names.now) depth (quote (codes "(")) in_isolation tokens.old)
+    ensures { Gives (nested (id_in names.now) depth (quote (codes "(")) in_isolation tokens.old)
         result tokens.new }
 {
     tokens.open("(", depth)?;

@@ -20,4 +20,4 @@ mod types;
 pub use bodies::Bodies;
 pub use fault::ParseFault;
 pub use laws::tokens_have_one_answer;
-pub use programs::{MAX_NESTS, program};
+pub use programs::{MAX_NESTS, intern_names, program};

@@ -10,7 +10,7 @@ ghost use Rattle.sw_grammar.specs.Types.{more_of};
 ghost use Rattle.sw_grammar.specs.Nests.Nest.{in_payload};
 ghost use Rattle.sw_grammar.specs.Reading.{read};
 ghost use Rattle.sw_reader.specs.Quotes.{quote};
-ghost use Rattle.sw_parse_decl.specs.Nested.{inner};
+ghost use Rattle.sw_parse_parts.specs.Nested.{nested};
 ghost use Rattle.sw_parse_decl.specs.Members.{collected, with_member, and_member};
 
 use crate::bodies::Bodies;
@@ -296,7 +296,7 @@ fn payload(
     tokens: &mut Cursor<'_>,
     depth: u32,
 ) -> Result<TypeTreeList, Stop>
-    ensures { Gives (inner (id_in names.now) depth (quote (codes "(")) in_payload tokens.old) result
+    ensures { Gives (nested (id_in names.now) depth (quote (codes "(")) in_payload tokens.old) result
         tokens.new }
 {
     tokens.open("(", depth)?;

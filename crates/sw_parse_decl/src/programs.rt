@@ -1,6 +1,6 @@
 //! Whole programs, and the names of their tokens.
 
-ghost use Rattle.std.specs.Prelude.{◌≡◌, ◌+◌, ◌<◌, length, OnOk, IfOk, IfErr};
+ghost use Rattle.std.specs.Prelude.{◌≡◌, ◌+◌, ◌<◌, ◌≤◌, length, OnOk, IfOk, IfErr};
 ghost use Rattle.sw_token.specs.Spelling.{spelling_of};
 ghost use Rattle.sw_token.specs.Tokens.{IsTokens};
 ghost use Rattle.sw_reader.specs.Outcome.{Gives};
@@ -50,7 +50,7 @@ fn intern_next(names: &mut Names, tokens: &Cursor<'_>) -> Result<(), AllocError>
 }
 
 /// Interns the names of all tokens, as they come.
-fn intern_names(names: &mut Names, tokens: &mut Cursor<'_>) -> Result<(), AllocError>
+pub fn intern_names(names: &mut Names, tokens: &mut Cursor<'_>) -> Result<(), AllocError>
     requires { length names.old + length tokens.old < 4294967295 }
     ensures { OnOk result (names.new ≡ with_texts names.old (texts_in tokens.old)) }
 {
@@ -83,6 +83,8 @@ pub fn program<B: Bodies>(
         tokens.now)) }
     ensures decls { IfOk result (λ program. IsProgramOf program.decls (spelling_of source.now
         tokens.now)) }
+    // Each declaration has a token of its own.
+    ensures few { IfOk result (λ program. length program.decls ≤ length tokens.now) }
     ensures fault { IfErr result (λ fault. Explains fault (spelling_of source.now tokens.now)) }
 {
     // No text has more tokens than bytes, so each index in the list fits.

@@ -8,7 +8,7 @@ ghost use Rattle.std.specs.Prelude.{codes};
 ghost use Rattle.sw_grammar.specs.Nests.Nest.{in_struct, in_enum, in_class};
 ghost use Rattle.sw_grammar.specs.Reading.{read};
 ghost use Rattle.sw_reader.specs.Quotes.{quote};
-ghost use Rattle.sw_parse_decl.specs.Nested.{made, inner};
+ghost use Rattle.sw_parse_parts.specs.Nested.{made, nested};
 ghost use Rattle.sw_parse_decl.specs.declared.kinds.TypeKind.TheVariants as kinds;
 ghost use Rattle.sw_parse_decl.specs.Members.{and_member, collected};
 ghost use Rattle.sw_parse_decl.specs.Kinds.{member_of, members_of};
@@ -296,7 +296,7 @@ fn struct_body<B: Bodies>(
     tokens: &mut Cursor<'_>,
     depth: u32,
 ) -> Result<Members, Stop>
-    ensures { Gives (made collected (inner (id_in names.now) depth (quote (codes "{")) in_struct)
+    ensures { Gives (made collected (nested (id_in names.now) depth (quote (codes "{")) in_struct)
         tokens.old) result tokens.new }
 {
     tokens.open("{", depth)?;
@@ -311,7 +311,7 @@ fn enum_body<B: Bodies>(
     tokens: &mut Cursor<'_>,
     depth: u32,
 ) -> Result<Members, Stop>
-    ensures { Gives (made collected (inner (id_in names.now) depth (quote (codes "{")) in_enum)
+    ensures { Gives (made collected (nested (id_in names.now) depth (quote (codes "{")) in_enum)
         tokens.old) result tokens.new }
 {
     tokens.open("{", depth)?;
@@ -326,7 +326,7 @@ fn class_body<B: Bodies>(
     tokens: &mut Cursor<'_>,
     depth: u32,
 ) -> Result<Members, Stop>
-    ensures { Gives (made collected (inner (id_in names.now) depth (quote (codes "{")) in_class)
+    ensures { Gives (made collected (nested (id_in names.now) depth (quote (codes "{")) in_class)
         tokens.old) result tokens.new }
 {
     tokens.open("{", depth)?;

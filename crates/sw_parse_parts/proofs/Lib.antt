@@ -1,2 +1,3 @@
 pub mod WordSets
 pub mod BeginSets
+pub mod NestSteps

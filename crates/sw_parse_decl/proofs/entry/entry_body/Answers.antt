@@ -3,7 +3,7 @@ use Rattle.sw_reader.specs.Quotes.{quote}
 use Rattle.sw_tree.specs.Names.{id_in}
 use Rattle.sw_grammar.specs.Nests.Nest.{in_entry}
 use Rattle.sw_parse_decl.specs.Entries.{main_of}
-use Rattle.sw_parse_decl.proofs.NestSteps.{in_nest}
+use Rattle.sw_parse_parts.proofs.NestSteps.{in_nest}
 use Rattle.sw_parse_decl.proofs.entry.entry_body.Goals as goal
 
 pub returns : goal.returns

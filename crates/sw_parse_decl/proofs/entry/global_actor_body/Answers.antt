@@ -2,7 +2,7 @@ use Rattle.std.proofs.Common.{codes}
 use Rattle.sw_reader.specs.Quotes.{quote}
 use Rattle.sw_tree.specs.Names.{id_in}
 use Rattle.sw_grammar.specs.Nests.Nest.{in_global_actor}
-use Rattle.sw_parse_decl.proofs.NestSteps.{in_nest_itself}
+use Rattle.sw_parse_parts.proofs.NestSteps.{in_nest_itself}
 use Rattle.sw_parse_decl.proofs.entry.global_actor_body.Goals as goal
 
 pub returns : goal.returns

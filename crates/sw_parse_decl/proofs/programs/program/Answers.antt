@@ -1,4 +1,4 @@
-use Rattle.std.proofs.Common.{◌-◌, length, arith, sym, ◌∙◌, ap, subst}
+use Rattle.std.proofs.Common.{◌-◌, ◌≤◌, length, arith, sym, ◌∙◌, ap, subst}
 use Rattle.std.proofs.lemmas.List.{length-map}
 use Rattle.std.specs.Prelude.{Err}
 use Rattle.sw_token.proofs.TokenLaws.{IsTokens-few}
@@ -17,7 +17,8 @@ use Rattle.sw_parse_decl.proofs.ProgramFaults.{
   fault_within,
   unexpected_at,
 }
-use Rattle.sw_parse_decl.proofs.ProgramFaults.{too_deep_at, keyed_program, named_program}
+use Rattle.sw_parse_decl.proofs.ProgramFaults.{too_deep_at, few_program, keyed_program}
+use Rattle.sw_parse_decl.proofs.ProgramFaults.{named_program}
 use Rattle.sw_parse_decl.proofs.programs.program.Goals as goal
 
 pub prove-unreachable-requires : goal.prove-unreachable-requires
@@ -67,6 +68,20 @@ returns-in-Ok-clause-decls g c =
     c.in_ok-names.names _ c.in_ok-names.ensures
     c.new.ensures c.new-2.ensures c.in-Ok.decls c.in-Ok.ensures
     (tokens_spelled c.args.source.now c.args.tokens.now c.len-bytes.ensures.utf8 c.requires))
+
+pub returns-in-Ok-clause-few : goal.returns-in-Ok-clause-few
+returns-in-Ok-clause-few g c =
+    subst (λ decls. length decls ≤ length c.args.tokens.now) (sym c.new-in-Ok.ensures.decls)
+    (omega (
+      arith,
+      length-map c.args.tokens.now (spelled c.args.source.now),
+      few_program (spelling_of c.args.source.now c.args.tokens.now) c.in-Ok.decls
+          (reads_program (spelling_of c.args.source.now c.args.tokens.now) c.new.result
+          c.new-2.result c.in_ok-names.names _ c.in_ok-names.ensures c.new.ensures c.new-2.ensures
+          c.in-Ok.decls c.in-Ok.ensures
+          (tokens_spelled c.args.source.now c.args.tokens.now c.len-bytes.ensures.utf8
+          c.requires)),
+    ))
 
 pub overflow_sub-result : goal.overflow_sub-result
 overflow_sub-result g c = omega (

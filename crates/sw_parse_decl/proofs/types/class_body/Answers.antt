@@ -3,7 +3,7 @@ use Rattle.sw_reader.specs.Quotes.{quote}
 use Rattle.sw_tree.specs.Names.{id_in}
 use Rattle.sw_grammar.specs.Nests.Nest.{in_class}
 use Rattle.sw_parse_decl.specs.Members.{collected}
-use Rattle.sw_parse_decl.proofs.NestSteps.{in_nest}
+use Rattle.sw_parse_parts.proofs.NestSteps.{in_nest}
 use Rattle.sw_parse_decl.proofs.types.class_body.Goals as goal
 
 pub returns : goal.returns

@@ -11,5 +11,5 @@ abbrev pub made : {A B : Type 0} → (A → B) → Reader A → Reader B
 made f reader = then_read reader (λ a. pure (f a))
 
 -- what stands in a nest, with the token that opens it
-abbrev pub inner : (List ℕ → ℕ) → ℕ → {A : Type 0} → Terminal A → (n : Nest) → Reader (El n)
-inner id_of depth t n = made (λ x. x.1) (read id_of depth (nest t n))
+abbrev pub nested : (List ℕ → ℕ) → ℕ → {A : Type 0} → Terminal A → (n : Nest) → Reader (El n)
+nested id_of depth t n = made (λ x. x.1) (read id_of depth (nest t n))

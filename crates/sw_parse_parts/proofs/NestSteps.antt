@@ -12,7 +12,7 @@ use Rattle.sw_reader.proofs.ReaderLaws.{bind_step}
 use Rattle.sw_grammar.specs.Nests.{Nest, El, shape_of}
 use Rattle.sw_grammar.specs.Grammar.{body}
 use Rattle.sw_grammar.specs.Reading.{read}
-use Rattle.sw_parse_decl.specs.Nested.{made, inner}
+use Rattle.sw_parse_parts.specs.Nested.{made, nested}
 
 module _ (id_of : List ℕ → ℕ) where
   one_in : (depth : ℕ) (n : Nest) → 0 < depth
@@ -27,7 +27,7 @@ module _ (id_of : List ℕ → ℕ) where
       Spelled) (at : ℕ) (result : Result A Stop) (left : List Spelled)
       → opening depth t ts ≡ Ok (at, us) → 0 < depth
       → Gives (made f (read id_of (depth - 1) (body id_of n)) us) result left
-      → Gives (made f (inner id_of depth t n) ts) result left
+      → Gives (made f (nested id_of depth t n) ts) result left
   in_nest {A = A} n f depth t ts us at result left opened some gives =
       subst (λ a. Gives a result left) (sym same) gives
     where
@@ -47,7 +47,7 @@ module _ (id_of : List ℕ → ℕ) where
       by (Ok x) = refl
       by (Err fault) = refl
 
-      same : made f (inner id_of depth t n) ts
+      same : made f (nested id_of depth t n) ts
           ≡ made f (read id_of (depth - 1) (body id_of n)) us
       same = ap (λ answer. and_then {X = El n × List Spelled} {Y = A × List Spelled}
           (and_then {X = (ℕ × El n) × List Spelled} {Y = El n × List Spelled} answer
@@ -59,9 +59,9 @@ module _ (id_of : List ℕ → ℕ) where
       (result : Result (El n) Stop) (left : List Spelled)
       → opening depth t ts ≡ Ok (at, us) → 0 < depth
       → Gives (read id_of (depth - 1) (body id_of n) us) result left
-      → Gives (inner id_of depth t n ts) result left
+      → Gives (nested id_of depth t n ts) result left
   in_nest_itself n depth t ts us at result left opened some gives =
-      subst (λ a. Gives a result left) (plain (inner id_of depth t n ts))
+      subst (λ a. Gives a result left) (plain (nested id_of depth t n ts))
       (in_nest n (λ x. x) depth t ts us at result left opened some
       (subst (λ a. Gives a result left)
       (sym (plain (read id_of (depth - 1) (body id_of n) us))) gives))
