@@ -1,0 +1,4 @@
+pub mod LinkLoops
+pub mod MemberSteps
+pub mod PlacedNests
+pub mod StmtLoops

@@ -1,0 +1,112 @@
+-- What closures and tasks have before their statements, as the code keeps it, and the parts of its
+-- rules that are functions of their own.
+use Rattle.std.specs.Prelude.{ℕ, Some, None, List, [], ◌++◌, codes}
+use Rattle.sw_reader.specs.Sets.{quoted}
+use Rattle.sw_reader.specs.Form.{Shape, solid, one, seq, empty}
+use Rattle.sw_reader.specs.Form.Form.{done, terminal}
+use Rattle.sw_reader.specs.Quotes.{quote}
+use Rattle.sw_reader.specs.Terminals.{◌>>=◌, expect}
+use Rattle.sw_tree.specs.declared.expr.Closure.{Closure, roll-Closure}
+use Rattle.sw_tree.specs.declared.stmt.Stmt.{Stmt}
+use Rattle.sw_tree.specs.declared.stmt.Block.{roll-Block}
+use Rattle.sw_grammar.specs.Nests.{Form}
+use Rattle.sw_grammar.specs.Tokens.{at_word, at_in}
+use Rattle.sw_grammar.specs.Exprs.{loose}
+use Rattle.sw_grammar.specs.Closures as closures
+use Rattle.sw_grammar.specs.Closures.{header_of, captures, captures_if, signature, signature_if}
+use Rattle.sw_grammar.specs.Closures.{task_signature, task_signature_if, signature_ext}
+use Rattle.sw_parse_expr.specs.declared.closures.Header.{Header}
+
+-- what a closure has before its statements, as the code keeps it
+abbrev pub header_value : closures.Header → Header
+header_value header = record {
+  mark = header.mark;
+  captures = header.captures;
+  params = header.params;
+  result = header.result;
+}
+
+-- a closure with these statements
+abbrev pub closure_of : ℕ → Header → List Stmt → Closure
+closure_of at header body = roll-Closure (record {
+  at = at;
+  mark = header.mark;
+  captures = header.captures;
+  params = header.params;
+  result = header.result;
+  body = roll-Block (record { stmts = body });
+})
+
+abbrev captures_shape : Shape
+captures_shape = loose (quoted (codes "[")) (quoted (codes "["))
+
+abbrev list_shape : Shape
+list_shape = solid (quoted (codes "[")) [] 1
+
+abbrev signature_shape : Shape
+signature_shape = loose (quoted (codes "(")) (quoted (codes "(") ++ signature_ext)
+
+abbrev brackets_shape : Shape
+brackets_shape =
+    loose (quoted (codes "(")) (quoted (codes "(") ++ quoted (codes "async") ++ signature_ext)
+
+-- `in`, and nothing after it
+abbrev in_shape : Shape
+in_shape = seq (one (quote (codes "in"))) empty
+
+-- a closure's header that begins with `@Sendable`
+abbrev pub marked_header : (id_of : List ℕ → ℕ)
+    → Form (seq (one (at_in id_of (quoted (codes "@Sendable")) (codes "@Sendable")))
+    (seq captures_shape (seq signature_shape in_shape))) closures.Header
+marked_header id_of = do
+  mark ← terminal (at_in id_of (quoted (codes "@Sendable")) (codes "@Sendable"))
+  words ← captures_if id_of
+  written ← signature_if id_of
+  _ ← expect (codes "in")
+  done (header_of (Some mark) words written)
+
+-- a closure's header that begins with a capture list
+abbrev pub captured_header : (List ℕ → ℕ)
+    → Form (seq list_shape (seq signature_shape in_shape)) closures.Header
+captured_header id_of = do
+  words ← captures id_of
+  written ← signature_if id_of
+  _ ← expect (codes "in")
+  done (header_of None words written)
+
+-- a closure's header that begins with its parameters
+abbrev pub signed_header : (List ℕ → ℕ)
+    → Form (seq (solid (quoted (codes "(")) signature_ext 1) in_shape) closures.Header
+signed_header id_of = do
+  written ← signature id_of
+  _ ← expect (codes "in")
+  done (header_of None [] written)
+
+-- a task's header that begins with an attribute
+abbrev pub marked_task_header : (id_of : List ℕ → ℕ)
+    → Form (seq (one (at_in id_of at_word (codes "@Sendable")))
+    (seq captures_shape (seq brackets_shape in_shape))) closures.Header
+marked_task_header id_of = do
+  mark ← terminal (at_in id_of at_word (codes "@Sendable"))
+  words ← captures_if id_of
+  written ← task_signature_if id_of
+  _ ← expect (codes "in")
+  done (header_of (Some mark) words written)
+
+-- a task's header that begins with a capture list
+abbrev pub captured_task_header : (List ℕ → ℕ)
+    → Form (seq list_shape (seq brackets_shape in_shape)) closures.Header
+captured_task_header id_of = do
+  words ← captures id_of
+  written ← task_signature_if id_of
+  _ ← expect (codes "in")
+  done (header_of None words written)
+
+-- a task's header that begins with its brackets
+abbrev pub signed_task_header : (List ℕ → ℕ)
+    → Form (seq (solid (quoted (codes "(")) (quoted (codes "async") ++ signature_ext) 1) in_shape)
+    closures.Header
+signed_task_header id_of = do
+  written ← task_signature id_of
+  _ ← expect (codes "in")
+  done (header_of None [] written)

@@ -1,0 +1,3 @@
+pub mod Below
+pub mod Headers
+pub mod Parts

@@ -1,0 +1,337 @@
+//! Closures, the bodies of tasks, and statements in order.
+
+ghost use Rattle.std.specs.Prelude.{◌≡◌, codes};
+ghost use Rattle.sw_reader.specs.Outcome.{Gives};
+ghost use Rattle.sw_reader.specs.Form.Form.{nest};
+ghost use Rattle.sw_reader.specs.Quotes.{quote};
+ghost use Rattle.sw_reader.specs.Reader.{then_read, pure};
+ghost use Rattle.sw_tree.specs.Names.{id_in};
+ghost use Rattle.sw_grammar.specs.Exprs as exprs;
+ghost use Rattle.sw_grammar.specs.Closures as closures;
+ghost use Rattle.sw_grammar.specs.Stmts as stmts;
+ghost use Rattle.sw_grammar.specs.Nests.Nest.{in_closure, in_task};
+ghost use Rattle.sw_grammar.specs.Reading.{read};
+ghost use Rattle.sw_parse_parts.specs.Nested.{made};
+ghost use Rattle.sw_parse_expr.specs.Below.{Below};
+ghost use Rattle.sw_parse_expr.specs.Parts.{stmts_of};
+ghost use Rattle.sw_parse_expr.specs.Headers.{header_value, closure_of, marked_header};
+ghost use Rattle.sw_parse_expr.specs.Headers.{captured_header, signed_header};
+ghost use Rattle.sw_parse_expr.specs.Headers.{marked_task_header, captured_task_header};
+ghost use Rattle.sw_parse_expr.specs.Headers.{signed_task_header};
+
+use super::inner::Inner;
+use std::alloc::Global;
+use sw_list::ListOf;
+use sw_parse_parts::{
+    attribute, captures, captures_if, sees_attribute, sees_stmt, sendable, signature, signature_if,
+    task_signature, task_signature_if,
+};
+use sw_reader::{Cursor, Stop};
+use sw_tree::{Block, Closure, ClosureParamList, Name, NameList, Names, StmtList, TypeTree};
+
+/// What a closure has before its statements.
+#[derive(Drop)]
+pub struct Header {
+    /// `@Sendable`, or a task's global actor.
+    pub mark: Option<Name>,
+    pub captures: NameList,
+    pub params: ClosureParamList,
+    pub result: Option<TypeTree>,
+}
+
+/// The header of a closure, where it comes.
+#[tactic(auto, unfolding(sw_grammar::specs::Closures::header))]
+fn closure_header(
+    alloc: Global,
+    names: &Names,
+    tokens: &mut Cursor<'_>,
+    depth: u32,
+) -> Result<Header, Stop>
+    ensures { Gives (made header_value (read (id_in names.now) depth
+        (closures.header (id_in names.now))) tokens.old) result tokens.new }
+{
+    if tokens.sees("@Sendable") {
+        return marked_header(alloc, names, tokens, depth);
+    }
+    if tokens.sees("[") {
+        return captured_header(alloc, names, tokens, depth);
+    }
+    if tokens.sees("(") {
+        return signed_header(alloc, names, tokens, depth);
+    }
+    Ok(no_header(alloc))
+}
+
+/// The header of a task's body, where it comes.
+#[tactic(auto, unfolding(sw_grammar::specs::Closures::task_header))]
+fn task_header(
+    alloc: Global,
+    names: &Names,
+    tokens: &mut Cursor<'_>,
+    depth: u32,
+) -> Result<Header, Stop>
+    ensures { Gives (made header_value (read (id_in names.now) depth
+        (closures.task_header (id_in names.now))) tokens.old) result tokens.new }
+{
+    if sees_attribute(tokens) {
+        return marked_task_header(alloc, names, tokens, depth);
+    }
+    if tokens.sees("[") {
+        return captured_task_header(alloc, names, tokens, depth);
+    }
+    if tokens.sees("(") {
+        return signed_task_header(alloc, names, tokens, depth);
+    }
+    Ok(no_header(alloc))
+}
+
+/// Statements, up to a token that begins none.
+pub fn statements<I: Inner>(
+    alloc: Global,
+    inner: &I,
+    names: &Names,
+    tokens: &mut Cursor<'_>,
+    depth: u32,
+) -> Result<StmtList, Stop>
+    requires { I.reads inner.now depth }
+    ensures { Gives (stmts_of (id_in names.now) depth tokens.old) result tokens.new }
+{
+    let mut stmts = Vec::new(alloc);
+    let mut ended = true;
+    while sees_stmt(tokens) {
+        tokens.start(!ended)?;
+        stmts.push(inner.stmt(alloc, names, tokens, depth)?)?;
+        ended = tokens.skip(";");
+    }
+    Ok(ListOf::from_vec(stmts))
+}
+
+/// A closure.
+pub fn closure<I: Inner>(
+    alloc: Global,
+    inner: &I,
+    names: &Names,
+    tokens: &mut Cursor<'_>,
+    depth: u32,
+) -> Result<Closure, Stop>
+    requires { Below I.reads inner.now depth }
+    ensures { Gives (then_read (read (id_in names.now) depth (nest (quote (codes "{")) in_closure))
+        (λ x. pure (exprs.closure_at x.0 x.1)) tokens.old) result tokens.new }
+{
+    let at = tokens.open("{", depth)?;
+    closure_inside(alloc, inner, names, tokens, depth - 1, at)
+}
+
+/// A closure after its `{`, which stands at this position.
+#[tactic(auto, unfolding(sw_grammar::specs::Stmts::closure_inside))]
+fn closure_inside<I: Inner>(
+    alloc: Global,
+    inner: &I,
+    names: &Names,
+    tokens: &mut Cursor<'_>,
+    depth: u32,
+    at: u32,
+) -> Result<Closure, Stop>
+    requires { I.reads inner.now depth }
+    ensures { Gives (made (exprs.closure_at at) (read (id_in names.now) depth
+        (stmts.closure_inside (id_in names.now))) tokens.old) result tokens.new }
+{
+    let header = closure_header(alloc, names, tokens, depth)?;
+    let stmts = statements(alloc, inner, names, tokens, depth)?;
+    tokens.expect("}")?;
+    Ok(closure_of(at, header, stmts))
+}
+
+/// The body of a task.
+pub fn task_body<I: Inner>(
+    alloc: Global,
+    inner: &I,
+    names: &Names,
+    tokens: &mut Cursor<'_>,
+    depth: u32,
+) -> Result<Closure, Stop>
+    requires { Below I.reads inner.now depth }
+    ensures { Gives (then_read (read (id_in names.now) depth (nest (quote (codes "{")) in_task))
+        (λ x. pure (exprs.closure_at x.0 x.1)) tokens.old) result tokens.new }
+{
+    let at = tokens.open("{", depth)?;
+    task_inside(alloc, inner, names, tokens, depth - 1, at)
+}
+
+/// The body of a task after its `{`, which stands at this position.
+#[tactic(auto, unfolding(sw_grammar::specs::Stmts::task_inside))]
+fn task_inside<I: Inner>(
+    alloc: Global,
+    inner: &I,
+    names: &Names,
+    tokens: &mut Cursor<'_>,
+    depth: u32,
+    at: u32,
+) -> Result<Closure, Stop>
+    requires { I.reads inner.now depth }
+    ensures { Gives (made (exprs.closure_at at) (read (id_in names.now) depth
+        (stmts.task_inside (id_in names.now))) tokens.old) result tokens.new }
+{
+    let header = task_header(alloc, names, tokens, depth)?;
+    let stmts = statements(alloc, inner, names, tokens, depth)?;
+    tokens.expect("}")?;
+    Ok(closure_of(at, header, stmts))
+}
+
+/// A closure with these statements.
+fn closure_of(at: u32, header: Header, stmts: StmtList) -> Closure
+    ensures { result ≡ closure_of at header stmts }
+{
+    Closure {
+        at,
+        mark: header.mark,
+        captures: header.captures,
+        params: header.params,
+        result: header.result,
+        body: Block { stmts },
+    }
+}
+
+/// No header.
+fn no_header(alloc: Global) -> Header
+    ensures { result ≡ header_value closures.no_header }
+{
+    Header {
+        mark: None,
+        captures: ListOf::new(alloc),
+        params: ListOf::new(alloc),
+        result: None,
+    }
+}
+
+/// A closure's header that begins with `@Sendable`.
+fn marked_header(
+    alloc: Global,
+    names: &Names,
+    tokens: &mut Cursor<'_>,
+    depth: u32,
+) -> Result<Header, Stop>
+    ensures { Gives (made header_value (read (id_in names.now) depth
+        (marked_header (id_in names.now)))
+        tokens.old) result tokens.new }
+{
+    let mark = sendable(names, tokens)?;
+    let captures = captures_if(alloc, names, tokens, depth)?;
+    let (params, result) = signature_if(alloc, names, tokens, depth)?;
+    tokens.expect("in")?;
+    Ok(Header {
+        mark: Some(mark),
+        captures,
+        params,
+        result,
+    })
+}
+
+/// A closure's header that begins with a capture list.
+fn captured_header(
+    alloc: Global,
+    names: &Names,
+    tokens: &mut Cursor<'_>,
+    depth: u32,
+) -> Result<Header, Stop>
+    ensures { Gives (made header_value (read (id_in names.now) depth
+        (captured_header (id_in names.now)))
+        tokens.old) result tokens.new }
+{
+    let captures = captures(alloc, names, tokens, depth)?;
+    let (params, result) = signature_if(alloc, names, tokens, depth)?;
+    tokens.expect("in")?;
+    Ok(Header {
+        mark: None,
+        captures,
+        params,
+        result,
+    })
+}
+
+/// A closure's header that begins with its parameters.
+fn signed_header(
+    alloc: Global,
+    names: &Names,
+    tokens: &mut Cursor<'_>,
+    depth: u32,
+) -> Result<Header, Stop>
+    ensures { Gives (made header_value (read (id_in names.now) depth
+        (signed_header (id_in names.now)))
+        tokens.old) result tokens.new }
+{
+    let (params, result) = signature(alloc, names, tokens, depth)?;
+    tokens.expect("in")?;
+    Ok(Header {
+        mark: None,
+        captures: ListOf::new(alloc),
+        params,
+        result,
+    })
+}
+
+/// A task's header that begins with an attribute.
+fn marked_task_header(
+    alloc: Global,
+    names: &Names,
+    tokens: &mut Cursor<'_>,
+    depth: u32,
+) -> Result<Header, Stop>
+    ensures { Gives (made header_value (read (id_in names.now) depth
+        (marked_task_header (id_in names.now)))
+        tokens.old) result tokens.new }
+{
+    let mark = attribute(names, tokens)?;
+    let captures = captures_if(alloc, names, tokens, depth)?;
+    let (params, result) = task_signature_if(alloc, names, tokens, depth)?;
+    tokens.expect("in")?;
+    Ok(Header {
+        mark: Some(mark),
+        captures,
+        params,
+        result,
+    })
+}
+
+/// A task's header that begins with a capture list.
+fn captured_task_header(
+    alloc: Global,
+    names: &Names,
+    tokens: &mut Cursor<'_>,
+    depth: u32,
+) -> Result<Header, Stop>
+    ensures { Gives (made header_value (read (id_in names.now) depth
+        (captured_task_header (id_in names.now)))
+        tokens.old) result tokens.new }
+{
+    let captures = captures(alloc, names, tokens, depth)?;
+    let (params, result) = task_signature_if(alloc, names, tokens, depth)?;
+    tokens.expect("in")?;
+    Ok(Header {
+        mark: None,
+        captures,
+        params,
+        result,
+    })
+}
+
+/// A task's header that begins with its brackets.
+fn signed_task_header(
+    alloc: Global,
+    names: &Names,
+    tokens: &mut Cursor<'_>,
+    depth: u32,
+) -> Result<Header, Stop>
+    ensures { Gives (made header_value (read (id_in names.now) depth
+        (signed_task_header (id_in names.now)))
+        tokens.old) result tokens.new }
+{
+    let (params, result) = task_signature(alloc, names, tokens, depth)?;
+    tokens.expect("in")?;
+    Ok(Header {
+        mark: None,
+        captures: ListOf::new(alloc),
+        params,
+        result,
+    })
+}

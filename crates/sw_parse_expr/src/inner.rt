@@ -1,0 +1,59 @@
+//! What the parser of expressions and statements asks of a parser of what stands in nests.
+
+ghost use Rattle.std.specs.Prelude.{ℕ, true};
+ghost use Rattle.sw_reader.specs.Outcome.{Gives};
+ghost use Rattle.sw_tree.specs.Names.{id_in};
+ghost use Rattle.sw_grammar.specs.Exprs as exprs;
+ghost use Rattle.sw_grammar.specs.Stmts as stmts;
+ghost use Rattle.sw_grammar.specs.Reading.{read};
+
+use std::alloc::Global;
+use sw_reader::{Cursor, Stop};
+use sw_tree::{Arg, Expr, Names, Stmt};
+
+/// A parser of what stands in nests: expressions, arguments and statements further in.
+///
+/// The functions of this crate read one nest, and ask an `Inner` for what stands in the nests that
+/// they open, where fewer nests may be opened. So none of them calls itself, and each is proved
+/// alone. Each method answers as the grammar's reader of its rule, at the depths for which the
+/// parser `reads`.
+pub trait Inner {
+    /// The methods may be called where this many more nests may be opened.
+    ghost reads: { Self → ℕ → Type 0 };
+
+    /// An expression, in which closures may stand.
+    fn expr(
+        &self,
+        alloc: Global,
+        names: &Names,
+        tokens: &mut Cursor<'_>,
+        depth: u32,
+    ) -> Result<Expr, Stop>
+        requires { reads self.now depth }
+        ensures { Gives (read (id_in names.now) depth (exprs.expr (id_in names.now) true)
+            tokens.old) result tokens.new };
+
+    /// An argument of a call.
+    fn arg(
+        &self,
+        alloc: Global,
+        names: &Names,
+        tokens: &mut Cursor<'_>,
+        depth: u32,
+    ) -> Result<Arg, Stop>
+        requires { reads self.now depth }
+        ensures { Gives (read (id_in names.now) depth (exprs.arg (id_in names.now)) tokens.old)
+            result tokens.new };
+
+    /// A statement.
+    fn stmt(
+        &self,
+        alloc: Global,
+        names: &Names,
+        tokens: &mut Cursor<'_>,
+        depth: u32,
+    ) -> Result<Stmt, Stop>
+        requires { reads self.now depth }
+        ensures { Gives (read (id_in names.now) depth (stmts.stmt (id_in names.now)) tokens.old)
+            result tokens.new };
+}
