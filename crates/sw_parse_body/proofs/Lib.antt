@@ -1,0 +1,2 @@
+pub mod PhraseFronts
+pub mod FrontSteps
