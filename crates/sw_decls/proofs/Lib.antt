@@ -1,2 +1,9 @@
-pub mod WithinLemmas
-pub mod WordLemmas
+pub mod BodyCodes
+pub mod BreachCodes
+pub mod Coded
+pub mod DeclCodes
+pub mod FirstLemmas
+pub mod HollowLemmas
+pub mod OneFirst
+pub mod ReturnLemmas
+pub mod SomeFirst

@@ -1,11 +1,5 @@
-pub mod Bodies
-pub mod Evident
+pub mod Declaring
+pub mod Hollow
 pub mod Holders
-pub mod Members
-pub mod Placed
-pub mod Repeats
-pub mod Shaped
 pub mod Signatures
-pub mod TypeWords
-pub mod Values
-pub mod Words
+pub mod Wide

@@ -14,15 +14,16 @@ use Rattle.sw_tree.specs.declared.name.Name.{Name}
 use Rattle.sw_types.specs.declared.isolation.Iso.{Iso}
 use Rattle.sw_types.specs.declared.isolation.Iso.TheVariants as iso
 use Rattle.sw_types.specs.declared.ty.Ty.TheVariants as types
-use Rattle.sw_decls.specs.Shaped.{prop_type, stated_type, written_actor}
-use Rattle.sw_decls.specs.TypeWords.{type_of}
-use Rattle.sw_decls.specs.Words.{shapes_made}
+use Rattle.sw_resolve.specs.Evident.{Meanings}
+use Rattle.sw_resolve.specs.Shaped.{prop_type, stated_type, written_actor}
+use Rattle.sw_resolve.specs.TypeWords.{type_of}
+use Rattle.sw_resolve.specs.Words.{shapes_made}
 use Rattle.sw_decls.specs.declared.signature.AsyncDefault.{AsyncDefault}
 use Rattle.sw_decls.specs.declared.signature.AsyncDefault.TheVariants as default
 use Rattle.sw_decls.specs.declared.signature.GlobalVar.{GlobalVar}
 use Rattle.sw_decls.specs.declared.signature.Param.{Param}
 use Rattle.sw_decls.specs.declared.signature.Signature.{Signature}
-use Rattle.sw_decls.specs.declared.words.Meaning.{Meaning}
+use Rattle.sw_resolve.specs.declared.words.Meaning.{Meaning}
 
 -- a global actor's isolation, or none
 abbrev pub actor_iso : Option ℕ → Iso
@@ -124,6 +125,7 @@ module _ (known : ℕ → Option Meaning) where
   funcs_from rule number (decl ∷ decls) =
       funcs_of rule number decl ++ funcs_from rule (number + shapes_made decl) decls
 
+module _ (known : Meanings) where
   abbrev pub global_of : Decl → List GlobalVar
   global_of (Entry word written at is_async body) = []
   global_of (Struct word conforms fields funcs) = []
@@ -135,6 +137,6 @@ module _ (known : ℕ → Option Meaning) where
   global_of (Global global) = record {
     key = global.word;
     mutable = global.mutable;
-    actor = written_actor known global.written;
-    ty = prop_type known global;
+    actor = written_actor known.top global.written;
+    ty = prop_type known None global;
   } ∷ []

@@ -2,13 +2,13 @@
 ghost use Rattle.std.specs.Prelude.{◌≡◌, ◌++◌, false, slice_index_or, OnOk};
 ghost use Rattle.sw_decls.specs.Holders.{holders};
 
-use crate::placed::Placed;
 use std::alloc::AllocError;
 use sw_list::ListOf;
+use sw_resolve::Placed;
 use sw_types::Shape;
 
 /// Whether the shape with this number is marked.
-fn is_marked(marks: &[bool], number: usize) -> bool
+pub fn is_marked(marks: &[bool], number: usize) -> bool
     ensures { result ≡ slice_index_or marks.now number false }
 {
     marks.get(number).copied().unwrap_or(false)

@@ -1,31 +1,21 @@
-//! What the words of declarations mean: which words name types and global actors at top level, what
-//! written types mean, the shapes, signatures and global variables that declarations make, and the
-//! first of the breaches E301 to E305: names declared twice, unknown types, types that hold
-//! themselves, entries and properties without a value. It knows nothing of which first values are
-//! simple (E306), of how many parts a type may have (E307), or of the types of expressions, but for
-//! those that are evident from a first value.
+//! What a program declares: its shapes, global actors, functions and global variables, and what its
+//! words mean; or the first breach of the rules on declarations (E301 to E307). It finds for itself
+//! the types that hold themselves (E303) and those with more than 64 parts (E307), and puts all
+//! breaches in order. It knows nothing of the types of expressions, but for those that are evident
+//! from a first value.
 #![tactic(auto)]
 
-mod bodies;
-mod evident;
-mod first;
+mod declaring;
 mod holders;
-mod members;
-mod placed;
-mod repeats;
-mod shaped;
+mod hollow;
+mod laws;
+mod ordered;
 mod signature;
-mod type_words;
-mod values;
-mod words;
+mod wide;
 
-pub use evident::evident_type;
-pub use first::first_breach;
-pub use placed::Placed;
-pub use shaped::{prop_type, shapes_of, written_actor};
+pub use declaring::{DeclFault, Decls, declare};
+pub use laws::programs_have_one_first_breach;
+pub use ordered::Numbers;
 pub use signature::{
-    AsyncDefault, GlobalList, GlobalVar, Param, ParamList, Signature, SignatureList, globals_of,
-    signatures_of,
+    AsyncDefault, GlobalList, GlobalVar, Param, ParamList, Signature, SignatureList,
 };
-pub use type_words::{type_of, types_of};
-pub use words::{Meaning, Words};

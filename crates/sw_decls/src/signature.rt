@@ -3,15 +3,14 @@ ghost use Rattle.std.specs.Prelude.{◌≡◌, ◌++◌, ◌+◌, ◌<◌, ◌^�
 ghost use Rattle.std.specs.Prelude.{IfOk, OnOk};
 ghost use Rattle.indexmap.specs.IndexMap.{get};
 ghost use Rattle.sw_tree.specs.declared.decl.InitTree.{InitTree};
+ghost use Rattle.sw_resolve.specs.Evident.{tabled};
 ghost use Rattle.sw_decls.specs.Signatures.{actor_iso, func_iso, func_of, funcs_from, funcs_of};
 ghost use Rattle.sw_decls.specs.Signatures.{global_of, init_of, inits_of, label_id, param_of};
 ghost use Rattle.sw_decls.specs.Signatures.{with_default};
 
-use crate::shaped::{prop_type, written_actor};
-use crate::type_words::type_of;
-use crate::words::{Words, shapes_made};
 use std::alloc::{AllocError, Global};
 use sw_list::ListOf;
+use sw_resolve::{Members, Words, prop_type, shapes_made, type_of, written_actor};
 use sw_tree::{Decl, FuncTree, InitTree, Name, ParamTree, Written};
 use sw_types::{Iso, Ty};
 
@@ -370,9 +369,14 @@ pub fn signatures_of(
 }
 
 /// The global variables of a program, in order.
-pub fn globals_of(alloc: Global, words: &Words, decls: &[Decl]) -> Result<GlobalList, AllocError>
+pub fn globals_of(
+    alloc: Global,
+    words: &Words,
+    members: &Members,
+    decls: &[Decl],
+) -> Result<GlobalList, AllocError>
     ensures { IfOk result (λ made. made
-        ≡ flat_map (global_of (get nat_eq words.now.meanings)) decls.now) }
+        ≡ flat_map (global_of (tabled words.now members.now)) decls.now) }
 {
     let mut made = ListOf::new(alloc);
     for decl in decls {
@@ -381,7 +385,7 @@ pub fn globals_of(alloc: Global, words: &Words, decls: &[Decl]) -> Result<Global
                 key: global.word,
                 mutable: global.mutable,
                 actor: written_actor(words, global.written),
-                ty: prop_type(alloc, words, global)?,
+                ty: prop_type(alloc, words, members, None, global)?,
             })?;
         }
     }

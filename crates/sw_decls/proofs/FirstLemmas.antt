@@ -1,0 +1,44 @@
+-- The first of all breaches of a program.
+use Rattle.std.proofs.Common.{◌≡◌, List, [], ◌∷◌, ◌++◌, Bool, Option, length, ap, subst, ◌∙◌}
+use Rattle.std.proofs.Common.{refl, sym, arith}
+use Rattle.sw_tree.specs.declared.decl.Decl.{Decl}
+use Rattle.sw_types.specs.declared.shape.Shape.{Shape}
+use Rattle.sw_resolve.specs.Placed.{IsFirst}
+use Rattle.sw_resolve.specs.declared.placed.Placed.{Placed}
+use Rattle.sw_decls.specs.Declaring.{IsFirstBreach, breaches_of_decls, breaches_of_shapes}
+use Rattle.sw_decls.specs.Declaring.{made_shapes}
+use Rattle.sw_decls.specs.Holders.{AreHolders, holders}
+use Rattle.sw_decls.specs.Hollow.{hollowed}
+use Rattle.sw_decls.specs.Wide.{wide}
+use Rattle.sw_decls.proofs.HollowLemmas.{hollowed_same}
+
+front_nil : (front back : List Placed) → front ++ back ≡ [] → front ≡ []
+front_nil [] back none = refl
+front_nil (one ∷ front) back none = absurd (let some = ap length none in omega arith)
+
+back_nil : (front back : List Placed) → front ++ back ≡ [] → back ≡ []
+back_nil [] back none = none
+back_nil (one ∷ front) back none = absurd (let some = ap length none in omega arith)
+
+module _ (decls : List Decl) (shapes : List Shape) (marks : List Bool) (before found : List Placed)
+    (made : shapes ≡ made_shapes decls) (is : found ≡ before ++ breaches_of_shapes shapes marks)
+  where
+    -- the first of the breaches that were found is that of the program
+    pub first_found : AreHolders shapes marks → before ≡ breaches_of_decls decls
+        → (first : Option Placed) → IsFirst found first → IsFirstBreach decls first
+    first_found are begins first one = (
+      marks,
+      (
+        subst (λ s. AreHolders s marks) made are,
+        subst (λ f. IsFirst f first)
+            (is ∙ ap (λ b. b ++ breaches_of_shapes shapes marks) begins
+            ∙ ap (λ s. breaches_of_decls decls ++ breaches_of_shapes s marks) made) one,
+      ),
+    )
+
+    -- where none was found no shape is hollow
+    pub shapes_found : found ≡ [] → hollowed marks shapes ≡ made_shapes decls
+    shapes_found none =
+        hollowed_same shapes marks (front_nil (holders shapes marks) (wide (hollowed marks shapes))
+        (back_nil before (breaches_of_shapes shapes marks) (sym is ∙ none)))
+        ∙ made

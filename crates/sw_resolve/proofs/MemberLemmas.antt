@@ -1,0 +1,25 @@
+-- A member that is noted under its name.
+use Rattle.std.proofs.Common.{◌≡◌, ℕ, Bool, true, false, ◌&&◌, cond, Option, Some, nat_eq, refl}
+use Rattle.std.proofs.Common.{ap, ◌∙◌}
+use Rattle.std.proofs.lemmas.Bool.{eqb-true}
+use Rattle.sw_resolve.specs.Members.{earlier_member}
+use Rattle.sw_resolve.specs.declared.members.Member.{Member}
+
+module _ (f : ℕ → ℕ → Option Member) (member : Member) (rest : Option Member) where
+  by_names : (a b shape word : ℕ) (one other : Bool) → (one ≡ true → a ≡ shape)
+      → (other ≡ true → b ≡ word)
+      → cond (one && other) (Some (earlier_member (f a b) member)) rest
+      ≡ cond (one && other) (Some (earlier_member (f shape word) member)) rest
+  by_names a b shape word true true first second =
+      ap (λ p. Some (earlier_member (f p b) member)) (first refl)
+      ∙ ap (λ q. Some (earlier_member (f shape q) member)) (second refl)
+  by_names a b shape word true false first second = refl
+  by_names a b shape word false other first second = refl
+
+  -- the table has the same member at equal keys
+  pub noted_same : (a b shape word : ℕ)
+      → cond (nat_eq a shape && nat_eq b word) (Some (earlier_member (f a b) member)) rest
+      ≡ cond (nat_eq a shape && nat_eq b word) (Some (earlier_member (f shape word) member)) rest
+  noted_same a b shape word =
+      by_names a b shape word (nat_eq a shape) (nat_eq b word) (eqb-true a shape)
+      (eqb-true b word)

@@ -1,0 +1,4 @@
+pub mod Counts
+pub mod Profile
+pub mod Simple
+pub mod Values
