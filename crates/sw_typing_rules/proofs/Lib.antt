@@ -1,0 +1,9 @@
+pub mod Complete
+pub mod Sound
+pub mod Unique
+pub mod Saying
+pub mod Steps
+pub mod Welltyped
+pub mod Wellness
+pub mod Acceptance
+pub mod JudgedKeys

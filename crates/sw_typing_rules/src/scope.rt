@@ -1,0 +1,26 @@
+use sw_list::ListOf;
+use sw_types::Ty;
+
+/// A variable that is visible: a `let` or `var`, a parameter, a pattern or a listed capture.
+#[derive(Drop)]
+pub struct Var {
+    /// The id of its word.
+    pub name: u32,
+    /// The key of its declaration.
+    pub at: u32,
+    /// Whether it is a `var`.
+    pub mutable: bool,
+    /// Its type; none where its value or its pattern has none.
+    pub ty: Option<Ty>,
+}
+
+/// The result of a body, as far as it is known.
+#[derive(Drop)]
+pub enum Returned {
+    /// It is written.
+    Wants(Ty),
+    /// It isn't written, and no `return` with a value was met: where those without a value stand.
+    Open(ListOf<u32>),
+    /// It isn't written, and is the type of the first value that is returned.
+    Gives(Option<Ty>),
+}
