@@ -1,5 +1,5 @@
 -- What the functions of the phases find.
-use Rattle.std.proofs.Common.{◌≡◌, ◌≢◌, ℕ, List, [], ◌∷◌, length, refl, sym, subst, arith}
+use Rattle.std.proofs.Common.{◌≡◌, ◌≢◌, ℕ, List, [], length, refl, sym, subst}
 use Rattle.sw_token.specs.declared.Token.{Token}
 use Rattle.sw_token.specs.declared.LexFault.{LexFault}
 use Rattle.sw_token.specs.declared.LexFault.TheVariants as faults
@@ -8,11 +8,19 @@ use Rattle.sw_token.specs.declared.before.Before.{Before}
 use Rattle.sw_token.specs.Tokens.{IsTokens, IsLexicalFault, IsTokenFault, position_of, at_start}
 use Rattle.sw_token.specs.Tokens.{lexis}
 use Rattle.sw_token.specs.Tokens as tokens
+use Rattle.sw_token.specs.Spelling.{spelling_of}
+use Rattle.sw_parse_decl.specs.declared.fault.ParseFault.{ParseFault}
+use Rattle.sw_parse_decl.specs.declared.fault.ParseFault.TheVariants as parse_faults
+use Rattle.sw_parse_decl.specs.Programs.{Explains, IsProgramOf}
+use Rattle.sw_tree.specs.declared.decl.Decl.{Decl}
+use Rattle.sw_decls.specs.Declaring.{IsRefusal}
+use Rattle.sw_decls.specs.declared.declaring.DeclFault.TheVariants as decl_faults
 use Rattle.sw_breach.specs.declared.Breach.{Breach}
 use Rattle.sw_verdict.specs.declared.phases.Refusal.{Refusal}
 use Rattle.sw_verdict.specs.declared.phases.Refusal.TheVariants.{Breached, Memory}
-use Rattle.sw_verdict.specs.Phases.{breach_at, lexical_code, not_one_entry}
-use Rattle.sw_verdict.specs.Phases.{LexisFinds, has_fault, EntryFinds, some_token, no_token}
+use Rattle.sw_verdict.specs.Phases.{breach_at, lexical_code, LexisFinds, has_fault}
+use Rattle.sw_verdict.specs.Phases.{SyntaxFinds, has_syntax_fault, syntax_code, token_of}
+use Rattle.sw_verdict.specs.Phases.{token_position, DeclarationsFinds, breaks_one}
 use Rattle.sw_verdict.specs.Found.{FoundBy}
 
 -- one breach, unless memory ran out
@@ -51,14 +59,28 @@ found_fault text fault (Breached list) place is =
     found_breach (LexisFinds text) (lexical_code fault) (position_of fault) (Breached list)
     (λ _. why.1) (has_fault fault (place why.0))
 
-pub found_no_token : (text : List ℕ) (tokens : List Token) (refusal : Refusal) → length tokens ≡ 0
-    → (refusal ≢ Memory → refusal ≡ Breached (breach_at not_one_entry 0)) → IsTokens text tokens
-    → FoundBy (EntryFinds text) refusal
-found_no_token text [] refusal none is are =
-    found_breach (EntryFinds text) not_one_entry 0 refusal is (no_token are)
-found_no_token text (token ∷ tokens) refusal none is are = absurd (omega arith)
+-- what a fault of the syntax is found as
+pub found_syntax_fault : (text : List ℕ) (tokens : List Token) (fault : ParseFault)
+    (refusal : Refusal) → IsTokens text tokens → Explains fault (spelling_of text tokens)
+    → (refusal ≢ Memory → (fault ≢ parse_faults.Memory) × (refusal
+    ≡ Breached (breach_at (syntax_code fault) (token_position text tokens (token_of fault)))))
+    → FoundBy (SyntaxFinds text) refusal
+found_syntax_fault text tokens fault Memory are place is = tt
+found_syntax_fault text tokens (parse_faults.Unexpected token) (Breached list) are place is =
+    found_breach (SyntaxFinds text) _ _ (Breached list) (λ some. (is some).1)
+    (has_syntax_fault tokens (parse_faults.Unexpected token) are place)
+found_syntax_fault text tokens (parse_faults.TooDeep token) (Breached list) are place is =
+    found_breach (SyntaxFinds text) _ _ (Breached list) (λ some. (is some).1)
+    (has_syntax_fault tokens (parse_faults.TooDeep token) are place)
+found_syntax_fault text tokens parse_faults.Memory (Breached list) are place is =
+    absurd ((is (λ e. cc)).0 refl)
 
-pub found_some_token : (text : List ℕ) (tokens : List Token) → length tokens ≢ 0
-    → IsTokens text tokens → EntryFinds text []
-found_some_token text tokens some are =
-    some_token tokens are (λ none. some (subst (λ tokens. length tokens ≡ 0) (sym none) refl))
+-- what the first breach of the rules on declarations is found as
+pub found_first : (text : List ℕ) (tokens : List Token) (decls : List Decl) (code at : ℕ)
+    (refusal : Refusal) → IsTokens text tokens → IsProgramOf decls (spelling_of text tokens)
+    → IsRefusal decls (decl_faults.Breach code at)
+    → (refusal ≢ Memory → refusal ≡ Breached (breach_at code at))
+    → FoundBy (DeclarationsFinds text) refusal
+found_first text tokens decls code at refusal are spelled first is =
+    found_breach (DeclarationsFinds text) code at refusal is
+    (breaks_one tokens decls (record { at = at; code = code }) are spelled first)

@@ -1,6 +1,7 @@
 -- Every text has one verdict.
-use Rattle.std.proofs.Common.{◌≡◌, ◌≢◌, ℕ, ◌^◌, ◌<◌, ◌≤◌, Bool, true, false, List, [], ◌∷◌, length}
-use Rattle.std.proofs.Common.{Result, Ok, Err, ◌⊎◌, inl, inr, refl, ap, subst, ◌∙◌, arith}
+use Rattle.std.proofs.Common.{◌≡◌, ℕ, ◌^◌, ◌<◌, ◌≤◌, ◌+◌, ◌-◌, zero, suc, Bool, true, false, List, [], ◌∷◌, length}
+use Rattle.std.proofs.Common.{Result, Ok, Err, ◌⊎◌, inl, inr, refl, ap, sym, subst, ◌∙◌, arith}
+use Rattle.std.proofs.Common.{Option, Some, None}
 use Rattle.std.specs.List.{AllByRecursion}
 use Rattle.std.proofs.lemmas.List.{length-map}
 use Rattle.std.specs.Str.{IsUtf8, is_utf8 as test_utf8}
@@ -16,23 +17,41 @@ use Rattle.sw_graph.specs.declared.graph.Graph.{Graph}
 use Rattle.sw_value.specs.Runnable.{IsRunnable}
 use Rattle.sw_breach.specs.declared.Breach.{Breach}
 use Rattle.sw_breach.specs.Codes.{IsCode, text_of, texts}
+use Rattle.sw_graph.specs.declared.function.Excess.{Excess}
+use Rattle.sw_graph.specs.declared.function.Excess.TheVariants.{Registers, Points}
+use Rattle.sw_graph.specs.declared.function.TooLarge.{TooLarge}
+use Rattle.sw_graph.specs.Limits.{first_too_large}
+use Rattle.sw_value.proofs.ListLemmas.{some_injective}
 use Rattle.sw_small.specs.declared.tree.Small.{Small}
-use Rattle.sw_small.specs.Lower.{IsLowered, size_of}
+use Rattle.sw_small.specs.Lower.{IsLowered, size_of, functions_of}
 use Rattle.sw_small.specs.Small.{Spells, IsUnexpected}
-use Rattle.sw_token.specs.Spelling.{spelled as spell, spelling_of}
+use Rattle.sw_token.specs.Spelling.{Spelled, spelled as spell, spelling_of}
+use Rattle.sw_tree.specs.declared.decl.Decl.{Decl}
+use Rattle.sw_parse_decl.specs.declared.fault.ParseFault.{ParseFault}
+use Rattle.sw_parse_decl.specs.declared.fault.ParseFault.TheVariants as parse_faults
+use Rattle.sw_parse_decl.specs.Programs.{IsProgramOf, IsSyntaxFault}
+use Rattle.sw_parse_decl.proofs.ProgramFaults as programs
+use Rattle.sw_resolve.specs.declared.placed.Placed.{Placed}
+use Rattle.sw_decls.specs.Declaring.{IsFirstBreach}
+use Rattle.sw_decls.proofs.SomeFirst.{some_first_breach}
+use Rattle.sw_decls.proofs.OneFirst.{one_first_breach}
+use Rattle.sw_decls.proofs.BreachCodes.{first_is_coded}
 use Rattle.sw_small.proofs.OneGraph.{some_graph, one_graph}
 use Rattle.sw_small.proofs.Runnable.{lowered_runnable}
 use Rattle.sw_small.proofs.SmallLaws.{decided as program_or_unexpected, never_both as no_unexpected}
 use Rattle.sw_small.proofs.SmallLaws.{one_program, one_unexpected as one_unexpected_token}
-use Rattle.sw_small.proofs.SmallSize.{size_of-spelled, some_tokens as some_spelled}
+use Rattle.sw_small.proofs.SmallSize.{size_of-spelled}
 use Rattle.sw_reader.proofs.TokensSpelled.{tokens_spelled}
 use Rattle.sw_text.specs.declared.TheConstants.{MAX_LENGTH}
-use Rattle.sw_verdict.specs.Phases.{Phase, Encoding, Lexis, Entry, SmallForm, all_phases}
+use Rattle.sw_verdict.specs.Phases.{Phase, Encoding, Lexis, Syntax, Declarations, SmallForm, Size}
+use Rattle.sw_verdict.specs.Phases.{DeclarationsFinds, keeps_all, breaks_one}
+use Rattle.sw_verdict.specs.Phases.{all_phases, IsProgram, SizeFinds, within, too_large, size_code}
 use Rattle.sw_verdict.specs.Phases.{EncodingFinds, is_utf8, not_utf8, LexisFinds, has_tokens}
-use Rattle.sw_verdict.specs.Phases.{has_fault, EntryFinds, some_token, no_token, SmallFormFinds}
-use Rattle.sw_verdict.specs.Phases.{spelled, unexpected, Finds, breach_at, unexpected_token}
-use Rattle.sw_verdict.specs.Phases.{not_utf8_code, lexical_code, not_one_entry, token_position}
-use Rattle.sw_verdict.specs.Verdict.{Breaches, none, first, later, Accepts, Refuses, IsProgram}
+use Rattle.sw_verdict.specs.Phases.{has_fault, SmallFormFinds}
+use Rattle.sw_verdict.specs.Phases.{spelled, unexpected, Finds, breach_at, not_built, SyntaxFinds}
+use Rattle.sw_verdict.specs.Phases.{spells_program, has_syntax_fault, syntax_code, token_of}
+use Rattle.sw_verdict.specs.Phases.{not_utf8_code, lexical_code, token_position}
+use Rattle.sw_verdict.specs.Verdict.{Breaches, none, first, later, Accepts, Refuses}
 use Rattle.sw_verdict.specs.Verdict.{IsGraphOf}
 use Rattle.sw_verdict.proofs.Finding.{memory_is_no_fault}
 use Rattle.sw_verdict.proofs.InOrder.{utf8_found}
@@ -53,14 +72,6 @@ lexis_one text _ _ (has_fault fault place) (has_tokens tokens are) =
     absurd (tokens_and_fault text tokens fault are place)
 lexis_one text _ _ (has_fault a is_a) (has_fault b is_b) =
     ap (λ fault. breach_at (lexical_code fault) (position_of fault)) (one_fault text a b is_a is_b)
-
-entry_one : (text : List ℕ) (a b : List Breach) → EntryFinds text a → EntryFinds text b → a ≡ b
-entry_one text _ _ (some_token _ _ _) (some_token _ _ _) = refl
-entry_one text _ _ (some_token tokens are some) (no_token empty) =
-    absurd (some (one_tokens text tokens [] are empty))
-entry_one text _ _ (no_token empty) (some_token tokens are some) =
-    absurd (some (one_tokens text tokens [] are empty))
-entry_one text _ _ (no_token _) (no_token _) = refl
 
 spelled_or_not : (text : List ℕ) (a b : List Token) (program : Small) (n : ℕ) → IsTokens text a
     → Spells program (spelling_of text a) → IsTokens text b → IsUnexpected (spelling_of text b) n
@@ -83,15 +94,84 @@ small_form_one text _ _ (unexpected a n are_a place_a) (unexpected b m are_b pla
     let tokens : a ≡ b = one_tokens text a b are_a are_b in
     let same : n ≡ m = one_unexpected_token (spelling_of text b) n m
     (subst (λ tokens. IsUnexpected (spelling_of text tokens) n) tokens place_a) place_b in
-    ap (λ at. breach_at unexpected_token at) (ap (λ tokens. token_position text tokens n) tokens
+    ap (λ at. breach_at not_built at) (ap (λ tokens. token_position text tokens n) tokens
     ∙ ap (token_position text b) same)
+
+program_or_fault : (text : List ℕ) (a b : List Token) (decls : List Decl) (fault : ParseFault)
+    → IsTokens text a → IsProgramOf decls (spelling_of text a) → IsTokens text b
+    → IsSyntaxFault (spelling_of text b) fault → ⊥
+program_or_fault text a b decls fault are_a is are_b place =
+    programs.never_both (spelling_of text b) decls fault
+    (subst (λ tokens. IsProgramOf decls (spelling_of text tokens)) (one_tokens text a b are_a are_b)
+    is) place
+
+syntax_one : (text : List ℕ) (a b : List Breach) → SyntaxFinds text a → SyntaxFinds text b → a ≡ b
+syntax_one text _ _ (spells_program _ _ _ _) (spells_program _ _ _ _) = refl
+syntax_one text _ _ (spells_program a decls are_a is) (has_syntax_fault b fault are_b place) =
+    absurd (program_or_fault text a b decls fault are_a is are_b place)
+syntax_one text _ _ (has_syntax_fault b fault are_b place) (spells_program a decls are_a is) =
+    absurd (program_or_fault text a b decls fault are_a is are_b place)
+syntax_one text _ _ (has_syntax_fault a f are_a place_a) (has_syntax_fault b g are_b place_b) =
+    let tokens : a ≡ b = one_tokens text a b are_a are_b in
+    let same : f ≡ g = programs.one_fault (spelling_of text b) f g
+    (subst (λ tokens. IsSyntaxFault (spelling_of text tokens) f) tokens place_a) place_b in
+    ap (λ tokens. breach_at (syntax_code f) (token_position text tokens (token_of f))) tokens
+    ∙ ap (λ fault. breach_at (syntax_code fault) (token_position text b (token_of fault))) same
+
+-- The declarations of a text, which are one list, have one first breach or none.
+same_first : (text : List ℕ) (a b : List Token) (ds es : List Decl) (one other : Option Placed)
+    → IsTokens text a → IsProgramOf ds (spelling_of text a) → IsFirstBreach ds one
+    → IsTokens text b → IsProgramOf es (spelling_of text b) → IsFirstBreach es other
+    → one ≡ other
+same_first text a b ds es one other are_a is_a first_a are_b is_b first_b =
+    let same : ds ≡ es = programs.one_program (spelling_of text b) ds es
+    (subst (λ tokens. IsProgramOf ds (spelling_of text tokens)) (one_tokens text a b are_a are_b)
+    is_a) is_b in
+    one_first_breach es one other (subst (λ decls. IsFirstBreach decls one) same first_a) first_b
+
+declarations_one : (text : List ℕ) (a b : List Breach) → DeclarationsFinds text a
+    → DeclarationsFinds text b → a ≡ b
+declarations_one text _ _ (keeps_all _ _ _ _ _) (keeps_all _ _ _ _ _) = refl
+declarations_one text _ _ (keeps_all a ds are_a is_a keeps) (breaks_one b es placed are_b is_b some) =
+    cc (same_first text a b ds es None (Some placed) are_a is_a keeps are_b is_b some)
+declarations_one text _ _ (breaks_one a ds placed are_a is_a some) (keeps_all b es are_b is_b keeps) =
+    cc (same_first text a b ds es (Some placed) None are_a is_a some are_b is_b keeps)
+declarations_one text _ _ (breaks_one a ds one are_a is_a first_a)
+    (breaks_one b es other are_b is_b first_b) =
+    ap (λ (placed : Placed). breach_at placed.code placed.at) (some_injective
+    (same_first text a b ds es (Some one) (Some other) are_a is_a first_a are_b is_b first_b))
+
+pub one_text_program : (text : List ℕ) (a b : Small) → IsProgram text a → IsProgram text b → a ≡ b
+one_text_program text a b is_a is_b =
+    one_program (spelling_of text is_b.tokens) a b
+    (subst (λ tokens. Spells a (spelling_of text tokens))
+    (one_tokens text is_a.tokens is_b.tokens is_a.are_tokens is_b.are_tokens) is_a.spells)
+    is_b.spells
+
+size_one : (text : List ℕ) (a b : List Breach) → SizeFinds text a → SizeFinds text b → a ≡ b
+size_one text _ _ (within _ _ _) (within _ _ _) = refl
+size_one text _ _ (within a is_a fits) (too_large b function is_b some) =
+    let same = ap (λ program. first_too_large (functions_of program))
+    (one_text_program text a b is_a is_b) in
+    cc (sym fits ∙ same ∙ some)
+size_one text _ _ (too_large a function is_a some) (within b is_b fits) =
+    let same = ap (λ program. first_too_large (functions_of program))
+    (one_text_program text a b is_a is_b) in
+    cc (sym some ∙ same ∙ fits)
+size_one text _ _ (too_large a f is_a is_f) (too_large b g is_b is_g) =
+    let same = ap (λ program. first_too_large (functions_of program))
+    (one_text_program text a b is_a is_b) in
+    let function : f ≡ g = some_injective (sym is_f ∙ same ∙ is_g) in
+    ap (λ (t : TooLarge). breach_at (size_code t.of) t.key) function
 
 one_found : (phase : Phase) (text : List ℕ) (a b : List Breach) → Finds phase text a
     → Finds phase text b → a ≡ b
 one_found Encoding text a b is_a is_b = encoding_one text a b is_a is_b
 one_found Lexis text a b is_a is_b = lexis_one text a b is_a is_b
-one_found Entry text a b is_a is_b = entry_one text a b is_a is_b
+one_found Syntax text a b is_a is_b = syntax_one text a b is_a is_b
+one_found Declarations text a b is_a is_b = declarations_one text a b is_a is_b
 one_found SmallForm text a b is_a is_b = small_form_one text a b is_a is_b
+one_found Size text a b is_a is_b = size_one text a b is_a is_b
 
 -- and so do phases in order
 pub one_list : (phases : List Phase) (text : List ℕ) (a b : List Breach) → Breaches phases text a
@@ -113,10 +193,14 @@ few_found Encoding text _ (is_utf8 _) = omega arith
 few_found Encoding text _ (not_utf8 _) = omega arith
 few_found Lexis text _ (has_tokens _ _) = omega arith
 few_found Lexis text _ (has_fault _ _) = omega arith
-few_found Entry text _ (some_token _ _ _) = omega arith
-few_found Entry text _ (no_token _) = omega arith
+few_found Syntax text _ (spells_program _ _ _ _) = omega arith
+few_found Syntax text _ (has_syntax_fault _ _ _ _) = omega arith
+few_found Declarations text _ (keeps_all _ _ _ _ _) = omega arith
+few_found Declarations text _ (breaks_one _ _ _ _ _ _) = omega arith
 few_found SmallForm text _ (spelled _ _ _ _) = omega arith
 few_found SmallForm text _ (unexpected _ _ _ _) = omega arith
+few_found Size text _ (within _ _ _) = omega arith
+few_found Size text _ (too_large _ _ _ _) = omega arith
 
 pub one_breach : (phases : List Phase) (text : List ℕ) (list : List Breach)
     → Breaches phases text list → length list ≤ 1
@@ -125,9 +209,16 @@ one_breach _ text list (first phase _ _ _ _ found) = few_found phase text list f
 one_breach _ text list (later _ phases _ _ _ found) = one_breach phases text list found
 
 -- the codes that these phases name have texts
-unexpected_is_code : IsCode unexpected_token
+not_built_is_code : IsCode not_built
 unfolding text_of texts
-unexpected_is_code = refl
+not_built_is_code = refl
+
+syntax_is_code : (tokens : List Spelled) (fault : ParseFault) → IsSyntaxFault tokens fault
+    → IsCode (syntax_code fault)
+unfolding text_of texts
+syntax_is_code tokens (parse_faults.Unexpected _) is = refl
+syntax_is_code tokens (parse_faults.TooDeep _) is = refl
+syntax_is_code tokens parse_faults.Memory is = absurd is
 
 not_utf8_is_code : IsCode not_utf8_code
 unfolding text_of texts
@@ -143,9 +234,37 @@ lexical_is_code text (faults.BadChar _) is = refl
 lexical_is_code text (faults.TooMany _) is = refl
 lexical_is_code text faults.Memory is = absurd (memory_is_no_fault text is)
 
-no_entry_is_code : IsCode not_one_entry
+size_is_code : (excess : Excess) → IsCode (size_code excess)
 unfolding text_of texts
-no_entry_is_code = refl
+size_is_code Registers = refl
+size_is_code Points = refl
+
+-- the codes of the rules on declarations have texts
+listed : IsCode 301 × IsCode 302 × IsCode 303 × IsCode 304 × IsCode 305 × IsCode 306 × IsCode 307
+unfolding text_of texts
+listed = (refl, refl, refl, refl, refl, refl, refl)
+
+-- a property of a number that holds of one and of all after it, up to another
+or_later : (P : ℕ → Type 0) (n k : ℕ) → n ≤ k → P n → (n + 1 ≤ k → P k) → P k
+or_later P n k least holds after = by (k - n) (omega (arith, least))
+  where
+    by : (m : ℕ) → k ≡ n + m → P k
+    by zero is = let same : n ≡ k = omega (arith, is) in subst P same holds
+    by (suc m) is = after (omega (arith, is))
+
+declaration_is_code : (decls : List Decl) (placed : Placed) → IsFirstBreach decls (Some placed)
+    → IsCode placed.code
+declaration_is_code decls placed some =
+    let within = first_is_coded decls placed some in
+    let code = placed.code in
+    or_later IsCode 301 code within.0 listed.0
+    (λ a. or_later IsCode 302 code a listed.1
+    (λ b. or_later IsCode 303 code b listed.2
+    (λ c. or_later IsCode 304 code c listed.3
+    (λ d. or_later IsCode 305 code d listed.4
+    (λ e. or_later IsCode 306 code e listed.5
+    (λ f. or_later IsCode 307 code f listed.6
+    (λ g. absurd (omega (arith, g, within.1)))))))))
 
 codes_found : (phase : Phase) (text : List ℕ) (list : List Breach) → Finds phase text list
     → AllByRecursion (λ breach. IsCode breach.code) list
@@ -153,10 +272,16 @@ codes_found Encoding text _ (is_utf8 _) = tt
 codes_found Encoding text _ (not_utf8 _) = (not_utf8_is_code, tt)
 codes_found Lexis text _ (has_tokens _ _) = tt
 codes_found Lexis text _ (has_fault fault is) = (lexical_is_code text fault is, tt)
-codes_found Entry text _ (some_token _ _ _) = tt
-codes_found Entry text _ (no_token _) = (no_entry_is_code, tt)
+codes_found Syntax text _ (spells_program _ _ _ _) = tt
+codes_found Syntax text _ (has_syntax_fault tokens fault _ is) =
+    (syntax_is_code (spelling_of text tokens) fault is, tt)
+codes_found Declarations text _ (keeps_all _ _ _ _ _) = tt
+codes_found Declarations text _ (breaks_one _ decls placed _ _ some) =
+    (declaration_is_code decls placed some, tt)
 codes_found SmallForm text _ (spelled _ _ _ _) = tt
-codes_found SmallForm text _ (unexpected _ _ _ _) = (unexpected_is_code, tt)
+codes_found SmallForm text _ (unexpected _ _ _ _) = (not_built_is_code, tt)
+codes_found Size text _ (within _ _ _) = tt
+codes_found Size text _ (too_large _ function _ _) = (size_is_code function.of, tt)
 
 pub have_codes : (phases : List Phase) (text : List ℕ) (list : List Breach)
     → Breaches phases text list → AllByRecursion (λ breach. IsCode breach.code) list
@@ -167,46 +292,71 @@ have_codes _ text list (later _ phases _ _ _ found) = have_codes phases text lis
 -- every text has a list of breaches
 some_list : (text : List ℕ) → (list : List Breach) × Breaches all_phases text list
 some_list text = by_encoding (test_utf8 text) refl where
-  in_form : IsUtf8 text → (tokens : List Token) → IsTokens text tokens → tokens ≢ []
-      → (list : List Breach) → SmallFormFinds text list → (list : List Breach)
-      × Breaches all_phases text list
-  in_form utf8 tokens are some [] found = (
-    _,
-    later Encoding _ text [] (is_utf8 utf8)
-        (later Lexis _ text [] (has_tokens tokens are)
-        (later Entry _ text [] (some_token tokens are some)
-        (later SmallForm [] text [] found (none text)))),
-  )
-  in_form utf8 tokens are some (breach ∷ others) found = (
-    _,
-    later Encoding _ text _ (is_utf8 utf8)
-        (later Lexis _ text _ (has_tokens tokens are)
-        (later Entry _ text _ (some_token tokens are some)
-        (first SmallForm [] text breach others found))),
+  -- what the phases after the tokens find
+  after_lexis : IsUtf8 text → (tokens : List Token) → IsTokens text tokens
+      → (list : List Breach) × Breaches (Syntax ∷ Declarations ∷ SmallForm ∷ Size ∷ []) text list
+      → (list : List Breach) × Breaches all_phases text list
+  after_lexis utf8 tokens are (list, found) = (
+    list,
+    later Encoding _ text list (is_utf8 utf8) (later Lexis _ text list (has_tokens tokens are) found),
   )
 
-  by_form : IsUtf8 text → (tokens : List Token) → IsTokens text tokens → tokens ≢ []
+  by_size : (program : Small) → IsProgram text program → (found : Option TooLarge)
+      → first_too_large (functions_of program) ≡ found
+      → (list : List Breach) × Breaches (Size ∷ []) text list
+  by_size program is None fits = ([], later Size [] text [] (within program is fits) (none text))
+  by_size program is (Some function) large =
+      (_, first Size [] text _ [] (too_large program function is large))
+
+  by_form : IsUtf8 text → (tokens : List Token) → IsTokens text tokens → SyntaxFinds text []
+      → DeclarationsFinds text []
       → ((program : Small) × Spells program (spelling_of text tokens))
-      ⊎ ((n : ℕ) × IsUnexpected (spelling_of text tokens) n) → (list : List Breach)
-      × Breaches all_phases text list
-  by_form utf8 tokens are some (inl (program, spells)) =
-      in_form utf8 tokens are some _ (spelled tokens program are spells)
-  by_form utf8 tokens are some (inr (n, place)) =
-      in_form utf8 tokens are some _ (unexpected tokens n are place)
+      ⊎ ((n : ℕ) × IsUnexpected (spelling_of text tokens) n)
+      → (list : List Breach) × Breaches (SmallForm ∷ Size ∷ []) text list
+  by_form utf8 tokens are syntax declarations (inl (program, spells)) =
+      let is : IsProgram text program = record {
+        utf8 = utf8;
+        tokens = tokens;
+        are_tokens = are;
+        syntax = syntax;
+        declarations = declarations;
+        spells = spells;
+      } in
+      let (list, found) = by_size program is (first_too_large (functions_of program)) refl in
+      (list, later SmallForm _ text list (spelled tokens program are spells) found)
+  by_form utf8 tokens are syntax declarations (inr (n, place)) =
+      (_, first SmallForm _ text _ [] (unexpected tokens n are place))
+
+  by_first : IsUtf8 text → (tokens : List Token) → IsTokens text tokens → (decls : List Decl)
+      → IsProgramOf decls (spelling_of text tokens) → (found : Option Placed)
+      → IsFirstBreach decls found
+      → (list : List Breach) × Breaches (Declarations ∷ SmallForm ∷ Size ∷ []) text list
+  by_first utf8 tokens are decls is None keeps_them =
+      let keeps = keeps_all tokens decls are is keeps_them in
+      let (list, found) = by_form utf8 tokens are (spells_program tokens decls are is) keeps
+      (program_or_unexpected (spelling_of text tokens) (tokens_spelled text tokens utf8 are)) in
+      (list, later Declarations _ text list keeps found)
+  by_first utf8 tokens are decls is (Some placed) some =
+      (_, first Declarations _ text _ [] (breaks_one tokens decls placed are is some))
+
+  by_syntax : IsUtf8 text → (tokens : List Token) → IsTokens text tokens
+      → ((decls : List Decl) × IsProgramOf decls (spelling_of text tokens))
+      ⊎ ((fault : ParseFault) × IsSyntaxFault (spelling_of text tokens) fault)
+      → (list : List Breach) × Breaches (Syntax ∷ Declarations ∷ SmallForm ∷ Size ∷ []) text list
+  by_syntax utf8 tokens are (inl (decls, is)) =
+      let (placed, is_first) = some_first_breach decls in
+      let (list, found) = by_first utf8 tokens are decls is placed is_first in
+      (list, later Syntax _ text list (spells_program tokens decls are is) found)
+  by_syntax utf8 tokens are (inr (fault, place)) =
+      (_, first Syntax _ text _ [] (has_syntax_fault tokens fault are place))
 
   by_tokens : IsUtf8 text → (read : Result (List Token) LexFault) → HasTokens text read
       → (list : List Breach) × Breaches all_phases text list
   by_tokens utf8 (Err fault) place =
       (_, later Encoding _ text _ (is_utf8 utf8) (first Lexis _ text _ [] (has_fault fault place)))
-  by_tokens utf8 (Ok []) are = (
-    _,
-    later Encoding _ text _ (is_utf8 utf8)
-        (later Lexis _ text _ (has_tokens [] are) (first Entry _ text _ [] (no_token are))),
-  )
-  by_tokens utf8 (Ok (token ∷ tokens)) are =
-      by_form utf8 (token ∷ tokens) are (λ e. cc)
-      (program_or_unexpected (spelling_of text (token ∷ tokens))
-      (tokens_spelled text (token ∷ tokens) utf8 are))
+  by_tokens utf8 (Ok tokens) are =
+      after_lexis utf8 tokens are (by_syntax utf8 tokens are
+      (programs.decided (spelling_of text tokens) (tokens_spelled text tokens utf8 are)))
 
   by_encoding : (test : Bool) → test_utf8 text ≡ test → (list : List Breach)
       × Breaches all_phases text list
@@ -229,44 +379,31 @@ pub never_both : (phases : List Phase) (text : List ℕ) → Breaches phases tex
 never_both phases text accepts (list, some, found) =
     some (one_list phases text list [] found accepts)
 
-form_of : (text : List ℕ) → IsUtf8 text → SmallFormFinds text [] → (program : Small)
-    × IsProgram text program
-form_of text utf8 (spelled tokens program are spells) =
-    (program, record { utf8 = utf8; tokens = tokens; are_tokens = are; spells = spells })
+sized : (text : List ℕ) → SizeFinds text [] → (program : Small) × IsProgram text program
+    × (first_too_large (functions_of program) ≡ None)
+sized text (within program is fits) = (program, is, fits)
 
--- an accepted text has a program
+-- an accepted text has a program none of whose functions is too large
 accepted_program : (text : List ℕ) → Accepts text → (program : Small) × IsProgram text program
-accepted_program text (later _ _ _ _ utf8
-    (later _ _ _ _ _ (later _ _ _ _ _ (later _ _ _ _ form _)))) =
-    form_of text (utf8_found text utf8) form
+    × (first_too_large (functions_of program) ≡ None)
+accepted_program text (later _ _ _ _ _ (later _ _ _ _ _ (later _ _ _ _ _
+    (later _ _ _ _ _ (later _ _ _ _ _ (later _ _ _ _ size _)))))) = sized text size
 
 pub some_graph_of : (text : List ℕ) → Accepts text → (graph : Graph) × IsGraphOf text graph
 some_graph_of text accepts =
-    let (program, is) = accepted_program text accepts in
-    let (graph, lowered) = some_graph program in
+    let (program, is, fits) = accepted_program text accepts in
+    let (graph, lowered) = some_graph program fits in
     (graph, record { program = program; of_text = is; lowered = lowered })
 
--- a program has a token
-spelled_has_tokens : (text : List ℕ) (tokens : List Token) (program : Small)
-    → Spells program (spelling_of text tokens) → tokens ≢ []
-spelled_has_tokens text tokens program spells empty =
-    let some : 0 < length (spelling_of text tokens) = some_spelled spells in
-    omega (arith, ap (λ ts. length (spelling_of text ts)) empty)
-
-pub program_accepted : (text : List ℕ) (program : Small) → IsProgram text program → Accepts text
-program_accepted text program is =
+pub program_accepted : (text : List ℕ) (program : Small) → IsProgram text program
+    → first_too_large (functions_of program) ≡ None → Accepts text
+program_accepted text program is fits =
     later Encoding _ text [] (is_utf8 is.utf8)
     (later Lexis _ text [] (has_tokens is.tokens is.are_tokens)
-    (later Entry _ text [] (some_token is.tokens is.are_tokens
-    (spelled_has_tokens text is.tokens program is.spells))
-    (later SmallForm [] text [] (spelled is.tokens program is.are_tokens is.spells) (none text))))
-
-pub one_text_program : (text : List ℕ) (a b : Small) → IsProgram text a → IsProgram text b → a ≡ b
-one_text_program text a b is_a is_b =
-    one_program (spelling_of text is_b.tokens) a b
-    (subst (λ tokens. Spells a (spelling_of text tokens))
-    (one_tokens text is_a.tokens is_b.tokens is_a.are_tokens is_b.are_tokens) is_a.spells)
-    is_b.spells
+    (later Syntax _ text [] is.syntax
+    (later Declarations _ text [] is.declarations
+    (later SmallForm _ text [] (spelled is.tokens program is.are_tokens is.spells)
+    (later Size [] text [] (within program is fits) (none text))))))
 
 pub one_graph_of : (text : List ℕ) (a b : Graph) → IsGraphOf text a → IsGraphOf text b → a ≡ b
 one_graph_of text a b is_a is_b =
@@ -275,14 +412,32 @@ one_graph_of text a b is_a is_b =
     (one_text_program text is_a.program is_b.program is_a.of_text is_b.of_text) is_a.lowered)
     is_b.lowered
 
+-- the declarations that were read of a text
+pub decls_read : (text source : List ℕ) (tokens given : List Token) (decls : List Decl)
+    → source ≡ text → given ≡ tokens → IsProgramOf decls (spelling_of source given)
+    → IsProgramOf decls (spelling_of text tokens)
+decls_read text source tokens given decls same handed is =
+    subst (λ source. IsProgramOf decls (spelling_of source tokens)) same
+    (subst (λ tokens. IsProgramOf decls (spelling_of source tokens)) handed is)
+
+-- the declarations of a text within the limit are few
+pub few_decls : (text source : List ℕ) (tokens given : List Token) (decls : List Decl)
+    → source ≡ text → given ≡ tokens → IsTokens source tokens → length decls ≤ length given
+    → length text ≤ MAX_LENGTH → length decls < 2 ^ 31
+few_decls text source tokens given decls same handed are few short =
+    omega (arith, few, ap length handed, ap length same, IsTokens-few source tokens are, short)
+
 -- the program that was read of a text
 pub program_read : (text source : List ℕ) (tokens given : List Token) (program : Small)
     → source ≡ text → given ≡ tokens → EncodingFinds text [] → IsTokens source tokens
+    → SyntaxFinds source [] → DeclarationsFinds text []
     → Spells program (spelling_of source given) → IsProgram text program
-program_read text source tokens given program same handed utf8 are spells = record {
+program_read text source tokens given program same handed utf8 are syntax declarations spells = record {
   utf8 = utf8_found text utf8;
   tokens = tokens;
   are_tokens = subst (λ source. IsTokens source tokens) same are;
+  syntax = subst (λ source. SyntaxFinds source []) same syntax;
+  declarations = declarations;
   spells = subst (λ source. Spells program (spelling_of source tokens)) same
       (subst (λ tokens. Spells program (spelling_of source tokens)) handed spells);
 }

@@ -1,6 +1,6 @@
 -- The phases of the verdict. Each says which breaches it finds in a text in which the phases before
 -- it find none.
-use Rattle.std.specs.Prelude.{◌≢◌, ℕ, List, [], ◌∷◌, length, slice_get, None}
+use Rattle.std.specs.Prelude.{◌≡◌, ℕ, List, [], ◌∷◌, length, slice_get, Some, None}
 use Rattle.std.specs.Option.{option_map_or}
 use Rattle.std.specs.Str.{IsUtf8}
 use Rattle.std.specs.Str.Lossy.{utf8_valid_len}
@@ -9,35 +9,63 @@ use Rattle.sw_token.specs.declared.LexFault.{LexFault}
 use Rattle.sw_token.specs.declared.LexFault.TheVariants.{Unclosed, TooBig, BadChar, TooMany, Memory}
 use Rattle.sw_token.specs.Tokens.{IsTokens, IsLexicalFault, position_of}
 use Rattle.sw_breach.specs.declared.Breach.{Breach}
+use Rattle.sw_graph.specs.declared.function.Excess.{Excess}
+use Rattle.sw_graph.specs.declared.function.Excess.TheVariants.{Registers, Points}
+use Rattle.sw_graph.specs.declared.function.TooLarge.{TooLarge}
+use Rattle.sw_graph.specs.Limits.{first_too_large}
 use Rattle.sw_small.specs.declared.tree.Small.{Small}
+use Rattle.sw_small.specs.Lower.{functions_of}
 use Rattle.sw_token.specs.Spelling.{spelling_of}
+use Rattle.sw_tree.specs.declared.decl.Decl.{Decl}
+use Rattle.sw_parse_decl.specs.declared.fault.ParseFault.{ParseFault}
+use Rattle.sw_parse_decl.specs.declared.fault.ParseFault.TheVariants as faults
+use Rattle.sw_parse_decl.specs.Programs.{IsProgramOf, IsSyntaxFault}
 use Rattle.sw_small.specs.Small.{Spells, IsUnexpected}
+use Rattle.sw_resolve.specs.declared.placed.Placed.{Placed}
+use Rattle.sw_decls.specs.Declaring.{IsFirstBreach}
 
 pub data Phase : Type 0 where
   -- the text is UTF-8
   Encoding : Phase
   -- the text has tokens
   Lexis : Phase
-  -- the program has an entry
-  Entry : Phase
-  -- the tokens spell a program of the small language
+  -- the tokens spell a program
+  Syntax : Phase
+  -- the program keeps the rules on declarations
+  Declarations : Phase
+  -- the program has only forms that can be run so far: those of the small language
   SmallForm : Phase
+  -- the program's functions are no larger than those of a graph
+  Size : Phase
 
 -- the phases that are built, in order
 abbrev pub all_phases : List Phase
-all_phases = Encoding ∷ Lexis ∷ Entry ∷ SmallForm ∷ []
+all_phases = Encoding ∷ Lexis ∷ Syntax ∷ Declarations ∷ SmallForm ∷ Size ∷ []
 
 -- the code of a text that isn't UTF-8
 abbrev pub not_utf8_code : ℕ
 not_utf8_code = 101
 
--- the code of a token that can't stand where it does
-abbrev pub unexpected_token : ℕ
-unexpected_token = 201
+-- the code of each fault of the syntax; a call that ran out of memory found none
+abbrev pub syntax_code : ParseFault → ℕ
+syntax_code (faults.Unexpected _) = 201
+syntax_code (faults.TooDeep _) = 202
+syntax_code faults.Memory = 0
 
--- the code of a program without an entry, or with several
-abbrev pub not_one_entry : ℕ
-not_one_entry = 304
+-- the token at which a fault stands, by its index
+abbrev pub token_of : ParseFault → ℕ
+token_of (faults.Unexpected token) = token
+token_of (faults.TooDeep token) = token
+token_of faults.Memory = 0
+
+-- the code of a form that can't be run yet
+abbrev pub not_built : ℕ
+not_built = 299
+
+-- the code of a function with too many registers, or points
+abbrev pub size_code : Excess → ℕ
+size_code Registers = 510
+size_code Points = 511
 
 -- one breach without a note
 abbrev pub breach_at : ℕ → ℕ → List Breach
@@ -62,29 +90,62 @@ pub data LexisFinds (text : List ℕ) : List Breach → Type 0 where
   has_fault : (fault : LexFault) → IsLexicalFault text fault
       → LexisFinds text (breach_at (lexical_code fault) (position_of fault))
 
--- A text without tokens has no entry.
-pub data EntryFinds (text : List ℕ) : List Breach → Type 0 where
-  some_token : (tokens : List Token) → IsTokens text tokens → tokens ≢ [] → EntryFinds text []
-  no_token : IsTokens text [] → EntryFinds text (breach_at not_one_entry 0)
-
 -- where the token after the first n begins; the end of the text where there are no more
 abbrev pub token_position : List ℕ → List Token → ℕ → ℕ
 token_position text tokens n =
     option_map_or (λ token. token.span.start) (slice_get tokens n) (length text)
 
--- The breach is at the first token that can't stand where it does in any program.
+-- The breach is at the one fault of the syntax.
+pub data SyntaxFinds (text : List ℕ) : List Breach → Type 0 where
+  spells_program : (tokens : List Token) (decls : List Decl) → IsTokens text tokens
+      → IsProgramOf decls (spelling_of text tokens) → SyntaxFinds text []
+  has_syntax_fault : (tokens : List Token) (fault : ParseFault) → IsTokens text tokens
+      → IsSyntaxFault (spelling_of text tokens) fault
+      → SyntaxFinds text (breach_at (syntax_code fault)
+      (token_position text tokens (token_of fault)))
+
+-- The breach is the first of the rules on declarations.
+pub data DeclarationsFinds (text : List ℕ) : List Breach → Type 0 where
+  keeps_all : (tokens : List Token) (decls : List Decl) → IsTokens text tokens
+      → IsProgramOf decls (spelling_of text tokens) → IsFirstBreach decls None
+      → DeclarationsFinds text []
+  breaks_one : (tokens : List Token) (decls : List Decl) (placed : Placed) → IsTokens text tokens
+      → IsProgramOf decls (spelling_of text tokens) → IsFirstBreach decls (Some placed)
+      → DeclarationsFinds text (breach_at placed.code placed.at)
+
+-- The breach is at the first token with which no program of the small language goes on.
 pub data SmallFormFinds (text : List ℕ) : List Breach → Type 0 where
   spelled : (tokens : List Token) (program : Small) → IsTokens text tokens
       → Spells program (spelling_of text tokens)
       → SmallFormFinds text []
   unexpected : (tokens : List Token) (n : ℕ) → IsTokens text tokens
       → IsUnexpected (spelling_of text tokens) n
-      → SmallFormFinds text (breach_at unexpected_token (token_position text tokens n))
+      → SmallFormFinds text (breach_at not_built (token_position text tokens n))
+
+-- the text is that of the program: it is UTF-8, and its tokens spell the program, which has no
+-- breach of the syntax or of the rules on declarations
+pub record IsProgram (text : List ℕ) (program : Small) : Type 0 where
+  pub utf8 : IsUtf8 text
+  pub tokens : List Token
+  pub are_tokens : IsTokens text tokens
+  pub syntax : SyntaxFinds text []
+  pub declarations : DeclarationsFinds text []
+  pub spells : Spells program (spelling_of text tokens)
+
+-- The breach is at the key of the first function that is too large.
+pub data SizeFinds (text : List ℕ) : List Breach → Type 0 where
+  within : (program : Small) → IsProgram text program
+      → first_too_large (functions_of program) ≡ None → SizeFinds text []
+  too_large : (program : Small) (function : TooLarge) → IsProgram text program
+      → first_too_large (functions_of program) ≡ Some function
+      → SizeFinds text (breach_at (size_code function.of) function.key)
 
 -- `Finds phase text list`: where the phases before it find no breach in the text, this one finds
 -- these.
 abbrev pub Finds : Phase → List ℕ → List Breach → Type 0
 Finds Encoding text list = EncodingFinds text list
 Finds Lexis text list = LexisFinds text list
-Finds Entry text list = EntryFinds text list
+Finds Syntax text list = SyntaxFinds text list
+Finds Declarations text list = DeclarationsFinds text list
 Finds SmallForm text list = SmallFormFinds text list
+Finds Size text list = SizeFinds text list

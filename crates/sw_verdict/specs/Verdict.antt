@@ -1,15 +1,10 @@
 -- The verdict on the text of a program.
 use Rattle.std.specs.Prelude.{◌≢◌, ℕ, List, [], ◌∷◌, Result, Ok, Err}
-use Rattle.std.specs.Str.{IsUtf8}
-use Rattle.sw_token.specs.declared.Token.{Token}
-use Rattle.sw_token.specs.Tokens.{IsTokens}
 use Rattle.sw_graph.specs.declared.graph.Graph.{Graph}
 use Rattle.sw_breach.specs.declared.Breach.{Breach}
 use Rattle.sw_small.specs.declared.tree.Small.{Small}
 use Rattle.sw_small.specs.Lower.{IsLowered}
-use Rattle.sw_token.specs.Spelling.{spelling_of}
-use Rattle.sw_small.specs.Small.{Spells}
-use Rattle.sw_verdict.specs.Phases.{Phase, all_phases, Finds}
+use Rattle.sw_verdict.specs.Phases.{Phase, all_phases, Finds, IsProgram}
 
 -- `Breaches phases text list`: the first of these phases that finds breaches in the text decides,
 -- and these are what it finds. The list is empty where none of them finds any.
@@ -28,13 +23,6 @@ Accepts text = Breaches all_phases text []
 -- one of these phases finds a breach in the text
 abbrev pub Refuses : List Phase → List ℕ → Type 0
 Refuses phases text = (list : List Breach) × (list ≢ []) × Breaches phases text list
-
--- the text is that of the program: it is UTF-8, and its tokens spell the program
-pub record IsProgram (text : List ℕ) (program : Small) : Type 0 where
-  pub utf8 : IsUtf8 text
-  pub tokens : List Token
-  pub are_tokens : IsTokens text tokens
-  pub spells : Spells program (spelling_of text tokens)
 
 -- the graph is that of the text's program
 pub record IsGraphOf (text : List ℕ) (graph : Graph) : Type 0 where

@@ -3,10 +3,9 @@ ghost use Rattle.sw_breach.specs.declared.Breach.{Breach};
 ghost use Rattle.sw_verdict.specs.Phases.{all_phases};
 ghost use Rattle.sw_verdict.specs.Verdict.{IsVerdict};
 
-use crate::phases::{Refusal, encoding, entry, lexis, small_form};
+use crate::phases::{Refusal, declarations, encoding, lexis, size, small_form, syntax};
 use std::alloc::Global;
 use sw_graph::Graph;
-use sw_small::lower;
 use sw_text::MAX_LENGTH;
 
 /// The verdict on a text: its graph, or what the first phase finds that finds a breach.
@@ -18,7 +17,9 @@ pub fn judge(alloc: Global, text: &[u8]) -> Result<Graph, Refusal>
 {
     let source = encoding(alloc, text)?;
     let tokens = lexis(alloc, &source)?;
-    entry(alloc, &tokens)?;
-    let program = small_form(alloc, &source, &tokens)?;
-    Ok(lower(alloc, &program)?)
+    let program = syntax(alloc, &source, &tokens)?;
+    declarations(alloc, &program)?;
+    let small = small_form(alloc, &source, &tokens)?;
+    let graph = size(alloc, &small)?;
+    Ok(graph)
 }

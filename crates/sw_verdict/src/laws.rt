@@ -5,8 +5,8 @@ ghost use Rattle.sw_value.specs.Runnable.{IsRunnable};
 ghost use Rattle.sw_small.specs.declared.tree.Small.{Small};
 ghost use Rattle.sw_breach.specs.declared.Breach.{Breach};
 ghost use Rattle.sw_breach.specs.Codes.{IsCode};
-ghost use Rattle.sw_verdict.specs.Phases.{Phase, all_phases};
-ghost use Rattle.sw_verdict.specs.Verdict.{Accepts, Breaches, IsGraphOf, IsProgram, Refuses};
+ghost use Rattle.sw_verdict.specs.Phases.{Phase, all_phases, IsProgram};
+ghost use Rattle.sw_verdict.specs.Verdict.{Accepts, Breaches, IsGraphOf, Refuses};
 
 use sw_text::MAX_LENGTH;
 

@@ -1,19 +1,29 @@
 //! One function for each phase.
 
-ghost use Rattle.std.specs.Prelude.{◌≡◌, ◌≢◌, ◌≤◌, ℕ, List, IfOk, OnOk, length};
+ghost use Rattle.std.specs.Prelude.{◌≡◌, ◌≢◌, ◌≤◌, ◌<◌, ◌^◌, ℕ, List, IfOk, OnOk, length};
+ghost use Rattle.sw_token.specs.declared.Token.{Token};
 ghost use Rattle.sw_token.specs.Tokens.{IsTokens, position_of};
 ghost use Rattle.sw_token.specs.Spelling.{spelling_of};
 ghost use Rattle.sw_small.specs.Small.{Spells};
-ghost use Rattle.sw_verdict.specs.Phases.{Encoding, Entry, Lexis, SmallForm, Finds, breach_at};
-ghost use Rattle.sw_verdict.specs.Phases.{lexical_code, token_position};
+ghost use Rattle.sw_small.specs.Lower.{size_of, IsLowered};
+ghost use Rattle.sw_parse_decl.specs.Programs.{IsProgramOf};
+ghost use Rattle.sw_verdict.specs.Phases.{Encoding, Lexis, Syntax, Declarations, SmallForm, Size};
+ghost use Rattle.sw_verdict.specs.Phases.{Finds};
+ghost use Rattle.sw_verdict.specs.Phases.{IsProgram, breach_at, lexical_code, syntax_code};
+ghost use Rattle.sw_verdict.specs.Phases.{token_of, size_code, token_position};
 ghost use Rattle.sw_verdict.specs.Found.{Found};
 
 use std::alloc::{AllocError, Global};
 use sw_breach::Breach;
+use sw_decls::{AsyncDefault, DeclFault, Decls, declare};
+use sw_graph::{Excess, Graph};
 use sw_list::ListOf;
-use sw_small::{ParseFault, Small, parse};
+use sw_parse_body::program;
+use sw_parse_decl::ParseFault;
+use sw_small::{LowerFault, ParseFault as SmallFault, Small, lower, parse};
 use sw_text::{MAX_LENGTH, Source, TextFault};
 use sw_token::{LexFault, Token, tokens};
+use sw_tree::Program;
 
 /// A text that isn't UTF-8.
 const NOT_UTF8: u16 = 101;
@@ -33,8 +43,17 @@ const TOO_MANY_TOKENS: u16 = 105;
 /// A token that can't stand where it does.
 const UNEXPECTED_TOKEN: u16 = 201;
 
-/// A program without an entry, or with several.
-const NOT_ONE_ENTRY: u16 = 304;
+/// A token that opens a nest too many.
+const NESTED_TOO_DEEPLY: u16 = 202;
+
+/// A form that can't be run yet.
+const NOT_BUILT: u16 = 299;
+
+/// A function with too many registers.
+const TOO_MANY_REGISTERS: u16 = 510;
+
+/// A function with too many points.
+const TOO_MANY_POINTS: u16 = 511;
 
 /// Why a text has no graph.
 #[derive(Drop)]
@@ -109,16 +128,6 @@ pub fn lexis(alloc: Global, source: &Source) -> Result<Vec<Token>, Refusal>
     }
 }
 
-/// A text without tokens has no entry.
-pub fn entry(alloc: Global, tokens: &[Token]) -> Result<(), Refusal>
-    ensures { (text : List ℕ) → IsTokens text tokens.now → Found (Finds Entry text) result }
-{
-    if tokens.is_empty() {
-        return Err(refused(alloc, NOT_ONE_ENTRY, 0));
-    }
-    Ok(())
-}
-
 /// The position of the token after the first `n`; the end of the text where there are no more.
 fn token_position(source: &Source, tokens: &[Token], n: u32) -> u32
     ensures { result ≡ token_position source.now tokens.now n }
@@ -126,6 +135,53 @@ fn token_position(source: &Source, tokens: &[Token], n: u32) -> u32
     match tokens.get(n as usize) {
         Some(token) => token.span.start,
         None => source.len(),
+    }
+}
+
+/// The refusal for a fault of the syntax.
+fn syntax_refusal(alloc: Global, source: &Source, tokens: &[Token], fault: ParseFault) -> Refusal
+    ensures { result ≢ Refusal.Memory → (fault ≢ ParseFault.Memory)
+        × (result ≡ Refusal.Breached (breach_at (syntax_code fault)
+        (token_position source.now tokens.now (token_of fault)))) }
+{
+    match fault {
+        ParseFault::Unexpected { token } => {
+            let at = token_position(source, tokens, token);
+            refused(alloc, UNEXPECTED_TOKEN, at)
+        }
+        ParseFault::TooDeep { token } => {
+            let at = token_position(source, tokens, token);
+            refused(alloc, NESTED_TOO_DEEPLY, at)
+        }
+        ParseFault::Memory => Refusal::Memory,
+    }
+}
+
+/// The program that the tokens of a text spell.
+pub fn syntax(alloc: Global, source: &Source, tokens: &[Token]) -> Result<Program, Refusal>
+    requires { IsTokens source.now tokens.now }
+    ensures found { Found (Finds Syntax source.now) result }
+    ensures program { IfOk result (λ program. IsProgramOf program.decls
+        (spelling_of source.now tokens.now)) }
+    ensures few { IfOk result (λ program. length program.decls ≤ length tokens.now) }
+{
+    match program(alloc, source, tokens) {
+        Ok(program) => Ok(program),
+        Err(fault) => Err(syntax_refusal(alloc, source, tokens, fault)),
+    }
+}
+
+/// What a program declares.
+pub fn declarations(alloc: Global, program: &Program) -> Result<Decls, Refusal>
+    requires { length program.now.decls < 2 ^ 31 }
+    ensures { (text : List ℕ) (tokens : List Token) → IsTokens text tokens
+        → IsProgramOf program.now.decls (spelling_of text tokens)
+        → Found (Finds Declarations text) result }
+{
+    match declare(alloc, program, AsyncDefault::Concurrent) {
+        Ok(decls) => Ok(decls),
+        Err(DeclFault::Breach { code, at }) => Err(refused(alloc, code, at)),
+        Err(DeclFault::Memory) => Err(Refusal::Memory),
     }
 }
 
@@ -137,10 +193,36 @@ pub fn small_form(alloc: Global, source: &Source, tokens: &[Token]) -> Result<Sm
 {
     match parse(alloc, source, tokens) {
         Ok(program) => Ok(program),
-        Err(ParseFault::Unexpected { token }) => {
+        Err(SmallFault::Unexpected { token }) => {
             let at = token_position(source, tokens, token);
-            Err(refused(alloc, UNEXPECTED_TOKEN, at))
+            Err(refused(alloc, NOT_BUILT, at))
         }
-        Err(ParseFault::Memory) => Err(Refusal::Memory),
+        Err(SmallFault::Memory) => Err(Refusal::Memory),
+    }
+}
+
+/// The graph of a program none of whose functions is too large.
+pub fn size(alloc: Global, program: &Small) -> Result<Graph, Refusal>
+    requires { size_of program.now < 2 ^ 31 }
+    ensures found { (text : List ℕ) → IsProgram text program.now
+        → Found (Finds Size text) result }
+    ensures lowered { IfOk result (IsLowered program.now) }
+{
+    match lower(alloc, program) {
+        Ok(graph) => Ok(graph),
+        Err(LowerFault::TooLarge { function }) => {
+            Err(refused(alloc, size_code(function.of), function.key))
+        }
+        Err(LowerFault::Memory) => Err(Refusal::Memory),
+    }
+}
+
+/// The code of a function that has too many of these.
+fn size_code(excess: Excess) -> u16
+    ensures { result ≡ size_code excess }
+{
+    match excess {
+        Excess::Registers => TOO_MANY_REGISTERS,
+        Excess::Points => TOO_MANY_POINTS,
     }
 }

@@ -1,75 +1,134 @@
-use Rattle.std.proofs.Common.{[], ◌∷◌, subst, sym}
+use Rattle.std.proofs.Common.{[], ◌∷◌, subst}
 use Rattle.sw_token.specs.Tokens.{IsTokens}
-use Rattle.sw_verdict.specs.Phases.{Encoding, Lexis, Entry, SmallForm, Finds}
+use Rattle.sw_verdict.specs.Phases.{Encoding, Lexis, Syntax, Declarations, SmallForm, Size, Finds}
 use Rattle.sw_verdict.specs.Found.{FoundBy}
-use Rattle.sw_verdict.proofs.InOrder.{stopped_by, stopped_later}
-use Rattle.sw_verdict.proofs.Verdicts.{program_accepted, program_read, size_of-program}
+use Rattle.sw_small.proofs.OneGraph.{lowered_within}
+use Rattle.sw_verdict.proofs.InOrder.{stopped_after}
+use Rattle.sw_verdict.proofs.Verdicts.{program_accepted, program_read, decls_read, few_decls}
+use Rattle.sw_verdict.proofs.Verdicts.{size_of-program}
 use Rattle.sw_verdict.proofs.judging.judge.Goals as goal
 
 pub returns-in_err-source-clause-breaches : goal.returns-in_err-source-clause-breaches
 returns-in_err-source-clause-breaches c =
-    stopped_by Encoding (Lexis ∷ Entry ∷ SmallForm ∷ []) c.args.text.now c.in_err-source.field-0.0 _
-    c.in_err-source.ensures.found c.from_residual.ensures.1
+    stopped_after [] Encoding (Lexis ∷ Syntax ∷ Declarations ∷ SmallForm ∷ Size ∷ [])
+    c.args.text.now c.in_err-source.field-0.0 _ tt c.in_err-source.ensures.found
+    c.from_residual.ensures.1
 
 pub returns-in_err-tokens-clause-breaches : goal.returns-in_err-tokens-clause-breaches
-returns-in_err-tokens-clause-breaches c list is =
+returns-in_err-tokens-clause-breaches c =
     let found = subst (λ source. FoundBy (Finds Lexis source) c.in_err-tokens.field-0.0)
     c.in_ok-source.ensures.same c.in_err-tokens.ensures.found in
-    stopped_later Encoding (Lexis ∷ Entry ∷ SmallForm ∷ []) c.args.text.now list
-    c.in_ok-source.ensures.found
-    (stopped_by Lexis (Entry ∷ SmallForm ∷ []) c.args.text.now c.in_err-tokens.field-0.0 _ found
-    c.from_residual-in_err-tokens.ensures.1 list is)
-
-pub returns-in_err-entry-clause-breaches : goal.returns-in_err-entry-clause-breaches
-returns-in_err-entry-clause-breaches c list is =
-    let text = c.args.text.now in
-    let same = c.in_ok-source.ensures.same in
-    let lexis = subst (λ source. Finds Lexis source []) same c.in_ok-tokens.ensures.found in
-    let tokens = subst (λ source. IsTokens source c.in_ok-tokens.tokens.items) same
-    c.in_ok-tokens.ensures.tokens in
-    let found = c.in_err-entry.ensures text
-    (subst (IsTokens text) (sym c.deref.ensures.value) tokens) in
-    stopped_later Encoding (Lexis ∷ Entry ∷ SmallForm ∷ []) text list c.in_ok-source.ensures.found
-    (stopped_later Lexis (Entry ∷ SmallForm ∷ []) text list lexis
-    (stopped_by Entry (SmallForm ∷ []) text c.in_err-entry.field-0.0 _ found
-    c.from_residual-in_err-entry.ensures.1 list is))
+    stopped_after (Encoding ∷ []) Lexis (Syntax ∷ Declarations ∷ SmallForm ∷ Size ∷ [])
+    c.args.text.now c.in_err-tokens.field-0.0 _ (c.in_ok-source.ensures.found, tt) found
+    c.from_residual-in_err-tokens.ensures.1
 
 pub returns-in_err-program-clause-breaches : goal.returns-in_err-program-clause-breaches
-returns-in_err-program-clause-breaches c list is =
+returns-in_err-program-clause-breaches c =
+    let same = c.in_ok-source.ensures.same in
+    let lexis = subst (λ source. Finds Lexis source []) same c.in_ok-tokens.ensures.found in
+    let found = subst (λ source. FoundBy (Finds Syntax source) c.in_err-program.field-0.0) same
+    c.in_err-program.ensures.found in
+    stopped_after (Encoding ∷ Lexis ∷ []) Syntax (Declarations ∷ SmallForm ∷ Size ∷ [])
+    c.args.text.now c.in_err-program.field-0.0 _ (c.in_ok-source.ensures.found, (lexis, tt)) found
+    c.from_residual-in_err-program.ensures.1
+
+pub declarations-requires : goal.declarations-requires
+declarations-requires c =
+    few_decls c.args.text.now c.in_ok-source.source c.in_ok-tokens.tokens.items
+    c.deref.result.now c.in_ok-program.program.decls c.in_ok-source.ensures.same
+    c.deref.ensures.value c.in_ok-tokens.ensures.tokens c.in_ok-program.ensures.few c.requires
+
+pub returns-in_err-declarations-clause-breaches : goal.returns-in_err-declarations-clause-breaches
+returns-in_err-declarations-clause-breaches c =
     let text = c.args.text.now in
     let same = c.in_ok-source.ensures.same in
     let lexis = subst (λ source. Finds Lexis source []) same c.in_ok-tokens.ensures.found in
     let tokens = subst (λ source. IsTokens source c.in_ok-tokens.tokens.items) same
     c.in_ok-tokens.ensures.tokens in
-    let entry = c.in_ok-entry.ensures text
-    (subst (IsTokens text) (sym c.deref.ensures.value) tokens) in
-    let found = subst (λ source. FoundBy (Finds SmallForm source) c.in_err-program.field-0.0) same
-    c.in_err-program.ensures.found in
-    stopped_later Encoding (Lexis ∷ Entry ∷ SmallForm ∷ []) text list c.in_ok-source.ensures.found
-    (stopped_later Lexis (Entry ∷ SmallForm ∷ []) text list lexis
-    (stopped_later Entry (SmallForm ∷ []) text list entry
-    (stopped_by SmallForm [] text c.in_err-program.field-0.0 _ found
-    c.from_residual-in_err-program.ensures.1 list is)))
+    let syntax = subst (λ source. Finds Syntax source []) same c.in_ok-program.ensures.found in
+    let decls = decls_read text c.in_ok-source.source c.in_ok-tokens.tokens.items
+    c.deref.result.now c.in_ok-program.program.decls same c.deref.ensures.value
+    c.in_ok-program.ensures.program in
+    stopped_after (Encoding ∷ Lexis ∷ Syntax ∷ []) Declarations (SmallForm ∷ Size ∷ []) text
+    c.in_err-declarations.field-0.0 _ (c.in_ok-source.ensures.found, (lexis, (syntax, tt)))
+    (c.in_err-declarations.ensures text c.in_ok-tokens.tokens.items tokens decls)
+    c.from_residual-in_err-declarations.ensures.1
 
-pub lower-requires : goal.lower-requires
-lower-requires c =
-    let is = program_read c.args.text.now c.in_ok-source.source c.in_ok-tokens.tokens.items
-    c.deref-2.result.now c.in_ok-program.program c.in_ok-source.ensures.same
+pub returns-in_err-small-clause-breaches : goal.returns-in_err-small-clause-breaches
+returns-in_err-small-clause-breaches c =
+    let text = c.args.text.now in
+    let same = c.in_ok-source.ensures.same in
+    let lexis = subst (λ source. Finds Lexis source []) same c.in_ok-tokens.ensures.found in
+    let tokens = subst (λ source. IsTokens source c.in_ok-tokens.tokens.items) same
+    c.in_ok-tokens.ensures.tokens in
+    let syntax = subst (λ source. Finds Syntax source []) same c.in_ok-program.ensures.found in
+    let declarations = c.in_ok-declarations.ensures text c.in_ok-tokens.tokens.items tokens
+    (decls_read text c.in_ok-source.source c.in_ok-tokens.tokens.items
+    c.deref.result.now c.in_ok-program.program.decls same c.deref.ensures.value
+    c.in_ok-program.ensures.program) in
+    let found = subst (λ source. FoundBy (Finds SmallForm source) c.in_err-small.field-0.0) same
+    c.in_err-small.ensures.found in
+    stopped_after (Encoding ∷ Lexis ∷ Syntax ∷ Declarations ∷ []) SmallForm (Size ∷ []) text
+    c.in_err-small.field-0.0 _ (c.in_ok-source.ensures.found, (lexis, (syntax, (declarations, tt)))) found
+    c.from_residual-in_err-small.ensures.1
+
+pub size-requires : goal.size-requires
+size-requires c =
+    let text = c.args.text.now in
+    let same = c.in_ok-source.ensures.same in
+    let tokens = subst (λ source. IsTokens source c.in_ok-tokens.tokens.items) same
+    c.in_ok-tokens.ensures.tokens in
+    let declarations = c.in_ok-declarations.ensures text c.in_ok-tokens.tokens.items tokens
+    (decls_read text c.in_ok-source.source c.in_ok-tokens.tokens.items
+    c.deref.result.now c.in_ok-program.program.decls same c.deref.ensures.value
+    c.in_ok-program.ensures.program) in
+    let is = program_read text c.in_ok-source.source c.in_ok-tokens.tokens.items
+    c.deref-2.result.now c.in_ok-small.small same
     c.deref-2.ensures.value c.in_ok-source.ensures.found c.in_ok-tokens.ensures.tokens
-    c.in_ok-program.ensures.spells in
-    record { size = size_of-program c.args.text.now c.in_ok-program.program is c.requires }
+    c.in_ok-program.ensures.found declarations c.in_ok-small.ensures.spells in
+    size_of-program text c.in_ok-small.small is c.requires
+
+pub returns-in_err-graph-clause-breaches : goal.returns-in_err-graph-clause-breaches
+returns-in_err-graph-clause-breaches c =
+    let text = c.args.text.now in
+    let same = c.in_ok-source.ensures.same in
+    let lexis = subst (λ source. Finds Lexis source []) same c.in_ok-tokens.ensures.found in
+    let tokens = subst (λ source. IsTokens source c.in_ok-tokens.tokens.items) same
+    c.in_ok-tokens.ensures.tokens in
+    let syntax = subst (λ source. Finds Syntax source []) same c.in_ok-program.ensures.found in
+    let declarations = c.in_ok-declarations.ensures text c.in_ok-tokens.tokens.items tokens
+    (decls_read text c.in_ok-source.source c.in_ok-tokens.tokens.items
+    c.deref.result.now c.in_ok-program.program.decls same c.deref.ensures.value
+    c.in_ok-program.ensures.program) in
+    let form = subst (λ source. Finds SmallForm source []) same c.in_ok-small.ensures.found in
+    let is = program_read text c.in_ok-source.source c.in_ok-tokens.tokens.items
+    c.deref-2.result.now c.in_ok-small.small same
+    c.deref-2.ensures.value c.in_ok-source.ensures.found c.in_ok-tokens.ensures.tokens
+    c.in_ok-program.ensures.found declarations c.in_ok-small.ensures.spells in
+    stopped_after (Encoding ∷ Lexis ∷ Syntax ∷ Declarations ∷ SmallForm ∷ []) Size [] text
+    c.in_err-graph.field-0.0 _
+    (c.in_ok-source.ensures.found, (lexis, (syntax, (declarations, (form, tt)))))
+    (c.in_err-graph.ensures.found text is) c.from_residual-in_err-graph.ensures.1
 
 pub returns-clause-graph : goal.returns-clause-graph
 returns-clause-graph c =
-    let is = program_read c.args.text.now c.in_ok-source.source c.in_ok-tokens.tokens.items
-    c.deref-2.result.now c.in_ok-program.program c.in_ok-source.ensures.same
+    let text = c.args.text.now in
+    let same = c.in_ok-source.ensures.same in
+    let tokens = subst (λ source. IsTokens source c.in_ok-tokens.tokens.items) same
+    c.in_ok-tokens.ensures.tokens in
+    let declarations = c.in_ok-declarations.ensures text c.in_ok-tokens.tokens.items tokens
+    (decls_read text c.in_ok-source.source c.in_ok-tokens.tokens.items
+    c.deref.result.now c.in_ok-program.program.decls same c.deref.ensures.value
+    c.in_ok-program.ensures.program) in
+    let is = program_read text c.in_ok-source.source c.in_ok-tokens.tokens.items
+    c.deref-2.result.now c.in_ok-small.small same
     c.deref-2.ensures.value c.in_ok-source.ensures.found c.in_ok-tokens.ensures.tokens
-    c.in_ok-program.ensures.spells in (
-      program_accepted c.args.text.now c.in_ok-program.program is,
+    c.in_ok-program.ensures.found declarations c.in_ok-small.ensures.spells in (
+      program_accepted text c.in_ok-small.small is
+          (lowered_within c.in_ok-small.small c.in_ok-graph.graph c.in_ok-graph.ensures.lowered),
       record {
-        program = c.in_ok-program.program;
+        program = c.in_ok-small.small;
         of_text = is;
-        lowered =
-            c.in_ok-lower.ensures.lowered;
+        lowered = c.in_ok-graph.ensures.lowered;
       },
     )

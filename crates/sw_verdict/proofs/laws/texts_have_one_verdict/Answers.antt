@@ -1,3 +1,4 @@
+use Rattle.sw_small.proofs.OneGraph.{lowered_within}
 use Rattle.sw_verdict.specs.Phases.{all_phases}
 use Rattle.sw_verdict.proofs.Verdicts as verdicts
 use Rattle.sw_verdict.proofs.laws.texts_have_one_verdict.Goals as goal
@@ -18,7 +19,8 @@ pub returns-clause-some_graph : goal.returns-clause-some_graph
 returns-clause-some_graph c = verdicts.some_graph_of
 
 pub returns-clause-graph_accepted : goal.returns-clause-graph_accepted
-returns-clause-graph_accepted c text graph is = verdicts.program_accepted text is.program is.of_text
+returns-clause-graph_accepted c text graph is =
+    verdicts.program_accepted text is.program is.of_text (lowered_within is.program graph is.lowered)
 
 pub returns-clause-one_graph : goal.returns-clause-one_graph
 returns-clause-one_graph c = verdicts.one_graph_of
