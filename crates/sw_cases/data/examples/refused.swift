@@ -1,5 +1,5 @@
 @main struct App {
   static func main() {
-    let x = 1
+    let x =
   }
 }
