@@ -17,7 +17,8 @@ use Rattle.sw_typing_rules.specs.Expressions.{first_marked, later, call_judged}
 use Rattle.sw_typing_rules.specs.Expressions.{prefix_judged, infix_judged, await_judged}
 use Rattle.sw_typing_rules.specs.Expressions.{fun_judged, spawn_judged}
 use Rattle.sw_typing_rules.specs.Expressions.{member_judged, call_callee, method_callee, base_rows}
-use Rattle.sw_typing_rules.specs.Statements.{Inside, State, Left, Head, Armed, setting_of, scoped}
+use Rattle.sw_typing_rules.specs.Statements.{State, Left, Head, Armed, setting_of, scoped}
+use Rattle.sw_typing_rules.specs.declared.scope.Inside.{Inside}
 use Rattle.sw_typing_rules.specs.Statements.{then_left, beside}
 use Rattle.sw_typing_rules.specs.Statements.{more_arms, part_of, in_loop, in_switch, in_body}
 use Rattle.sw_typing_rules.specs.Statements.{is_one}

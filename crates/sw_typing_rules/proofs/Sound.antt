@@ -17,7 +17,8 @@ use Rattle.sw_typing_rules.specs.Expressions.{Judged, Closed, Passed, one_passed
 use Rattle.sw_typing_rules.specs.Expressions.{first_marked, later}
 use Rattle.sw_typing_rules.specs.Expressions.{infix_judged}
 use Rattle.sw_typing_rules.specs.Expressions.{call_callee, method_callee}
-use Rattle.sw_typing_rules.specs.Statements.{Inside, State, Left, Armed, setting_of}
+use Rattle.sw_typing_rules.specs.Statements.{State, Left, Armed, setting_of}
+use Rattle.sw_typing_rules.specs.declared.scope.Inside.{Inside}
 use Rattle.sw_typing_rules.specs.Statements.{beside}
 use Rattle.sw_typing_rules.specs.Statements.{more_arms, part_of, in_loop, in_switch, in_body}
 use Rattle.sw_typing_rules.specs.Statements.{is_one}

@@ -25,19 +25,24 @@ use Rattle.sw_resolve.specs.declared.words.Meaning.TheVariants as word
 use Rattle.sw_decls.specs.declared.signature.GlobalVar.{GlobalVar}
 use Rattle.sw_decls.specs.declared.signature.Signature.{Signature}
 use Rattle.sw_typing_rules.specs.Calls as calls
-use Rattle.sw_typing_rules.specs.Calls.{Callee, Takes, Untyped, Prints, Uncallable, Given, Slot}
+use Rattle.sw_typing_rules.specs.Calls.{Callee, Takes, Untyped, Prints, Uncallable, Slot}
+use Rattle.sw_typing_rules.specs.declared.verdict.Given.{Given}
 use Rattle.sw_typing_rules.specs.Fits.{fits}
 use Rattle.sw_typing_rules.specs.Operators.{infix_types, prefix_types, takes, gives, sort_of}
 use Rattle.sw_typing_rules.specs.Operators.{assigns}
 use Rattle.sw_typing_rules.specs.Statements as stmts
 use Rattle.sw_typing_rules.specs.Statements.{State, Left, Head}
 use Rattle.sw_typing_rules.specs.Typedness.{vars_typed, returned_typed}
-use Rattle.sw_typing_rules.specs.Verdicts.{Verdict, Has, Fails, Held, type_in, rows_of, ill_if}
+use Rattle.sw_typing_rules.specs.Verdicts.{type_in, rows_of, ill_if}
+use Rattle.sw_typing_rules.specs.declared.verdict.Verdict.{Verdict}
+use Rattle.sw_typing_rules.specs.declared.verdict.Verdict.TheVariants.{Has, Fails, Held}
 use Rattle.sw_typing_rules.specs.Verdicts.{all_well, is_well, is_accepted, is_bool, is_int, is_unit}
 use Rattle.sw_typing_rules.specs.Words as senses
 use Rattle.sw_typing_rules.specs.Words.{Sense, Variable, OwnProperty, OwnMethod, OwnCase, Top}
-use Rattle.sw_typing_rules.specs.Words.{Printing, Nothing, Found, Property, Method, Result}
-use Rattle.sw_typing_rules.specs.Words.{NoMember}
+use Rattle.sw_typing_rules.specs.Words.{Printing, Nothing}
+use Rattle.sw_typing_rules.specs.declared.found.Found.{Found}
+use Rattle.sw_typing_rules.specs.declared.found.Found.TheVariants.{Property, Method, Result}
+use Rattle.sw_typing_rules.specs.declared.found.Found.TheVariants.{NoMember}
 use Rattle.sw_typing_rules.specs.Words.{Setting, sense, local, local_sense, member_sense, top_sense}
 use Rattle.sw_typing_rules.specs.Words.{role_sense, word_types, found_types, part_types}
 use Rattle.sw_typing_rules.specs.Words.{global_types}

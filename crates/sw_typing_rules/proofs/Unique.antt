@@ -6,7 +6,8 @@ use Rattle.sw_tree.specs.declared.stmt.Stmt.{Stmt}
 use Rattle.sw_typing_rules.specs.Expressions.{Judged}
 use Rattle.sw_typing_rules.specs.Judges.{Judges, Leaves, LeavesBlock}
 use Rattle.sw_typing_rules.specs.Judging.{judge, leave, leave_block}
-use Rattle.sw_typing_rules.specs.Statements.{Inside, State, Left}
+use Rattle.sw_typing_rules.specs.Statements.{State, Left}
+use Rattle.sw_typing_rules.specs.declared.scope.Inside.{Inside}
 use Rattle.sw_typing_rules.specs.Words.{Setting}
 use Rattle.sw_typing_rules.specs.Worlds.{World}
 use Rattle.sw_typing_rules.proofs.Complete.{judged_is, left_is, block_is}

@@ -23,7 +23,8 @@ use Rattle.sw_typing_rules.specs.Expressions.{bool_judged}
 use Rattle.sw_typing_rules.specs.Expressions.{me_judged, prefix_judged, infix_judged, await_judged}
 use Rattle.sw_typing_rules.specs.Expressions.{yield_judged, fun_judged, spawn_judged, word_judged}
 use Rattle.sw_typing_rules.specs.Expressions.{member_judged, call_callee, method_callee, base_rows}
-use Rattle.sw_typing_rules.specs.Statements.{Inside, State, Left, Head, Armed, setting_of, scoped}
+use Rattle.sw_typing_rules.specs.Statements.{State, Left, Head, Armed, setting_of, scoped}
+use Rattle.sw_typing_rules.specs.declared.scope.Inside.{Inside}
 use Rattle.sw_typing_rules.specs.Statements.{goes_on, then_left, beside, no_branch, no_arms}
 use Rattle.sw_typing_rules.specs.Statements.{more_arms, part_of, in_loop, in_switch, in_body}
 use Rattle.sw_typing_rules.specs.Statements.{is_one}
@@ -46,7 +47,8 @@ use Rattle.sw_typing_rules.specs.Calls as calls
 use Rattle.sw_typing_rules.specs.Expressions as exps
 use Rattle.sw_typing_rules.specs.Statements as left
 use Rattle.sw_typing_rules.specs.Typedness.{vars_typed, returned_typed, state_typed}
-use Rattle.sw_typing_rules.specs.Verdicts.{Verdict, type_in, rows_of, ill_if, all_well}
+use Rattle.sw_typing_rules.specs.Verdicts.{type_in, rows_of, ill_if, all_well}
+use Rattle.sw_typing_rules.specs.declared.verdict.Verdict.{Verdict}
 use Rattle.sw_typing_rules.specs.Verdicts.{meaning_rows, variable_rows, is_unit}
 use Rattle.sw_typing_rules.specs.Words as senses
 use Rattle.sw_typing_rules.specs.declared.row.Row.{Row}

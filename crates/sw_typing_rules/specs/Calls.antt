@@ -19,11 +19,16 @@ use Rattle.sw_resolve.specs.declared.words.Meaning.TheVariants as word
 use Rattle.sw_decls.specs.declared.signature.GlobalVar.{GlobalVar}
 use Rattle.sw_decls.specs.declared.signature.Param.{Param}
 use Rattle.sw_decls.specs.declared.signature.Signature.{Signature}
-use Rattle.sw_typing_rules.specs.Verdicts.{Verdict, Has, Fails, Held, is_accepted, is_int, is_bool}
+use Rattle.sw_typing_rules.specs.Verdicts.{is_accepted, is_int, is_bool}
+use Rattle.sw_typing_rules.specs.declared.verdict.Verdict.{Verdict}
+use Rattle.sw_typing_rules.specs.declared.verdict.Verdict.TheVariants.{Has, Fails, Held}
 use Rattle.sw_typing_rules.specs.Words.{Sense, Variable, OwnProperty, OwnMethod, OwnCase, Top}
-use Rattle.sw_typing_rules.specs.Words.{Printing, Nothing, Found, Property, Method, Result}
-use Rattle.sw_typing_rules.specs.Words.{NoMember}
+use Rattle.sw_typing_rules.specs.Words.{Printing, Nothing}
+use Rattle.sw_typing_rules.specs.declared.found.Found.{Found}
+use Rattle.sw_typing_rules.specs.declared.found.Found.TheVariants.{Property, Method, Result}
+use Rattle.sw_typing_rules.specs.declared.found.Found.TheVariants.{NoMember}
 use Rattle.sw_typing_rules.specs.Worlds.{World, part_at, case_at, and_then}
+use Rattle.sw_typing_rules.specs.declared.verdict.Given.{Given}
 use Rattle.sw_typing_rules.specs.declared.row.Meaning.{Meaning}
 use Rattle.sw_typing_rules.specs.declared.row.Meaning.TheVariants as means
 
@@ -189,11 +194,6 @@ module _ (world : World) where
   abbrev pub enum_types : ℕ → Option ℕ → Verdict
   enum_types shape None = Fails 407
   enum_types shape (Some number) = case_types shape (case_at world shape number)
-
--- what is known of an argument: its label and its type
-pub record Given : Type 0 where
-  pub label : Option ℕ
-  pub ty : Option Ty
 
 abbrev pub same_label : Option ℕ → Option ℕ → Bool
 same_label None None = true

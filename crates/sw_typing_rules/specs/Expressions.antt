@@ -7,14 +7,18 @@ use Rattle.sw_tree.specs.declared.operator.PrefixOp.{PrefixOp}
 use Rattle.sw_types.specs.Accepts.{is_marked}
 use Rattle.sw_types.specs.declared.ty.Ty.{Ty}
 use Rattle.sw_types.specs.declared.ty.Ty.TheVariants as types
-use Rattle.sw_typing_rules.specs.Calls.{Callee, Untyped, Slot, Given, callee_meaning}
+use Rattle.sw_typing_rules.specs.Calls.{Callee, Untyped, Slot, callee_meaning}
+use Rattle.sw_typing_rules.specs.declared.verdict.Given.{Given}
 use Rattle.sw_typing_rules.specs.Calls.{call_types, word_callee, found_callee, enum_callee}
 use Rattle.sw_typing_rules.specs.Calls.{enum_types, case_in, case_meaning}
 use Rattle.sw_typing_rules.specs.Operators.{infix_types, prefix_types}
-use Rattle.sw_typing_rules.specs.Verdicts.{Verdict, Has, Held, type_in, rows_of, meaning_rows}
+use Rattle.sw_typing_rules.specs.Verdicts.{type_in, rows_of, meaning_rows}
+use Rattle.sw_typing_rules.specs.declared.verdict.Verdict.{Verdict}
+use Rattle.sw_typing_rules.specs.declared.verdict.Verdict.TheVariants.{Has, Held}
 use Rattle.sw_typing_rules.specs.Words.{Setting, Sense, sense, word_types, word_settable, word_enum}
 use Rattle.sw_typing_rules.specs.Words.{word_meaning, var_types, me_types, found_in, found_types}
-use Rattle.sw_typing_rules.specs.Words.{found_settable, found_meaning, Found}
+use Rattle.sw_typing_rules.specs.Words.{found_settable, found_meaning}
+use Rattle.sw_typing_rules.specs.declared.found.Found.{Found}
 use Rattle.sw_typing_rules.specs.Worlds.{World}
 use Rattle.sw_typing_rules.specs.declared.row.Row.{Row}
 

@@ -26,7 +26,8 @@ use Rattle.sw_typing_rules.specs.Expressions.{bool_judged}
 use Rattle.sw_typing_rules.specs.Expressions.{me_judged, prefix_judged, infix_judged, await_judged}
 use Rattle.sw_typing_rules.specs.Expressions.{yield_judged, fun_judged, spawn_judged, word_judged}
 use Rattle.sw_typing_rules.specs.Expressions.{member_judged, call_callee, method_callee, base_rows}
-use Rattle.sw_typing_rules.specs.Statements.{Inside, State, Left, Head, Armed, setting_of, scoped}
+use Rattle.sw_typing_rules.specs.Statements.{State, Left, Head, Armed, setting_of, scoped}
+use Rattle.sw_typing_rules.specs.declared.scope.Inside.{Inside}
 use Rattle.sw_typing_rules.specs.Statements.{goes_on, then_left, beside, no_branch, no_arms}
 use Rattle.sw_typing_rules.specs.Statements.{more_arms, part_of, in_loop, in_switch, in_body}
 use Rattle.sw_typing_rules.specs.Statements.{is_one}

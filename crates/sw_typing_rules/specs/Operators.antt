@@ -9,7 +9,9 @@ use Rattle.sw_tree.specs.declared.operator.PrefixOp.TheVariants as prefix_of
 use Rattle.sw_types.specs.declared.ty.Ty.{Ty}
 use Rattle.sw_types.specs.declared.ty.Ty.TheVariants as types
 use Rattle.sw_typing_rules.specs.Fits.{fits}
-use Rattle.sw_typing_rules.specs.Verdicts.{Verdict, Has, Fails, Held, is_int, is_bool}
+use Rattle.sw_typing_rules.specs.Verdicts.{is_int, is_bool}
+use Rattle.sw_typing_rules.specs.declared.verdict.Verdict.{Verdict}
+use Rattle.sw_typing_rules.specs.declared.verdict.Verdict.TheVariants.{Has, Fails, Held}
 
 abbrev pub are_ints : Ty → Ty → Bool
 are_ints left right = is_int left && is_int right

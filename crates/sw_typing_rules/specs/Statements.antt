@@ -27,19 +27,10 @@ use Rattle.sw_typing_rules.specs.Worlds.{World}
 use Rattle.sw_typing_rules.specs.declared.row.Meaning.TheVariants as means
 use Rattle.sw_typing_rules.specs.declared.row.Row.{Row}
 use Rattle.sw_typing_rules.specs.declared.row.Row.TheVariants.{Ill}
+use Rattle.sw_typing_rules.specs.declared.scope.Inside.{Inside}
 use Rattle.sw_typing_rules.specs.declared.scope.Returned.{Returned}
 use Rattle.sw_typing_rules.specs.declared.scope.Returned.TheVariants.{Wants, Open, Gives}
 use Rattle.sw_typing_rules.specs.declared.scope.Var.{Var}
-
--- where a statement stands: the type whose member it is in; whether it is the one statement of a
--- body; whether a `continue` and a `break` have something to leave; whether the body is that of an
--- initialiser
-pub record Inside : Type 0 where
-  pub owner : Option ℕ
-  pub only : Bool
-  pub loops : Bool
-  pub leaves : Bool
-  pub init : Bool
 
 -- the variables that are visible before a statement, the innermost last, and what is known of the
 -- result of its body

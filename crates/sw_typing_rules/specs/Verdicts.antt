@@ -5,16 +5,11 @@ use Rattle.sw_types.specs.declared.ty.Ty.{Ty, out-Ty}
 use Rattle.sw_types.specs.declared.ty.Ty.TheOpen as layer
 use Rattle.sw_resolve.specs.declared.placed.Placed.{Placed}
 use Rattle.sw_typing_rules.specs.Fits.{fits}
+use Rattle.sw_typing_rules.specs.declared.verdict.Verdict.{Verdict}
+use Rattle.sw_typing_rules.specs.declared.verdict.Verdict.TheVariants.{Has, Fails, Held}
 use Rattle.sw_typing_rules.specs.declared.row.Meaning.{Meaning}
 use Rattle.sw_typing_rules.specs.declared.row.Row.{Row}
 use Rattle.sw_typing_rules.specs.declared.row.Row.TheVariants.{Typed, Means, Ill}
-
--- A node has a type, or is ill with a code; it is held where a part of it or a word that it uses
--- has no type, so that nothing is said of it.
-pub data Verdict : Type 0 where
-  Has : Ty → Verdict
-  Fails : ℕ → Verdict
-  Held : Verdict
 
 abbrev pub type_in : Verdict → Option Ty
 type_in (Has ty) = Some ty

@@ -12,8 +12,11 @@ use Rattle.sw_resolve.specs.declared.members.Role.TheVariants as role
 use Rattle.sw_resolve.specs.declared.words.Meaning as words
 use Rattle.sw_resolve.specs.declared.words.Meaning.TheVariants as word
 use Rattle.sw_decls.specs.declared.signature.GlobalVar.{GlobalVar}
-use Rattle.sw_typing_rules.specs.Verdicts.{Verdict, Has, Fails, Held}
+use Rattle.sw_typing_rules.specs.declared.verdict.Verdict.{Verdict}
+use Rattle.sw_typing_rules.specs.declared.verdict.Verdict.TheVariants.{Has, Fails, Held}
 use Rattle.sw_typing_rules.specs.Worlds.{World, part_at, is_object}
+use Rattle.sw_typing_rules.specs.declared.found.Found.{Found}
+use Rattle.sw_typing_rules.specs.declared.found.Found.TheVariants.{Property, Method, Result, NoMember}
 use Rattle.sw_typing_rules.specs.declared.row.Meaning.{Meaning}
 use Rattle.sw_typing_rules.specs.declared.row.Meaning.TheVariants as means
 use Rattle.sw_typing_rules.specs.declared.scope.Var.{Var}
@@ -82,16 +85,6 @@ is_var_part (Some part) = part.mutable
 abbrev pub is_var_global : Option GlobalVar → Bool
 is_var_global None = false
 is_var_global (Some global) = global.mutable
-
--- what a name means behind a `.`
-pub data Found : Type 0 where
-  -- a property of the shape with the first number
-  Property : ℕ → ℕ → Found
-  -- a method, by its key
-  Method : ℕ → Found
-  -- the `value` of a task, with its type
-  Result : Ty → Found
-  NoMember : Found
 
 abbrev pub role_found : ℕ → ℕ → Role → Found
 role_found shape at (role.Part number) = Property shape number

@@ -3,10 +3,13 @@
 //! crate has the types that they speak of and their laws, and no code that goes over a program.
 #![tactic(auto)]
 
+mod found;
 mod laws;
 mod row;
 mod scope;
+mod verdict;
 
+pub use found::Found;
 pub use laws::{
     expressions_are_judged, expressions_are_judged_by_key, expressions_are_judged_once,
     programs_have_a_first_ill_node, programs_have_one_first_ill_node, programs_say_what_is_said,
@@ -14,4 +17,5 @@ pub use laws::{
     well_expressions_have_types, well_programs_have_types, well_statements_have_types,
 };
 pub use row::{Meaning, Row};
-pub use scope::{Returned, Var};
+pub use scope::{Inside, Returned, Var};
+pub use verdict::{Given, Verdict};

@@ -24,3 +24,18 @@ pub enum Returned {
     /// It isn't written, and is the type of the first value that is returned.
     Gives(Option<Ty>),
 }
+
+/// Where a statement stands.
+#[derive(Clone, Copy)]
+pub struct Inside {
+    /// The type whose member it is in, by number.
+    pub owner: Option<u32>,
+    /// Whether it is the one statement of a body.
+    pub only: bool,
+    /// Whether a `continue` has something to go on with.
+    pub loops: bool,
+    /// Whether a `break` has something to leave.
+    pub leaves: bool,
+    /// Whether the body is that of an initialiser.
+    pub init: bool,
+}
