@@ -1,0 +1,132 @@
+-- The table of region operations (SE-0414, SE-0430): those of each instruction and of each last
+-- instruction of a block, by the setting in which it stands.
+use Rattle.std.specs.Prelude.{ℕ, Bool, true, false, if◌then◌else◌, Option, Some, None, List, []}
+use Rattle.std.specs.Prelude.{◌∷◌, ◌++◌, ◌==◌, slice_get, flat_map}
+use Rattle.std.specs.Option.{option_map_or}
+use Rattle.sw_types.specs.declared.isolation.Iso.{Iso}
+use Rattle.sw_types.specs.declared.isolation.Iso.TheVariants.{Own, Global}
+use Rattle.sw_graph.specs.declared.function.Function.{Function}
+use Rattle.sw_graph.specs.declared.graph.Graph.{Graph}
+use Rattle.sw_graph.specs.declared.instr.Block.{Block}
+use Rattle.sw_graph.specs.declared.instr.Instr.{Instr}
+use Rattle.sw_graph.specs.declared.instr.Instr.TheVariants.{Const, Un, Bin, Print, Copy, Field}
+use Rattle.sw_graph.specs.declared.instr.Instr.TheVariants.{Payload, SetField, Make, NewObject}
+use Rattle.sw_graph.specs.declared.instr.Instr.TheVariants.{NewBox, NewActor, LoadBox, StoreBox}
+use Rattle.sw_graph.specs.declared.instr.Instr.TheVariants.{LoadProp, StoreProp, LoadGlobal}
+use Rattle.sw_graph.specs.declared.instr.Instr.TheVariants.{StoreGlobal, NewClosure, Call}
+use Rattle.sw_graph.specs.declared.instr.Instr.TheVariants.{CallClosure, NewTask, Await, Yield}
+use Rattle.sw_graph.specs.declared.instr.Last.{Last}
+use Rattle.sw_graph.specs.declared.instr.Last.TheVariants.{Jump, Branch, Switch, Return}
+use Rattle.sw_graph.specs.declared.instr.Operand.{Operand}
+use Rattle.sw_graph.specs.Points.{Point, Middle, End, point_in, points_of_block}
+use Rattle.sw_region_ops.specs.Calls.{is_isolated, free_code, callee_ops}
+use Rattle.sw_region_ops.specs.Elements.{element_at}
+use Rattle.sw_region_ops.specs.Groups.{need_each, free_each, put_here, join_result_here, put_first}
+use Rattle.sw_region_ops.specs.Groups.{meet, keep, part_with, take_from, make_of}
+use Rattle.sw_region_ops.specs.Marks.{marks_of}
+use Rattle.sw_region_ops.specs.Setting.{Setting, setting_of}
+use Rattle.sw_region_ops.specs.declared.marks.Mark.{Mark}
+use Rattle.sw_region_ops.specs.declared.op.Op.{Op}
+use Rattle.sw_region_ops.specs.declared.op.TheConstants.{NOT_DISCONNECTED}
+
+-- the tracked ones of these operands
+abbrev pub marks : Setting → List Operand → List Mark
+marks setting operands = marks_of setting.elements operands
+
+-- the element of a register that is set
+abbrev pub result : Setting → ℕ → Option ℕ
+result setting r = element_at setting.elements r
+
+-- A part of an actor, or of another cell that isn't tracked, is in the region of the code itself.
+abbrev pub load_ops : Setting → Option ℕ → ℕ → Operand → List Op
+load_ops setting (Some cell) r o = take_from (result setting r) (marks setting (o ∷ []))
+load_ops setting None r o = put_here (result setting r)
+
+abbrev pub store_ops : Setting → Option ℕ → Operand → Operand → List Op
+store_ops setting (Some cell) o s = meet (marks setting (o ∷ s ∷ []))
+store_ops setting None o s = keep (marks setting (s ∷ []))
+
+-- what an isolated closure holds, and the closure, are with its actor
+abbrev pub closure_ops : Bool → Option ℕ → List Mark → List Op
+closure_ops isolated r captures =
+    make_of r captures ++ (if isolated then join_result_here r else [])
+
+-- whether a task runs on the actor of the body that makes it
+abbrev pub is_inside : Iso → Iso → Bool
+is_inside Own Own = true
+is_inside (Global actor) (Global other) = actor == other
+is_inside task body = false
+
+-- A task on the actor of its body keeps the captures there; any other is given them.
+abbrev pub task_ops : Bool → ℕ → ℕ → List Mark → List Op
+task_ops true code site captures = keep captures
+task_ops false code site captures = part_with code site captures
+
+-- the isolation of a function, tested; false where there is no such function
+abbrev pub iso_is : Setting → (Iso → Bool) → ℕ → Bool
+iso_is setting test f =
+    option_map_or (λ function. test function.iso) (slice_get setting.functions f) false
+
+abbrev pub instr_ops : Setting → Instr → List Op
+instr_ops setting (Const at r v) = []
+instr_ops setting (Un at r op s) = []
+instr_ops setting (Bin at r op s t) = []
+instr_ops setting (Print at r ss) = []
+instr_ops setting (Copy at r s) = take_from (result setting r) (marks setting (s ∷ []))
+instr_ops setting (Field at r s i) = take_from (result setting r) (marks setting (s ∷ []))
+instr_ops setting (Payload at r s i) = take_from (result setting r) (marks setting (s ∷ []))
+instr_ops setting (SetField at r i s) = meet (marks setting (r ∷ s ∷ []))
+instr_ops setting (Make at r k tag ss) = make_of (result setting r) (marks setting ss)
+instr_ops setting (NewObject at r k ss) = make_of (result setting r) (marks setting ss)
+instr_ops setting (NewBox at r s) = make_of (result setting r) (marks setting (s ∷ []))
+instr_ops setting (NewActor at r k ss) = need_each (marks setting ss)
+instr_ops setting (LoadBox at r b) = take_from (result setting r) (marks setting (b ∷ []))
+instr_ops setting (StoreBox at b s) = meet (marks setting (b ∷ s ∷ []))
+instr_ops setting (LoadProp at r o i) =
+    load_ops setting (element_at setting.elements o.reg) r o
+instr_ops setting (StoreProp at o i s) =
+    store_ops setting (element_at setting.elements o.reg) o s
+instr_ops setting (LoadGlobal at r g) = put_here (result setting r)
+instr_ops setting (StoreGlobal at g s) = keep (marks setting (s ∷ []))
+instr_ops setting (NewClosure at r f cs) =
+    closure_ops (iso_is setting is_isolated f) (result setting r) (marks setting cs)
+instr_ops setting (Call at r kind f ss) =
+    callee_ops kind (free_code setting.body.iso) at (result setting r) setting.elements ss
+    (slice_get setting.functions f)
+instr_ops setting (CallClosure at r c ss) =
+    meet (marks setting (c ∷ ss)) ++ put_first (result setting r) (marks setting (c ∷ ss))
+instr_ops setting (NewTask at r f cs) =
+    task_ops (iso_is setting (λ iso. is_inside iso setting.body.iso) f)
+    (free_code setting.body.iso) at (marks setting cs)
+instr_ops setting (Await at r t) = []
+instr_ops setting (Yield at r) = []
+
+-- a `sending` result has to be free
+abbrev pub return_ops : Bool → List Mark → List Op
+return_ops sends value = need_each value ++ (if sends then free_each NOT_DISCONNECTED value else [])
+
+abbrev pub last_ops : Setting → Last → List Op
+last_ops setting (Jump to) = []
+last_ops setting (Branch s holds fails) = []
+last_ops setting (Switch s to) = need_each (marks setting (s ∷ []))
+last_ops setting (Return None) = []
+last_ops setting (Return (Some s)) = return_ops setting.body.sends (marks setting (s ∷ []))
+
+-- the operations of what stands at a point
+abbrev pub point_ops : Setting → Point → List Op
+point_ops setting (Middle instr) = instr_ops setting instr
+point_ops setting (End last) = last_ops setting last
+
+-- the operations of a block, in order
+abbrev pub block_ops : Setting → Block → List Op
+block_ops setting block = flat_map (point_ops setting) (points_of_block block)
+
+-- the operations at a point of a function; none where there is no such point
+abbrev pub ops_in : Graph → Function → ℕ → List Op
+ops_in graph body point =
+    option_map_or (point_ops (setting_of graph body)) (point_in body point) []
+
+-- the operations at a point of the function with a number
+abbrev pub ops_at : Graph → ℕ → ℕ → List Op
+ops_at graph function point =
+    option_map_or (λ body. ops_in graph body point) (slice_get graph.functions function) []
