@@ -1,5 +1,6 @@
 -- Chains of steps, and the values that stand at their points.
-use Rattle.std.proofs.Common.{◌≡◌, ℕ, zero, suc, ◌+◌, ◌<◌, ◌⊎◌, inl, inr, Option, Some, None, IfSome, List, []}
+use Rattle.std.proofs.Common.{◌≡◌, ℕ, zero, suc, ◌+◌, ◌<◌, ◌⊎◌, inl, inr, Option, Some, None}
+use Rattle.std.proofs.Common.{IfSome, List, []}
 use Rattle.std.proofs.Common.{◌∷◌, length, Contains, refl, sym, subst, ap, ◌∙◌, arith}
 use Rattle.sw_solve.specs.Annotation.{value_at, IsBelow}
 use Rattle.sw_blocks.specs.Layout.{Layout, IsLayout, Chain, PointsBound}

@@ -141,7 +141,8 @@ module _ {X : Type 0} (L : Layout X) (is : IsLayout L) (s : List (Option X))
           at_most (value_at all p) p
           (λ m e. subst (λ q. IsBelow L.le m (value_at a q)) (sym h.4)
           (climbed h.0 h.1 h.2 h.3 m (sym (at h.0 h.1 h.2 h.3) ∙ ap (value_at all) (sym h.4) ∙ e)))
-      | inr past ↦ subst (λ o. IsAtMost L.le o (value_at a p)) (sym (outside L is s walks p past)) tt
+      | inr past ↦ subst (λ o. IsAtMost L.le o (value_at a p))
+          (sym (outside L is s walks p past)) tt
     ];
   }
     where

@@ -1,6 +1,7 @@
 -- The least annotation of the points that a least annotation of the blocks gives.
-use Rattle.std.proofs.Common.{◌≡◌, ℕ, zero, suc, ◌+◌, ◌-◌, ◌<◌, ◌≤◌, ◌⊎◌, inl, inr, Option, Some, None}
-use Rattle.std.proofs.Common.{IfSome, List, [], ◌∷◌, ◌++◌, length, map, replicate, Contains, refl, sym}
+use Rattle.std.proofs.Common.{◌≡◌, ℕ, zero, suc, ◌+◌, ◌-◌, ◌<◌, ◌≤◌, ◌⊎◌, inl, inr, Option, Some}
+use Rattle.std.proofs.Common.{None, IfSome, List, [], ◌∷◌, ◌++◌, length, map, replicate, Contains}
+use Rattle.std.proofs.Common.{refl, sym}
 use Rattle.std.proofs.Common.{subst, ap, ◌∙◌, arith}
 use Rattle.std.proofs.lemmas.Bool.{cases_eq, cases_lt}
 use Rattle.std.proofs.lemmas.List.{get_or_past}
@@ -33,24 +34,22 @@ pub contains_one : (x q : ℕ) → Contains (x ∷ []) q → q ≡ x
 contains_one x q (zero, within, e) = sym e
 contains_one x q (suc k, within, e) = absurd (omega arith)
 
+contains_later : (x : ℕ) (xs : List ℕ) (y : ℕ) → Contains xs y → Contains (x ∷ xs) y
+contains_later x xs y (k, within, e) = (suc k, omega arith, e)
+
 pub contains_map : (f : ℕ → ℕ) (xs : List ℕ) (q : ℕ) → Contains (map f xs) q
     → (x : ℕ) × Contains xs x × (q ≡ f x)
 contains_map f [] q (k, within, e) = absurd (omega arith)
 contains_map f (x ∷ xs) q (zero, within, e) = (x, (0, omega arith, refl), sym e)
 contains_map f (x ∷ xs) q (suc k, within, e) =
     let h = contains_map f xs q (k, omega arith, e) in
-    (h.0, grow x xs h.0 h.1, h.2)
-  where
-    grow : (x : ℕ) (xs : List ℕ) (y : ℕ) → Contains xs y → Contains (x ∷ xs) y
-    grow x xs y (k, within, e) = (suc k, omega arith, e)
+    (h.0, contains_later x xs h.0 h.1, h.2)
 
 to_map : (f : ℕ → ℕ) (xs : List ℕ) (x : ℕ) → Contains xs x → Contains (map f xs) (f x)
 to_map f [] x (k, within, e) = absurd (omega arith)
 to_map f (y ∷ xs) x (zero, within, e) = (0, omega arith, ap f e)
-to_map f (y ∷ xs) x (suc k, within, e) = grow (f y) (map f xs) (f x) (to_map f xs x (k, omega arith, e))
-  where
-    grow : (x : ℕ) (xs : List ℕ) (y : ℕ) → Contains xs y → Contains (x ∷ xs) y
-    grow x xs y (k, within, e) = (suc k, omega arith, e)
+to_map f (y ∷ xs) x (suc k, within, e) =
+    contains_later (f y) (map f xs) (f x) (to_map f xs x (k, omega arith, e))
 
 some_same : {X : Type 0} (x y : X) → Some x ≡ Some y → x ≡ y
 some_same x y e = cc
@@ -207,7 +206,8 @@ module _ {X : Type 0} (L : Layout X) (is : IsLayout L) where
   -- what a block has, and what stands at its points
   pub block_stands : (b : ℕ) (o : Option X) (walks : Walks L is b o) (k : ℕ) (x : X) → k < L.len b
       → o ≡ Some x
-      → (m : X) × (value_at (block_values L is b o walks) k ≡ Some m) × Chain L.step (L.start b) k x m
+      → (m : X) × (value_at (block_values L is b o walks) k ≡ Some m)
+      × Chain L.step (L.start b) k x m
   block_stands b None walks k x within e = cc
   block_stands b (Some y) walks k x within e =
       let same : y ≡ x = cc in
@@ -238,8 +238,8 @@ module _ {X : Type 0} (L : Layout X) (is : IsLayout L) where
       (sym (is.inner b j inside within)) (0, omega arith, refl)
 
   -- the points of a block are below an annotation that bounds, if the block is
-  pub block_climbs : (a : List (Option X)) → PointsBound L a → (b : ℕ) → b < L.blocks → (o : Option X)
-      (walks : Walks L is b o) → IfSome o (λ x. L.size x ≡ L.facts)
+  pub block_climbs : (a : List (Option X)) → PointsBound L a → (b : ℕ) → b < L.blocks
+      → (o : Option X) (walks : Walks L is b o) → IfSome o (λ x. L.size x ≡ L.facts)
       → IsAtMost L.le o (value_at a (L.start b)) → (k : ℕ) (m : X) → k < L.len b
       → value_at (block_values L is b o walks) k ≡ Some m
       → IsBelow L.le m (value_at a (L.start b + k))

@@ -12,7 +12,8 @@ use Rattle.sw_region_ops.specs.Table.{instr_ops, last_ops, point_ops, block_ops}
 middles : (setting : Setting) (instrs : List Instr)
     → flat_map (point_ops setting) (map Middle instrs) ≡ flat_map (instr_ops setting) instrs
 middles setting [] = refl
-middles setting (instr ∷ instrs) = ap (λ ops. instr_ops setting instr ++ ops) (middles setting instrs)
+middles setting (instr ∷ instrs) =
+    ap (λ ops. instr_ops setting instr ++ ops) (middles setting instrs)
 
 pub block_is : (setting : Setting) (block : Block)
     → block_ops setting block

@@ -1,6 +1,7 @@
 -- The elements of a function's registers.
 use Rattle.std.proofs.Common.{◌≡◌, ℕ, ◌+◌, ◌<◌, ◌≤◌, zero, suc, true, false, List, [], ◌∷◌, length}
-use Rattle.std.proofs.Common.{Some, None, Option, refl, ap, arith, slice_get, IsTrue, if◌then◌else◌, cond}
+use Rattle.std.proofs.Common.{Some, None, Option, refl, ap, arith, slice_get, IsTrue, cond}
+use Rattle.std.proofs.Common.{if◌then◌else◌}
 use Rattle.std.proofs.lemmas.List.Sums.{sum_by-cons}
 use Rattle.std.specs.List.{All}
 use Rattle.std.specs.Option.{is_some}
@@ -13,7 +14,8 @@ use Rattle.sw_graph.specs.declared.function.RegKind.{RegKind}
 use Rattle.sw_graph.specs.declared.function.TheConstants.{MAX_REGISTERS}
 use Rattle.sw_types.specs.declared.shape.Shape.{Shape}
 use Rattle.sw_types.specs.Named.{is_within}
-use Rattle.sw_region_ops.specs.Elements.{numbered, elements_of, element_at, element_count, is_tracked}
+use Rattle.sw_region_ops.specs.Elements.{numbered, elements_of, element_at, element_count}
+use Rattle.sw_region_ops.specs.Elements.{is_tracked}
 use Rattle.sw_region_ops.specs.Elements.{AreElements}
 
 pub length_numbered : (shapes : List Shape) (next : ℕ) (kinds : List RegKind)

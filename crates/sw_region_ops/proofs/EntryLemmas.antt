@@ -7,7 +7,8 @@ use Rattle.std.specs.List.{Contains}
 use Rattle.std.specs.Prelude.{slice_index_or}
 use Rattle.std.proofs.lemmas.Grind.{common_steps}
 use Rattle.std.proofs.lemmas.List.{append-nil}
-use Rattle.std.proofs.lemmas.List.Elements.{Contains-append_left, Contains-push, Contains-push_cases}
+use Rattle.std.proofs.lemmas.List.Elements.{Contains-append_left, Contains-push}
+use Rattle.std.proofs.lemmas.List.Elements.{Contains-push_cases}
 use Rattle.sw_partition.specs.Regions.{Regions, Together}
 use Rattle.sw_partition.specs.Effects.{IsBlank, IsJoined}
 use Rattle.sw_region_ops.specs.Elements.{element_at}
@@ -76,8 +77,10 @@ met_more count sites met x a b here is_met within joined = record {
         → (Together a p q ⊎ ((Together a p x × Together a 0 q)
         ⊎ (Together a p 0 × Together a x q)))
     cases p q (inl c) (inl d) = inl (old p q (inr (c, d)))
-    cases p q (inl c) (inr e) = inr (inr (old p 0 (inr (c, here)), subst (λ n. Together a x n) e self))
-    cases p q (inr e) (inl d) = inr (inl (subst (λ n. Together a n x) e self, old 0 q (inr (here, d))))
+    cases p q (inl c) (inr e) =
+        inr (inr (old p 0 (inr (c, here)), subst (λ n. Together a x n) e self))
+    cases p q (inr e) (inl d) =
+        inr (inl (subst (λ n. Together a n x) e self, old 0 q (inr (here, d))))
     cases p q (inr e) (inr f) =
         inl (subst (λ n. Together a n q) e (subst (λ n. Together a x n) f self))
 

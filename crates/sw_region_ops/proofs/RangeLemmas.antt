@@ -1,9 +1,11 @@
 -- Operations speak of elements that are there, and change or give away none that is `Here`.
-use Rattle.std.proofs.Common.{◌≡◌, ◌≢◌, ℕ, ◌+◌, ◌<◌, Bool, true, false, if◌then◌else◌, Option, Some, None}
+use Rattle.std.proofs.Common.{◌≡◌, ◌≢◌, ℕ, ◌+◌, ◌<◌, Bool, true, false, if◌then◌else◌, Option}
+use Rattle.std.proofs.Common.{Some, None}
 use Rattle.std.proofs.Common.{List, [], ◌∷◌, ◌++◌, zero, suc, map, refl, sym, subst, arith}
 use Rattle.std.specs.List.{All, Contains, flat_map}
 use Rattle.std.specs.Prelude.{slice_get, slice_index_or}
-use Rattle.std.proofs.lemmas.List.Elements.{All-nil, All-cons, All-head, All-tail, All-append, All-map}
+use Rattle.std.proofs.lemmas.List.Elements.{All-nil, All-cons, All-head, All-tail, All-append}
+use Rattle.std.proofs.lemmas.List.Elements.{All-map}
 use Rattle.std.proofs.lemmas.List.Elements.{All-weaker, Contains-append_left}
 use Rattle.std.proofs.lemmas.List.Elements.{Contains-append_right, All-contains_itself}
 use Rattle.sw_types.specs.declared.isolation.CallKind.{CallKind}
@@ -19,7 +21,7 @@ use Rattle.sw_graph.specs.Points.{Point, Middle, End, points_of_block}
 use Rattle.sw_region_ops.specs.Calls as calls
 use Rattle.sw_region_ops.specs.Calls.{is_isolated, free_code, callee_ops}
 use Rattle.sw_region_ops.specs.Elements.{AreElements, element_at, element_count}
-use Rattle.sw_region_ops.specs.Entry.{site_of, sites_of, AreSites}
+use Rattle.sw_region_ops.specs.Sites.{site_of, sites_of, AreSites}
 use Rattle.sw_region_ops.specs.Groups as groups
 use Rattle.sw_region_ops.specs.Marks.{mark_of, mark_at, marks_of, sent_from, kept_from}
 use Rattle.sw_region_ops.specs.Runs.{FitsIn, Fits}

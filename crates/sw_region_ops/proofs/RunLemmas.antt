@@ -1,6 +1,6 @@
 -- Operations keep the size of states, and from a greater state make a greater one; and there is one
 -- state at an entry.
-use Rattle.std.proofs.Common.{◌≡◌, ℕ, List, [], ◌∷◌, length, sym, subst, ap, ◌∙◌}
+use Rattle.std.proofs.Common.{◌≡◌, ℕ, List, [], ◌∷◌, ◌++◌, length, refl, sym, subst, ap, ◌∙◌}
 use Rattle.sw_partition.specs.Monotone as monotone
 use Rattle.sw_partition.specs.Regions.{Regions, size_of, IsWithin, IsSameState}
 use Rattle.sw_region_ops.specs.Entry.{IsMet}
@@ -23,6 +23,17 @@ does_size (Give x site) a b does = same_size a b does.elements_same does.sites_s
 pub runs_size : (ops : List Op) (a b : Regions) → Runs ops a b → size_of b ≡ size_of a
 runs_size [] a b e = ap size_of e
 runs_size (op ∷ ops) a b (m, does, later) = runs_size ops m b later ∙ does_size op a m does
+
+-- a list of operations is done part after part
+pub runs_both : (xs ys : List Op) (a m b : Regions) → Runs xs a m → Runs ys m b → Runs (xs ++ ys) a b
+runs_both [] ys a m b e later = subst (λ r. Runs ys r b) e later
+runs_both (op ∷ xs) ys a m b (n, does, rest) later = (n, does, runs_both xs ys n m b rest later)
+
+pub runs_split : (xs ys : List Op) (a b : Regions) → Runs (xs ++ ys) a b
+    → (m : Regions) × Runs xs a m × Runs ys m b
+runs_split [] ys a b runs = (a, refl, runs)
+runs_split (op ∷ xs) ys a b (n, does, rest) =
+    let h = runs_split xs ys n b rest in (h.0, (n, does, h.1), h.2)
 
 both_same : (a b c d : Regions) → IsWithin a b → c ≡ a → d ≡ b → IsWithin c d
 both_same a b c d within first second =

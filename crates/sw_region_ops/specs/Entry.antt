@@ -1,16 +1,14 @@
--- The region state at the entry of a function (SE-0414, SE-0430), and the sites of its states.
+-- The region state at the entry of a function (SE-0414, SE-0430).
 use Rattle.std.specs.Prelude.{◌≡◌, ℕ, ◌+◌, ◌<◌, ◌↔◌, ◌⊎◌, Bool, if◌then◌else◌, Option, Some, None}
-use Rattle.std.specs.Prelude.{List, [], ◌∷◌, ◌++◌, length, Contains, flat_map}
-use Rattle.std.specs.List.Sorted.{IsStrictlyIncreasing}
+use Rattle.std.specs.Prelude.{List, [], ◌∷◌, ◌++◌, length, Contains}
 use Rattle.sw_graph.specs.declared.function.Function.{Function}
 use Rattle.sw_graph.specs.declared.graph.Graph.{Graph}
 use Rattle.sw_partition.specs.Regions.{Regions, Together, HasPair}
 use Rattle.sw_region_ops.specs.Elements.{element_at, element_count}
 use Rattle.sw_region_ops.specs.Setting.{Setting, setting_of}
-use Rattle.sw_region_ops.specs.Table.{block_ops}
-use Rattle.sw_region_ops.specs.declared.op.Op.{Op}
-use Rattle.sw_region_ops.specs.declared.op.Op.TheVariants.{Need, Free, Fresh, Put, Join, Give}
+use Rattle.sw_region_ops.specs.Sites.{AreSites}
 
+-- one element or none
 abbrev pub listed : Option ℕ → List ℕ
 listed (Some x) = x ∷ []
 listed None = []
@@ -41,27 +39,6 @@ pub record IsMet (count : ℕ) (sites met : List ℕ) (r : Regions) : Type 0 whe
 abbrev pub IsEntry : Setting → List ℕ → Regions → Type 0
 IsEntry setting sites r =
     IsMet (element_count setting.elements) sites (here_at_entry setting) r
-
--- the site that an operation gives an element away at
-abbrev pub site_of : Op → List ℕ
-site_of (Give x site) = site ∷ []
-site_of (Need x at) = []
-site_of (Free x at code) = []
-site_of (Fresh x) = []
-site_of (Put x y) = []
-site_of (Join x y) = []
-
-abbrev pub sites_of : List Op → List ℕ
-sites_of ops = flat_map site_of ops
-
--- all operations of a function, in the order of its points
-abbrev pub body_ops : Setting → List Op
-body_ops setting = flat_map (block_ops setting) setting.body.blocks
-
--- the sites at which a function gives elements away, each once, in rising order
-pub record AreSites (setting : Setting) (sites : List ℕ) : Type 0 where
-  pub rising : IsStrictlyIncreasing sites
-  pub same : (site : ℕ) → Contains sites site ↔ Contains (sites_of (body_ops setting)) site
 
 -- the state at the entry of a function of a graph, over the sites at which the function gives
 -- elements away

@@ -5,4 +5,5 @@ pub mod Groups
 pub mod Marks
 pub mod Runs
 pub mod Setting
+pub mod Sites
 pub mod Table

@@ -3,9 +3,9 @@ use std::alloc::{AllocError, Global};
 use std::marker::Model;
 use sw_graph::{Function, Functions, Graph};
 
-/// What the operations of a function's instructions depend on beside the instruction. It is made once
-/// for a function. Contracts see the functions of the graph, the function, and the elements of its
-/// registers.
+/// What the operations of a function's instructions depend on beside the instruction. It is made
+/// once for a function. Contracts see the functions of the graph, the function, and the elements of
+/// its registers.
 #[derive(Drop)]
 pub struct Context<'a> {
     functions: &'a Functions,

@@ -1,6 +1,7 @@
 //! The state at the entry of a function, and the operations at a point.
 ghost use Rattle.std.specs.Prelude.{◌≡◌, ◌≢◌, ◌<◌, ℕ, List, [], ◌++◌, Bool, Some, length, Contains};
-ghost use Rattle.std.specs.Prelude.{slice_get, if◌then◌else◌, option_and_then, IsSome, IfSome, IfOk};
+ghost use Rattle.std.specs.Prelude.{slice_get, if◌then◌else◌, option_and_then, IsSome, IfSome};
+ghost use Rattle.std.specs.Prelude.{IfOk};
 ghost use Rattle.std.specs.List.Sorted.{IsStrictlyIncreasing};
 ghost use Rattle.sw_graph.specs.Points.{point_in};
 ghost use Rattle.sw_graph.specs.declared.function.Function.{Function};
@@ -19,7 +20,8 @@ use sw_partition::Partition;
 fn lend(state: &mut Partition, element: Option<u32>, sends: bool)
     requires { IfSome element (λ x. x < length state.old.labels) }
     ensures sized { length state.new.labels ≡ length state.old.labels }
-    ensures met { (count : ℕ) (sites met : List ℕ) → Contains met 0 → IsMet count sites met state.old
+    ensures met { (count : ℕ) (sites met : List ℕ) → Contains met 0
+        → IsMet count sites met state.old
         → IsMet count sites (met ++ (if sends then [] else listed element)) state.new }
 {
     if sends {

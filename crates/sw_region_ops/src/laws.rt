@@ -3,7 +3,8 @@ ghost use Rattle.std.specs.Prelude.{◌≡◌, ℕ, List, ◌∷◌, Some, All, 
 ghost use Rattle.sw_graph.specs.declared.instr.Block.{Block};
 ghost use Rattle.sw_partition.specs.Regions.{Regions, size_of, IsWithin, IsSameState};
 ghost use Rattle.sw_region_ops.specs.Elements.{AreElements, element_count};
-ghost use Rattle.sw_region_ops.specs.Entry.{AreSites, IsEntry};
+ghost use Rattle.sw_region_ops.specs.Entry.{IsEntry};
+ghost use Rattle.sw_region_ops.specs.Sites.{AreSites};
 ghost use Rattle.sw_region_ops.specs.Runs.{Runs, Fits};
 ghost use Rattle.sw_region_ops.specs.Setting.{Setting};
 ghost use Rattle.sw_region_ops.specs.Table.{block_ops};

@@ -1,7 +1,7 @@
 //! The sites at which a function gives elements away.
 ghost use Rattle.std.specs.Prelude.{◌≡◌, ◌++◌, ◌↔◌, ℕ, Contains, flat_map, OnOk, IfOk};
 ghost use Rattle.std.specs.List.Sorted.{IsStrictlyIncreasing};
-ghost use Rattle.sw_region_ops.specs.Entry.{site_of, sites_of, AreSites};
+ghost use Rattle.sw_region_ops.specs.Sites.{site_of, sites_of, AreSites};
 ghost use Rattle.sw_region_ops.specs.Table.{block_ops};
 
 use crate::context::Context;

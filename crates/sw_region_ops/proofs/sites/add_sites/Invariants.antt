@@ -1,5 +1,5 @@
 use Rattle.std.proofs.Common.{◌≡◌, ◌++◌, drop}
-use Rattle.sw_region_ops.specs.Entry.{sites_of}
+use Rattle.sw_region_ops.specs.Sites.{sites_of}
 use Rattle.sw_region_ops.proofs.sites.add_sites.Given as goal
 
 abbrev pub invariant-loop-op : goal.invariant-loop-op

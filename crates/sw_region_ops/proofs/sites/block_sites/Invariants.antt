@@ -1,6 +1,6 @@
 use Rattle.std.proofs.Common.{◌≡◌, ◌++◌, drop}
 use Rattle.std.specs.List.{flat_map}
-use Rattle.sw_region_ops.specs.Entry.{sites_of}
+use Rattle.sw_region_ops.specs.Sites.{sites_of}
 use Rattle.sw_region_ops.specs.Table.{block_ops}
 use Rattle.sw_region_ops.proofs.sites.block_sites.Given as goal
 

@@ -1,6 +1,6 @@
 use Rattle.std.proofs.Common.{◌≡◌, ◌↔◌, subst}
 use Rattle.std.specs.List.{Contains}
-use Rattle.sw_region_ops.specs.Entry.{sites_of, body_ops}
+use Rattle.sw_region_ops.specs.Sites.{sites_of, body_ops}
 use Rattle.sw_region_ops.proofs.context.Context.sites.Goals as goal
 
 pub returns : goal.returns
