@@ -1,0 +1,447 @@
+-- Each call that stands in a tree has a kind among its notes.
+use Rattle.std.proofs.Common.{◌≡◌, ℕ, not, List, [], ◌∷◌, ◌++◌, map}
+use Rattle.std.proofs.Common.{Option, Some, None, option_map, unwrap_or, Contains, ap, sym, subst}
+use Rattle.std.proofs.Common.{refl, ◌∙◌, arith}
+use Rattle.std.proofs.lemmas.List.Concat.{flat_map-append}
+use Rattle.std.proofs.lemmas.List.Elements.{Contains-append_left, Contains-append_right}
+use Rattle.std.specs.List.{AllByRecursion, filter}
+use Rattle.sw_tree.proofs.FoldEquations as eq
+use Rattle.sw_tree.proofs.TreeInduction.{Claims, Cases, Given, every_expr, every_block}
+use Rattle.sw_tree.specs.Folds.{Steps, fold_expr, fold_stmt, fold_arg, fold_closure, fold_link}
+use Rattle.sw_tree.specs.Folds.{fold_block, fold_case_arm, fold_if_arm}
+use Rattle.sw_tree.specs.NodeKey.{last_or}
+use Rattle.sw_tree.specs.declared.expr.Expr.{Expr}
+use Rattle.sw_tree.specs.declared.expr.Expr.TheOpen as layer
+use Rattle.sw_tree.specs.declared.expr.Link.{Link}
+use Rattle.sw_tree.specs.declared.stmt.Block.{Block}
+use Rattle.sw_typing_rules.specs.Worlds.{World}
+use Rattle.sw_isolation_rules.specs.Answers.{Answers}
+use Rattle.sw_isolation_rules.specs.CallKeys.{Keys, Calling, Operating, Closing, call_keys, joined}
+use Rattle.sw_isolation_rules.specs.CallKeys.{HasKind, HaveKinds, call_steps, expr_calls}
+use Rattle.sw_isolation_rules.specs.CallKeys.{block_calls}
+use Rattle.sw_isolation_rules.specs.Captures.{closed, is_mention, captured, taken, own_mentions}
+use Rattle.sw_isolation_rules.specs.Captures.{list_mentions}
+use Rattle.sw_isolation_rules.specs.Kinds.{kind_of}
+use Rattle.sw_isolation_rules.specs.Lists.{kind_in, kinds_in}
+use Rattle.sw_isolation_rules.specs.Noting.{Notes, Seen, Within, Linked, no_notes, all_of}
+use Rattle.sw_isolation_rules.specs.Noting.{note_steps}
+use Rattle.sw_isolation_rules.specs.Noting.{see, block_notes, use_notes, in_await, word_notes}
+use Rattle.sw_isolation_rules.specs.Noting.{member_notes, task_races, with_list}
+use Rattle.sw_isolation_rules.specs.Uses.{used, base_of, no_base}
+use Rattle.sw_isolation_rules.specs.declared.note.BodyIso.{BodyIso}
+use Rattle.sw_isolation_rules.specs.declared.note.Kinded.{Kinded}
+use Rattle.sw_isolation_rules.specs.declared.note.Note.{Note}
+use Rattle.sw_isolation_rules.specs.declared.note.Note.TheVariants.{Body, Kind, Refused, Race, Var}
+use Rattle.sw_isolation_rules.specs.declared.note.Note.TheVariants.{Mentioned, Captures}
+use Rattle.sw_isolation_rules.specs.declared.uses.Context.{Context}
+use Rattle.sw_isolation_rules.specs.declared.uses.Used.{Used}
+use Rattle.sw_isolation_rules.specs.declared.uses.Used.TheVariants.{Called, Stored, Field, Waited}
+use Rattle.sw_isolation_rules.specs.declared.uses.Used.TheVariants.{Nothing}
+use Rattle.sw_isolation_rules.proofs.Each.{each_join}
+
+left_has : (one other : List Note) (key : ℕ) → HasKind one key → HasKind (one ++ other) key
+left_has one other key (kinded, (has, is)) = (
+  kinded,
+  (
+    subst (λ list. Contains list kinded) (sym (flat_map-append kind_in one other))
+        (Contains-append_left (kinds_in one) (kinds_in other) kinded has),
+    is,
+  ),
+)
+
+right_has : (one other : List Note) (key : ℕ) → HasKind other key → HasKind (one ++ other) key
+right_has one other key (kinded, (has, is)) = (
+  kinded,
+  (
+    subst (λ list. Contains list kinded) (sym (flat_map-append kind_in one other))
+        (Contains-append_right (kinds_in one) (kinds_in other) kinded has),
+    is,
+  ),
+)
+
+all_left : (one other : List Note) (keys : Keys) → HaveKinds one keys
+    → HaveKinds (one ++ other) keys
+all_left one other [] have = tt
+all_left one other (key ∷ keys) have =
+    (left_has one other key have.0, all_left one other keys have.1)
+
+all_right : (one other : List Note) (keys : Keys) → HaveKinds other keys
+    → HaveKinds (one ++ other) keys
+all_right one other [] have = tt
+all_right one other (key ∷ keys) have =
+    (right_has one other key have.0, all_right one other keys have.1)
+
+record Has (notes : List Note) (keys : Keys) : Type 0 where
+  all : HaveKinds notes keys
+
+none : (notes : List Note) → Has notes []
+none notes = record { all = tt }
+
+left : (one other : List Note) (keys : Keys) → Has one keys → Has (one ++ other) keys
+left one other keys have = record { all = all_left one other keys have.all }
+
+right : (one other : List Note) (keys : Keys) → Has other keys → Has (one ++ other) keys
+right one other keys have = record { all = all_right one other keys have.all }
+
+both : (one other : List Note) (keys more : Keys) → Has one keys → Has other more
+    → Has (one ++ other) (keys ++ more)
+both one other keys more first second = record {
+  all = each_join (HasKind (one ++ other)) keys more (all_left one other keys first.all)
+      (all_right one other more second.all);
+}
+
+kept_kinds : (notes : List Note)
+    → kinds_in (filter (λ note. not (is_mention note)) notes) ≡ kinds_in notes
+kept_kinds [] = refl
+kept_kinds (Body body ∷ notes) = kept_kinds notes
+kept_kinds (Kind kinded ∷ notes) = ap (λ more. kinded ∷ more) (kept_kinds notes)
+kept_kinds (Refused one ∷ notes) = kept_kinds notes
+kept_kinds (Race one ∷ notes) = kept_kinds notes
+kept_kinds (Var key ∷ notes) = kept_kinds notes
+kept_kinds (Mentioned one ∷ notes) = kept_kinds notes
+kept_kinds (Captures held ∷ notes) = kept_kinds notes
+
+all_kept : (inner : List Note) (keys : Keys) → HaveKinds inner keys
+    → HaveKinds (filter (λ note. not (is_mention note)) inner) keys
+all_kept inner [] have = tt
+all_kept inner (key ∷ keys) have = (
+  subst (λ list. (kinded : Kinded) × (Contains list kinded × (kinded.at ≡ key)))
+      (sym (kept_kinds inner)) have.0,
+  all_kept inner keys have.1,
+)
+
+closed_has : (world : World) (context : Context) (closure : ℕ) (listed : List ℕ)
+    (inner : List Note) (keys : Keys) → Has inner keys
+    → Has (closed world context closure listed inner) keys
+closed_has world context closure listed inner keys have =
+    left
+    (filter (λ note. not (is_mention note)) inner
+    ++ map (captured closure listed) (taken world context closure inner))
+    (map Mentioned (own_mentions closure inner)) keys
+    (left (filter (λ note. not (is_mention note)) inner)
+    (map (captured closure listed) (taken world context closure inner)) keys
+    (record { all = all_kept inner keys have.all }))
+
+after_body : (body : BodyIso) (notes : List Note) (keys : Keys) → Has notes keys
+    → Has (Body body ∷ notes) keys
+after_body body notes keys have = record { all = go keys have.all } where
+  go : (more : Keys) → HaveKinds notes more → HaveKinds (Body body ∷ notes) more
+  go [] all = tt
+  go (key ∷ more) all = (all.0, go more all.1)
+
+use_has : (context : Context) (at : ℕ) (used : Used)
+    → Has (use_notes context at used) (call_keys at used)
+use_has context at (Called callee sends) = record {
+  all = (
+    (
+      record { at = at; kind = kind_of callee context.iso },
+      ((0, (omega arith), refl), refl),
+    ),
+    tt,
+  );
+}
+use_has context at (Stored storage) = none _
+use_has context at Field = none _
+use_has context at Waited = none _
+use_has context at Nothing = none _
+
+module _ (world : World) (answers : Answers) (owner : Option ℕ) where
+  abbrev noting : Steps
+  noting = note_steps world answers
+
+  abbrev counting : Steps
+  counting = call_steps world answers owner
+
+  abbrev Have : Notes → Keys → Type 0
+  Have notes keys = (context : Context) (listed : List ℕ) → context.owner ≡ owner
+      → Has (notes context listed) keys
+
+  record Match (seen : Seen) (calling : Calling) : Type 0 where
+    key : seen.key ≡ calling.key
+    is_self : seen.is_self ≡ calling.is_self
+    notes : Have seen.notes calling.calls
+
+  record MatchWithin (within : Within) (closing : Closing) : Type 0 where
+    at : within.at ≡ closing.at
+    inside : Have within.inside closing.calls
+
+  record MatchLink (linked : Linked) (operating : Operating) : Type 0 where
+    at : linked.at ≡ operating.at
+    operand : Have linked.operand operating.calls
+
+  abbrev claims : Claims
+  claims = record {
+    expr = λ x. Match (fold_expr noting x) (fold_expr counting x);
+    stmt = λ x. Have (fold_stmt noting x) (fold_stmt counting x);
+    arg = λ x. Have (fold_arg noting x) (fold_arg counting x);
+    closure = λ x. MatchWithin (fold_closure noting x) (fold_closure counting x);
+    link = λ x. MatchLink (fold_link noting x) (fold_link counting x);
+    block = λ x. Have (fold_block noting x) (fold_block counting x);
+    case_arm = λ x. Have (fold_case_arm noting x) (fold_case_arm counting x);
+    if_arm = λ x. Have (fold_if_arm noting x) (fold_if_arm counting x);
+  }
+
+  many : {X : Type 0} (f : X → Notes) (g : X → Keys) (xs : List X)
+      → AllByRecursion (λ x. Have (f x) (g x)) xs → Have (all_of (map f xs)) (joined (map g xs))
+  many f g [] all context listed same = none _
+  many f g (x ∷ xs) all context listed same =
+      both (f x context listed) (all_of (map f xs) context listed) (g x) (joined (map g xs))
+      (all.0 context listed same) (many f g xs all.1 context listed same)
+
+  operands : (links : List Link) → AllByRecursion claims.link links
+      → Have (all_of (map (λ (link : Linked). link.operand) (map (fold_link noting) links)))
+      (joined (map (λ (link : Operating). link.calls) (map (fold_link counting) links)))
+  operands [] all context listed same = none _
+  operands (link ∷ links) all context listed same =
+      both _ _ (fold_link counting link).calls _ (all.0.operand context listed same)
+      (operands links all.1 context listed same)
+
+  places : (links : List Link) → AllByRecursion claims.link links
+      → map (λ (link : Linked). link.at) (map (fold_link noting) links)
+      ≡ map (λ (link : Operating). link.at) (map (fold_link counting) links)
+  places [] all = refl
+  places (link ∷ links) all =
+      ap (λ at. at ∷ map (λ (link : Linked). link.at) (map (fold_link noting) links)) all.0.at
+      ∙ ap (λ more. (fold_link counting link).at ∷ more) (places links all.1)
+
+  otherwise_has : (otherwise : Option Block) → Given claims.block otherwise
+      → Have (unwrap_or (option_map (fold_block noting) otherwise) no_notes)
+      (unwrap_or (option_map (fold_block counting) otherwise) [])
+  otherwise_has None have = λ context listed same. none _
+  otherwise_has (Some block) have = have
+
+  returned_has : (at : ℕ) (given : Option Expr) → Given claims.expr given
+      → Have (noting.stmt (layer.Return at (option_map (fold_expr noting) given)))
+      (counting.stmt (layer.Return at (option_map (fold_expr counting) given)))
+  returned_has at None have = λ context listed same. none _
+  returned_has at (Some given) have = have.notes
+
+  word_has : (at : ℕ) (context : Context) → context.owner ≡ owner
+      → Has (word_notes world answers context at)
+      (call_keys at (used world answers owner no_base at))
+  word_has at context same =
+      right _ (use_notes context at (used world answers context.owner no_base at)) _
+      (subst (λ one. Has
+      (use_notes context at (used world answers context.owner no_base at)) (call_keys at one))
+      (ap (λ o. used world answers o no_base at) same)
+      (use_has context at (used world answers context.owner no_base at)))
+
+  member_has : (seen : Seen) (calling : Calling) → Match seen calling → (at : ℕ)
+      (context : Context) → context.owner ≡ owner
+      → Has (member_notes world answers seen at context)
+      (call_keys at (used world answers owner (base_of answers calling.key calling.is_self) at))
+  member_has seen calling match at context same =
+      subst (λ one. Has (member_notes world answers seen at context) (call_keys at one))
+      (ap (λ o. used world answers o (base_of answers seen.key seen.is_self) at) same
+      ∙ (ap (λ key. used world answers owner (base_of answers key seen.is_self) at) match.key
+      ∙ ap (λ is. used world answers owner (base_of answers calling.key is) at) match.is_self))
+      (use_has context at
+      (used world answers context.owner (base_of answers seen.key seen.is_self) at))
+
+  -- by the equations of both functions at a form
+  at_form : {X Y : Type 0} (R : X → Y → Type 0) {x x' : X} {y y' : Y} → x ≡ x' → y ≡ y' → R x' y'
+      → R x y
+  at_form R {x} {x'} {y} {y'} one other holds =
+      subst (λ z. R z y) (sym one) (subst (λ z. R x' z) (sym other) holds)
+
+  cases : Cases claims
+  cases = record {
+    int = λ at value.
+        at_form Match (eq.fold_expr-Int noting at value)
+        (eq.fold_expr-Int counting at value)
+        (record { key = refl; is_self = refl; notes = λ context listed same. none _ });
+    bool = λ at value.
+        at_form Match (eq.fold_expr-Bool noting at value)
+        (eq.fold_expr-Bool counting at value)
+        (record { key = refl; is_self = refl; notes = λ context listed same. none _ });
+    use_of = λ name.
+        at_form Match (eq.fold_expr-Use noting name)
+        (eq.fold_expr-Use counting name)
+        (record { key = refl; is_self = refl; notes = λ context listed same. none _ });
+    me = λ at.
+        at_form Match (eq.fold_expr-Me noting at)
+        (eq.fold_expr-Me counting at)
+        (record { key = refl; is_self = refl; notes = λ context listed same. none _ });
+    member = λ base name of_base.
+        at_form Match (eq.fold_expr-Member noting base name)
+        (eq.fold_expr-Member counting base name)
+        (record {
+          key = refl;
+          is_self = refl;
+          notes = λ context listed same.
+              left _ _ _ (of_base.notes context listed same);
+        });
+    call = λ name args all.
+        at_form Match (eq.fold_expr-Call noting name args)
+        (eq.fold_expr-Call counting name args)
+        (record {
+          key = refl;
+          is_self = refl;
+          notes = λ context listed same.
+              both _ _ (call_keys name.at (used world answers owner no_base name.at)) _
+              (word_has name.at context same)
+              (many (fold_arg noting) (fold_arg counting) args all context listed same);
+        });
+    method = λ base name args of_base all.
+        at_form Match (eq.fold_expr-Method noting base name args)
+        (eq.fold_expr-Method counting base name args)
+        (record {
+          key = refl;
+          is_self = refl;
+          notes = λ context listed same.
+              both _ _ _ _
+              (both _ _ (fold_expr counting base).calls _ (of_base.notes context listed same)
+              (member_has (fold_expr noting base) (fold_expr counting base) of_base name.at context
+              same))
+              (many (fold_arg noting) (fold_arg counting) args all context listed same);
+        });
+    chain = λ first rest of_first all.
+        at_form Match (eq.fold_expr-Chain noting first rest)
+        (eq.fold_expr-Chain counting first rest)
+        (record {
+          key = ap (λ keys. last_or (fold_expr noting first).key keys) (places rest all)
+              ∙ ap (λ key. last_or key
+              (map (λ (link : Operating). link.at) (map (fold_link counting) rest))) of_first.key;
+          is_self = refl;
+          notes = λ context listed same.
+              both _ _ (fold_expr counting first).calls _ (of_first.notes context listed same)
+              (operands rest all context listed same);
+        });
+    prefix = λ op at inner of_inner.
+        at_form Match (eq.fold_expr-Prefix noting op at inner)
+        (eq.fold_expr-Prefix counting op at inner)
+        (record { key = refl; is_self = refl; notes = of_inner.notes });
+    await = λ at inner of_inner.
+        at_form Match (eq.fold_expr-Await noting at inner)
+        (eq.fold_expr-Await counting at inner)
+        (record {
+          key = refl;
+          is_self = refl;
+          notes = λ context listed same.
+              of_inner.notes (in_await context) listed same;
+        });
+    fun = λ closure within.
+        at_form Match (eq.fold_expr-Fun noting closure)
+        (eq.fold_expr-Fun counting closure)
+        (record {
+          key = within.at;
+          is_self = refl;
+          notes = λ context listed same.
+              after_body _ _ _ (within.inside _ listed same);
+        });
+    spawn = λ at detached body within.
+        at_form Match (eq.fold_expr-Spawn noting at detached body)
+        (eq.fold_expr-Spawn counting at detached body)
+        (record {
+          key = refl;
+          is_self = refl;
+          notes = λ context listed same.
+              after_body _ _ _
+              (right (task_races world answers at) _ _ (within.inside _ listed same));
+        });
+    yield = λ at.
+        at_form Match (eq.fold_expr-Yield noting at)
+        (eq.fold_expr-Yield counting at)
+        (record { key = refl; is_self = refl; notes = λ context listed same. none _ });
+    bind = λ mutable name ty value of_value.
+        at_form Have (eq.fold_stmt-Bind noting mutable name ty value)
+        (eq.fold_stmt-Bind counting mutable name ty value)
+        (λ context listed same. right _ _ _ (of_value.notes context listed same));
+    assign = λ at op place value of_place of_value.
+        at_form Have (eq.fold_stmt-Assign noting at op place value)
+        (eq.fold_stmt-Assign counting at op place value)
+        (λ context listed same. right _ _ _ (of_value.notes context listed same));
+    discard = λ at value of_value.
+        at_form Have (eq.fold_stmt-Discard noting at value)
+        (eq.fold_stmt-Discard counting at value)
+        of_value.notes;
+    if_of = λ arms otherwise all last.
+        at_form Have (eq.fold_stmt-If noting arms otherwise)
+        (eq.fold_stmt-If counting arms otherwise)
+        (λ context listed same.
+        both _ _ _ _
+        (many (fold_if_arm noting) (fold_if_arm counting) arms all context listed same)
+        (otherwise_has otherwise last context listed same));
+    while_of = λ at cond body of_cond of_body.
+        at_form Have (eq.fold_stmt-While noting at cond body)
+        (eq.fold_stmt-While counting at cond body)
+        (λ context listed same.
+        both _ _ (fold_expr counting cond).calls _ (of_cond.notes context listed same)
+        (of_body context listed same));
+    switch = λ at subject arms otherwise of_subject all last.
+        at_form Have (eq.fold_stmt-Switch noting at subject arms otherwise)
+        (eq.fold_stmt-Switch counting at subject arms otherwise)
+        (λ context listed same.
+        both _ _ _ _
+        (both _ _ (fold_expr counting subject).calls _ (of_subject.notes context listed same)
+        (many (fold_case_arm noting) (fold_case_arm counting) arms all context listed same))
+        (otherwise_has otherwise last context listed same));
+    return_of = λ at value given.
+        at_form Have (eq.fold_stmt-Return noting at value)
+        (eq.fold_stmt-Return counting at value)
+        (returned_has at value given);
+    break_of = λ at.
+        at_form Have (eq.fold_stmt-Break noting at)
+        (eq.fold_stmt-Break counting at)
+        (λ context listed same. none _);
+    continue_of = λ at.
+        at_form Have (eq.fold_stmt-Continue noting at)
+        (eq.fold_stmt-Continue counting at)
+        (λ context listed same. none _);
+    plain = λ value of_value.
+        at_form Have (eq.fold_stmt-Plain noting value)
+        (eq.fold_stmt-Plain counting value)
+        of_value.notes;
+    arg = λ label value of_value.
+        at_form Have (eq.fold_arg-roll noting label value)
+        (eq.fold_arg-roll counting label value)
+        of_value.notes;
+    closure = λ at mark captures params result body of_body.
+        at_form MatchWithin (eq.fold_closure-roll noting at mark captures params result body)
+        (eq.fold_closure-roll counting at mark captures params result body)
+        (record {
+          at = refl;
+          inside = λ context listed same.
+              closed_has world context at (with_list world answers context listed captures) _ _
+              (right (map Mentioned (list_mentions world answers context.owner captures)) _ _
+              (of_body context (with_list world answers context listed captures) same));
+        });
+    link = λ op at operand of_operand.
+        at_form MatchLink (eq.fold_link-roll noting op at operand)
+        (eq.fold_link-roll counting op at operand)
+        (record { at = refl; operand = of_operand.notes });
+    block = λ stmts all.
+        at_form Have (eq.fold_block-roll noting stmts)
+        (eq.fold_block-roll counting stmts)
+        (many (fold_stmt noting) (fold_stmt counting) stmts all);
+    case_arm = λ name patterns body of_body.
+        at_form Have (eq.fold_case_arm-roll noting name patterns body)
+        (eq.fold_case_arm-roll counting name patterns body)
+        of_body;
+    if_arm = λ at cond body of_cond of_body.
+        at_form Have (eq.fold_if_arm-roll noting at cond body)
+        (eq.fold_if_arm-roll counting at cond body)
+        (λ context listed same.
+        both _ _ (fold_expr counting cond).calls _ (of_cond.notes context listed same)
+        (of_body context listed same));
+  }
+
+  expr_has : (e : Expr) (context : Context) (listed : List ℕ) → context.owner ≡ owner
+      → Has ((fold_expr noting e).notes context listed) (fold_expr counting e).calls
+  expr_has e = (every_expr claims cases e).notes
+
+  block_has : (block : Block) (context : Context) (listed : List ℕ) → context.owner ≡ owner
+      → Has (fold_block noting block context listed) (fold_block counting block)
+  block_has block = every_block claims cases block
+
+module _ (world : World) (answers : Answers) (context : Context) (listed : List ℕ) where
+  pub expr_has_kinds : (e : Expr) → HaveKinds ((see world answers e).notes context listed)
+      (expr_calls world answers context.owner e)
+  unfolding see expr_calls
+  expr_has_kinds e = (expr_has world answers context.owner e context listed refl).all
+
+  pub block_has_kinds : (block : Block)
+      → HaveKinds (block_notes world answers block context listed)
+      (block_calls world answers context.owner block)
+  unfolding block_notes block_calls
+  block_has_kinds block = (block_has world answers context.owner block context listed refl).all

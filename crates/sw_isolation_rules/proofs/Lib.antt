@@ -1,0 +1,11 @@
+mod Apart
+mod Calls
+mod CallsIn
+mod Each
+mod OneMerged
+mod InOrder
+mod Meant
+mod NotedKeys
+mod Sound
+mod SoundNotes
+mod SoundPrograms

@@ -1,0 +1,9 @@
+pub mod Answers
+pub mod CallKeys
+pub mod Captures
+pub mod Kinds
+pub mod Lists
+pub mod Noting
+pub mod Programs
+pub mod Races
+pub mod Uses
