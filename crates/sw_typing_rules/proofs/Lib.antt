@@ -7,3 +7,5 @@ pub mod Welltyped
 pub mod Wellness
 pub mod Acceptance
 pub mod JudgedKeys
+pub mod IllCodes
+pub mod OneWorld

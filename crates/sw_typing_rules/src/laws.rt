@@ -1,9 +1,14 @@
 //! Laws, without code: what is known of a node is one thing, and something is known of each.
-ghost use Rattle.std.specs.Prelude.{◌≡◌, Bool, true, List, None, Option, Contains, is_some};
+ghost use Rattle.std.specs.Prelude.{◌≡◌, ◌≤◌, ℕ, Bool, true, List, None, Option, Contains, is_some};
+ghost use Rattle.sw_tree.specs.Contents.{AreKeyed};
 ghost use Rattle.sw_tree.specs.NodeKey.{expr_key};
 ghost use Rattle.sw_tree.specs.declared.decl.Decl.{Decl};
 ghost use Rattle.sw_resolve.specs.declared.placed.Placed.{Placed};
-ghost use Rattle.sw_typing_rules.specs.Programs.{BodyOf, IsFirstIll, Says, ValueOf, bodies_from};
+ghost use Rattle.sw_decls.specs.Declaring.{IsDeclared};
+ghost use Rattle.sw_decls.specs.declared.declaring.Decls.{Decls};
+ghost use Rattle.sw_decls.specs.declared.signature.AsyncDefault.{AsyncDefault};
+ghost use Rattle.sw_typing_rules.specs.Programs.{BodyOf, IsFirstIll, IsIll, Says, ValueOf};
+ghost use Rattle.sw_typing_rules.specs.Programs.{bodies_from};
 ghost use Rattle.sw_typing_rules.specs.Programs.{body_state, said, value_setting, values_from};
 ghost use Rattle.sw_typing_rules.specs.declared.row.Row.{Row};
 ghost use Rattle.sw_tree.specs.declared.expr.Expr.{Expr};
@@ -19,7 +24,7 @@ ghost use Rattle.sw_typing_rules.specs.declared.scope.Inside.{Inside};
 ghost use Rattle.sw_typing_rules.specs.Typedness.{state_typed, vars_typed};
 ghost use Rattle.sw_typing_rules.specs.Verdicts.{all_well};
 ghost use Rattle.sw_typing_rules.specs.Words.{Setting};
-ghost use Rattle.sw_typing_rules.specs.Worlds.{World};
+ghost use Rattle.sw_typing_rules.specs.Worlds.{IsWorldOf, World, world_of};
 
 /// An expression is judged in one way where it stands: it has one type or none, one meaning or
 /// none, and the same ill nodes inside.
@@ -116,4 +121,25 @@ pub fn types_fit_where_they_are_accepted()
 pub fn expressions_are_judged_by_key()
     ensures { (world : World) (setting : Setting) (expected : Bool) (expr : Expr) (judged : Judged)
         → Judges world setting expected expr judged → judged.key ≡ expr_key expr }
+{}
+
+/// What a program declares is one thing for the rules of types where its nodes have keys of their
+/// own, as those of each program have.
+pub fn programs_have_one_world()
+    ensures some { (decls : List Decl) (rule : AsyncDefault)
+        → (world : World) × IsWorldOf decls rule world }
+    ensures one { (decls : List Decl) (rule : AsyncDefault) (one other : World) → AreKeyed decls
+        → IsWorldOf decls rule one → IsWorldOf decls rule other → one ≡ other }
+    ensures declared { (decls : List Decl) (rule : AsyncDefault) (made : Decls)
+        → IsDeclared decls rule made → IsWorldOf decls rule (world_of made) }
+    ensures declared_once { (decls : List Decl) (rule : AsyncDefault) (one other : Decls)
+        → AreKeyed decls → IsDeclared decls rule one → IsDeclared decls rule other
+        → world_of one ≡ world_of other }
+{}
+
+/// The codes of ill nodes are those of types.
+#[tactic(auto, using(crate::proofs::IllCodes::ill_is_coded))]
+pub fn ill_nodes_have_codes_of_types()
+    ensures { (world : World) (decls : List Decl) (at code : ℕ) → IsIll world decls at code
+        → (401 ≤ code) × (code ≤ 408) }
 {}

@@ -12,7 +12,8 @@ mod verdict;
 pub use found::Found;
 pub use laws::{
     expressions_are_judged, expressions_are_judged_by_key, expressions_are_judged_once,
-    programs_have_a_first_ill_node, programs_have_one_first_ill_node, programs_say_what_is_said,
+    ill_nodes_have_codes_of_types, programs_have_a_first_ill_node,
+    programs_have_one_first_ill_node, programs_have_one_world, programs_say_what_is_said,
     statements_leave_one_thing, statements_leave_something, types_fit_where_they_are_accepted,
     well_expressions_have_types, well_programs_have_types, well_statements_have_types,
 };
