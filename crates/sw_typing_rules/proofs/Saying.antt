@@ -23,7 +23,7 @@ use Rattle.sw_typing_rules.specs.declared.row.Row.TheVariants.{Typed, Means, Ill
 use Rattle.sw_typing_rules.proofs.Sound.{judges, leaves_block}
 use Rattle.sw_typing_rules.proofs.Unique.{judge_is, leave_block_is}
 
-none_in : {X : Type 0} (x : X) → Contains [] x → ⊥
+pub none_in : {X : Type 0} (x : X) → Contains [] x → ⊥
 none_in x has = let lt = has.1 in omega (arith, lt)
 
 one_in : {X : Type 0} (x y : X) → Contains (x ∷ []) y → x ≡ y
@@ -90,13 +90,13 @@ module _ (world : World) (decls : List Decl) where
   of_ill (Ill at code) one has = ap (λ (p : Placed). Ill p.at p.code)
       (one_in (record { at = at; code = code }) one has)
 
-  ill_is : (one : Placed) → Contains (ills_in (said world decls)) one
+  pub ill_is : (one : Placed) → Contains (ills_in (said world decls)) one
       → IsIll world decls one.at one.code
   ill_is one has =
       let found = of_flat_map ill_in (said world decls) one has in
       subst (Says world decls) (of_ill found.0 one found.2) (is_said found.0 found.1)
 
-  is_ill : (at code : ℕ) → IsIll world decls at code
+  pub is_ill : (at code : ℕ) → IsIll world decls at code
       → Contains (ills_in (said world decls)) (record { at = at; code = code })
   is_ill at code is =
       in_flat_map ill_in (said world decls) (Ill at code) (record { at = at; code = code })
