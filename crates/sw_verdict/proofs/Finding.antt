@@ -15,12 +15,17 @@ use Rattle.sw_parse_decl.specs.Programs.{Explains, IsProgramOf}
 use Rattle.sw_tree.specs.declared.decl.Decl.{Decl}
 use Rattle.sw_decls.specs.Declaring.{IsRefusal}
 use Rattle.sw_decls.specs.declared.declaring.DeclFault.TheVariants as decl_faults
+use Rattle.sw_decls.specs.declared.signature.AsyncDefault.TheVariants.{Concurrent}
+use Rattle.sw_typing_rules.specs.Worlds.{IsWorldOf, World}
+use Rattle.sw_typing.specs.Typed.{IsIllProgram}
+use Rattle.sw_typing.specs.declared.typing.TypeFault.TheVariants as type_faults
 use Rattle.sw_breach.specs.declared.Breach.{Breach}
 use Rattle.sw_verdict.specs.declared.phases.Refusal.{Refusal}
 use Rattle.sw_verdict.specs.declared.phases.Refusal.TheVariants.{Breached, Memory}
 use Rattle.sw_verdict.specs.Phases.{breach_at, lexical_code, LexisFinds, has_fault}
 use Rattle.sw_verdict.specs.Phases.{SyntaxFinds, has_syntax_fault, syntax_code, token_of}
-use Rattle.sw_verdict.specs.Phases.{token_position, DeclarationsFinds, breaks_one}
+use Rattle.sw_verdict.specs.Phases.{token_position, DeclarationsFinds, breaks_one, TypesFinds}
+use Rattle.sw_verdict.specs.Phases.{ill_typed}
 use Rattle.sw_verdict.specs.Found.{FoundBy}
 
 -- one breach, unless memory ran out
@@ -84,3 +89,14 @@ pub found_first : (text : List ℕ) (tokens : List Token) (decls : List Decl) (c
 found_first text tokens decls code at refusal are spelled first is =
     found_breach (DeclarationsFinds text) code at refusal is
     (breaks_one tokens decls (record { at = at; code = code }) are spelled first)
+
+-- what the first ill node is found as
+pub found_ill : (text : List ℕ) (tokens : List Token) (decls : List Decl) (world : World)
+    (code at : ℕ) (refusal : Refusal) → IsTokens text tokens
+    → IsProgramOf decls (spelling_of text tokens) → IsWorldOf decls Concurrent world
+    → IsIllProgram world decls (type_faults.Breach code at)
+    → (refusal ≢ Memory → refusal ≡ Breached (breach_at code at))
+    → FoundBy (TypesFinds text) refusal
+found_ill text tokens decls world code at refusal are spelled is_world first is =
+    found_breach (TypesFinds text) code at refusal is
+    (ill_typed tokens decls world (record { at = at; code = code }) are spelled is_world first)

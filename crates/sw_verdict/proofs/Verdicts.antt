@@ -36,6 +36,12 @@ use Rattle.sw_decls.specs.Declaring.{IsFirstBreach}
 use Rattle.sw_decls.proofs.SomeFirst.{some_first_breach}
 use Rattle.sw_decls.proofs.OneFirst.{one_first_breach}
 use Rattle.sw_decls.proofs.BreachCodes.{first_is_coded}
+use Rattle.sw_decls.specs.declared.signature.AsyncDefault.TheVariants.{Concurrent}
+use Rattle.sw_typing_rules.specs.Programs.{IsFirstIll}
+use Rattle.sw_typing_rules.specs.Worlds.{IsWorldOf, World}
+use Rattle.sw_typing_rules.proofs.IllCodes.{ill_is_coded}
+use Rattle.sw_typing_rules.proofs.OneWorld.{one_world, some_world}
+use Rattle.sw_typing_rules.proofs.Saying.{one_first_ill, some_first_ill}
 use Rattle.sw_small.proofs.OneGraph.{some_graph, one_graph}
 use Rattle.sw_small.proofs.Runnable.{lowered_runnable}
 use Rattle.sw_small.proofs.SmallLaws.{decided as program_or_unexpected, never_both as no_unexpected}
@@ -43,8 +49,9 @@ use Rattle.sw_small.proofs.SmallLaws.{one_program, one_unexpected as one_unexpec
 use Rattle.sw_small.proofs.SmallSize.{size_of-spelled}
 use Rattle.sw_reader.proofs.TokensSpelled.{tokens_spelled}
 use Rattle.sw_text.specs.declared.TheConstants.{MAX_LENGTH}
-use Rattle.sw_verdict.specs.Phases.{Phase, Encoding, Lexis, Syntax, Declarations, SmallForm, Size}
-use Rattle.sw_verdict.specs.Phases.{DeclarationsFinds, keeps_all, breaks_one}
+use Rattle.sw_verdict.specs.Phases.{Phase, Encoding, Lexis, Syntax, Declarations, Types, SmallForm}
+use Rattle.sw_verdict.specs.Phases.{Size, DeclarationsFinds, keeps_all, breaks_one}
+use Rattle.sw_verdict.specs.Phases.{TypesFinds, well_typed, ill_typed}
 use Rattle.sw_verdict.specs.Phases.{all_phases, IsProgram, SizeFinds, within, too_large, size_code}
 use Rattle.sw_verdict.specs.Phases.{EncodingFinds, is_utf8, not_utf8, LexisFinds, has_tokens}
 use Rattle.sw_verdict.specs.Phases.{has_fault, SmallFormFinds}
@@ -118,16 +125,24 @@ syntax_one text _ _ (has_syntax_fault a f are_a place_a) (has_syntax_fault b g a
     ap (λ tokens. breach_at (syntax_code f) (token_position text tokens (token_of f))) tokens
     ∙ ap (λ fault. breach_at (syntax_code fault) (token_position text b (token_of fault))) same
 
--- The declarations of a text, which are one list, have one first breach or none.
+-- The declarations of a text are one list.
+same_decls : (text : List ℕ) (a b : List Token) (ds es : List Decl) → IsTokens text a
+    → IsProgramOf ds (spelling_of text a) → IsTokens text b → IsProgramOf es (spelling_of text b)
+    → ds ≡ es
+same_decls text a b ds es are_a is_a are_b is_b =
+    programs.one_program (spelling_of text b) ds es
+    (subst (λ tokens. IsProgramOf ds (spelling_of text tokens)) (one_tokens text a b are_a are_b)
+    is_a) is_b
+
+-- The declarations of a text have one first breach or none.
 same_first : (text : List ℕ) (a b : List Token) (ds es : List Decl) (one other : Option Placed)
     → IsTokens text a → IsProgramOf ds (spelling_of text a) → IsFirstBreach ds one
     → IsTokens text b → IsProgramOf es (spelling_of text b) → IsFirstBreach es other
     → one ≡ other
 same_first text a b ds es one other are_a is_a first_a are_b is_b first_b =
-    let same : ds ≡ es = programs.one_program (spelling_of text b) ds es
-    (subst (λ tokens. IsProgramOf ds (spelling_of text tokens)) (one_tokens text a b are_a are_b)
-    is_a) is_b in
-    one_first_breach es one other (subst (λ decls. IsFirstBreach decls one) same first_a) first_b
+    one_first_breach es one other
+    (subst (λ decls. IsFirstBreach decls one) (same_decls text a b ds es are_a is_a are_b is_b)
+    first_a) first_b
 
 declarations_one : (text : List ℕ) (a b : List Breach) → DeclarationsFinds text a
     → DeclarationsFinds text b → a ≡ b
@@ -140,6 +155,37 @@ declarations_one text _ _ (breaks_one a ds one are_a is_a first_a)
     (breaks_one b es other are_b is_b first_b) =
     ap (λ (placed : Placed). breach_at placed.code placed.at) (some_injective
     (same_first text a b ds es (Some one) (Some other) are_a is_a first_a are_b is_b first_b))
+
+-- The program of a text has one first ill node or none.
+same_ill : (text : List ℕ) (a b : List Token) (ds es : List Decl) (v w : World)
+    (one other : Option Placed) → IsTokens text a → IsProgramOf ds (spelling_of text a)
+    → IsWorldOf ds Concurrent v → IsFirstIll v ds one → IsTokens text b
+    → IsProgramOf es (spelling_of text b) → IsWorldOf es Concurrent w → IsFirstIll w es other
+    → one ≡ other
+same_ill text a b ds es v w one other are_a is_a world_a first_a are_b is_b world_b first_b =
+    let same = same_decls text a b ds es are_a is_a are_b is_b in
+    let worlds : v ≡ w =
+    one_world es Concurrent v w (programs.keyed_program (spelling_of text b) es is_b)
+    (subst (λ decls. IsWorldOf decls Concurrent v) same world_a) world_b in
+    one_first_ill w es one other
+    (subst (λ world. IsFirstIll world es one) worlds
+    (subst (λ decls. IsFirstIll v decls one) same first_a)) first_b
+
+types_one : (text : List ℕ) (a b : List Breach) → TypesFinds text a → TypesFinds text b → a ≡ b
+types_one text _ _ (well_typed _ _ _ _ _ _ _) (well_typed _ _ _ _ _ _ _) = refl
+types_one text _ _ (well_typed a ds v are_a is_a world_a well)
+    (ill_typed b es w placed are_b is_b world_b some) =
+    cc (same_ill text a b ds es v w None (Some placed) are_a is_a world_a well are_b is_b world_b
+    some)
+types_one text _ _ (ill_typed a ds v placed are_a is_a world_a some)
+    (well_typed b es w are_b is_b world_b well) =
+    cc (same_ill text a b ds es v w (Some placed) None are_a is_a world_a some are_b is_b world_b
+    well)
+types_one text _ _ (ill_typed a ds v one are_a is_a world_a first_a)
+    (ill_typed b es w other are_b is_b world_b first_b) =
+    ap (λ (placed : Placed). breach_at placed.code placed.at) (some_injective
+    (same_ill text a b ds es v w (Some one) (Some other) are_a is_a world_a first_a are_b is_b
+    world_b first_b))
 
 pub one_text_program : (text : List ℕ) (a b : Small) → IsProgram text a → IsProgram text b → a ≡ b
 one_text_program text a b is_a is_b =
@@ -170,6 +216,7 @@ one_found Encoding text a b is_a is_b = encoding_one text a b is_a is_b
 one_found Lexis text a b is_a is_b = lexis_one text a b is_a is_b
 one_found Syntax text a b is_a is_b = syntax_one text a b is_a is_b
 one_found Declarations text a b is_a is_b = declarations_one text a b is_a is_b
+one_found Types text a b is_a is_b = types_one text a b is_a is_b
 one_found SmallForm text a b is_a is_b = small_form_one text a b is_a is_b
 one_found Size text a b is_a is_b = size_one text a b is_a is_b
 
@@ -197,6 +244,8 @@ few_found Syntax text _ (spells_program _ _ _ _) = omega arith
 few_found Syntax text _ (has_syntax_fault _ _ _ _) = omega arith
 few_found Declarations text _ (keeps_all _ _ _ _ _) = omega arith
 few_found Declarations text _ (breaks_one _ _ _ _ _ _) = omega arith
+few_found Types text _ (well_typed _ _ _ _ _ _ _) = omega arith
+few_found Types text _ (ill_typed _ _ _ _ _ _ _ _) = omega arith
 few_found SmallForm text _ (spelled _ _ _ _) = omega arith
 few_found SmallForm text _ (unexpected _ _ _ _) = omega arith
 few_found Size text _ (within _ _ _) = omega arith
@@ -266,6 +315,27 @@ declaration_is_code decls placed some =
     (λ f. or_later IsCode 307 code f listed.6
     (λ g. absurd (omega (arith, g, within.1)))))))))
 
+-- the codes of the rules of types have texts
+type_codes : IsCode 401 × IsCode 402 × IsCode 403 × IsCode 404 × IsCode 405 × IsCode 406
+    × IsCode 407 × IsCode 408
+unfolding text_of texts
+type_codes = (refl, refl, refl, refl, refl, refl, refl, refl)
+
+ill_is_code : (world : World) (decls : List Decl) (placed : Placed)
+    → IsFirstIll world decls (Some placed) → IsCode placed.code
+ill_is_code world decls placed some =
+    let within = ill_is_coded world decls placed.at placed.code some.0 in
+    let code = placed.code in
+    or_later IsCode 401 code within.0 type_codes.0
+    (λ a. or_later IsCode 402 code a type_codes.1
+    (λ b. or_later IsCode 403 code b type_codes.2
+    (λ c. or_later IsCode 404 code c type_codes.3
+    (λ d. or_later IsCode 405 code d type_codes.4
+    (λ e. or_later IsCode 406 code e type_codes.5
+    (λ f. or_later IsCode 407 code f type_codes.6
+    (λ g. or_later IsCode 408 code g type_codes.7
+    (λ h. absurd (omega (arith, h, within.1))))))))))
+
 codes_found : (phase : Phase) (text : List ℕ) (list : List Breach) → Finds phase text list
     → AllByRecursion (λ breach. IsCode breach.code) list
 codes_found Encoding text _ (is_utf8 _) = tt
@@ -278,6 +348,9 @@ codes_found Syntax text _ (has_syntax_fault tokens fault _ is) =
 codes_found Declarations text _ (keeps_all _ _ _ _ _) = tt
 codes_found Declarations text _ (breaks_one _ decls placed _ _ some) =
     (declaration_is_code decls placed some, tt)
+codes_found Types text _ (well_typed _ _ _ _ _ _ _) = tt
+codes_found Types text _ (ill_typed _ decls world placed _ _ _ some) =
+    (ill_is_code world decls placed some, tt)
 codes_found SmallForm text _ (spelled _ _ _ _) = tt
 codes_found SmallForm text _ (unexpected _ _ _ _) = (not_built_is_code, tt)
 codes_found Size text _ (within _ _ _) = tt
@@ -294,7 +367,7 @@ some_list : (text : List ℕ) → (list : List Breach) × Breaches all_phases te
 some_list text = by_encoding (test_utf8 text) refl where
   -- what the phases after the tokens find
   after_lexis : IsUtf8 text → (tokens : List Token) → IsTokens text tokens
-      → (list : List Breach) × Breaches (Syntax ∷ Declarations ∷ SmallForm ∷ Size ∷ []) text list
+      → (list : List Breach) × Breaches (Syntax ∷ Declarations ∷ Types ∷ SmallForm ∷ Size ∷ []) text list
       → (list : List Breach) × Breaches all_phases text list
   after_lexis utf8 tokens are (list, found) = (
     list,
@@ -309,32 +382,46 @@ some_list text = by_encoding (test_utf8 text) refl where
       (_, first Size [] text _ [] (too_large program function is large))
 
   by_form : IsUtf8 text → (tokens : List Token) → IsTokens text tokens → SyntaxFinds text []
-      → DeclarationsFinds text []
+      → DeclarationsFinds text [] → TypesFinds text []
       → ((program : Small) × Spells program (spelling_of text tokens))
       ⊎ ((n : ℕ) × IsUnexpected (spelling_of text tokens) n)
       → (list : List Breach) × Breaches (SmallForm ∷ Size ∷ []) text list
-  by_form utf8 tokens are syntax declarations (inl (program, spells)) =
+  by_form utf8 tokens are syntax declarations types (inl (program, spells)) =
       let is : IsProgram text program = record {
         utf8 = utf8;
         tokens = tokens;
         are_tokens = are;
         syntax = syntax;
         declarations = declarations;
+        types = types;
         spells = spells;
       } in
       let (list, found) = by_size program is (first_too_large (functions_of program)) refl in
       (list, later SmallForm _ text list (spelled tokens program are spells) found)
-  by_form utf8 tokens are syntax declarations (inr (n, place)) =
+  by_form utf8 tokens are syntax declarations types (inr (n, place)) =
       (_, first SmallForm _ text _ [] (unexpected tokens n are place))
+
+  by_ill : IsUtf8 text → (tokens : List Token) → IsTokens text tokens → (decls : List Decl)
+      → IsProgramOf decls (spelling_of text tokens) → DeclarationsFinds text [] → (world : World)
+      → IsWorldOf decls Concurrent world → (found : Option Placed) → IsFirstIll world decls found
+      → (list : List Breach) × Breaches (Types ∷ SmallForm ∷ Size ∷ []) text list
+  by_ill utf8 tokens are decls is keeps world is_world None none_ill =
+      let well = well_typed tokens decls world are is is_world none_ill in
+      let (list, found) = by_form utf8 tokens are (spells_program tokens decls are is) keeps well
+      (program_or_unexpected (spelling_of text tokens) (tokens_spelled text tokens utf8 are)) in
+      (list, later Types _ text list well found)
+  by_ill utf8 tokens are decls is keeps world is_world (Some placed) some =
+      (_, first Types _ text _ [] (ill_typed tokens decls world placed are is is_world some))
 
   by_first : IsUtf8 text → (tokens : List Token) → IsTokens text tokens → (decls : List Decl)
       → IsProgramOf decls (spelling_of text tokens) → (found : Option Placed)
       → IsFirstBreach decls found
-      → (list : List Breach) × Breaches (Declarations ∷ SmallForm ∷ Size ∷ []) text list
+      → (list : List Breach) × Breaches (Declarations ∷ Types ∷ SmallForm ∷ Size ∷ []) text list
   by_first utf8 tokens are decls is None keeps_them =
       let keeps = keeps_all tokens decls are is keeps_them in
-      let (list, found) = by_form utf8 tokens are (spells_program tokens decls are is) keeps
-      (program_or_unexpected (spelling_of text tokens) (tokens_spelled text tokens utf8 are)) in
+      let (world, is_world) = some_world decls Concurrent in
+      let (placed, is_first) = some_first_ill world decls in
+      let (list, found) = by_ill utf8 tokens are decls is keeps world is_world placed is_first in
       (list, later Declarations _ text list keeps found)
   by_first utf8 tokens are decls is (Some placed) some =
       (_, first Declarations _ text _ [] (breaks_one tokens decls placed are is some))
@@ -342,7 +429,7 @@ some_list text = by_encoding (test_utf8 text) refl where
   by_syntax : IsUtf8 text → (tokens : List Token) → IsTokens text tokens
       → ((decls : List Decl) × IsProgramOf decls (spelling_of text tokens))
       ⊎ ((fault : ParseFault) × IsSyntaxFault (spelling_of text tokens) fault)
-      → (list : List Breach) × Breaches (Syntax ∷ Declarations ∷ SmallForm ∷ Size ∷ []) text list
+      → (list : List Breach) × Breaches (Syntax ∷ Declarations ∷ Types ∷ SmallForm ∷ Size ∷ []) text list
   by_syntax utf8 tokens are (inl (decls, is)) =
       let (placed, is_first) = some_first_breach decls in
       let (list, found) = by_first utf8 tokens are decls is placed is_first in
@@ -387,7 +474,8 @@ sized text (within program is fits) = (program, is, fits)
 accepted_program : (text : List ℕ) → Accepts text → (program : Small) × IsProgram text program
     × (first_too_large (functions_of program) ≡ None)
 accepted_program text (later _ _ _ _ _ (later _ _ _ _ _ (later _ _ _ _ _
-    (later _ _ _ _ _ (later _ _ _ _ _ (later _ _ _ _ size _)))))) = sized text size
+    (later _ _ _ _ _ (later _ _ _ _ _ (later _ _ _ _ _ (later _ _ _ _ size _))))))) =
+    sized text size
 
 pub some_graph_of : (text : List ℕ) → Accepts text → (graph : Graph) × IsGraphOf text graph
 some_graph_of text accepts =
@@ -402,8 +490,9 @@ program_accepted text program is fits =
     (later Lexis _ text [] (has_tokens is.tokens is.are_tokens)
     (later Syntax _ text [] is.syntax
     (later Declarations _ text [] is.declarations
+    (later Types _ text [] is.types
     (later SmallForm _ text [] (spelled is.tokens program is.are_tokens is.spells)
-    (later Size [] text [] (within program is fits) (none text))))))
+    (later Size [] text [] (within program is fits) (none text)))))))
 
 pub one_graph_of : (text : List ℕ) (a b : Graph) → IsGraphOf text a → IsGraphOf text b → a ≡ b
 one_graph_of text a b is_a is_b =
@@ -430,17 +519,19 @@ few_decls text source tokens given decls same handed are few short =
 -- the program that was read of a text
 pub program_read : (text source : List ℕ) (tokens given : List Token) (program : Small)
     → source ≡ text → given ≡ tokens → EncodingFinds text [] → IsTokens source tokens
-    → SyntaxFinds source [] → DeclarationsFinds text []
+    → SyntaxFinds source [] → DeclarationsFinds text [] → TypesFinds text []
     → Spells program (spelling_of source given) → IsProgram text program
-program_read text source tokens given program same handed utf8 are syntax declarations spells = record {
-  utf8 = utf8_found text utf8;
-  tokens = tokens;
-  are_tokens = subst (λ source. IsTokens source tokens) same are;
-  syntax = subst (λ source. SyntaxFinds source []) same syntax;
-  declarations = declarations;
-  spells = subst (λ source. Spells program (spelling_of source tokens)) same
-      (subst (λ tokens. Spells program (spelling_of source tokens)) handed spells);
-}
+program_read text source tokens given program same handed utf8 are syntax declarations types spells
+    = record {
+      utf8 = utf8_found text utf8;
+      tokens = tokens;
+      are_tokens = subst (λ source. IsTokens source tokens) same are;
+      syntax = subst (λ source. SyntaxFinds source []) same syntax;
+      declarations = declarations;
+      types = types;
+      spells = subst (λ source. Spells program (spelling_of source tokens)) same
+          (subst (λ tokens. Spells program (spelling_of source tokens)) handed spells);
+    }
 
 -- a program is no larger than its text
 pub size_of-program : (text : List ℕ) (program : Small) → IsProgram text program

@@ -23,6 +23,9 @@ use Rattle.sw_parse_decl.specs.Programs.{IsProgramOf, IsSyntaxFault}
 use Rattle.sw_small.specs.Small.{Spells, IsUnexpected}
 use Rattle.sw_resolve.specs.declared.placed.Placed.{Placed}
 use Rattle.sw_decls.specs.Declaring.{IsFirstBreach}
+use Rattle.sw_decls.specs.declared.signature.AsyncDefault.TheVariants.{Concurrent}
+use Rattle.sw_typing_rules.specs.Programs.{IsFirstIll}
+use Rattle.sw_typing_rules.specs.Worlds.{IsWorldOf, World}
 
 pub data Phase : Type 0 where
   -- the text is UTF-8
@@ -33,6 +36,8 @@ pub data Phase : Type 0 where
   Syntax : Phase
   -- the program keeps the rules on declarations
   Declarations : Phase
+  -- the program has types: no node of it is ill
+  Types : Phase
   -- the program has only forms that can be run so far: those of the small language
   SmallForm : Phase
   -- the program's functions are no larger than those of a graph
@@ -40,7 +45,7 @@ pub data Phase : Type 0 where
 
 -- the phases that are built, in order
 abbrev pub all_phases : List Phase
-all_phases = Encoding ∷ Lexis ∷ Syntax ∷ Declarations ∷ SmallForm ∷ Size ∷ []
+all_phases = Encoding ∷ Lexis ∷ Syntax ∷ Declarations ∷ Types ∷ SmallForm ∷ Size ∷ []
 
 -- the code of a text that isn't UTF-8
 abbrev pub not_utf8_code : ℕ
@@ -113,6 +118,17 @@ pub data DeclarationsFinds (text : List ℕ) : List Breach → Type 0 where
       → IsProgramOf decls (spelling_of text tokens) → IsFirstBreach decls (Some placed)
       → DeclarationsFinds text (breach_at placed.code placed.at)
 
+-- The breach is at the first ill node of the program, by what the program declares. Asynchronous
+-- functions run on no actor that say nothing more (SE-0338).
+pub data TypesFinds (text : List ℕ) : List Breach → Type 0 where
+  well_typed : (tokens : List Token) (decls : List Decl) (world : World) → IsTokens text tokens
+      → IsProgramOf decls (spelling_of text tokens) → IsWorldOf decls Concurrent world
+      → IsFirstIll world decls None → TypesFinds text []
+  ill_typed : (tokens : List Token) (decls : List Decl) (world : World) (placed : Placed)
+      → IsTokens text tokens → IsProgramOf decls (spelling_of text tokens)
+      → IsWorldOf decls Concurrent world → IsFirstIll world decls (Some placed)
+      → TypesFinds text (breach_at placed.code placed.at)
+
 -- The breach is at the first token with which no program of the small language goes on.
 pub data SmallFormFinds (text : List ℕ) : List Breach → Type 0 where
   spelled : (tokens : List Token) (program : Small) → IsTokens text tokens
@@ -123,13 +139,14 @@ pub data SmallFormFinds (text : List ℕ) : List Breach → Type 0 where
       → SmallFormFinds text (breach_at not_built (token_position text tokens n))
 
 -- the text is that of the program: it is UTF-8, and its tokens spell the program, which has no
--- breach of the syntax or of the rules on declarations
+-- breach of the syntax or of the rules on declarations, and no ill node
 pub record IsProgram (text : List ℕ) (program : Small) : Type 0 where
   pub utf8 : IsUtf8 text
   pub tokens : List Token
   pub are_tokens : IsTokens text tokens
   pub syntax : SyntaxFinds text []
   pub declarations : DeclarationsFinds text []
+  pub types : TypesFinds text []
   pub spells : Spells program (spelling_of text tokens)
 
 -- The breach is at the key of the first function that is too large.
@@ -147,5 +164,6 @@ Finds Encoding text list = EncodingFinds text list
 Finds Lexis text list = LexisFinds text list
 Finds Syntax text list = SyntaxFinds text list
 Finds Declarations text list = DeclarationsFinds text list
+Finds Types text list = TypesFinds text list
 Finds SmallForm text list = SmallFormFinds text list
 Finds Size text list = SizeFinds text list

@@ -3,7 +3,7 @@ ghost use Rattle.sw_breach.specs.declared.Breach.{Breach};
 ghost use Rattle.sw_verdict.specs.Phases.{all_phases};
 ghost use Rattle.sw_verdict.specs.Verdict.{IsVerdict};
 
-use crate::phases::{Refusal, declarations, encoding, lexis, size, small_form, syntax};
+use crate::phases::{Refusal, declarations, encoding, lexis, size, small_form, syntax, types};
 use std::alloc::Global;
 use sw_graph::Graph;
 use sw_text::MAX_LENGTH;
@@ -18,7 +18,8 @@ pub fn judge(alloc: Global, text: &[u8]) -> Result<Graph, Refusal>
     let source = encoding(alloc, text)?;
     let tokens = lexis(alloc, &source)?;
     let program = syntax(alloc, &source, &tokens)?;
-    declarations(alloc, &program)?;
+    let declared = declarations(alloc, &program)?;
+    types(alloc, &program, &declared)?;
     let small = small_form(alloc, &source, &tokens)?;
     let graph = size(alloc, &small)?;
     Ok(graph)

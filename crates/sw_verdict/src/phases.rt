@@ -7,8 +7,10 @@ ghost use Rattle.sw_token.specs.Spelling.{spelling_of};
 ghost use Rattle.sw_small.specs.Small.{Spells};
 ghost use Rattle.sw_small.specs.Lower.{size_of, IsLowered};
 ghost use Rattle.sw_parse_decl.specs.Programs.{IsProgramOf};
-ghost use Rattle.sw_verdict.specs.Phases.{Encoding, Lexis, Syntax, Declarations, SmallForm, Size};
-ghost use Rattle.sw_verdict.specs.Phases.{Finds};
+ghost use Rattle.sw_decls.specs.Declaring.{IsDeclared};
+ghost use Rattle.sw_decls.specs.declared.signature.AsyncDefault.TheVariants.{Concurrent};
+ghost use Rattle.sw_verdict.specs.Phases.{Encoding, Lexis, Syntax, Declarations, Types};
+ghost use Rattle.sw_verdict.specs.Phases.{SmallForm, Size, Finds};
 ghost use Rattle.sw_verdict.specs.Phases.{IsProgram, breach_at, lexical_code, syntax_code};
 ghost use Rattle.sw_verdict.specs.Phases.{token_of, size_code, token_position};
 ghost use Rattle.sw_verdict.specs.Found.{Found};
@@ -24,6 +26,7 @@ use sw_small::{LowerFault, ParseFault as SmallFault, Small, lower, parse};
 use sw_text::{MAX_LENGTH, Source, TextFault};
 use sw_token::{LexFault, Token, tokens};
 use sw_tree::Program;
+use sw_typing::{TypeFault, Typed, type_program};
 
 /// A text that isn't UTF-8.
 const NOT_UTF8: u16 = 101;
@@ -174,14 +177,30 @@ pub fn syntax(alloc: Global, source: &Source, tokens: &[Token]) -> Result<Progra
 /// What a program declares.
 pub fn declarations(alloc: Global, program: &Program) -> Result<Decls, Refusal>
     requires { length program.now.decls < 2 ^ 31 }
-    ensures { (text : List ℕ) (tokens : List Token) → IsTokens text tokens
+    ensures found { (text : List ℕ) (tokens : List Token) → IsTokens text tokens
         → IsProgramOf program.now.decls (spelling_of text tokens)
         → Found (Finds Declarations text) result }
+    ensures declared { IfOk result (IsDeclared program.now.decls Concurrent) }
 {
     match declare(alloc, program, AsyncDefault::Concurrent) {
         Ok(decls) => Ok(decls),
         Err(DeclFault::Breach { code, at }) => Err(refused(alloc, code, at)),
         Err(DeclFault::Memory) => Err(Refusal::Memory),
+    }
+}
+
+/// The types of a program that declares these.
+pub fn types(alloc: Global, program: &Program, declared: &Decls) -> Result<Typed, Refusal>
+    requires small { length program.now.decls < 2 ^ 31 }
+    requires declared { IsDeclared program.now.decls Concurrent declared.now }
+    ensures { (text : List ℕ) (tokens : List Token) → IsTokens text tokens
+        → IsProgramOf program.now.decls (spelling_of text tokens)
+        → Found (Finds Types text) result }
+{
+    match type_program(alloc, program, declared) {
+        Ok(typed) => Ok(typed),
+        Err(TypeFault::Breach { code, at }) => Err(refused(alloc, code, at)),
+        Err(TypeFault::Memory) => Err(Refusal::Memory),
     }
 }
 

@@ -1,0 +1,23 @@
+use Rattle.std.proofs.Common.{subst}
+use Rattle.sw_typing.specs.Typed.{IsIllProgram}
+use Rattle.sw_typing_rules.proofs.OneWorld.{declared_world}
+use Rattle.sw_typing_rules.specs.Worlds.{world_of}
+use Rattle.sw_decls.specs.declared.signature.AsyncDefault.TheVariants.{Concurrent}
+use Rattle.sw_verdict.specs.Phases.{well_typed}
+use Rattle.sw_verdict.proofs.Finding.{found_ill}
+use Rattle.sw_verdict.proofs.phases.types.Goals as goal
+
+pub returns-in-Ok : goal.returns-in-Ok
+returns-in-Ok c text tokens are is =
+    well_typed tokens c.args.program.now.decls (world_of c.args.declared.now) are is
+    (declared_world c.args.program.now.decls Concurrent c.args.declared.now c.requires.declared)
+    c.in-Ok.ensures.none
+
+pub returns-in-Err-Breach : goal.returns-in-Err-Breach
+returns-in-Err-Breach c text tokens are is =
+    found_ill text tokens c.args.program.now.decls (world_of c.args.declared.now)
+    c.in-Err-Breach.code c.in-Err-Breach.at _ are is
+    (declared_world c.args.program.now.decls Concurrent c.args.declared.now c.requires.declared)
+    (subst (IsIllProgram (world_of c.args.declared.now) c.args.program.now.decls)
+    c.in-Err-Breach.field-0-is c.in-Err-Breach.ensures.ill)
+    c.refused.ensures
