@@ -330,9 +330,12 @@ InOrder funcs =
 -- one more function
 ordered_one : (func : Signature) (funcs : List Signature) → IsNonDecreasingBy key_place funcs
     → InOrder (func ∷ funcs)
-ordered_one func [] order =
-    (func ∷ [], IsPermutation-refl (func ∷ []), IsNonDecreasingBy-short key_place (func ∷ [])
-    (omega arith))
+ordered_one func [] order = (
+  func ∷ [],
+  IsPermutation-refl (func ∷ []),
+  IsNonDecreasingBy-short key_place (func ∷ [])
+      (omega arith),
+)
 ordered_one func (one ∷ funcs) order =
     by (cases_lt (key_place one) (key_place func))
     (ordered_one func funcs (order_more one funcs order))
@@ -359,9 +362,12 @@ ordered_all : (funcs : List Signature) → InOrder funcs
 ordered_all [] = ([], IsPermutation-refl [], IsNonDecreasingBy-short key_place [] (omega arith))
 ordered_all (func ∷ funcs) =
     let (all, same, up) = ordered_all funcs in
-    let (more, moved, order) = ordered_one func all up in
-    (more, IsPermutation-trans (func ∷ funcs) (func ∷ all) more (IsPermutation-cons func _ _ same)
-    moved, order)
+    let (more, moved, order) = ordered_one func all up in (
+      more,
+      IsPermutation-trans (func ∷ funcs) (func ∷ all) more (IsPermutation-cons func _ _ same)
+          moved,
+      order,
+    )
 
 pub some_world : (decls : List Decl) (rule : AsyncDefault)
     → (world : World) × IsWorldOf decls rule world
