@@ -301,7 +301,7 @@ one_funcs all funcs others once first up second down =
     (λ one. Contains-permutation funcs others one there)
     (λ one. Contains-permutation others funcs one back)
 
--- a list in order, behind one whose key is none of a later place
+-- a list in order, after one function whose key comes after none of theirs
 order_first : (func : Signature) (funcs : List Signature) → IsNonDecreasingBy key_place funcs
     → ((one : Signature) → Contains funcs one → key_place func ≤ key_place one)
     → IsNonDecreasingBy key_place (func ∷ funcs)
