@@ -1,0 +1,10 @@
+mod AnswerLemmas
+mod Bodies
+mod Ending
+mod Finishing
+mod FirstIll
+mod Forms
+mod Keeping
+mod Loops
+mod Since
+mod Walking

@@ -10,7 +10,7 @@ use Rattle.sw_typing_rules.specs.declared.row.Row.{Row}
 use Rattle.sw_typing_rules.specs.declared.row.Row.TheVariants.{Typed, Means, Ill}
 use Rattle.sw_typing.specs.declared.typing.TypeFault.{TypeFault}
 use Rattle.sw_typing.specs.declared.typing.TypeFault.TheVariants as fault
-use Rattle.sw_typing.specs.declared.typing.Typed as typing
+use Rattle.sw_typing.specs.declared.answers.Typed as typing
 
 -- the type that is first said of a key
 abbrev pub type_in : List Row → ℕ → Option Ty

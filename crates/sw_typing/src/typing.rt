@@ -5,12 +5,11 @@ ghost use Rattle.sw_typing_rules.specs.Worlds.{world_of};
 ghost use Rattle.sw_typing.specs.Typed.{IsIllProgram, IsTyped};
 ghost use Rattle.sw_typing.specs.declared.typing.TypeFault.{TypeFault};
 
-use indexmap::IndexMap;
+use crate::answers::{Typed, first_ill};
+use crate::programs::rows_of_program;
 use std::alloc::{AllocError, Global};
 use sw_decls::Decls;
 use sw_tree::Program;
-use sw_types::Ty;
-use sw_typing_rules::Meaning;
 use thiserror::Error;
 
 /// Why a program has no types.
@@ -34,13 +33,7 @@ impl From<AllocError> for TypeFault {
     }
 }
 
-/// The types of a program's nodes and what its names, members and calls mean, by key.
-#[derive(Drop)]
-pub struct Typed {
-    pub types: IndexMap<u32, Ty>,
-    pub meanings: IndexMap<u32, Meaning>,
-}
-
+#[tactic(auto, using(crate::proofs::FirstIll::is_first_ill))]
 /// The types of a program, whose declarations are `world`.
 pub fn type_program(alloc: Global, program: &Program, world: &Decls) -> Result<Typed, TypeFault>
     requires { length program.now.decls < 2 ^ 31 }
@@ -48,5 +41,12 @@ pub fn type_program(alloc: Global, program: &Program, world: &Decls) -> Result<T
     ensures none { OnOk result (IsFirstIll (world_of world.now) program.now.decls None) }
     ensures ill { IfErr result (IsIllProgram (world_of world.now) program.now.decls) }
 {
-    Err(TypeFault::Memory)
+    let rows = rows_of_program(alloc, world, program.decls())?.into_list();
+    match first_ill(alloc, rows.as_slice())? {
+        None => Ok(Typed::of(alloc, rows)?),
+        Some(first) => Err(TypeFault::Breach {
+            code: first.code,
+            at: first.at,
+        }),
+    }
 }
