@@ -5,6 +5,7 @@ mod Finishing
 mod FirstIll
 mod Forms
 mod Keeping
+mod Looking
 mod Loops
 mod Since
 mod Walking

@@ -4,6 +4,7 @@
 #![tactic(auto)]
 
 mod answers;
+mod laws;
 mod programs;
 mod settings;
 mod steps;
@@ -11,4 +12,5 @@ mod typing;
 mod walk;
 
 pub use answers::Typed;
+pub use laws::keys_find_what_nodes_have;
 pub use typing::{TypeFault, type_program};
