@@ -61,7 +61,7 @@ entry = record {
   } ∷ [];
 }
 
--- a function has room for so many instructions
+-- a function has room for n instructions
 pub record AreSmall (sizes : Sizes) : Type 0 where
   pub times : sizes.times ≤ 16000
   pub tasks : sizes.tasks ≤ 16000

@@ -61,7 +61,7 @@ pub fn measure_form<R: Print + Clock + AllocGlobal>(
     print_time(rt, is_timed, start)
 }
 
-/// Joins two states of so many elements, and prints whether that changed the first.
+/// Joins two states of n elements, and prints whether that changed the first.
 pub fn measure_join<R: Print + Clock + AllocGlobal>(
     rt: &R,
     elements: u32,

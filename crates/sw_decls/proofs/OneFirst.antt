@@ -57,7 +57,8 @@ none_in_nil found one none is =
     let empty = ap length none in
     omega (arith, some, empty)
 
-one_first : (found : List Placed) (a b : Option Placed) → IsFirst found a → IsFirst found b → a ≡ b
+pub one_first : (found : List Placed) (a b : Option Placed) → IsFirst found a → IsFirst found b
+    → a ≡ b
 one_first found None None one other = refl
 one_first found None (Some b) one other = absurd (none_in_nil found b one other)
 one_first found (Some a) None one other = absurd (none_in_nil found a other one)

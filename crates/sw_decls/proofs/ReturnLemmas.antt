@@ -139,7 +139,7 @@ module _ (edges : List (List ℕ)) where
   abbrev returns : ℕ → Bool
   returns k = leads_below (length edges) k k
 
-  -- the answers for so many numbers
+  -- the answers for the first n numbers
   abbrev answers : ℕ → ℕ → List Bool
   answers zero from = []
   answers (suc count) from = returns from ∷ answers count (from + 1)

@@ -76,7 +76,7 @@ actor_ids (Global global) = []
 abbrev pub key_place : Signature → ℕ
 key_place func = func.key.at
 
--- the number of the first function with this key, behind so many
+-- the number of the first function with this key, of functions that are numbered from here
 abbrev pub numbered_from : ℕ → List Signature → ℕ → Option ℕ
 numbered_from number [] key = None
 numbered_from number (func ∷ funcs) key =

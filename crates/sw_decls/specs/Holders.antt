@@ -13,7 +13,7 @@ AreHolders shapes marks =
 abbrev pub holder : Bool → Shape → List Placed
 holder holds shape = if holds then record { at = shape.at; code = 303 } ∷ [] else []
 
--- the words of the shapes that are marked, behind so many others
+-- the words of the shapes that are marked, of shapes that are numbered from here
 abbrev pub holders_from : List Bool → ℕ → List Shape → List Placed
 holders_from marks number [] = []
 holders_from marks number (shape ∷ shapes) =

@@ -11,7 +11,7 @@ hollow shape = record shape { kind = kind.Struct; parts = []; cases = [] }
 abbrev pub hollow_if : Bool → Shape → Shape
 hollow_if holds shape = if holds then hollow shape else shape
 
--- the shapes, behind so many, in which the marked ones hold nothing
+-- the shapes, numbered from here, in which the marked ones hold nothing
 abbrev pub hollowed_from : List Bool → ℕ → List Shape → List Shape
 hollowed_from marks number [] = []
 hollowed_from marks number (shape ∷ shapes) =

@@ -95,7 +95,7 @@ module _ (known : ℕ → Option Meaning) where
       ++ map (λ (one : InitTree). init_of (record { at = one.at; id = word.id }) number isolation
       one.params) inits
 
-  -- the functions of a declaration, behind so many shapes
+  -- the functions of a declaration, by the number of shapes before it
   unfoldable pub funcs_of : AsyncDefault → ℕ → Decl → List Signature
   funcs_of rule number (Entry word written at is_async body) = record {
     key = record { at = at; id = 10 };
@@ -119,7 +119,7 @@ module _ (known : ℕ → Option Meaning) where
   funcs_of rule number (Func func) = func_of rule None iso.Free func ∷ []
   funcs_of rule number (Global global) = []
 
-  -- the functions of declarations, behind so many shapes
+  -- the functions of declarations, by the number of shapes before them
   abbrev pub funcs_from : AsyncDefault → ℕ → List Decl → List Signature
   funcs_from rule number [] = []
   funcs_from rule number (decl ∷ decls) =

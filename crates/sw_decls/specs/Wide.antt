@@ -22,7 +22,7 @@ too_wide shapes number shape =
     if nat_lt 64 (declared_parts shapes number shape)
     then record { at = shape.at; code = 307 } ∷ [] else []
 
--- the words of these shapes, behind so many of all, that have more than 64 parts
+-- the words of these shapes, numbered from here, that have more than 64 parts
 abbrev pub wide_from : List Shape → ℕ → List Shape → List Placed
 wide_from shapes number [] = []
 wide_from shapes number (shape ∷ more) =

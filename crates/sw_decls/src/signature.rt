@@ -258,7 +258,7 @@ fn add_inits(
 /// The id of `main`, which each program has before it declares any name.
 const MAIN: u32 = 10;
 
-/// Adds the signatures of the functions of a declaration, behind so many shapes.
+/// Adds the signatures of the functions of a declaration, by the number of shapes before it.
 #[tactic(auto, unfolding(crate::specs::Signatures::funcs_of))]
 fn add_decl_funcs(
     alloc: Global,

@@ -28,7 +28,7 @@ use Rattle.sw_graph.specs.Ways.{SetsBeforeReads}
 use Rattle.sw_graph.specs.WellFormed.{FunctionFits, IsWellFormed}
 use Rattle.sw_graph.proofs.ListLemmas.{at_index}
 use Rattle.sw_graph.proofs.PayloadLemmas.{no_payloads_fit}
-use Rattle.sw_graph.proofs.PointLemmas.{middle_here, end_here, further as behind}
+use Rattle.sw_graph.proofs.PointLemmas.{middle_here, end_here, further as after_instrs}
 
 both : (a b : Bool) → IsTrue (a && b) → IsTrue a × IsTrue b
 both true b holds = (refl, holds)
@@ -51,7 +51,7 @@ reads_in_order-append takes last done (x ∷ xs) ys first second =
     (reads_in_order takes last (x ∷ done) (xs ++ ys))
     parts.0 (reads_in_order-append takes last (x ∷ done) xs ys parts.1 second)
 
--- the instructions that are done behind the first n
+-- the instructions that are done after the first n
 abbrev done_after : ℕ → List Instr → List Instr → List Instr
 done_after zero instrs done = done
 done_after (suc n) [] done = done
@@ -114,7 +114,7 @@ inside_block block p instr here =
       | inr above ↦
           elim (eq-or-lt_of_le above) [
             | inl at ↦ let end = end_here block [] p (sym at) in cc
-            | inr past ↦ let none = behind block [] p past in cc
+            | inr past ↦ let none = after_instrs block [] p past in cc
           ]
     ]
 
@@ -136,7 +136,7 @@ at_end block p last here =
             | inl at ↦
                 let end = end_here block [] p (sym at) in
                 record { at = sym at; is = cc }
-            | inr past ↦ let none = behind block [] p past in cc
+            | inr past ↦ let none = after_instrs block [] p past in cc
           ]
     ]
 

@@ -167,7 +167,7 @@ types_of [] = Some []
 types_of (Plain ty ∷ kinds) = option_map (λ types. ty ∷ types) (types_of kinds)
 types_of (BoxOf ty ∷ kinds) = None
 
--- A closure has the type of what its function takes after so many captures and of its result. A
+-- A closure has the type of what its function takes after its captures and of its result. A
 -- function type without the mark accepts one with it, so the mark may be missing.
 abbrev pub closure_of : ℕ → Function → Option RegKind
 closure_of captures function =

@@ -24,7 +24,7 @@ abbrev pub has_payload : List Instr → Bool
 has_payload [] = false
 has_payload (instr ∷ instrs) = is_payload instr || has_payload instrs
 
--- whether payloads stand in front alone, each behind other payloads
+-- whether payloads stand in front alone, each after other payloads
 abbrev pub in_front : List Instr → Bool
 in_front [] = true
 in_front (instr ∷ instrs) = cond (is_payload instr) (in_front instrs) (not (has_payload instrs))
@@ -42,7 +42,7 @@ Unpacks shapes regs _ tag s i r = ⊥
 
 -- A payload stands in a block other than the first, and whatever leads to that block is a switch on
 -- its operand, for a case that has the payload. It leaves the operand as it is, which the payloads
--- behind it read.
+-- after it read.
 abbrev pub PayloadFits : List Shape → Function → ℕ → Instr → Type 0
 PayloadFits shapes function number (Payload at r s i) =
     (0 < number) × (r ≢ s.reg) × (All (λ (block : Block). (tag : ℕ)

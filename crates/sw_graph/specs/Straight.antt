@@ -22,7 +22,7 @@ abbrev pub has_value : ℕ → List Instr → ℕ → Bool
 has_value takes [] r = nat_lt r takes
 has_value takes (instr ∷ done) r = is_number r (set_by instr) || has_value takes done r
 
--- Whether each instruction, and the last behind them, reads what is taken, or set by those that are
+-- Whether each instruction, and the last after them, reads what is taken, or set by those that are
 -- done or by those before it.
 abbrev pub reads_in_order : ℕ → Last → List Instr → List Instr → Bool
 reads_in_order takes last done [] = list_all (has_value takes done) (last_registers last)

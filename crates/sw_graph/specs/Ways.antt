@@ -10,7 +10,7 @@ use Rattle.sw_graph.specs.declared.function.Function.{Function}
 use Rattle.sw_graph.specs.Mentions.{set_by, reads, last_registers, blocks_of}
 use Rattle.sw_graph.specs.Points.{Point, Middle, End, point_in, block_start}
 
--- One point leads to another: an instruction to the point behind it, and a last instruction to
+-- One point leads to another: an instruction to the point after it, and a last instruction to
 -- where one of its blocks begins.
 pub data Leads (function : Function) : ℕ → ℕ → Type 0 where
   on : (p : ℕ) (instr : Instr) → point_in function p ≡ Some (Middle instr)
@@ -33,7 +33,7 @@ abbrev pub point_sets : ℕ → Option Point → Bool
 point_sets r (Some (Middle instr)) = is_number r (set_by instr)
 point_sets r _ = false
 
--- whether a register has a value behind these points: it is taken, or it is set at one of them
+-- whether a register has a value after these points: it is taken, or it is set at one of them
 abbrev pub is_set : Function → List ℕ → ℕ → Bool
 is_set function [] r = nat_lt r function.takes
 is_set function (p ∷ passed) r = point_sets r (point_in function p) || is_set function passed r
@@ -50,7 +50,7 @@ SetsBeforeReads function = (p : ℕ) (passed : List ℕ) → Way function p pass
     → All (λ r. IsTrue (is_set function passed r)) (point_reads point)
 
 -- What an annotation says of each point and register is what was set: at the first point only what
--- is taken, and behind a point only what it sets besides. Each point reads such registers alone.
+-- is taken, and after a point only what it sets besides. Each point reads such registers alone.
 pub record IsAnnotated (function : Function) (annotation : ℕ → ℕ → Bool) : Type 0 where
   pub starts : (r : ℕ) → IsTrue (annotation 0 r) → IsTrue (nat_lt r function.takes)
   pub leads : (p q r : ℕ) → Leads function p q → IsTrue (annotation q r)

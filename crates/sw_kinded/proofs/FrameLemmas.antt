@@ -37,11 +37,11 @@ either : (a b : Bool) → IsTrue (a || b) → IsTrue a ⊎ IsTrue b
 either true b holds = inl refl
 either false b holds = inr holds
 
--- the register that is set behind a point is the one that its instruction sets, or was set before
-set_behind : (function : Function) (p : ℕ) (passed : List ℕ) (instr : Instr) (r : ℕ)
+-- the register that is set after a point is the one that its instruction sets, or was set before
+set_after : (function : Function) (p : ℕ) (passed : List ℕ) (instr : Instr) (r : ℕ)
     → point_in function p ≡ Some (Middle instr) → IsTrue (is_set function (p ∷ passed) r)
     → (set_by instr ≡ Some r) ⊎ IsTrue (is_set function passed r)
-set_behind function p passed instr r here holds =
+set_after function p passed instr r here holds =
     elim (either (is_number r (set_by instr)) (is_set function passed r)
     (subst (λ o. IsTrue (point_sets r o || is_set function passed r)) here holds)) [
       | inl sets ↦ inl (by (set_by instr) sets)
@@ -51,7 +51,7 @@ set_behind function p passed instr r here holds =
       by None is = cc
       by (Some n) is = ap Some (exact_unsigned_eq n r is)
 
--- The top frame goes on behind its instruction. `more` has the kinds of the cells then.
+-- The top frame goes on after its instruction. `more` has the kinds of the cells then.
 pub moves : (shapes : List Shape) (cells more : List RegKind) (function : Function)
     (awaits : Option ℕ) (p : ℕ) (regs after : List (Option Value)) (instr : Instr)
     → (s : Stands shapes cells function None p regs) → point_in function p ≡ Some (Middle instr)
@@ -67,7 +67,7 @@ moves shapes cells more function awaits p regs after instr s here front slots ol
   passed = p ∷ s.passed;
   way = further p (p + 1) s.passed s.way (on p instr here);
   slots = slots;
-  has = λ r inside set apart. elim (set_behind function p s.passed instr r here set) [
+  has = λ r inside set apart. elim (set_after function p s.passed instr r here set) [
     | inl sets ↦ new r inside sets apart
     | inr before ↦ let was = s.has r inside before (λ e. cc) in old r was.0 was.1
   ];
@@ -85,19 +85,19 @@ payload_there (x ∷ xs) (suc k) at r s i e =
       by true has = refl
       by false has = has
 
-none_behind : (instrs : List Instr) (k : ℕ) (instr : Instr) (at r : ℕ) (s : Operand) (i : ℕ)
+none_after : (instrs : List Instr) (k : ℕ) (instr : Instr) (at r : ℕ) (s : Operand) (i : ℕ)
     → IsTrue (in_front instrs) → slice_get instrs k ≡ Some instr → is_payload instr ≡ false
     → slice_get instrs (suc k) ≡ Some (Payload at r s i) → ⊥
-none_behind [] k instr at r s i front here plain next = cc
-none_behind (x ∷ xs) zero instr at r s i front here plain next =
+none_after [] k instr at r s i front here plain next = cc
+none_after (x ∷ xs) zero instr at r s i front here plain next =
     let same : x ≡ instr = some_injective here in
     let none : not (has_payload xs) ≡ true =
     sym (ap (λ b. cond b (in_front xs) (not (has_payload xs))) (ap is_payload same ∙ plain)) ∙
     front in
     let some = payload_there xs zero at r s i next in
     let wrong : not true ≡ true = sym (ap not some) ∙ none in cc
-none_behind (x ∷ xs) (suc k) instr at r s i front here plain next =
-    by (is_payload x) front (λ rest. none_behind xs k instr at r s i rest here plain next) where
+none_after (x ∷ xs) (suc k) instr at r s i front here plain next =
+    by (is_payload x) front (λ rest. none_after xs k instr at r s i rest here plain next) where
       by : (b : Bool) → IsTrue (cond b (in_front xs) (not (has_payload xs)))
           → (IsTrue (in_front xs) → ⊥) → ⊥
       by true rest later = later rest
@@ -111,7 +111,7 @@ pub front_plain : (shapes : List Shape) (function : Function) (awaits : Option �
     → Front function awaits after place.number (place.index + 1)
 front_plain shapes function awaits p after instr place fits here plain block is at r s i next =
     let same : block ≡ place.block = some_injective (sym is ∙ place.is) in
-    absurd (none_behind place.block.instrs place.index instr at r s i fits.front
+    absurd (none_after place.block.instrs place.index instr at r s i fits.front
     (instr_at_place function p place instr here) plain
     (ap (slice_get place.block.instrs) (let next_is : suc place.index ≡ place.index + 1 = omega
     arith in next_is)

@@ -78,10 +78,10 @@ has_register shapes cells function p regs s r inside set =
       fits = s.slots.each r found.0 kind.0 found.1 kind.1;
     }
 
-behind_set : (o : Option ℕ) (rs : List ℕ) (k r : ℕ) → slice_get rs k ≡ Some r
+after_set : (o : Option ℕ) (rs : List ℕ) (k r : ℕ) → slice_get rs k ≡ Some r
     → (j : ℕ) × (slice_get (and_then_all o rs) j ≡ Some r)
-behind_set None rs k r e = (k, e)
-behind_set (Some q) rs k r e = (suc k, e)
+after_set None rs k r e = (k, e)
+after_set (Some q) rs k r e = (suc k, e)
 
 pub operand_has : (graph : Graph) (cells : List RegKind) (function : Function)
     → FunctionFits graph.shapes graph.globals graph.functions function → (p : ℕ)
@@ -93,7 +93,7 @@ operand_has graph cells function fits p regs s instr here k o is =
     let read : slice_get (reads instr) k ≡ Some o.reg =
     slice_get-map (λ (operand : Operand). operand.reg) (operands_of instr) k
     ∙ ap (option_map (λ (operand : Operand). operand.reg)) is in
-    let mentioned = behind_set (set_by instr) (reads instr) k o.reg read in
+    let mentioned = after_set (set_by instr) (reads instr) k o.reg read in
     let instr_fit = instr_fits graph function fits p s.place instr here in
     has_register graph.shapes cells function p regs s o.reg
     (at_index (λ r. r < length function.regs) (registers_of instr) mentioned.0 o.reg

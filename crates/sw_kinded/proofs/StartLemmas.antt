@@ -299,7 +299,7 @@ start_begins graph supplied g inside =
       closures = λ c f captures here. absurd (let wrong : ⊥ = cc in wrong);
       index = reversed.index;
       frame = frame.frame;
-      here = behind reversed.index frame.frame frame.here;
+      here = below reversed.index frame.frame frame.here;
       due = record {
         function = opening.function;
         is = ap (slice_get graph.functions) frame.function ∙ opening.is;
@@ -318,10 +318,10 @@ start_begins graph supplied g inside =
           ap (slice_get (_ ∷ filter_map (begins_of graph) (reverse graph.starts))) (next_is i)
           ∙ ap (λ l. slice_get l (i + 1)) (sym (start_are graph supplied)) ∙ here
 
-      behind : (i : ℕ) (other : Frame)
+      below : (i : ℕ) (other : Frame)
           → slice_get (filter_map (begins_of graph) (reverse graph.starts)) i ≡ Some other
           → slice_get (start_frames graph) (i + 1) ≡ Some other
-      behind i other here =
+      below i other here =
           ap (λ l. slice_get l (i + 1)) (start_are graph supplied)
           ∙ ap (slice_get (_ ∷ filter_map (begins_of graph) (reverse graph.starts)))
           (sym (next_is i)) ∙ here

@@ -16,7 +16,7 @@ pub record ReachesReturns (function : Function) (reached : ℕ → Bool) : Type 
   pub returns : (p : ℕ) → IsTrue (reached p)
       → point_in function p ≡ Some (End (Return None)) → function.result ≡ Void
 
--- The points at which global g was stored: not at the first, and behind a point only where it was
+-- The points at which global g was stored: not at the first, and after a point only where it was
 -- stored there or before. Each return is one.
 pub record StoresBefore (g : ℕ) (function : Function) (stored : ℕ → Bool) : Type 0 where
   pub starts : stored 0 ≡ false

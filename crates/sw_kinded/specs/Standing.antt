@@ -23,7 +23,7 @@ use Rattle.sw_value.specs.declared.job.Status.TheVariants.{Ready, Running, Waiti
 use Rattle.sw_value.specs.Value.{value_at, tag_of}
 use Rattle.sw_kinded.specs.Kinds.{HasKind, SlotsFit, World}
 
--- where a point is: which of the instructions of a block, or behind them
+-- where a point is: which of the instructions of a block, or after them
 pub record Place (function : Function) (point : ℕ) : Type 0 where
   pub number : ℕ
   pub block : Block

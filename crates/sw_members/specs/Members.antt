@@ -30,7 +30,7 @@ func_words funcs = map (λ (func : FuncTree). func.word) funcs
 abbrev pub case_words : List CaseTree → List Name
 case_words cases = map (λ (one : CaseTree). one.word) cases
 
--- an initialiser behind the first
+-- an initialiser after the first
 abbrev pub later_inits : List InitTree → List Placed
 later_inits inits = map (λ (one : InitTree). record { at = one.at; code = 301 }) (drop 1 inits)
 
@@ -60,7 +60,7 @@ entry_place (GlobalActor word made) = []
 entry_place (Func func) = []
 entry_place (Global global) = []
 
--- no entry, at the text's start; or one behind the first
+-- no entry, at the text's start; or one after the first
 abbrev pub bad_entries : List ℕ → List Placed
 bad_entries [] = record { at = 0; code = 304 } ∷ []
 bad_entries (first ∷ more) = map (λ at. record { at = at; code = 304 }) more

@@ -212,7 +212,7 @@ fn in_cases(words: &Words, cases: &[CaseTree], found: &mut ListOf<Placed>) -> Re
     Ok(())
 }
 
-/// Adds the initialisers behind the first.
+/// Adds the initialisers after the first.
 fn later_inits(inits: &[InitTree], found: &mut ListOf<Placed>) -> Result<(), AllocError>
     ensures { OnOk result (found.new ≡ found.old ++ later_inits inits.now) }
 {
@@ -413,7 +413,7 @@ fn add_entry_place(places: &mut ListOf<u32>, decl: &Decl) -> Result<(), AllocErr
     }
 }
 
-/// Adds the breach of a missing entry, or those of the entries behind the first.
+/// Adds the breach of a missing entry, or those of the entries after the first.
 fn bad_entries(places: &[u32], found: &mut ListOf<Placed>) -> Result<(), AllocError>
     ensures { OnOk result (found.new ≡ found.old ++ bad_entries places.now) }
 {

@@ -203,7 +203,7 @@ fn in_block(
     add_repeats(alloc, names.as_slice(), found)
 }
 
-/// Adds the breaches of the block behind `else` or `default`, where there is one.
+/// Adds the breaches of the block after `else` or `default`, where there is one.
 #[cycle(bodies)]
 fn in_otherwise(
     alloc: Global,

@@ -78,13 +78,13 @@ fault_inside : (at before : ℕ) (bytes : List ℕ) (fault : SchedFault)
     → IsItemFault at before bytes fault → position_of fault ≤ at + length bytes
 fault_inside at before _ _ (items.bad_start byte after blank digit) = omega arith
 fault_inside at before _ _ (items.big_job job after is big) = omega arith
-fault_inside at before _ _ (items.bad_behind_job job byte after is blank other) =
+fault_inside at before _ _ (items.bad_after_job job byte after is blank other) =
     omega (arith, length-append job (byte ∷ after))
 fault_inside at before _ _ (items.no_count job after is none) =
     omega (arith, length-append job (star ∷ after))
 fault_inside at before _ _ (items.big_count job count after is counts big) =
     omega (arith, length-append job (star ∷ (count ++ after)))
-fault_inside at before _ _ (items.bad_behind_count job count byte after is counts blank) =
+fault_inside at before _ _ (items.bad_after_count job count byte after is counts blank) =
     omega (
       arith,
       length-append job (star ∷ (count ++ byte ∷ after)),

@@ -110,7 +110,7 @@ refuses at before _ _ (items.bad_start byte after blank digit) =
     ∙ ap (λ o. stepped (roomed at before o)) (bad_start_at at byte after digit)
 refuses at before _ _ (items.big_job job after is big) =
     refused_by at before job after _ is (run_big at job after is big)
-refuses at before _ _ (items.bad_behind_job job byte after is blank other) =
+refuses at before _ _ (items.bad_after_job job byte after is blank other) =
     refused_by at before job (byte ∷ after) _ is.is_number
     (run_bad at job byte after is blank other)
 refuses at before _ _ (items.no_count job after is none) =
@@ -118,7 +118,7 @@ refuses at before _ _ (items.no_count job after is none) =
 refuses at before _ _ (items.big_count job count after is counts big) =
     refused_by at before job (star ∷ (count ++ after)) _ is.is_number
     (run_big_count at job count after is counts big)
-refuses at before _ _ (items.bad_behind_count job count byte after is counts blank) =
+refuses at before _ _ (items.bad_after_count job count byte after is counts blank) =
     refused_by at before job (star ∷ (count ++ byte ∷ after)) _ is.is_number
     (run_bad_count at job count byte after is counts blank)
 refuses at before _ _ (items.too_many text after is full) =
@@ -144,7 +144,7 @@ by_room at before text after is = by (ltb MAX_ITEMS (before + count_of text)) re
   by false e =
       item text after refl (record { is_run = is; few = grind (arith, nat_tests) })
 
--- behind a count
+-- after a count
 finds_count : (at before : ℕ) (job count after : List ℕ) → IsFitting job (star ∷ (count ++ after))
     → IsFitting count after → Finds at before (job ++ star ∷ (count ++ after))
 finds_count at before job count [] is counts =
@@ -157,9 +157,9 @@ finds_count at before job count (byte ∷ more) is counts = by (is_blank byte) r
       subst (Finds at before) (append_assoc job (star ∷ count) (byte ∷ more))
       (by_room at before (job ++ star ∷ count) (byte ∷ more)
       (items.often job count (byte ∷ more) is counts e))
-  by false e = fault _ (items.bad_behind_count job count byte more is counts e)
+  by false e = fault _ (items.bad_after_count job count byte more is counts e)
 
--- behind a star
+-- after a star
 finds_star : (at before : ℕ) (job after : List ℕ) → IsFitting job (star ∷ after)
     → Finds at before (job ++ star ∷ after)
 finds_star at before job after is = by (begins after) where
@@ -172,7 +172,7 @@ finds_star at before job after is = by (begins after) where
       (fault _ (items.big_count job count rest (rw e at is) counts big))
   by (numbers.none none) = fault _ (items.no_count job after is none)
 
--- behind a job
+-- after a job
 finds_job : (at before : ℕ) (job after : List ℕ) → IsFitting job after
     → Finds at before (job ++ after)
 finds_job at before job [] is = by_room at before job [] (items.once job [] is tt)
@@ -185,7 +185,7 @@ finds_job at before job (byte ∷ more) is = by_blank (is_blank byte) refl where
       (finds_star at before job more (subst (λ b. IsFitting job (b ∷ more)) same is))
   by_star blank false e =
       let other : byte ≢ star = λ same. grind (arith, nat_tests) in
-      fault _ (items.bad_behind_job job byte more is blank other)
+      fault _ (items.bad_after_job job byte more is blank other)
 
   by_blank : (blank : Bool) → is_blank byte ≡ blank → Finds at before (job ++ byte ∷ more)
   by_blank true e = by_room at before job (byte ∷ more) (items.once job (byte ∷ more) is e)

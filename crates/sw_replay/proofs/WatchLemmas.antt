@@ -155,7 +155,7 @@ few_after graph items item before after here stepped =
     (sym (stepped ∙ ap (λ s. step_of graph s item) here ∙ sym (reach_push graph items item)))
     (few_jobs graph (items ++ item ∷ []))
 
--- items behind those at which it stopped
+-- items after those at which it stopped
 pub stopped_before : (graph : Graph) (items more : List ℕ) (progress : Progress) (race : Race)
     → IsStopped graph items progress race → IsStopped graph (items ++ more) progress race
 stopped_before graph items more progress race is =

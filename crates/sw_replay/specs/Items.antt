@@ -69,19 +69,19 @@ pub data IsItemFault (at before : ℕ) : List ℕ → SchedFault → Type 0 wher
   -- a job that has more than 32 bits
   big_job : (job after : List ℕ) → IsNumber job after → 2 ^ 32 ≤ number_of job
       → IsItemFault at before (job ++ after) (TooBig at)
-  -- a byte behind a job that is neither a separator nor a star
-  bad_behind_job : (job : List ℕ) (byte : ℕ) (after : List ℕ) → IsFitting job (byte ∷ after)
+  -- a byte after a job that is neither a separator nor a star
+  bad_after_job : (job : List ℕ) (byte : ℕ) (after : List ℕ) → IsFitting job (byte ∷ after)
       → IsFalse (is_blank byte) → byte ≢ star
       → IsItemFault at before (job ++ byte ∷ after) (BadItem (at + length job))
-  -- no digit behind a star
+  -- no digit after a star
   no_count : (job after : List ℕ) → IsFitting job (star ∷ after) → BeginsWithout is_digit after
       → IsItemFault at before (job ++ star ∷ after) (BadItem (at + length job + 1))
   -- a count that has more than 32 bits
   big_count : (job count after : List ℕ) → IsFitting job (star ∷ (count ++ after))
       → IsNumber count after → 2 ^ 32 ≤ number_of count
       → IsItemFault at before (job ++ star ∷ (count ++ after)) (TooBig (at + length job + 1))
-  -- a byte behind a count that is no separator
-  bad_behind_count : (job count : List ℕ) (byte : ℕ) (after : List ℕ)
+  -- a byte after a count that is no separator
+  bad_after_count : (job count : List ℕ) (byte : ℕ) (after : List ℕ)
       → IsFitting job (star ∷ (count ++ byte ∷ after)) → IsFitting count (byte ∷ after)
       → IsFalse (is_blank byte)
       → IsItemFault at before (job ++ star ∷ (count ++ byte ∷ after))

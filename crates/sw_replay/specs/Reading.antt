@@ -37,7 +37,7 @@ abbrev pub ending : ℕ → List ℕ → Run → Result Run SchedFault
 ending at [] run = Ok run
 ending at (byte ∷ _) run = if is_blank byte then Ok run else Err (BadItem at)
 
--- the run of a job and of the count that was found behind the star, where the bytes follow the star
+-- the run of a job and of the count that was found after the star, where the bytes follow the star
 -- at the offset `at`
 abbrev pub counted : ℕ → List ℕ → Number → Result Number SchedFault → Result Run SchedFault
 counted at bytes job (Err fault) = Err fault

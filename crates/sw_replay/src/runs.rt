@@ -53,7 +53,7 @@ fn run_past(bytes: &[u8], at: u32, job: Number) -> Result<Run, SchedFault>
     ending(bytes, at, once)
 }
 
-/// The run of a job and of the count behind its star, where the bytes follow the star at the offset
+/// The run of a job and of the count after its star, where the bytes follow the star at the offset
 /// `at`.
 fn counted(bytes: &[u8], at: u32, job: Number) -> Result<Run, SchedFault>
     requires offset { at + length bytes.now < 2 ^ 32 }

@@ -34,7 +34,7 @@ use Rattle.sw_resolve.specs.Words.{or_else, shapes_made, top_meaning, word_of}
 use Rattle.sw_resolve.specs.declared.words.Meaning.{Meaning}
 use Rattle.sw_resolve.specs.declared.words.Meaning.TheVariants as means
 
--- a word whose shape, if it has one, is among so many
+-- a word whose shape, if it has one, is among the first n
 abbrev InRange : ℕ → Option Meaning → Type 0
 InRange n None = Unit {0}
 InRange n (Some (means.Shape kind number)) = number < n
@@ -207,7 +207,7 @@ module _ (known : ℕ → Option Meaning) (n : ℕ) (are : (id : ℕ) → InRang
   stated_in (Some one) ty is = type_in one
 
 module _ (known : Meanings) (n : ℕ) (are : (id : ℕ) → InRange n (known.top id)) where
-  -- a number of an enum that is among so many shapes, if there is one
+  -- a number of an enum that is among the first n shapes, if there is one
   abbrev EnumIn : Option ℕ → Type 0
   EnumIn None = Unit {0}
   EnumIn (Some number) = number < n

@@ -15,7 +15,7 @@ use Rattle.sw_resolve.specs.declared.members.Members.{Members}
 use Rattle.sw_resolve.specs.declared.members.Owned.{Owned}
 use Rattle.sw_resolve.specs.declared.members.Role.TheVariants as role
 
--- the stored properties, behind so many of the type with this number
+-- the stored properties of the type with this number, numbered from here
 abbrev pub parts_from : ℕ → ℕ → List PropTree → List Owned
 parts_from shape number [] = []
 parts_from shape number (prop ∷ props) = record {
@@ -23,7 +23,7 @@ parts_from shape number (prop ∷ props) = record {
   member = record { word = prop.word; role = role.Part number };
 } ∷ parts_from shape (number + 1) props
 
--- the cases, behind so many of the enum with this number
+-- the cases of the enum with this number, numbered from here
 abbrev pub cases_from : ℕ → ℕ → List CaseTree → List Owned
 cases_from shape number [] = []
 cases_from shape number (one ∷ cases) = record {
@@ -52,7 +52,7 @@ members_of shape (GlobalActor word made) = []
 members_of shape (Func func) = []
 members_of shape (Global global) = []
 
--- the members of the types that declarations make, behind so many shapes
+-- the members of the types that declarations make, by the number of shapes before them
 abbrev pub members_from : ℕ → List Decl → List Owned
 members_from shape [] = []
 members_from shape (decl ∷ decls) =

@@ -99,7 +99,7 @@ module _ (known : Meanings) where
   shape_of number (Func func) = []
   shape_of number (Global global) = []
 
-  -- the shapes of declarations by number, behind so many
+  -- the shapes of declarations, numbered from here
   abbrev pub shapes_from : ℕ → List Decl → List Shape
   shapes_from number [] = []
   shapes_from number (decl ∷ decls) =

@@ -51,7 +51,8 @@ globals_made (GlobalActor word made) = 0
 globals_made (Func func) = 0
 globals_made (Global global) = 1
 
--- what the word of a declaration means, behind so many shapes, global actors and global variables
+-- what the word of a declaration means, by the numbers of shapes, global actors and global
+-- variables before it
 abbrev pub meaning_at : Decl → ℕ → ℕ → ℕ → Meaning
 meaning_at (Entry word written at is_async body) number actors globals = means.Entry
 meaning_at (Struct word conforms fields funcs) number actors globals =

@@ -60,7 +60,7 @@ pub fn word_of(decl: &Decl) -> Name
     }
 }
 
-/// What a declaration's word means, where so many shapes, global actors and global variables stand
+/// What a declaration's word means, by the numbers of shapes, global actors and global variables
 /// before it.
 fn meaning_at(decl: &Decl, number: u32, actors: u32, globals: u32) -> Meaning
     ensures { result ≡ meaning_at decl.now number actors globals }

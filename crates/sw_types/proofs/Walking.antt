@@ -63,7 +63,7 @@ fresh_count-set : (progress : List Progress) (b : ℕ) (p : Progress) → b < le
     ≡ fresh_count progress + weight p
 fresh_count-set progress b p lt = sum_by-set weight progress b p Fresh lt
 
--- the numbers of a longer order still stand behind those that they lead to
+-- the numbers of a longer order still stand after those that they lead to
 ordered_push : (edges : List (List ℕ)) (order : List ℕ) (a : ℕ) → AreOrdered edges order
     → ((b : ℕ) → Leads edges a b → Contains order b) → AreOrdered edges (order ++ a ∷ [])
 ordered_push edges order a are stand i b lt leads = elim (cases_lt i (length order)) [

@@ -25,7 +25,7 @@ struct Visit {
     from: usize,
 }
 
-/// Numbers in an order in which each stands behind those that it leads to, or one that leads back
+/// Numbers in an order in which each stands after those that it leads to, or one that leads back
 /// to itself.
 #[derive(Drop)]
 pub enum Sorting {
@@ -186,7 +186,7 @@ impl Walk {
     }
 }
 
-/// Puts the numbers into an order in which each stands behind those that it leads to, in a time
+/// Puts the numbers into an order in which each stands after those that it leads to, in a time
 /// that is linear in the edges, or finds a number that leads back to itself.
 pub fn sorting_of(alloc: Global, edges: &[ListOf<u32>]) -> Result<Sorting, AllocError>
     requires edges { AreInRange edges.now }

@@ -144,7 +144,7 @@ fn shape_parts(shape: &Shape, named: &[u32]) -> u32
     }
 }
 
-/// Which shapes are Sendable, by number, where the order has each behind those that it holds.
+/// Which shapes are Sendable, by number, where the order has each after those that it holds.
 pub fn sends_table(
     alloc: Global,
     shapes: &[Shape],
@@ -163,7 +163,7 @@ pub fn sends_table(
     Ok(table)
 }
 
-/// How many parts values of the shapes have, by number, where the order has each shape behind
+/// How many parts values of the shapes have, by number, where the order has each shape after
 /// those that it holds.
 pub fn parts_table(
     alloc: Global,

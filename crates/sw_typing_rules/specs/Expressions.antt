@@ -32,7 +32,7 @@ pub record Judged : Type 0 where
   pub is_true : Bool
   pub rows : List Row
 
--- a node of which the rule says this, behind what is noted of its parts
+-- a node of which the rule says this, after what is noted of its parts
 abbrev pub noted : ℕ → Verdict → List Row → Judged
 noted at verdict rows = record {
   key = at;

@@ -61,7 +61,7 @@ pass setting slots [] = none_passed
 pass setting slots (arg ∷ args) =
     one_passed arg.label (arg.value setting (first_marked slots)) (pass setting (later slots) args)
 
--- the operators of a chain, behind what stands before them
+-- the operators of a chain, after what stands before them
 abbrev pub link_all : Setting → Judged → List OfLink → Judged
 link_all setting left [] = left
 link_all setting left (link ∷ links) =

@@ -92,7 +92,7 @@ abbrev pub prop_value : World → Option ℕ → PropTree → List ValueOf
 prop_value world owner prop = first_value world owner prop prop.value
 
 module _ (world : World) where
-  -- the bodies of a declaration, behind so many shapes
+  -- the bodies of a declaration, by the number of shapes before it
   unfoldable pub bodies_of : ℕ → Decl → List BodyOf
   bodies_of shape (Entry word written at is_async body) = entry_body at body ∷ []
   bodies_of shape (Struct word conforms fields funcs) = map (func_body world (Some shape)) funcs
@@ -105,7 +105,7 @@ module _ (world : World) where
   bodies_of shape (Func func) = func_body world None func ∷ []
   bodies_of shape (Global global) = []
 
-  -- the first values of a declaration, behind so many shapes
+  -- the first values of a declaration, by the number of shapes before it
   unfoldable pub values_of : ℕ → Decl → List ValueOf
   values_of shape (Entry word written at is_async body) = []
   values_of shape (Struct word conforms fields funcs) = []

@@ -38,7 +38,7 @@ pub record State : Type 0 where
   pub vars : List Var
   pub returned : Returned
 
--- What a statement leaves: the state behind it, what is noted inside, whether all that it holds has
+-- What a statement leaves: the state after it, what is noted inside, whether all that it holds has
 -- a type, whether its ways end in `return`, and whether a `break` leaves what holds it.
 pub record Left : Type 0 where
   pub state : State

@@ -1,4 +1,4 @@
--- What a word means where it stands, and what a name means behind a `.`.
+-- What a word means where it stands, and what a name means after a `.`.
 use Rattle.std.specs.Prelude.{ℕ, Bool, false, ◌&&◌, ◌||◌, ◌==◌, List, Option, Some, None, fold}
 use Rattle.std.specs.Prelude.{slice_get, if◌then◌else◌}
 use Rattle.sw_types.specs.declared.shape.Part.{Part}

@@ -103,8 +103,8 @@ module _ (known : Meanings) where
       without_value props inits
       ++ (flat_map (first_value (Some shape)) props ++ in_first_init shape props inits)
 
-  -- The breaches of values in a declaration, behind so many shapes. A struct's properties have no
-  -- first values.
+  -- The breaches of values in a declaration, by the number of shapes before it. A struct's
+  -- properties have no first values.
   unfoldable pub values_of : ℕ → Decl → List Placed
   values_of shape (Entry word written at is_async body) = []
   values_of shape (Struct word conforms fields funcs) = []
@@ -115,7 +115,7 @@ module _ (known : Meanings) where
   values_of shape (Func func) = []
   values_of shape (Global global) = first_value None global
 
-  -- the breaches of values in declarations, behind so many shapes
+  -- the breaches of values in declarations, by the number of shapes before them
   abbrev pub values_from : ℕ → List Decl → List Placed
   values_from shape [] = []
   values_from shape (decl ∷ decls) =

@@ -62,7 +62,7 @@ fn is_typed(
     ty.is_some() || evident(words, members, owner, value).is_some()
 }
 
-/// Adds a first value, behind parameters, that isn't simple, or from which the type isn't evident
+/// Adds a first value, after parameters, that isn't simple, or from which the type isn't evident
 /// where none is written.
 fn add_value(
     words: &Words,
@@ -336,7 +336,7 @@ fn in_object(
     in_first_init(alloc, words, members, shape, props, inits, found)
 }
 
-/// Adds the breaches of values in a declaration, behind so many shapes.
+/// Adds the breaches of values in a declaration, by the number of shapes before it.
 #[tactic(auto, unfolding(crate::specs::Profile::values_of))]
 fn in_decl(
     alloc: Global,

@@ -74,7 +74,7 @@ fn are_args_simple(
     all
 }
 
-/// Whether all operands of a chain behind the first are simple.
+/// Whether all operands of a chain after the first are simple.
 #[cycle(simple)]
 fn are_links_simple(
     words: &Words,
@@ -93,7 +93,7 @@ fn are_links_simple(
     all
 }
 
-/// Whether an expression is simple, in a type and behind parameters that it may read.
+/// Whether an expression is simple, in a type and after parameters that it may read.
 #[cycle(simple)]
 pub fn is_simple(
     words: &Words,
