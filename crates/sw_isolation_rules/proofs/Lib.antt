@@ -2,10 +2,10 @@ mod Apart
 mod Calls
 mod CallsIn
 mod Each
-mod OneMerged
+pub mod OneMerged
 mod InOrder
 mod Meant
 mod NotedKeys
 mod Sound
 mod SoundNotes
-mod SoundPrograms
+pub mod SoundPrograms
