@@ -1,0 +1,21 @@
+use Rattle.std.proofs.Common.{ℕ, List, IsPermutation, ap, map, subst, ◌∙◌}
+use Rattle.sw_isolation.specs.Isolated.{AreBoxes}
+use Rattle.sw_isolation_rules.specs.Lists.{by_reference}
+use Rattle.sw_isolation_rules.specs.declared.note.Capture.{Capture}
+use Rattle.sw_isolation.proofs.isolated.isolated_of.Goals as goal
+
+pub returns : goal.returns
+returns c =
+    let boxes_of : List Capture → List ℕ =
+    λ captures. map (λ (one : Capture). one.variable) (by_reference captures) in
+    record {
+      bodies = c.in_ok-bodies.ensures;
+      kinds = subst (λ kinds. IsPermutation kinds c.in_key_order-kinds.result)
+          c.in_ok-kinds_in.ensures c.in_key_order-kinds.ensures.same;
+      ordered = c.in_key_order-kinds.ensures.ordered;
+      captures = c.in_ok-captures.ensures;
+      boxes = subst (λ found. AreBoxes found c.each_once-boxes.result)
+          (c.in_ok-boxes_in.ensures ∙ ap boxes_of (c.as_slice.ensures ∙ c.in_ok-captures.ensures))
+          c.each_once-boxes.ensures;
+      crossings = c.in_ok-crossings.ensures;
+    }
