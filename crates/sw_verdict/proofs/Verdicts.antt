@@ -1,8 +1,10 @@
 -- Every text has one verdict.
 use Rattle.std.proofs.Common.{◌≡◌, ℕ, ◌^◌, ◌<◌, ◌≤◌, ◌+◌, ◌-◌, zero, suc, Bool, true, false, List, [], ◌∷◌, length}
 use Rattle.std.proofs.Common.{Result, Ok, Err, ◌⊎◌, inl, inr, refl, ap, sym, subst, ◌∙◌, arith}
-use Rattle.std.proofs.Common.{Option, Some, None}
+use Rattle.std.proofs.Common.{Option, Some, None, map, ◌≢◌}
 use Rattle.std.specs.List.{AllByRecursion}
+use Rattle.std.specs.Prelude.{Contains, IfOk}
+use Rattle.std.proofs.lemmas.List.Elements.{Contains-append_left, Contains-append_right}
 use Rattle.std.proofs.lemmas.List.{length-map}
 use Rattle.std.specs.Str.{IsUtf8, is_utf8 as test_utf8}
 use Rattle.std.proofs.lemmas.Str.{IsUtf8-from_is_utf8, is_utf8-from_IsUtf8}
@@ -33,8 +35,8 @@ use Rattle.sw_parse_decl.specs.Programs.{IsProgramOf, IsSyntaxFault}
 use Rattle.sw_parse_decl.proofs.ProgramFaults as programs
 use Rattle.sw_resolve.specs.declared.placed.Placed.{Placed}
 use Rattle.sw_decls.specs.Declaring.{IsFirstBreach}
-use Rattle.sw_decls.proofs.SomeFirst.{some_first_breach}
-use Rattle.sw_decls.proofs.OneFirst.{one_first_breach}
+use Rattle.sw_decls.proofs.SomeFirst.{some_first, some_first_breach}
+use Rattle.sw_decls.proofs.OneFirst.{one_first, one_first_breach}
 use Rattle.sw_decls.proofs.BreachCodes.{first_is_coded}
 use Rattle.sw_decls.specs.declared.signature.AsyncDefault.TheVariants.{Concurrent}
 use Rattle.sw_typing_rules.specs.Programs.{IsFirstIll}
@@ -42,7 +44,12 @@ use Rattle.sw_typing_rules.specs.Worlds.{IsWorldOf, World}
 use Rattle.sw_typing_rules.proofs.IllCodes.{ill_is_coded}
 use Rattle.sw_typing_rules.proofs.OneWorld.{one_world, some_world}
 use Rattle.sw_typing_rules.proofs.Saying.{one_first_ill, some_first_ill}
-use Rattle.sw_small.proofs.OneGraph.{some_graph, one_graph}
+use Rattle.sw_isolation_rules.proofs.OneMerged.{one_merged}
+use Rattle.sw_isolation_rules.proofs.SoundPrograms.{race_codes, refusal_codes}
+use Rattle.sw_isolation_rules.specs.Programs.{IsFirstRefusal, refusals}
+use Rattle.sw_isolation_rules.specs.Races.{AreRaces, races as all_races}
+use Rattle.sw_isolation.proofs.SomeMerged.{some_merged}
+use Rattle.sw_small.proofs.OneGraph.{lowered_within, some_graph, one_graph}
 use Rattle.sw_small.proofs.Runnable.{lowered_runnable}
 use Rattle.sw_small.proofs.SmallLaws.{decided as program_or_unexpected, never_both as no_unexpected}
 use Rattle.sw_small.proofs.SmallLaws.{one_program, one_unexpected as one_unexpected_token}
@@ -51,7 +58,9 @@ use Rattle.sw_reader.proofs.TokensSpelled.{tokens_spelled}
 use Rattle.sw_text.specs.declared.TheConstants.{MAX_LENGTH}
 use Rattle.sw_verdict.specs.Phases.{Phase, Encoding, Lexis, Syntax, Declarations, Types, SmallForm}
 use Rattle.sw_verdict.specs.Phases.{Size, DeclarationsFinds, keeps_all, breaks_one}
-use Rattle.sw_verdict.specs.Phases.{TypesFinds, well_typed, ill_typed}
+use Rattle.sw_verdict.specs.Phases.{TypesFinds, well_typed, ill_typed, answers_of_program}
+use Rattle.sw_verdict.specs.Phases.{Isolation, IsolationFinds, keeps_apart, reaches_out}
+use Rattle.sw_verdict.specs.Phases.{Sharing, SharingFinds, shares, breach_of}
 use Rattle.sw_verdict.specs.Phases.{all_phases, IsProgram, SizeFinds, within, too_large, size_code}
 use Rattle.sw_verdict.specs.Phases.{EncodingFinds, is_utf8, not_utf8, LexisFinds, has_tokens}
 use Rattle.sw_verdict.specs.Phases.{has_fault, SmallFormFinds}
@@ -59,9 +68,12 @@ use Rattle.sw_verdict.specs.Phases.{spelled, unexpected, Finds, breach_at, not_b
 use Rattle.sw_verdict.specs.Phases.{spells_program, has_syntax_fault, syntax_code, token_of}
 use Rattle.sw_verdict.specs.Phases.{not_utf8_code, lexical_code, token_position}
 use Rattle.sw_verdict.specs.Verdict.{Breaches, none, first, later, Accepts, Refuses}
-use Rattle.sw_verdict.specs.Verdict.{IsGraphOf}
+use Rattle.sw_verdict.specs.Verdict.{IsGraphOf, IsVerdict}
+use Rattle.sw_verdict.specs.declared.phases.Refusal.{Refusal}
 use Rattle.sw_verdict.proofs.Finding.{memory_is_no_fault}
-use Rattle.sw_verdict.proofs.InOrder.{utf8_found}
+use Rattle.sw_verdict.specs.Decided.{IsSpelled}
+use Rattle.sw_verdict.specs.declared.judging.Spelled.{Spelled as Read}
+use Rattle.sw_verdict.proofs.InOrder.{Pass, all_pass, passed, utf8_found}
 
 -- each phase finds one list
 encoding_one : (text : List ℕ) (a b : List Breach) → EncodingFinds text a → EncodingFinds text b
@@ -156,6 +168,24 @@ declarations_one text _ _ (breaks_one a ds one are_a is_a first_a)
     ap (λ (placed : Placed). breach_at placed.code placed.at) (some_injective
     (same_first text a b ds es (Some one) (Some other) are_a is_a first_a are_b is_b first_b))
 
+-- The declarations of a text are one list, and what they declare is one world.
+same_world : (text : List ℕ) (a b : List Token) (ds es : List Decl) (v w : World)
+    → IsTokens text a → IsProgramOf ds (spelling_of text a) → IsWorldOf ds Concurrent v
+    → IsTokens text b → IsProgramOf es (spelling_of text b) → IsWorldOf es Concurrent w
+    → (ds ≡ es) × (v ≡ w)
+same_world text a b ds es v w are_a is_a world_a are_b is_b world_b =
+    let same = same_decls text a b ds es are_a is_a are_b is_b in (
+      same,
+      one_world es Concurrent v w (programs.keyed_program (spelling_of text b) es is_b)
+          (subst (λ decls. IsWorldOf decls Concurrent v) same world_a) world_b,
+    )
+
+-- what holds of one world and its declarations holds of the same
+of_same : (P : World → List Decl → Type 0) (v w : World) (ds es : List Decl)
+    → (ds ≡ es) × (v ≡ w) → P v ds → P w es
+of_same P v w ds es (decls, worlds) holds =
+    subst (λ world. P world es) worlds (subst (P v) decls holds)
+
 -- The program of a text has one first ill node or none.
 same_ill : (text : List ℕ) (a b : List Token) (ds es : List Decl) (v w : World)
     (one other : Option Placed) → IsTokens text a → IsProgramOf ds (spelling_of text a)
@@ -163,13 +193,29 @@ same_ill : (text : List ℕ) (a b : List Token) (ds es : List Decl) (v w : World
     → IsProgramOf es (spelling_of text b) → IsWorldOf es Concurrent w → IsFirstIll w es other
     → one ≡ other
 same_ill text a b ds es v w one other are_a is_a world_a first_a are_b is_b world_b first_b =
-    let same = same_decls text a b ds es are_a is_a are_b is_b in
-    let worlds : v ≡ w =
-    one_world es Concurrent v w (programs.keyed_program (spelling_of text b) es is_b)
-    (subst (λ decls. IsWorldOf decls Concurrent v) same world_a) world_b in
     one_first_ill w es one other
-    (subst (λ world. IsFirstIll world es one) worlds
-    (subst (λ decls. IsFirstIll v decls one) same first_a)) first_b
+    (of_same (λ world decls. IsFirstIll world decls one) v w ds es
+    (same_world text a b ds es v w are_a is_a world_a are_b is_b world_b) first_a) first_b
+
+-- the first breach of isolation of a program in its world
+abbrev FirstRefusal : World → List Decl → Option Placed → Type 0
+FirstRefusal world decls one =
+    IsFirstRefusal world (answers_of_program world decls) decls one
+
+-- the values that a program in its world shares and may not
+abbrev Shared : World → List Decl → List Placed → Type 0
+Shared world decls races = AreRaces world (answers_of_program world decls) decls races
+
+-- The program of a text has one first breach of isolation or none.
+same_refusal : (text : List ℕ) (a b : List Token) (ds es : List Decl) (v w : World)
+    (one other : Option Placed) → IsTokens text a → IsProgramOf ds (spelling_of text a)
+    → IsWorldOf ds Concurrent v → FirstRefusal v ds one → IsTokens text b
+    → IsProgramOf es (spelling_of text b) → IsWorldOf es Concurrent w → FirstRefusal w es other
+    → one ≡ other
+same_refusal text a b ds es v w one other are_a is_a world_a first_a are_b is_b world_b first_b =
+    one_first (refusals w (answers_of_program w es) es) one other
+    (of_same (λ world decls. FirstRefusal world decls one) v w ds es
+    (same_world text a b ds es v w are_a is_a world_a are_b is_b world_b) first_a) first_b
 
 types_one : (text : List ℕ) (a b : List Breach) → TypesFinds text a → TypesFinds text b → a ≡ b
 types_one text _ _ (well_typed _ _ _ _ _ _ _) (well_typed _ _ _ _ _ _ _) = refl
@@ -186,6 +232,31 @@ types_one text _ _ (ill_typed a ds v one are_a is_a world_a first_a)
     ap (λ (placed : Placed). breach_at placed.code placed.at) (some_injective
     (same_ill text a b ds es v w (Some one) (Some other) are_a is_a world_a first_a are_b is_b
     world_b first_b))
+
+isolation_one : (text : List ℕ) (a b : List Breach) → IsolationFinds text a
+    → IsolationFinds text b → a ≡ b
+isolation_one text _ _ (keeps_apart _ _ _ _ _ _ _) (keeps_apart _ _ _ _ _ _ _) = refl
+isolation_one text _ _ (keeps_apart a ds v are_a is_a world_a keeps)
+    (reaches_out b es w placed are_b is_b world_b some) =
+    cc (same_refusal text a b ds es v w None (Some placed) are_a is_a world_a keeps are_b is_b
+    world_b some)
+isolation_one text _ _ (reaches_out a ds v placed are_a is_a world_a some)
+    (keeps_apart b es w are_b is_b world_b keeps) =
+    cc (same_refusal text a b ds es v w (Some placed) None are_a is_a world_a some are_b is_b
+    world_b keeps)
+isolation_one text _ _ (reaches_out a ds v one are_a is_a world_a first_a)
+    (reaches_out b es w other are_b is_b world_b first_b) =
+    ap (λ (placed : Placed). breach_at placed.code placed.at) (some_injective
+    (same_refusal text a b ds es v w (Some one) (Some other) are_a is_a world_a first_a are_b is_b
+    world_b first_b))
+
+sharing_one : (text : List ℕ) (a b : List Breach) → SharingFinds text a → SharingFinds text b
+    → a ≡ b
+sharing_one text _ _ (shares a ds v races are_a is_a world_a all_a)
+    (shares b es w others are_b is_b world_b all_b) =
+    ap (map breach_of) (one_merged (all_races w (answers_of_program w es) es) races others
+    (of_same (λ world decls. Shared world decls races) v w ds es
+    (same_world text a b ds es v w are_a is_a world_a are_b is_b world_b) all_a) all_b)
 
 pub one_text_program : (text : List ℕ) (a b : Small) → IsProgram text a → IsProgram text b → a ≡ b
 one_text_program text a b is_a is_b =
@@ -217,6 +288,8 @@ one_found Lexis text a b is_a is_b = lexis_one text a b is_a is_b
 one_found Syntax text a b is_a is_b = syntax_one text a b is_a is_b
 one_found Declarations text a b is_a is_b = declarations_one text a b is_a is_b
 one_found Types text a b is_a is_b = types_one text a b is_a is_b
+one_found Isolation text a b is_a is_b = isolation_one text a b is_a is_b
+one_found Sharing text a b is_a is_b = sharing_one text a b is_a is_b
 one_found SmallForm text a b is_a is_b = small_form_one text a b is_a is_b
 one_found Size text a b is_a is_b = size_one text a b is_a is_b
 
@@ -233,29 +306,26 @@ one_list _ text a b (later phase _ _ _ passes _) (first _ _ _ _ _ is_b) =
 one_list _ text a b (later _ phases _ _ _ is_a) (later _ _ _ _ _ is_b) =
     one_list phases text a b is_a is_b
 
--- each of today's phases finds one breach at most
-few_found : (phase : Phase) (text : List ℕ) (list : List Breach) → Finds phase text list
-    → length list ≤ 1
-few_found Encoding text _ (is_utf8 _) = omega arith
-few_found Encoding text _ (not_utf8 _) = omega arith
-few_found Lexis text _ (has_tokens _ _) = omega arith
-few_found Lexis text _ (has_fault _ _) = omega arith
-few_found Syntax text _ (spells_program _ _ _ _) = omega arith
-few_found Syntax text _ (has_syntax_fault _ _ _ _) = omega arith
-few_found Declarations text _ (keeps_all _ _ _ _ _) = omega arith
-few_found Declarations text _ (breaks_one _ _ _ _ _ _) = omega arith
-few_found Types text _ (well_typed _ _ _ _ _ _ _) = omega arith
-few_found Types text _ (ill_typed _ _ _ _ _ _ _ _) = omega arith
-few_found SmallForm text _ (spelled _ _ _ _) = omega arith
-few_found SmallForm text _ (unexpected _ _ _ _) = omega arith
-few_found Size text _ (within _ _ _) = omega arith
-few_found Size text _ (too_large _ _ _ _) = omega arith
-
-pub one_breach : (phases : List Phase) (text : List ℕ) (list : List Breach)
-    → Breaches phases text list → length list ≤ 1
-one_breach _ _ _ (none _) = omega arith
-one_breach _ text list (first phase _ _ _ _ found) = few_found phase text list found
-one_breach _ text list (later _ phases _ _ _ found) = one_breach phases text list found
+-- Each phase but that of what is shared finds one breach at most.
+pub few_found : (phase : Phase) (text : List ℕ) (list : List Breach) → phase ≢ Sharing
+    → Finds phase text list → length list ≤ 1
+few_found Encoding text _ other (is_utf8 _) = omega arith
+few_found Encoding text _ other (not_utf8 _) = omega arith
+few_found Lexis text _ other (has_tokens _ _) = omega arith
+few_found Lexis text _ other (has_fault _ _) = omega arith
+few_found Syntax text _ other (spells_program _ _ _ _) = omega arith
+few_found Syntax text _ other (has_syntax_fault _ _ _ _) = omega arith
+few_found Declarations text _ other (keeps_all _ _ _ _ _) = omega arith
+few_found Declarations text _ other (breaks_one _ _ _ _ _ _) = omega arith
+few_found Types text _ other (well_typed _ _ _ _ _ _ _) = omega arith
+few_found Types text _ other (ill_typed _ _ _ _ _ _ _ _) = omega arith
+few_found Isolation text _ other (keeps_apart _ _ _ _ _ _ _) = omega arith
+few_found Isolation text _ other (reaches_out _ _ _ _ _ _ _ _) = omega arith
+few_found Sharing text _ other (shares _ _ _ _ _ _ _ _) = absurd (other refl)
+few_found SmallForm text _ other (spelled _ _ _ _) = omega arith
+few_found SmallForm text _ other (unexpected _ _ _ _) = omega arith
+few_found Size text _ other (within _ _ _) = omega arith
+few_found Size text _ other (too_large _ _ _ _) = omega arith
 
 -- the codes that these phases name have texts
 not_built_is_code : IsCode not_built
@@ -336,6 +406,50 @@ ill_is_code world decls placed some =
     (λ g. or_later IsCode 408 code g type_codes.7
     (λ h. absurd (omega (arith, h, within.1))))))))))
 
+-- the codes of the rules on isolation have texts
+isolation_codes : IsCode 501 × IsCode 502 × IsCode 503 × IsCode 504 × IsCode 505
+unfolding text_of texts
+isolation_codes = (refl, refl, refl, refl, refl)
+
+refusal_is_code : (world : World) (decls : List Decl) (placed : Placed)
+    → FirstRefusal world decls (Some placed) → IsCode placed.code
+refusal_is_code world decls placed some =
+    let within = refusal_codes world (answers_of_program world decls) decls placed some.0 in
+    let code = placed.code in
+    or_later IsCode 501 code within.0 isolation_codes.0
+    (λ a. or_later IsCode 502 code a isolation_codes.1
+    (λ b. or_later IsCode 503 code b isolation_codes.2
+    (λ c. or_later IsCode 504 code c isolation_codes.3
+    (λ d. or_later IsCode 505 code d isolation_codes.4
+    (λ e. absurd (omega (arith, e, within.1)))))))
+
+-- the codes of what may not be shared have texts
+sharing_codes : IsCode 601 × IsCode 602 × IsCode 603 × IsCode 604 × IsCode 605 × IsCode 606
+unfolding text_of texts
+sharing_codes = (refl, refl, refl, refl, refl, refl)
+
+race_is_code : (world : World) (decls : List Decl) (races : List Placed) (placed : Placed)
+    → Shared world decls races → Contains races placed → IsCode placed.code
+race_is_code world decls races placed all has =
+    let within = race_codes world (answers_of_program world decls) decls placed
+    (all.from placed has) in
+    let code = placed.code in
+    or_later IsCode 601 code within.0 sharing_codes.0
+    (λ a. or_later IsCode 602 code a sharing_codes.1
+    (λ b. or_later IsCode 603 code b sharing_codes.2
+    (λ c. or_later IsCode 604 code c sharing_codes.3
+    (λ d. or_later IsCode 605 code d sharing_codes.4
+    (λ e. or_later IsCode 606 code e sharing_codes.5
+    (λ f. absurd (omega (arith, f, within.1))))))))
+
+all_coded : (races : List Placed) → ((one : Placed) → Contains races one → IsCode one.code)
+    → AllByRecursion (λ (breach : Breach). IsCode breach.code) (map breach_of races)
+all_coded [] each = tt
+all_coded (race ∷ races) each = (
+  each race (Contains-append_left (race ∷ []) races race (0, (omega arith), refl)),
+  all_coded races (λ one has. each one (Contains-append_right (race ∷ []) races one has)),
+)
+
 codes_found : (phase : Phase) (text : List ℕ) (list : List Breach) → Finds phase text list
     → AllByRecursion (λ breach. IsCode breach.code) list
 codes_found Encoding text _ (is_utf8 _) = tt
@@ -351,6 +465,11 @@ codes_found Declarations text _ (breaks_one _ decls placed _ _ some) =
 codes_found Types text _ (well_typed _ _ _ _ _ _ _) = tt
 codes_found Types text _ (ill_typed _ decls world placed _ _ _ some) =
     (ill_is_code world decls placed some, tt)
+codes_found Isolation text _ (keeps_apart _ _ _ _ _ _ _) = tt
+codes_found Isolation text _ (reaches_out _ decls world placed _ _ _ some) =
+    (refusal_is_code world decls placed some, tt)
+codes_found Sharing text _ (shares _ decls world races _ _ _ all) =
+    all_coded races (λ one has. race_is_code world decls races one all has)
 codes_found SmallForm text _ (spelled _ _ _ _) = tt
 codes_found SmallForm text _ (unexpected _ _ _ _) = (not_built_is_code, tt)
 codes_found Size text _ (within _ _ _) = tt
@@ -362,98 +481,142 @@ have_codes _ _ _ (none _) = tt
 have_codes _ text list (first phase _ _ _ _ found) = codes_found phase text list found
 have_codes _ text list (later _ phases _ _ _ found) = have_codes phases text list found
 
+-- the phases after the tokens, after the syntax, and so on
+abbrev after_sharing : List Phase
+after_sharing = SmallForm ∷ Size ∷ []
+
+abbrev after_isolation : List Phase
+after_isolation = Sharing ∷ after_sharing
+
+abbrev after_types : List Phase
+after_types = Isolation ∷ after_isolation
+
+abbrev after_declarations : List Phase
+after_declarations = Types ∷ after_types
+
+abbrev after_syntax : List Phase
+after_syntax = Declarations ∷ after_declarations
+
+abbrev after_lexis : List Phase
+after_lexis = Syntax ∷ after_syntax
+
+-- these phases have a list of breaches
+abbrev SomeList : List Phase → List ℕ → Type 0
+SomeList phases text = (list : List Breach) × Breaches phases text list
+
+-- that of the phases after one that finds none
+and_before : (phase : Phase) (phases : List Phase) (text : List ℕ) → Finds phase text []
+    → SomeList phases text → SomeList (phase ∷ phases) text
+and_before phase phases text passes (list, found) =
+    (list, later phase phases text list passes found)
+
+size_decides : (text : List ℕ) (program : Small) → IsProgram text program
+    → (found : Option TooLarge) → first_too_large (functions_of program) ≡ found
+    → SomeList (Size ∷ []) text
+size_decides text program is None fits =
+    ([], later Size [] text [] (within program is fits) (none text))
+size_decides text program is (Some function) large =
+    (_, first Size [] text _ [] (too_large program function is large))
+
+form_decides : (text : List ℕ) → IsUtf8 text → (tokens : List Token) → IsTokens text tokens
+    → Pass (Syntax ∷ Declarations ∷ Types ∷ Isolation ∷ Sharing ∷ []) text
+    → ((program : Small) × Spells program (spelling_of text tokens))
+    ⊎ ((n : ℕ) × IsUnexpected (spelling_of text tokens) n) → SomeList after_sharing text
+form_decides text utf8 tokens are (syntax, (declarations, (types, (isolation, (sharing, _)))))
+    (inl (program, spells)) =
+    let is : IsProgram text program = record {
+      utf8 = utf8;
+      tokens = tokens;
+      are_tokens = are;
+      syntax = syntax;
+      declarations = declarations;
+      types = types;
+      isolation = isolation;
+      sharing = sharing;
+      spells = spells;
+    } in
+    and_before SmallForm (Size ∷ []) text (spelled tokens program are spells)
+    (size_decides text program is (first_too_large (functions_of program)) refl)
+form_decides text utf8 tokens are pass (inr (n, place)) =
+    (_, first SmallForm _ text _ [] (unexpected tokens n are place))
+
+-- A text that spells a program, whose declarations keep the rules and make a world, has a list of
+-- breaches by the phases that follow.
+module _ (text : List ℕ) (utf8 : IsUtf8 text) (tokens : List Token) (are : IsTokens text tokens)
+    (decls : List Decl) (is : IsProgramOf decls (spelling_of text tokens))
+    (keeps : DeclarationsFinds text []) (world : World) (is_world : IsWorldOf decls Concurrent world)
+  where
+    by_shared : TypesFinds text [] → IsolationFinds text [] → (races : List Placed)
+        → Shared world decls races → SomeList after_isolation text
+    by_shared types isolation [] all =
+        let sharing : SharingFinds text [] = shares tokens decls world [] are is is_world all in
+        and_before Sharing after_sharing text sharing (form_decides text utf8 tokens are
+        (spells_program tokens decls are is, (keeps, (types, (isolation, (sharing, tt)))))
+        (program_or_unexpected (spelling_of text tokens) (tokens_spelled text tokens utf8 are)))
+    by_shared types isolation (race ∷ races) all =
+        (_, first Sharing _ text _ _ (shares tokens decls world (race ∷ races) are is is_world all))
+
+    by_refusal : TypesFinds text [] → (found : Option Placed) → FirstRefusal world decls found
+        → SomeList after_types text
+    by_refusal types None none_refused =
+        let isolation = keeps_apart tokens decls world are is is_world none_refused in
+        let (races, all) = some_merged (all_races world (answers_of_program world decls) decls) in
+        and_before Isolation after_isolation text isolation (by_shared types isolation races all)
+    by_refusal types (Some placed) some =
+        (_, first Isolation _ text _ [] (reaches_out tokens decls world placed are is is_world some))
+
+    by_ill : (found : Option Placed) → IsFirstIll world decls found
+        → SomeList after_declarations text
+    by_ill None none_ill =
+        let types = well_typed tokens decls world are is is_world none_ill in
+        let (placed, is_first) = some_first (refusals world (answers_of_program world decls) decls) in
+        and_before Types after_types text types (by_refusal types placed is_first)
+    by_ill (Some placed) some =
+        (_, first Types _ text _ [] (ill_typed tokens decls world placed are is is_world some))
+
+declarations_decide : (text : List ℕ) → IsUtf8 text → (tokens : List Token)
+    → IsTokens text tokens → (decls : List Decl) → IsProgramOf decls (spelling_of text tokens)
+    → (found : Option Placed) → IsFirstBreach decls found → SomeList after_syntax text
+declarations_decide text utf8 tokens are decls is None keeps_them =
+    let keeps = keeps_all tokens decls are is keeps_them in
+    let (world, is_world) = some_world decls Concurrent in
+    let (placed, is_first) = some_first_ill world decls in
+    and_before Declarations after_declarations text keeps
+    (by_ill text utf8 tokens are decls is keeps world is_world placed is_first)
+declarations_decide text utf8 tokens are decls is (Some placed) some =
+    (_, first Declarations _ text _ [] (breaks_one tokens decls placed are is some))
+
+syntax_decides : (text : List ℕ) → IsUtf8 text → (tokens : List Token) → IsTokens text tokens
+    → ((decls : List Decl) × IsProgramOf decls (spelling_of text tokens))
+    ⊎ ((fault : ParseFault) × IsSyntaxFault (spelling_of text tokens) fault)
+    → SomeList after_lexis text
+syntax_decides text utf8 tokens are (inl (decls, is)) =
+    let (placed, is_first) = some_first_breach decls in
+    and_before Syntax after_syntax text (spells_program tokens decls are is)
+    (declarations_decide text utf8 tokens are decls is placed is_first)
+syntax_decides text utf8 tokens are (inr (fault, place)) =
+    (_, first Syntax _ text _ [] (has_syntax_fault tokens fault are place))
+
+lexis_decides : (text : List ℕ) → IsUtf8 text → (read : Result (List Token) LexFault)
+    → HasTokens text read → SomeList (Lexis ∷ after_lexis) text
+lexis_decides text utf8 (Err fault) place = (_, first Lexis _ text _ [] (has_fault fault place))
+lexis_decides text utf8 (Ok tokens) are =
+    and_before Lexis after_lexis text (has_tokens tokens are)
+    (syntax_decides text utf8 tokens are
+    (programs.decided (spelling_of text tokens) (tokens_spelled text tokens utf8 are)))
+
 -- every text has a list of breaches
-some_list : (text : List ℕ) → (list : List Breach) × Breaches all_phases text list
-some_list text = by_encoding (test_utf8 text) refl where
-  -- what the phases after the tokens find
-  after_lexis : IsUtf8 text → (tokens : List Token) → IsTokens text tokens
-      → (list : List Breach) × Breaches (Syntax ∷ Declarations ∷ Types ∷ SmallForm ∷ Size ∷ []) text list
-      → (list : List Breach) × Breaches all_phases text list
-  after_lexis utf8 tokens are (list, found) = (
-    list,
-    later Encoding _ text list (is_utf8 utf8) (later Lexis _ text list (has_tokens tokens are) found),
-  )
-
-  by_size : (program : Small) → IsProgram text program → (found : Option TooLarge)
-      → first_too_large (functions_of program) ≡ found
-      → (list : List Breach) × Breaches (Size ∷ []) text list
-  by_size program is None fits = ([], later Size [] text [] (within program is fits) (none text))
-  by_size program is (Some function) large =
-      (_, first Size [] text _ [] (too_large program function is large))
-
-  by_form : IsUtf8 text → (tokens : List Token) → IsTokens text tokens → SyntaxFinds text []
-      → DeclarationsFinds text [] → TypesFinds text []
-      → ((program : Small) × Spells program (spelling_of text tokens))
-      ⊎ ((n : ℕ) × IsUnexpected (spelling_of text tokens) n)
-      → (list : List Breach) × Breaches (SmallForm ∷ Size ∷ []) text list
-  by_form utf8 tokens are syntax declarations types (inl (program, spells)) =
-      let is : IsProgram text program = record {
-        utf8 = utf8;
-        tokens = tokens;
-        are_tokens = are;
-        syntax = syntax;
-        declarations = declarations;
-        types = types;
-        spells = spells;
-      } in
-      let (list, found) = by_size program is (first_too_large (functions_of program)) refl in
-      (list, later SmallForm _ text list (spelled tokens program are spells) found)
-  by_form utf8 tokens are syntax declarations types (inr (n, place)) =
-      (_, first SmallForm _ text _ [] (unexpected tokens n are place))
-
-  by_ill : IsUtf8 text → (tokens : List Token) → IsTokens text tokens → (decls : List Decl)
-      → IsProgramOf decls (spelling_of text tokens) → DeclarationsFinds text [] → (world : World)
-      → IsWorldOf decls Concurrent world → (found : Option Placed) → IsFirstIll world decls found
-      → (list : List Breach) × Breaches (Types ∷ SmallForm ∷ Size ∷ []) text list
-  by_ill utf8 tokens are decls is keeps world is_world None none_ill =
-      let well = well_typed tokens decls world are is is_world none_ill in
-      let (list, found) = by_form utf8 tokens are (spells_program tokens decls are is) keeps well
-      (program_or_unexpected (spelling_of text tokens) (tokens_spelled text tokens utf8 are)) in
-      (list, later Types _ text list well found)
-  by_ill utf8 tokens are decls is keeps world is_world (Some placed) some =
-      (_, first Types _ text _ [] (ill_typed tokens decls world placed are is is_world some))
-
-  by_first : IsUtf8 text → (tokens : List Token) → IsTokens text tokens → (decls : List Decl)
-      → IsProgramOf decls (spelling_of text tokens) → (found : Option Placed)
-      → IsFirstBreach decls found
-      → (list : List Breach) × Breaches (Declarations ∷ Types ∷ SmallForm ∷ Size ∷ []) text list
-  by_first utf8 tokens are decls is None keeps_them =
-      let keeps = keeps_all tokens decls are is keeps_them in
-      let (world, is_world) = some_world decls Concurrent in
-      let (placed, is_first) = some_first_ill world decls in
-      let (list, found) = by_ill utf8 tokens are decls is keeps world is_world placed is_first in
-      (list, later Declarations _ text list keeps found)
-  by_first utf8 tokens are decls is (Some placed) some =
-      (_, first Declarations _ text _ [] (breaks_one tokens decls placed are is some))
-
-  by_syntax : IsUtf8 text → (tokens : List Token) → IsTokens text tokens
-      → ((decls : List Decl) × IsProgramOf decls (spelling_of text tokens))
-      ⊎ ((fault : ParseFault) × IsSyntaxFault (spelling_of text tokens) fault)
-      → (list : List Breach) × Breaches (Syntax ∷ Declarations ∷ Types ∷ SmallForm ∷ Size ∷ []) text list
-  by_syntax utf8 tokens are (inl (decls, is)) =
-      let (placed, is_first) = some_first_breach decls in
-      let (list, found) = by_first utf8 tokens are decls is placed is_first in
-      (list, later Syntax _ text list (spells_program tokens decls are is) found)
-  by_syntax utf8 tokens are (inr (fault, place)) =
-      (_, first Syntax _ text _ [] (has_syntax_fault tokens fault are place))
-
-  by_tokens : IsUtf8 text → (read : Result (List Token) LexFault) → HasTokens text read
-      → (list : List Breach) × Breaches all_phases text list
-  by_tokens utf8 (Err fault) place =
-      (_, later Encoding _ text _ (is_utf8 utf8) (first Lexis _ text _ [] (has_fault fault place)))
-  by_tokens utf8 (Ok tokens) are =
-      after_lexis utf8 tokens are (by_syntax utf8 tokens are
-      (programs.decided (spelling_of text tokens) (tokens_spelled text tokens utf8 are)))
-
-  by_encoding : (test : Bool) → test_utf8 text ≡ test → (list : List Breach)
-      × Breaches all_phases text list
-  by_encoding false is = (
+some_list : (text : List ℕ) → SomeList all_phases text
+some_list text = by (test_utf8 text) refl where
+  by : (test : Bool) → test_utf8 text ≡ test → SomeList all_phases text
+  by false is = (
     _,
     first Encoding _ text _ [] (not_utf8 (λ utf8. cc (is_utf8-from_IsUtf8 text utf8, is))),
   )
-  by_encoding true is =
+  by true is =
       let utf8 = IsUtf8-from_is_utf8 text is in
-      by_tokens utf8 (tokens_or_fault text) (tokens_or_fault-HasTokens text utf8)
+      and_before Encoding (Lexis ∷ after_lexis) text (is_utf8 utf8)
+      (lexis_decides text utf8 (tokens_or_fault text) (tokens_or_fault-HasTokens text utf8))
 
 pub decided : (text : List ℕ) → Accepts text ⊎ Refuses all_phases text
 decided text = let (list, found) = some_list text in by list found where
@@ -473,8 +636,8 @@ sized text (within program is fits) = (program, is, fits)
 -- an accepted text has a program none of whose functions is too large
 accepted_program : (text : List ℕ) → Accepts text → (program : Small) × IsProgram text program
     × (first_too_large (functions_of program) ≡ None)
-accepted_program text (later _ _ _ _ _ (later _ _ _ _ _ (later _ _ _ _ _
-    (later _ _ _ _ _ (later _ _ _ _ _ (later _ _ _ _ _ (later _ _ _ _ size _))))))) =
+accepted_program text accepts =
+    let (_, (_, (_, (_, (_, (_, (_, (_, (size, _))))))))) = passed all_phases text accepts in
     sized text size
 
 pub some_graph_of : (text : List ℕ) → Accepts text → (graph : Graph) × IsGraphOf text graph
@@ -486,13 +649,31 @@ some_graph_of text accepts =
 pub program_accepted : (text : List ℕ) (program : Small) → IsProgram text program
     → first_too_large (functions_of program) ≡ None → Accepts text
 program_accepted text program is fits =
-    later Encoding _ text [] (is_utf8 is.utf8)
-    (later Lexis _ text [] (has_tokens is.tokens is.are_tokens)
-    (later Syntax _ text [] is.syntax
-    (later Declarations _ text [] is.declarations
-    (later Types _ text [] is.types
-    (later SmallForm _ text [] (spelled is.tokens program is.are_tokens is.spells)
-    (later Size [] text [] (within program is fits) (none text)))))))
+    all_pass all_phases text (
+      is_utf8 is.utf8,
+      (
+        has_tokens is.tokens is.are_tokens,
+        (
+          is.syntax,
+          (
+            is.declarations,
+            (
+              is.types,
+              (
+                is.isolation,
+                (
+                  is.sharing,
+                  (
+                    spelled is.tokens program is.are_tokens is.spells,
+                    (within program is fits, tt),
+                  ),
+                ),
+              ),
+            ),
+          ),
+        ),
+      ),
+    )
 
 pub one_graph_of : (text : List ℕ) (a b : Graph) → IsGraphOf text a → IsGraphOf text b → a ≡ b
 one_graph_of text a b is_a is_b =
@@ -501,37 +682,58 @@ one_graph_of text a b is_a is_b =
     (one_text_program text is_a.program is_b.program is_a.of_text is_b.of_text) is_a.lowered)
     is_b.lowered
 
--- the declarations that were read of a text
-pub decls_read : (text source : List ℕ) (tokens given : List Token) (decls : List Decl)
-    → source ≡ text → given ≡ tokens → IsProgramOf decls (spelling_of source given)
-    → IsProgramOf decls (spelling_of text tokens)
-decls_read text source tokens given decls same handed is =
-    subst (λ source. IsProgramOf decls (spelling_of source tokens)) same
-    (subst (λ tokens. IsProgramOf decls (spelling_of source tokens)) handed is)
-
 -- the declarations of a text within the limit are few
-pub few_decls : (text source : List ℕ) (tokens given : List Token) (decls : List Decl)
-    → source ≡ text → given ≡ tokens → IsTokens source tokens → length decls ≤ length given
-    → length text ≤ MAX_LENGTH → length decls < 2 ^ 31
-few_decls text source tokens given decls same handed are few short =
-    omega (arith, few, ap length handed, ap length same, IsTokens-few source tokens are, short)
+pub few_decls : (text : List ℕ) (tokens : List Token) (decls : List Decl) → IsTokens text tokens
+    → length decls ≤ length tokens → length text ≤ MAX_LENGTH → length decls < 2 ^ 31
+few_decls text tokens decls are few short =
+    omega (arith, few, IsTokens-few text tokens are, short)
+
+-- a text with its tokens and the program that was read of them
+pub spelled_read : (text : List ℕ) (read : Read) (given : List Token) → read.source ≡ text
+    → given ≡ read.tokens.items → IsTokens read.source read.tokens.items
+    → IsProgramOf read.program.decls (spelling_of read.source given)
+    → length read.program.decls ≤ length given → length text ≤ MAX_LENGTH → IsSpelled text read
+spelled_read text read given same handed are is few short =
+    let are_tokens = subst (λ source. IsTokens source read.tokens.items) same are in
+    record {
+      source = same;
+      are_tokens = are_tokens;
+      is_program = subst
+          (λ source. IsProgramOf read.program.decls (spelling_of source read.tokens.items)) same
+          (subst (λ tokens. IsProgramOf read.program.decls (spelling_of read.source tokens)) handed
+          is);
+      few = few_decls text read.tokens.items read.program.decls are_tokens
+          (omega (arith, few, ap length handed)) short;
+    }
 
 -- the program that was read of a text
-pub program_read : (text source : List ℕ) (tokens given : List Token) (program : Small)
-    → source ≡ text → given ≡ tokens → EncodingFinds text [] → IsTokens source tokens
-    → SyntaxFinds source [] → DeclarationsFinds text [] → TypesFinds text []
-    → Spells program (spelling_of source given) → IsProgram text program
-program_read text source tokens given program same handed utf8 are syntax declarations types spells
-    = record {
+pub program_read : (text : List ℕ) (read : Read) (given : List Token) (program : Small)
+    → IsSpelled text read → given ≡ read.tokens.items → Pass (Encoding ∷ Lexis ∷ Syntax ∷ []) text
+    → Pass (Declarations ∷ Types ∷ Isolation ∷ Sharing ∷ []) text
+    → Spells program (spelling_of read.source given) → IsProgram text program
+program_read text read given program is handed (utf8, (_, (syntax, _)))
+    (declarations, (types, (isolation, (sharing, _)))) spells = record {
       utf8 = utf8_found text utf8;
-      tokens = tokens;
-      are_tokens = subst (λ source. IsTokens source tokens) same are;
-      syntax = subst (λ source. SyntaxFinds source []) same syntax;
+      tokens = read.tokens.items;
+      are_tokens = is.are_tokens;
+      syntax = syntax;
       declarations = declarations;
       types = types;
-      spells = subst (λ source. Spells program (spelling_of source tokens)) same
-          (subst (λ tokens. Spells program (spelling_of source tokens)) handed spells);
+      isolation = isolation;
+      sharing = sharing;
+      spells = subst (λ source. Spells program (spelling_of source read.tokens.items)) is.source
+          (subst (λ tokens. Spells program (spelling_of read.source tokens)) handed spells);
     }
+
+-- the graph of a text's program, where it has one
+pub verdict_graph : (text : List ℕ) (program : Small) (result : Result Graph Refusal)
+    → IsProgram text program → IfOk result (IsLowered program)
+    → IfOk result (λ graph. IsVerdict all_phases text (Ok graph))
+verdict_graph text program (Err refusal) is lowered = tt
+verdict_graph text program (Ok graph) is lowered = (
+  program_accepted text program is (lowered_within program graph lowered),
+  record { program = program; of_text = is; lowered = lowered },
+)
 
 -- a program is no larger than its text
 pub size_of-program : (text : List ℕ) (program : Small) → IsProgram text program

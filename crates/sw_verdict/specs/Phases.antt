@@ -1,6 +1,6 @@
 -- The phases of the verdict. Each says which breaches it finds in a text in which the phases before
 -- it find none.
-use Rattle.std.specs.Prelude.{◌≡◌, ℕ, List, [], ◌∷◌, length, slice_get, Some, None}
+use Rattle.std.specs.Prelude.{◌≡◌, ℕ, List, [], ◌∷◌, length, map, slice_get, Some, None}
 use Rattle.std.specs.Option.{option_map_or}
 use Rattle.std.specs.Str.{IsUtf8}
 use Rattle.std.specs.Str.Lossy.{utf8_valid_len}
@@ -24,8 +24,11 @@ use Rattle.sw_small.specs.Small.{Spells, IsUnexpected}
 use Rattle.sw_resolve.specs.declared.placed.Placed.{Placed}
 use Rattle.sw_decls.specs.Declaring.{IsFirstBreach}
 use Rattle.sw_decls.specs.declared.signature.AsyncDefault.TheVariants.{Concurrent}
-use Rattle.sw_typing_rules.specs.Programs.{IsFirstIll}
+use Rattle.sw_typing_rules.specs.Programs.{IsFirstIll, said}
 use Rattle.sw_typing_rules.specs.Worlds.{IsWorldOf, World}
+use Rattle.sw_isolation_rules.specs.Answers.{Answers, answers_in}
+use Rattle.sw_isolation_rules.specs.Programs.{IsFirstRefusal}
+use Rattle.sw_isolation_rules.specs.Races.{AreRaces}
 
 pub data Phase : Type 0 where
   -- the text is UTF-8
@@ -38,6 +41,10 @@ pub data Phase : Type 0 where
   Declarations : Phase
   -- the program has types: no node of it is ill
   Types : Phase
+  -- each body keeps to its isolation, and awaits what leaves it
+  Isolation : Phase
+  -- no value is shared that may not be
+  Sharing : Phase
   -- the program has only forms that can be run so far: those of the small language
   SmallForm : Phase
   -- the program's functions are no larger than those of a graph
@@ -45,7 +52,8 @@ pub data Phase : Type 0 where
 
 -- the phases that are built, in order
 abbrev pub all_phases : List Phase
-all_phases = Encoding ∷ Lexis ∷ Syntax ∷ Declarations ∷ Types ∷ SmallForm ∷ Size ∷ []
+all_phases =
+    Encoding ∷ Lexis ∷ Syntax ∷ Declarations ∷ Types ∷ Isolation ∷ Sharing ∷ SmallForm ∷ Size ∷ []
 
 -- the code of a text that isn't UTF-8
 abbrev pub not_utf8_code : ℕ
@@ -72,9 +80,13 @@ abbrev pub size_code : Excess → ℕ
 size_code Registers = 510
 size_code Points = 511
 
+-- a breach without a note
+abbrev pub breach_of : Placed → Breach
+breach_of placed = record { code = placed.code; at = placed.at; note = None }
+
 -- one breach without a note
 abbrev pub breach_at : ℕ → ℕ → List Breach
-breach_at code at = record { code = code; at = at; note = None } ∷ []
+breach_at code at = breach_of (record { at = at; code = code }) ∷ []
 
 -- The breach is at the first byte after the longest prefix that is UTF-8.
 pub data EncodingFinds (text : List ℕ) : List Breach → Type 0 where
@@ -129,6 +141,30 @@ pub data TypesFinds (text : List ℕ) : List Breach → Type 0 where
       → IsWorldOf decls Concurrent world → IsFirstIll world decls (Some placed)
       → TypesFinds text (breach_at placed.code placed.at)
 
+-- the types and meanings of a program's nodes, by key
+abbrev pub answers_of_program : World → List Decl → Answers
+answers_of_program world decls = answers_in (said world decls)
+
+-- The breach is the first of the rules on isolation (SE-0306, SE-0316, SE-0338, SE-0412).
+pub data IsolationFinds (text : List ℕ) : List Breach → Type 0 where
+  keeps_apart : (tokens : List Token) (decls : List Decl) (world : World) → IsTokens text tokens
+      → IsProgramOf decls (spelling_of text tokens) → IsWorldOf decls Concurrent world
+      → IsFirstRefusal world (answers_of_program world decls) decls None → IsolationFinds text []
+  reaches_out : (tokens : List Token) (decls : List Decl) (world : World) (placed : Placed)
+      → IsTokens text tokens → IsProgramOf decls (spelling_of text tokens)
+      → IsWorldOf decls Concurrent world
+      → IsFirstRefusal world (answers_of_program world decls) decls (Some placed)
+      → IsolationFinds text (breach_at placed.code placed.at)
+
+-- The breaches are all values that may not be shared, by position and then by code, each once
+-- (SE-0302, SE-0414, SE-0430).
+pub data SharingFinds (text : List ℕ) : List Breach → Type 0 where
+  shares : (tokens : List Token) (decls : List Decl) (world : World) (races : List Placed)
+      → IsTokens text tokens → IsProgramOf decls (spelling_of text tokens)
+      → IsWorldOf decls Concurrent world
+      → AreRaces world (answers_of_program world decls) decls races
+      → SharingFinds text (map breach_of races)
+
 -- The breach is at the first token with which no program of the small language goes on.
 pub data SmallFormFinds (text : List ℕ) : List Breach → Type 0 where
   spelled : (tokens : List Token) (program : Small) → IsTokens text tokens
@@ -139,7 +175,8 @@ pub data SmallFormFinds (text : List ℕ) : List Breach → Type 0 where
       → SmallFormFinds text (breach_at not_built (token_position text tokens n))
 
 -- the text is that of the program: it is UTF-8, and its tokens spell the program, which has no
--- breach of the syntax or of the rules on declarations, and no ill node
+-- breach of the syntax or of the rules on declarations, of types and on isolation, and shares no
+-- value that may not be shared
 pub record IsProgram (text : List ℕ) (program : Small) : Type 0 where
   pub utf8 : IsUtf8 text
   pub tokens : List Token
@@ -147,6 +184,8 @@ pub record IsProgram (text : List ℕ) (program : Small) : Type 0 where
   pub syntax : SyntaxFinds text []
   pub declarations : DeclarationsFinds text []
   pub types : TypesFinds text []
+  pub isolation : IsolationFinds text []
+  pub sharing : SharingFinds text []
   pub spells : Spells program (spelling_of text tokens)
 
 -- The breach is at the key of the first function that is too large.
@@ -165,5 +204,7 @@ Finds Lexis text list = LexisFinds text list
 Finds Syntax text list = SyntaxFinds text list
 Finds Declarations text list = DeclarationsFinds text list
 Finds Types text list = TypesFinds text list
+Finds Isolation text list = IsolationFinds text list
+Finds Sharing text list = SharingFinds text list
 Finds SmallForm text list = SmallFormFinds text list
 Finds Size text list = SizeFinds text list

@@ -1,6 +1,6 @@
 //! One function for each phase.
 
-ghost use Rattle.std.specs.Prelude.{◌≡◌, ◌≢◌, ◌≤◌, ◌<◌, ◌^◌, ℕ, List, IfOk, OnOk, length};
+ghost use Rattle.std.specs.Prelude.{◌≡◌, ◌≢◌, ◌≤◌, ◌<◌, ◌^◌, ℕ, List, IfOk, OnOk, length, map};
 ghost use Rattle.sw_token.specs.declared.Token.{Token};
 ghost use Rattle.sw_token.specs.Tokens.{IsTokens, position_of};
 ghost use Rattle.sw_token.specs.Spelling.{spelling_of};
@@ -9,7 +9,12 @@ ghost use Rattle.sw_small.specs.Lower.{size_of, IsLowered};
 ghost use Rattle.sw_parse_decl.specs.Programs.{IsProgramOf};
 ghost use Rattle.sw_decls.specs.Declaring.{IsDeclared};
 ghost use Rattle.sw_decls.specs.declared.signature.AsyncDefault.TheVariants.{Concurrent};
+ghost use Rattle.sw_typing.specs.Typed.{IsTyped};
+ghost use Rattle.sw_typing_rules.specs.Worlds.{world_of};
+ghost use Rattle.sw_capture.specs.Known.{answers_of};
+ghost use Rattle.sw_isolation.specs.Isolated.{IsIsolated};
 ghost use Rattle.sw_verdict.specs.Phases.{Encoding, Lexis, Syntax, Declarations, Types};
+ghost use Rattle.sw_verdict.specs.Phases.{Isolation, Sharing, breach_of};
 ghost use Rattle.sw_verdict.specs.Phases.{SmallForm, Size, Finds};
 ghost use Rattle.sw_verdict.specs.Phases.{IsProgram, breach_at, lexical_code, syntax_code};
 ghost use Rattle.sw_verdict.specs.Phases.{token_of, size_code, token_position};
@@ -19,9 +24,11 @@ use std::alloc::{AllocError, Global};
 use sw_breach::Breach;
 use sw_decls::{AsyncDefault, DeclFault, Decls, declare};
 use sw_graph::{Excess, Graph};
+use sw_isolation::{IsoFault, Isolated, isolate, race_forms};
 use sw_list::ListOf;
 use sw_parse_body::program;
 use sw_parse_decl::ParseFault;
+use sw_resolve::Placed;
 use sw_small::{LowerFault, ParseFault as SmallFault, Small, lower, parse};
 use sw_text::{MAX_LENGTH, Source, TextFault};
 use sw_token::{LexFault, Token, tokens};
@@ -78,16 +85,22 @@ impl From<AllocError> for Refusal {
     }
 }
 
+/// A breach without a note.
+fn breach_of(placed: Placed) -> Breach
+    ensures { result ≡ breach_of placed }
+{
+    Breach {
+        code: placed.code,
+        at: placed.at,
+        note: None,
+    }
+}
+
 /// The refusal for one breach, which has no note.
 fn refused(alloc: Global, code: u16, at: u32) -> Refusal
     ensures { result ≢ Refusal.Memory → result ≡ Refusal.Breached (breach_at code at) }
 {
-    let breach = Breach {
-        code,
-        at,
-        note: None,
-    };
-    match ListOf::one(alloc, breach) {
+    match ListOf::one(alloc, breach_of(Placed { at, code })) {
         Ok(breaches) => Refusal::Breached { breaches },
         Err(AllocError) => Refusal::Memory,
     }
@@ -193,14 +206,76 @@ pub fn declarations(alloc: Global, program: &Program) -> Result<Decls, Refusal>
 pub fn types(alloc: Global, program: &Program, declared: &Decls) -> Result<Typed, Refusal>
     requires small { length program.now.decls < 2 ^ 31 }
     requires declared { IsDeclared program.now.decls Concurrent declared.now }
-    ensures { (text : List ℕ) (tokens : List Token) → IsTokens text tokens
+    ensures found { (text : List ℕ) (tokens : List Token) → IsTokens text tokens
         → IsProgramOf program.now.decls (spelling_of text tokens)
         → Found (Finds Types text) result }
+    ensures typed { IfOk result (IsTyped (world_of declared.now) program.now.decls) }
 {
     match type_program(alloc, program, declared) {
         Ok(typed) => Ok(typed),
         Err(TypeFault::Breach { code, at }) => Err(refused(alloc, code, at)),
         Err(TypeFault::Memory) => Err(Refusal::Memory),
+    }
+}
+
+/// How a program is isolated that declares these and whose nodes have these types.
+pub fn isolation(
+    alloc: Global,
+    program: &Program,
+    declared: &Decls,
+    typed: &Typed,
+) -> Result<Isolated, Refusal>
+    requires small { length program.now.decls < 2 ^ 31 }
+    requires declared { IsDeclared program.now.decls Concurrent declared.now }
+    requires typed { IsTyped (world_of declared.now) program.now.decls typed.now }
+    ensures found { (text : List ℕ) (tokens : List Token) → IsTokens text tokens
+        → IsProgramOf program.now.decls (spelling_of text tokens)
+        → Found (Finds Isolation text) result }
+    ensures isolated { IfOk result
+        (IsIsolated (world_of declared.now) (answers_of typed.now) program.now.decls) }
+{
+    match isolate(alloc, program, declared, typed) {
+        Ok(isolated) => Ok(isolated),
+        Err(IsoFault::Breach { code, at }) => Err(refused(alloc, code, at)),
+        Err(IsoFault::Memory) => Err(Refusal::Memory),
+    }
+}
+
+/// Breaches without notes.
+fn breaches_of(alloc: Global, races: &[Placed]) -> Result<ListOf<Breach>, AllocError>
+    ensures { IfOk result (λ breaches. breaches ≡ map breach_of races.now) }
+{
+    let mut breaches = ListOf::new(alloc);
+    for race in races {
+        breaches.push(breach_of(*race))?;
+    }
+    Ok(breaches)
+}
+
+/// Refuses a program that shares values that may not be shared. It declares these, its nodes have
+/// these types, and it is isolated so.
+pub fn sharing(
+    alloc: Global,
+    program: &Program,
+    declared: &Decls,
+    typed: &Typed,
+    isolated: &Isolated,
+) -> Result<(), Refusal>
+    requires small { length program.now.decls < 2 ^ 31 }
+    requires declared { IsDeclared program.now.decls Concurrent declared.now }
+    requires typed { IsTyped (world_of declared.now) program.now.decls typed.now }
+    requires isolated { IsIsolated (world_of declared.now) (answers_of typed.now)
+        program.now.decls isolated.now }
+    ensures { (text : List ℕ) (tokens : List Token) → IsTokens text tokens
+        → IsProgramOf program.now.decls (spelling_of text tokens)
+        → Found (Finds Sharing text) result }
+{
+    let races = race_forms(alloc, declared, typed, isolated)?;
+    let breaches = breaches_of(alloc, races.as_slice())?;
+    if breaches.is_empty() {
+        Ok(())
+    } else {
+        Err(Refusal::Breached { breaches })
     }
 }
 

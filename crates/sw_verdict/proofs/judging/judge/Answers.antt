@@ -1,168 +1,83 @@
 use Rattle.std.proofs.Common.{[], ◌∷◌, subst}
-use Rattle.sw_token.specs.Tokens.{IsTokens}
-use Rattle.sw_verdict.specs.Phases.{Encoding, Lexis, Syntax, Declarations, Types, SmallForm, Size}
-use Rattle.sw_verdict.specs.Phases.{Finds}
+use Rattle.sw_verdict.specs.Phases.{Declarations, Encoding, Isolation, Lexis, Sharing, SmallForm}
+use Rattle.sw_verdict.specs.Phases.{Size, Syntax, Types, all_phases, Finds}
 use Rattle.sw_verdict.specs.Found.{FoundBy}
-use Rattle.sw_small.proofs.OneGraph.{lowered_within}
-use Rattle.sw_verdict.proofs.InOrder.{stopped_after}
-use Rattle.sw_verdict.proofs.Verdicts.{program_accepted, program_read, decls_read, few_decls}
-use Rattle.sw_verdict.proofs.Verdicts.{size_of-program}
+use Rattle.sw_verdict.proofs.InOrder.{breaches_decided, decided_by, last_found, passed, stopped}
+use Rattle.sw_verdict.proofs.Verdicts.{program_read, size_of-program, verdict_graph}
 use Rattle.sw_verdict.proofs.judging.judge.Goals as goal
 
-pub returns-in_err-source-clause-breaches : goal.returns-in_err-source-clause-breaches
-returns-in_err-source-clause-breaches c =
-    stopped_after [] Encoding (Lexis ∷ Syntax ∷ Declarations ∷ Types ∷ SmallForm ∷ Size ∷ [])
-    c.args.text.now c.in_err-source.field-0.0 _ tt c.in_err-source.ensures.found
-    c.from_residual.ensures.1
+pub returns-in_err-spelled-clause-breaches : goal.returns-in_err-spelled-clause-breaches
+returns-in_err-spelled-clause-breaches c =
+    breaches_decided all_phases c.args.text.now _ (stopped [] (Encoding ∷ Lexis ∷ Syntax ∷ [])
+    (Declarations ∷ Types ∷ Isolation ∷ Sharing ∷ SmallForm ∷ Size ∷ []) c.args.text.now
+    c.in_err-spelled.field-0.0 _ tt c.in_err-spelled.ensures.decided c.from_residual.ensures.1)
 
-pub returns-in_err-tokens-clause-breaches : goal.returns-in_err-tokens-clause-breaches
-returns-in_err-tokens-clause-breaches c =
-    let found = subst (λ source. FoundBy (Finds Lexis source) c.in_err-tokens.field-0.0)
-    c.in_ok-source.ensures.same c.in_err-tokens.ensures.found in
-    stopped_after (Encoding ∷ []) Lexis (Syntax ∷ Declarations ∷ Types ∷ SmallForm ∷ Size ∷ [])
-    c.args.text.now c.in_err-tokens.field-0.0 _ (c.in_ok-source.ensures.found, tt) found
-    c.from_residual-in_err-tokens.ensures.1
-
-pub returns-in_err-program-clause-breaches : goal.returns-in_err-program-clause-breaches
-returns-in_err-program-clause-breaches c =
-    let same = c.in_ok-source.ensures.same in
-    let lexis = subst (λ source. Finds Lexis source []) same c.in_ok-tokens.ensures.found in
-    let found = subst (λ source. FoundBy (Finds Syntax source) c.in_err-program.field-0.0) same
-    c.in_err-program.ensures.found in
-    stopped_after (Encoding ∷ Lexis ∷ []) Syntax (Declarations ∷ Types ∷ SmallForm ∷ Size ∷ [])
-    c.args.text.now c.in_err-program.field-0.0 _ (c.in_ok-source.ensures.found, (lexis, tt)) found
-    c.from_residual-in_err-program.ensures.1
-
-pub declarations-requires : goal.declarations-requires
-declarations-requires c =
-    few_decls c.args.text.now c.in_ok-source.source c.in_ok-tokens.tokens.items
-    c.deref.result.now c.in_ok-program.program.decls c.in_ok-source.ensures.same
-    c.deref.ensures.value c.in_ok-tokens.ensures.tokens c.in_ok-program.ensures.few c.requires
-
-pub returns-in_err-declared-clause-breaches : goal.returns-in_err-declared-clause-breaches
-returns-in_err-declared-clause-breaches c =
+pub returns-in_err-judge_program-clause-breaches : goal.returns-in_err-judge_program-clause-breaches
+returns-in_err-judge_program-clause-breaches c =
     let text = c.args.text.now in
-    let same = c.in_ok-source.ensures.same in
-    let lexis = subst (λ source. Finds Lexis source []) same c.in_ok-tokens.ensures.found in
-    let tokens = subst (λ source. IsTokens source c.in_ok-tokens.tokens.items) same
-    c.in_ok-tokens.ensures.tokens in
-    let syntax = subst (λ source. Finds Syntax source []) same c.in_ok-program.ensures.found in
-    let decls = decls_read text c.in_ok-source.source c.in_ok-tokens.tokens.items
-    c.deref.result.now c.in_ok-program.program.decls same c.deref.ensures.value
-    c.in_ok-program.ensures.program in
-    stopped_after (Encoding ∷ Lexis ∷ Syntax ∷ []) Declarations (Types ∷ SmallForm ∷ Size ∷ []) text
-    c.in_err-declared.field-0.0 _ (c.in_ok-source.ensures.found, (lexis, (syntax, tt)))
-    (c.in_err-declared.ensures.found text c.in_ok-tokens.tokens.items tokens decls)
-    c.from_residual-in_err-declared.ensures.1
-
-pub types-requires-clause-small : goal.types-requires-clause-small
-types-requires-clause-small c =
-    few_decls c.args.text.now c.in_ok-source.source c.in_ok-tokens.tokens.items
-    c.deref.result.now c.in_ok-program.program.decls c.in_ok-source.ensures.same
-    c.deref.ensures.value c.in_ok-tokens.ensures.tokens c.in_ok-program.ensures.few c.requires
-
-pub returns-in_err-types-clause-breaches : goal.returns-in_err-types-clause-breaches
-returns-in_err-types-clause-breaches c =
-    let text = c.args.text.now in
-    let same = c.in_ok-source.ensures.same in
-    let lexis = subst (λ source. Finds Lexis source []) same c.in_ok-tokens.ensures.found in
-    let tokens = subst (λ source. IsTokens source c.in_ok-tokens.tokens.items) same
-    c.in_ok-tokens.ensures.tokens in
-    let syntax = subst (λ source. Finds Syntax source []) same c.in_ok-program.ensures.found in
-    let decls = decls_read text c.in_ok-source.source c.in_ok-tokens.tokens.items
-    c.deref.result.now c.in_ok-program.program.decls same c.deref.ensures.value
-    c.in_ok-program.ensures.program in
-    let declarations = c.in_ok-declared.ensures.found text c.in_ok-tokens.tokens.items tokens
-    decls in
-    stopped_after (Encoding ∷ Lexis ∷ Syntax ∷ Declarations ∷ []) Types (SmallForm ∷ Size ∷ []) text
-    c.in_err-types.field-0.0 _
-    (c.in_ok-source.ensures.found, (lexis, (syntax, (declarations, tt))))
-    (c.in_err-types.ensures text c.in_ok-tokens.tokens.items tokens decls)
-    c.from_residual-in_err-types.ensures.1
+    let is = c.in_ok-spelled.ensures.spelled in
+    let read = passed (Encoding ∷ Lexis ∷ Syntax ∷ []) text c.in_ok-spelled.ensures.decided in
+    breaches_decided all_phases text _ (stopped (Encoding ∷ Lexis ∷ Syntax ∷ [])
+    (Declarations ∷ Types ∷ Isolation ∷ Sharing ∷ []) (SmallForm ∷ Size ∷ []) text
+    c.in_err-judge_program.field-0.0 _ read
+    (c.in_err-judge_program.ensures text c.in_ok-spelled.spelled.tokens.items is.are_tokens
+    is.is_program) c.from_residual-in_err-judge_program.ensures.1)
 
 pub returns-in_err-small-clause-breaches : goal.returns-in_err-small-clause-breaches
 returns-in_err-small-clause-breaches c =
     let text = c.args.text.now in
-    let same = c.in_ok-source.ensures.same in
-    let lexis = subst (λ source. Finds Lexis source []) same c.in_ok-tokens.ensures.found in
-    let tokens = subst (λ source. IsTokens source c.in_ok-tokens.tokens.items) same
-    c.in_ok-tokens.ensures.tokens in
-    let syntax = subst (λ source. Finds Syntax source []) same c.in_ok-program.ensures.found in
-    let decls = decls_read text c.in_ok-source.source c.in_ok-tokens.tokens.items
-    c.deref.result.now c.in_ok-program.program.decls same c.deref.ensures.value
-    c.in_ok-program.ensures.program in
-    let declarations = c.in_ok-declared.ensures.found text c.in_ok-tokens.tokens.items tokens
-    decls in
-    let types = c.in_ok-types.ensures text c.in_ok-tokens.tokens.items tokens decls in
-    let found = subst (λ source. FoundBy (Finds SmallForm source) c.in_err-small.field-0.0) same
-    c.in_err-small.ensures.found in
-    stopped_after (Encoding ∷ Lexis ∷ Syntax ∷ Declarations ∷ Types ∷ []) SmallForm (Size ∷ []) text
-    c.in_err-small.field-0.0 _ (c.in_ok-source.ensures.found, (lexis, (syntax, (declarations, (types, tt))))) found
-    c.from_residual-in_err-small.ensures.1
+    let is = c.in_ok-spelled.ensures.spelled in
+    let (utf8, (lexis, (syntax, _))) =
+    passed (Encoding ∷ Lexis ∷ Syntax ∷ []) text c.in_ok-spelled.ensures.decided in
+    let (declarations, (types, (isolation, (sharing, _)))) =
+    passed (Declarations ∷ Types ∷ Isolation ∷ Sharing ∷ []) text (c.in_ok-judge_program.ensures
+    text c.in_ok-spelled.spelled.tokens.items is.are_tokens is.is_program) in
+    let found = subst (λ source. FoundBy (Finds SmallForm source) c.in_err-small.field-0.0)
+    is.source c.in_err-small.ensures.found in
+    breaches_decided all_phases text _ (stopped
+    (Encoding ∷ Lexis ∷ Syntax ∷ Declarations ∷ Types ∷ Isolation ∷ Sharing ∷ [])
+    (SmallForm ∷ []) (Size ∷ []) text c.in_err-small.field-0.0 _
+    (utf8, (lexis, (syntax, (declarations, (types, (isolation, (sharing, tt)))))))
+    (decided_by SmallForm [] text c.in_err-small.field-0.0 found)
+    c.from_residual-in_err-small.ensures.1)
 
 pub size-requires : goal.size-requires
 size-requires c =
     let text = c.args.text.now in
-    let same = c.in_ok-source.ensures.same in
-    let tokens = subst (λ source. IsTokens source c.in_ok-tokens.tokens.items) same
-    c.in_ok-tokens.ensures.tokens in
-    let decls = decls_read text c.in_ok-source.source c.in_ok-tokens.tokens.items
-    c.deref.result.now c.in_ok-program.program.decls same c.deref.ensures.value
-    c.in_ok-program.ensures.program in
-    let declarations = c.in_ok-declared.ensures.found text c.in_ok-tokens.tokens.items tokens
-    decls in
-    let types = c.in_ok-types.ensures text c.in_ok-tokens.tokens.items tokens decls in
-    let is = program_read text c.in_ok-source.source c.in_ok-tokens.tokens.items
-    c.deref-2.result.now c.in_ok-small.small same
-    c.deref-2.ensures.value c.in_ok-source.ensures.found c.in_ok-tokens.ensures.tokens
-    c.in_ok-program.ensures.found declarations types c.in_ok-small.ensures.spells in
-    size_of-program text c.in_ok-small.small is c.requires
-
-pub returns-in_err-graph-clause-breaches : goal.returns-in_err-graph-clause-breaches
-returns-in_err-graph-clause-breaches c =
-    let text = c.args.text.now in
-    let same = c.in_ok-source.ensures.same in
-    let lexis = subst (λ source. Finds Lexis source []) same c.in_ok-tokens.ensures.found in
-    let tokens = subst (λ source. IsTokens source c.in_ok-tokens.tokens.items) same
-    c.in_ok-tokens.ensures.tokens in
-    let syntax = subst (λ source. Finds Syntax source []) same c.in_ok-program.ensures.found in
-    let decls = decls_read text c.in_ok-source.source c.in_ok-tokens.tokens.items
-    c.deref.result.now c.in_ok-program.program.decls same c.deref.ensures.value
-    c.in_ok-program.ensures.program in
-    let declarations = c.in_ok-declared.ensures.found text c.in_ok-tokens.tokens.items tokens
-    decls in
-    let types = c.in_ok-types.ensures text c.in_ok-tokens.tokens.items tokens decls in
-    let form = subst (λ source. Finds SmallForm source []) same c.in_ok-small.ensures.found in
-    let is = program_read text c.in_ok-source.source c.in_ok-tokens.tokens.items
-    c.deref-2.result.now c.in_ok-small.small same
-    c.deref-2.ensures.value c.in_ok-source.ensures.found c.in_ok-tokens.ensures.tokens
-    c.in_ok-program.ensures.found declarations types c.in_ok-small.ensures.spells in
-    stopped_after (Encoding ∷ Lexis ∷ Syntax ∷ Declarations ∷ Types ∷ SmallForm ∷ []) Size [] text
-    c.in_err-graph.field-0.0 _
-    (c.in_ok-source.ensures.found, (lexis, (syntax, (declarations, (types, (form, tt))))))
-    (c.in_err-graph.ensures.found text is) c.from_residual-in_err-graph.ensures.1
+    let is = c.in_ok-spelled.ensures.spelled in
+    let read = passed (Encoding ∷ Lexis ∷ Syntax ∷ []) text c.in_ok-spelled.ensures.decided in
+    let meant = passed (Declarations ∷ Types ∷ Isolation ∷ Sharing ∷ []) text
+    (c.in_ok-judge_program.ensures text c.in_ok-spelled.spelled.tokens.items is.are_tokens
+    is.is_program) in
+    size_of-program text c.in_ok-small.small
+    (program_read text c.in_ok-spelled.spelled c.deref.result.now c.in_ok-small.small is
+    c.deref.ensures.value read meant c.in_ok-small.ensures.spells) c.requires
 
 pub returns-clause-graph : goal.returns-clause-graph
 returns-clause-graph c =
     let text = c.args.text.now in
-    let same = c.in_ok-source.ensures.same in
-    let tokens = subst (λ source. IsTokens source c.in_ok-tokens.tokens.items) same
-    c.in_ok-tokens.ensures.tokens in
-    let decls = decls_read text c.in_ok-source.source c.in_ok-tokens.tokens.items
-    c.deref.result.now c.in_ok-program.program.decls same c.deref.ensures.value
-    c.in_ok-program.ensures.program in
-    let declarations = c.in_ok-declared.ensures.found text c.in_ok-tokens.tokens.items tokens
-    decls in
-    let types = c.in_ok-types.ensures text c.in_ok-tokens.tokens.items tokens decls in
-    let is = program_read text c.in_ok-source.source c.in_ok-tokens.tokens.items
-    c.deref-2.result.now c.in_ok-small.small same
-    c.deref-2.ensures.value c.in_ok-source.ensures.found c.in_ok-tokens.ensures.tokens
-    c.in_ok-program.ensures.found declarations types c.in_ok-small.ensures.spells in (
-      program_accepted text c.in_ok-small.small is
-          (lowered_within c.in_ok-small.small c.in_ok-graph.graph c.in_ok-graph.ensures.lowered),
-      record {
-        program = c.in_ok-small.small;
-        of_text = is;
-        lowered = c.in_ok-graph.ensures.lowered;
-      },
-    )
+    let is = c.in_ok-spelled.ensures.spelled in
+    let read = passed (Encoding ∷ Lexis ∷ Syntax ∷ []) text c.in_ok-spelled.ensures.decided in
+    let meant = passed (Declarations ∷ Types ∷ Isolation ∷ Sharing ∷ []) text
+    (c.in_ok-judge_program.ensures text c.in_ok-spelled.spelled.tokens.items is.are_tokens
+    is.is_program) in
+    verdict_graph text c.in_ok-small.small c.size.result
+    (program_read text c.in_ok-spelled.spelled c.deref.result.now c.in_ok-small.small is
+    c.deref.ensures.value read meant c.in_ok-small.ensures.spells) c.size.ensures.lowered
+
+pub returns-clause-breaches : goal.returns-clause-breaches
+returns-clause-breaches c =
+    let text = c.args.text.now in
+    let is = c.in_ok-spelled.ensures.spelled in
+    let read = passed (Encoding ∷ Lexis ∷ Syntax ∷ []) text c.in_ok-spelled.ensures.decided in
+    let meant = passed (Declarations ∷ Types ∷ Isolation ∷ Sharing ∷ []) text
+    (c.in_ok-judge_program.ensures text c.in_ok-spelled.spelled.tokens.items is.are_tokens
+    is.is_program) in
+    let form = subst (λ source. Finds SmallForm source []) is.source c.in_ok-small.ensures.found in
+    let program = program_read text c.in_ok-spelled.spelled c.deref.result.now c.in_ok-small.small
+    is c.deref.ensures.value read meant c.in_ok-small.ensures.spells in
+    breaches_decided all_phases text c.size.result (last_found
+    (Encoding ∷ Lexis ∷ Syntax ∷ Declarations ∷ Types ∷ Isolation ∷ Sharing ∷ SmallForm ∷ [])
+    Size text c.size.result
+    (read.0, (read.1.0, (read.1.1.0, (meant.0, (meant.1.0, (meant.1.1.0, (meant.1.1.1.0, (form, tt))))))))
+    (c.size.ensures.found text program))

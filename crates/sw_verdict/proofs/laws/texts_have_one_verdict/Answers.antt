@@ -1,5 +1,6 @@
 use Rattle.sw_small.proofs.OneGraph.{lowered_within}
 use Rattle.sw_verdict.specs.Phases.{all_phases}
+use Rattle.sw_verdict.proofs.Ordered.{breaches_in_order}
 use Rattle.sw_verdict.proofs.Verdicts as verdicts
 use Rattle.sw_verdict.proofs.laws.texts_have_one_verdict.Goals as goal
 
@@ -13,7 +14,10 @@ pub returns-clause-one_list : goal.returns-clause-one_list
 returns-clause-one_list c = verdicts.one_list
 
 pub returns-clause-one_breach : goal.returns-clause-one_breach
-returns-clause-one_breach c = verdicts.one_breach all_phases
+returns-clause-one_breach c = verdicts.few_found
+
+pub returns-clause-in_order : goal.returns-clause-in_order
+returns-clause-in_order c = breaches_in_order
 
 pub returns-clause-some_graph : goal.returns-clause-some_graph
 returns-clause-some_graph c = verdicts.some_graph_of

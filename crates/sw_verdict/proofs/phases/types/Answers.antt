@@ -7,14 +7,14 @@ use Rattle.sw_verdict.specs.Phases.{well_typed}
 use Rattle.sw_verdict.proofs.Finding.{found_ill}
 use Rattle.sw_verdict.proofs.phases.types.Goals as goal
 
-pub returns-in-Ok : goal.returns-in-Ok
-returns-in-Ok c text tokens are is =
+pub returns-in-Ok-clause-found : goal.returns-in-Ok-clause-found
+returns-in-Ok-clause-found c text tokens are is =
     well_typed tokens c.args.program.now.decls (world_of c.args.declared.now) are is
     (declared_world c.args.program.now.decls Concurrent c.args.declared.now c.requires.declared)
     c.in-Ok.ensures.none
 
-pub returns-in-Err-Breach : goal.returns-in-Err-Breach
-returns-in-Err-Breach c text tokens are is =
+pub returns-in-Err-Breach-clause-found : goal.returns-in-Err-Breach-clause-found
+returns-in-Err-Breach-clause-found c text tokens are is =
     found_ill text tokens c.args.program.now.decls (world_of c.args.declared.now)
     c.in-Err-Breach.code c.in-Err-Breach.at _ are is
     (declared_world c.args.program.now.decls Concurrent c.args.declared.now c.requires.declared)
