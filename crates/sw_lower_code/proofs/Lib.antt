@@ -1,0 +1,2 @@
+pub mod AllFacts
+pub mod WholeFacts

@@ -1,0 +1,26 @@
+use std::alloc::AllocError;
+use thiserror::Error;
+
+/// Why a program has no graph.
+#[derive(Clone, Copy, Debug, PartialEq, Eq, Error)]
+pub enum LowerFault {
+    /// The function with this key has more registers than a function of a graph.
+    #[error("too many registers in the function at {function}")]
+    TooManyRegisters { function: u32 },
+    /// The function with this key has more points than a function of a graph.
+    #[error("too many points in the function at {function}")]
+    TooManyPoints { function: u32 },
+    #[error("out of memory")]
+    Memory,
+}
+
+impl From<AllocError> for LowerFault {
+    ghost use Rattle.std.specs.Prelude.{◌≡◌};
+    ghost use Rattle.sw_lower_code.specs.declared.fault.LowerFault.TheVariants.{Memory};
+
+    ghost from_gives = { λ _ fault. fault ≡ Memory };
+
+    fn from(_error: AllocError) -> LowerFault {
+        LowerFault::Memory
+    }
+}

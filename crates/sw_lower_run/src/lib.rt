@@ -1,0 +1,11 @@
+//! Steps of making a function of a graph: what each adds, said by whole lists, and what it does to a
+//! function that is being made. It knows nothing of trees.
+#![tactic(auto)]
+
+mod bound;
+mod fault;
+mod laws;
+
+pub use bound::Bound;
+pub use fault::CodeFault;
+pub use laws::{runs_join, steps_make_plans};
