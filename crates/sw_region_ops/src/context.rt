@@ -40,14 +40,14 @@ impl<'a> Context<'a> {
 
     /// The context of a function of a graph.
     #[tactic(auto, using(crate::proofs::ContextLemmas::context_facts))]
-    pub fn new(alloc: Global, graph: &'a Graph, function: u32) -> Result<Context<'a>, AllocError>
+    pub fn new(alloc: Global, graph: &'a Graph, function: usize) -> Result<Context<'a>, AllocError>
         requires { function < length graph.now.functions }
         ensures value { IfOk result (λ context. (body : Function)
             → slice_get graph.now.functions function ≡ Some body
             → context ≡ setting_of graph.now body) }
         ensures in_range { IfOk result (λ context. AreElements context.elements) }
     {
-        let body = graph.functions.get(function as usize).unwrap();
+        let body = graph.functions.get(function).unwrap();
         let elements = elements_of(alloc, &graph.shapes, body.regs.as_slice())?;
         Ok(Context {
             functions: &graph.functions,

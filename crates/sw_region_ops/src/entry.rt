@@ -61,7 +61,7 @@ pub fn ops_of(alloc: Global, graph: &Graph, function: u32, point: u32) -> Result
         (slice_get graph.now.functions function)) }
     ensures { IfOk result (λ ops. ops ≡ ops_at graph.now function point) }
 {
-    let context = Context::new(alloc, graph, function)?;
+    let context = Context::new(alloc, graph, function as usize)?;
     context.point_ops(alloc, graph.point(function, point).unwrap())
 }
 
@@ -72,7 +72,7 @@ pub fn enter(alloc: Global, graph: &Graph, function: u32) -> Result<Partition, A
         → slice_get graph.now.functions function ≡ Some body
         → IsEntryOf graph.now body state) }
 {
-    let context = Context::new(alloc, graph, function)?;
+    let context = Context::new(alloc, graph, function as usize)?;
     let sites = context.sites(alloc)?;
     context.enter(alloc, &sites)
 }

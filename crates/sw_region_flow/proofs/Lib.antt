@@ -1,0 +1,11 @@
+pub mod Collecting
+pub mod Counting
+pub mod Exact
+pub mod Flows
+pub mod Laid
+pub mod Listed
+pub mod OneSites
+pub mod Places
+pub mod Same
+pub mod Tests
+pub mod Visiting

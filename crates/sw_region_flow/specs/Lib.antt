@@ -1,0 +1,9 @@
+pub mod Analysis
+pub mod Breaches
+pub mod Distinct
+pub mod Laws
+pub mod Least
+pub mod Listing
+pub mod Visits
+pub mod Walks
+pub mod Work

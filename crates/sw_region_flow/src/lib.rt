@@ -1,0 +1,13 @@
+//! The region breaches of a graph (SE-0414, SE-0430): the tests that fail in the least annotation
+//! of each function's points with region states. It solves a flow of the function's blocks, whose
+//! answer stands for the points, and then goes once through each block that control reaches.
+#![tactic(auto)]
+
+mod block_flow;
+mod finding;
+mod listing;
+mod testing;
+mod walking;
+
+pub use finding::breaches;
+pub use testing::GIVEN_AWAY;

@@ -1,0 +1,46 @@
+//! Breaches in order, each place and code once.
+ghost use Rattle.std.specs.Prelude.{◌≡◌, ◌==◌, ◌&&◌, ◌↔◌, Contains};
+ghost use Rattle.std.specs.List.{AllPairs, dedup};
+ghost use Rattle.std.specs.List.Sorted.{IsSorted};
+ghost use Rattle.sw_breach.specs.Order.{breach_cmp};
+ghost use Rattle.sw_breach.specs.declared.Breach.{Breach};
+ghost use Rattle.sw_region_flow.specs.Breaches.{IsBefore, StandsFor};
+ghost use Rattle.sw_region_flow.specs.Listing.{is_alike};
+
+use sw_breach::{Breach, breaches_are_in_order};
+
+/// Whether two breaches have one position and one code.
+fn is_alike(one: &Breach, other: &Breach) -> bool
+    ensures { result ≡ is_alike one.now other.now }
+{
+    one.at == other.at && one.code == other.code
+}
+
+/// By position, then by code, then by note.
+fn sorted(mut list: Vec<Breach>) -> Vec<Breach>
+    ensures sorted { IsSorted breach_cmp result.items }
+    ensures same { (breach : Breach) → Contains result.items breach ↔ Contains list.items breach }
+{
+    breaches_are_in_order();
+    list.sort_unstable_by(|one, other| one.compare(other));
+    list
+}
+
+/// Keeps the first of neighbours that have one position and one code.
+fn without_repeats(mut list: Vec<Breach>) -> Vec<Breach>
+    ensures { result.items ≡ dedup is_alike list.items }
+{
+    list.dedup_by(|one, other| is_alike(one, other));
+    list
+}
+
+/// By position, then by code; of those of one position and one code, one with the least note.
+pub(crate) fn in_order(list: Vec<Breach>) -> Vec<Breach>
+    ensures sound { (breach : Breach) → Contains result.items breach → Contains list.items breach }
+    ensures complete { (breach : Breach) → Contains list.items breach
+        → ((kept : Breach) × Contains result.items kept × StandsFor kept breach) }
+    ensures rising { AllPairs IsBefore result.items }
+{
+    breaches_are_in_order();
+    without_repeats(sorted(list))
+}
