@@ -1,5 +1,6 @@
-//! How a program is isolated: a walk over its bodies and first values that notes all that
-//! `sw_isolation_rules` says of them.
+//! What is noted of expressions and statements: the one walk over bodies and first values, by the
+//! rules of `sw_isolation_rules`. It knows nothing of declarations, and nothing of what the notes are
+//! read for.
 #![tactic(auto)]
 
 mod places;
