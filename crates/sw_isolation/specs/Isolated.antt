@@ -1,20 +1,16 @@
 -- What is known of the isolation of a program, or its first breach of isolation.
-use Rattle.std.specs.Prelude.{◌≡◌, ℕ, List, Option, Some, Contains, IsPermutation}
+use Rattle.std.specs.Prelude.{◌≡◌, ℕ, List, Option, Some, Contains}
 use Rattle.std.specs.Ordering.{nat_cmp}
-use Rattle.std.specs.List.Sorted.{IsNonDecreasingBy, IsStrictlySortedBy}
+use Rattle.std.specs.List.Sorted.{IsStrictlySortedBy}
 use Rattle.sw_tree.specs.declared.decl.Decl.{Decl}
 use Rattle.sw_typing_rules.specs.Worlds.{World}
 use Rattle.sw_isolation_rules.specs.Answers.{Answers}
 use Rattle.sw_isolation_rules.specs.Lists.{bodies_in, boxes_in, captures_in, kinds_in, races_in}
 use Rattle.sw_isolation_rules.specs.Programs.{IsFirstRefusal, noted}
-use Rattle.sw_isolation_rules.specs.declared.note.Kinded.{Kinded}
 use Rattle.sw_isolation_rules.specs.declared.note.Note.{Note}
 use Rattle.sw_isolation.specs.declared.isolated.Isolated as known
 use Rattle.sw_isolation.specs.declared.isolating.IsoFault.{IsoFault}
 use Rattle.sw_isolation.specs.declared.isolating.IsoFault.TheVariants as fault
-
-abbrev pub kind_key : Kinded → ℕ
-kind_key one = one.at
 
 -- the keys in order, each once
 pub record AreBoxes (found boxes : List ℕ) : Type 0 where
@@ -25,8 +21,7 @@ pub record AreBoxes (found boxes : List ℕ) : Type 0 where
 -- What is known has these notes: all bodies, kinds, captures, boxes and values that cross.
 pub record HasNotes (notes : List Note) (isolated : known.Isolated) : Type 0 where
   pub bodies : isolated.bodies ≡ bodies_in notes
-  pub kinds : IsPermutation (kinds_in notes) isolated.kinds
-  pub ordered : IsNonDecreasingBy kind_key isolated.kinds
+  pub kinds : isolated.kinds ≡ kinds_in notes
   pub captures : isolated.captures ≡ captures_in notes
   pub boxes : AreBoxes (boxes_in notes) isolated.boxes
   pub crossings : isolated.crossings ≡ races_in notes

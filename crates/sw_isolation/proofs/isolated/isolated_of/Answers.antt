@@ -1,4 +1,4 @@
-use Rattle.std.proofs.Common.{ℕ, List, IsPermutation, ap, map, subst, ◌∙◌}
+use Rattle.std.proofs.Common.{ℕ, List, ap, map, subst, ◌∙◌}
 use Rattle.sw_isolation.specs.Isolated.{AreBoxes}
 use Rattle.sw_isolation_rules.specs.Lists.{by_reference}
 use Rattle.sw_isolation_rules.specs.declared.note.Capture.{Capture}
@@ -10,9 +10,7 @@ returns c =
     λ captures. map (λ (one : Capture). one.variable) (by_reference captures) in
     record {
       bodies = c.in_ok-bodies.ensures;
-      kinds = subst (λ kinds. IsPermutation kinds c.in_key_order-kinds.result)
-          c.in_ok-kinds_in.ensures c.in_key_order-kinds.ensures.same;
-      ordered = c.in_key_order-kinds.ensures.ordered;
+      kinds = c.in_ok-kinds.ensures;
       captures = c.in_ok-captures.ensures;
       boxes = subst (λ found. AreBoxes found c.each_once-boxes.result)
           (c.in_ok-boxes_in.ensures ∙ ap boxes_of (c.as_slice.ensures ∙ c.in_ok-captures.ensures))
