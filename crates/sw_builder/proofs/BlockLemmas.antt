@@ -9,7 +9,8 @@ use Rattle.sw_graph.specs.Points.{points_of, points_of_block}
 use Rattle.sw_graph.proofs.PointLemmas.{length-points_of_block}
 use Rattle.sw_graph.specs.declared.function.RegKind.{RegKind}
 use Rattle.sw_graph.specs.declared.function.TheConstants.{MAX_POINTS}
-use Rattle.sw_builder.specs.Unfinished.{IsCounted, MOST_BLOCKS}
+use Rattle.sw_builder.specs.Unfinished.{IsCounted}
+use Rattle.sw_builder.specs.declared.builder.TheConstants.{MOST_BLOCKS}
 use Rattle.sw_builder.specs.Blocks.{new_block, with_instr, with_last, changed_at}
 
 -- the item at an index, written back changed

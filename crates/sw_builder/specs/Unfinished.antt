@@ -1,5 +1,7 @@
 -- A function under construction, what each call does to it, and the function that it becomes.
-use Rattle.std.specs.Prelude.{◌≡◌, ℕ, ◌+◌, ◌≤◌, Bool, List, [], ◌∷◌, ◌++◌, length, refl}
+use Rattle.std.specs.Prelude.{◌≡◌, ℕ, ◌+◌, ◌≤◌, Bool, List, [], ◌∷◌, ◌++◌, Option, length, refl}
+use Rattle.std.specs.Prelude.{slice_get}
+use Rattle.std.specs.Option.{option_map}
 use Rattle.std.specs.Coded.{Coded, code_by, coded×, coded_ℕ, coded_bool, coded_list}
 use Rattle.sw_types.specs.declared.isolation.Iso.{Iso}
 use Rattle.sw_types.specs.declared.ty.Ty.{Ty}
@@ -7,11 +9,13 @@ use Rattle.sw_types.specs.contracts.isolation.Iso as iso
 use Rattle.sw_graph.specs.declared.function.Function.{Function}
 use Rattle.sw_graph.specs.declared.function.RegKind.{RegKind}
 use Rattle.sw_graph.specs.declared.instr.Block.{Block}
+use Rattle.sw_graph.specs.declared.instr.Instr.{Instr}
 use Rattle.sw_graph.specs.contracts.function.RegKind as kind
 use Rattle.sw_graph.specs.contracts.instr.Block as block
 use Rattle.sw_graph.specs.declared.function.TheConstants.{MAX_REGISTERS, MAX_POINTS}
 use Rattle.sw_graph.specs.Points.{points_of}
 use Rattle.sw_builder.specs.Blocks.{new_block, changed_at}
+use Rattle.sw_builder.specs.declared.builder.TheConstants.{MOST_BLOCKS}
 
 pub record Unfinished : Type 0 where
   pub key : ℕ
@@ -57,6 +61,11 @@ with_block unfinished = record unfinished { blocks = unfinished.blocks ++ new_bl
 abbrev pub in_block : (Block → Block) → ℕ → Unfinished → Unfinished
 in_block g number unfinished = record unfinished { blocks = changed_at g number unfinished.blocks }
 
+-- the instructions of a block that was made
+abbrev pub instrs_in : ℕ → Unfinished → Option (List Instr)
+instrs_in number unfinished =
+    option_map (λ (block : Block). block.instrs) (slice_get unfinished.blocks number)
+
 -- the function takes no further register
 abbrev pub HasAllRegisters : Unfinished → Type 0
 HasAllRegisters unfinished = MAX_REGISTERS ≤ length unfinished.regs
@@ -78,10 +87,6 @@ finished unfinished takes sending sends gives = record {
   regs = unfinished.regs;
   blocks = unfinished.blocks;
 }
-
--- how many blocks a function has at most, so that each has a number of 32 bits
-abbrev pub MOST_BLOCKS : ℕ
-MOST_BLOCKS = 4294967295
 
 -- What is kept of a function under construction: the count of its points, and bounds that keep the
 -- count and the numbers of blocks small.

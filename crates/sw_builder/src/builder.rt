@@ -1,8 +1,9 @@
-ghost use Rattle.std.specs.Prelude.{◌≡◌, ◌<◌, ◌≤◌, ◌↔◌, length, Err, IfOk, OnOk, OnErr};
+ghost use Rattle.std.specs.Prelude.{◌≡◌, ◌<◌, ◌≤◌, ◌↔◌, length, Some, Err, IfOk, OnOk, OnErr};
 ghost use Rattle.sw_builder.specs.declared.fault.BuildFault.TheVariants.{Full};
 ghost use Rattle.sw_builder.specs.Blocks.{with_instr, with_last};
 ghost use Rattle.sw_builder.specs.Unfinished.{begun, with_register, with_block, in_block, finished};
-ghost use Rattle.sw_builder.specs.Unfinished.{HasAllRegisters, HasAllPoints, MOST_BLOCKS};
+ghost use Rattle.sw_builder.specs.Unfinished.{HasAllRegisters, HasAllPoints, instrs_in};
+ghost use Rattle.sw_graph.specs.Points.{points_of};
 
 use crate::fault::BuildFault;
 use std::alloc::{AllocError, Global};
@@ -12,6 +13,9 @@ use sw_graph::{
 };
 use sw_list::ListOf;
 use sw_types::{Iso, Ty};
+
+/// How many blocks a function has at most, so that each has a number of 32 bits.
+pub const MOST_BLOCKS: usize = 4_294_967_295;
 
 /// A function of a graph under construction. Registers and blocks are numbered in the order in
 /// which they are made. Contracts see it as an `Unfinished` with these fields.
@@ -123,6 +127,21 @@ impl Builder {
         ensures bounded { result ≤ MOST_BLOCKS }
     {
         self.blocks.len()
+    }
+
+    /// How many points the blocks have.
+    pub fn point_count(&self) -> usize
+        ensures { result ≡ length (points_of self.now.blocks) }
+    {
+        self.points
+    }
+
+    /// The instructions of a block that was made.
+    pub fn instrs(&self, block: u32) -> &[Instr]
+        requires { block < length self.now.blocks }
+        ensures { instrs_in block self.now ≡ Some result.now }
+    {
+        self.blocks.at(block as usize).instrs.as_slice()
     }
 
     /// The function, which takes its first `takes` registers and gives a value of the type `gives`.

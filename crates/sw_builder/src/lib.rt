@@ -5,5 +5,5 @@
 mod builder;
 mod fault;
 
-pub use builder::Builder;
+pub use builder::{Builder, MOST_BLOCKS};
 pub use fault::BuildFault;
