@@ -1,2 +1,1 @@
-pub mod AllFacts
 pub mod WholeFacts

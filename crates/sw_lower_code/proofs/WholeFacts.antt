@@ -16,13 +16,15 @@ use Rattle.sw_graph.specs.declared.instr.Last.TheVariants.{Return}
 use Rattle.sw_graph.proofs.PointLemmas.{length-points_of_block}
 use Rattle.sw_builder.specs.Blocks.{new_block}
 use Rattle.sw_builder.specs.Unfinished.{finished}
-use Rattle.sw_lower_run.specs.Plan.{Piece, Written, block_by, counted_from, ended_in, written_in}
-use Rattle.sw_lower_run.specs.Run.{AreInside, Making, Makes, Meets, at_start, instrs_at, last_at, points}
+use Rattle.sw_lower_run.specs.Plan.{Numbers, Piece, Written, block_by, counted_from, ended_in}
+use Rattle.sw_lower_run.specs.Plan.{written_in}
+use Rattle.sw_lower_run.specs.Run.{AreInside, Making, Makes, Meets, at_start, instrs_at, last_at}
+use Rattle.sw_lower_run.specs.Run.{points}
 use Rattle.sw_lower_code.specs.Whole.{Body, code_of, ended_by, function_of, lower_body}
 use Rattle.sw_lower_code.specs.Whole.{IsWhole, piece_of, sending_of}
 use Rattle.sw_lower_run.specs.declared.fault.CodeFault.{CodeFault}
 use Rattle.sw_lower_run.specs.declared.fault.CodeFault.TheVariants.{Registers, Memory}
-use Rattle.sw_lower_code.specs.declared.fault.LowerFault.TheVariants as faults
+use Rattle.sw_lower_code.specs.declared.fault.BodyFault.TheVariants as faults
 
 -- blocks are told by their instructions and last instructions
 blocks_are : (instrs : ℕ → List Instr) (last : ℕ → Last) (from : ℕ) (blocks : List Block)
@@ -160,46 +162,50 @@ last_none zero = refl
 last_none (suc number) = refl
 
 -- the function of a body, as it begins
-abbrev begun : Body → Making
-begun body = at_start body.key body.iso body.is_async
+abbrev begun : Numbers → Body → Making
+begun number body = at_start number body.key body.iso body.is_async
 
-points_begun : (body : Body) → points (begun body) ≡ 1
+points_begun : (number : Numbers) (body : Body) → points (begun number body) ≡ 1
 unfolding points_of
-points_begun body = refl
+points_begun number body = refl
 
 -- the blocks that are made are those of the plan
-blocks_made : (body : Body) (t : Making) → Makes (piece_of body) (begun body) t
+blocks_made : (number : Numbers) (body : Body) (t : Making)
+    → Makes (piece_of number body) (begun number body) t
     → t.over ≡ false
     → t.made.blocks
-    ≡ map (block_by (piece_of body)) (counted_from 0 (1 + length (piece_of body).made))
-blocks_made body t made fits =
-    blocks_are (λ number. written_in number (piece_of body).writes)
-    (λ number. ended_in number (piece_of body).lasts (Return None)) 0 t.made.blocks
-    (λ number.
-    made.instrs fits number
-    ∙ ap (λ front. front ++ written_in number (piece_of body).writes) (instrs_none number)
-    ∙ ap (λ n. written_in n (piece_of body).writes) (omega arith))
-    (λ number below.
-    made.lasts number
-    ∙ ap (ended_in number (piece_of body).lasts) (last_none number)
-    ∙ ap (λ n. ended_in n (piece_of body).lasts (Return None)) (omega arith))
-    ∙ ap (λ count. map (block_by (piece_of body)) (counted_from 0 count)) made.blocks
+    ≡ map (block_by (piece_of number body))
+    (counted_from 0 (1 + length (piece_of number body).made))
+blocks_made number body t made fits =
+    blocks_are (λ block. written_in block (piece_of number body).writes)
+    (λ block. ended_in block (piece_of number body).lasts (Return None)) 0 t.made.blocks
+    (λ block.
+    made.instrs fits block
+    ∙ ap (λ front. front ++ written_in block (piece_of number body).writes) (instrs_none block)
+    ∙ ap (λ n. written_in n (piece_of number body).writes) (omega arith))
+    (λ block below.
+    made.lasts block
+    ∙ ap (ended_in block (piece_of number body).lasts) (last_none block)
+    ∙ ap (λ n. ended_in n (piece_of number body).lasts (Return None)) (omega arith))
+    ∙ ap (λ count. map (block_by (piece_of number body)) (counted_from 0 count)) made.blocks
 
 -- how many points the function of a body has
 abbrev points_in : Function → ℕ
 points_in function = length (points_of function.blocks)
 
-points_of_body : (body : Body) (t : Making) → Makes (piece_of body) (begun body) t
-    → points_in (function_of body)
-    ≡ 1 + (length (piece_of body).writes + length (piece_of body).made)
+points_of_body : (number : Numbers) (body : Body) (t : Making)
+    → Makes (piece_of number body) (begun number body) t
+    → points_in (function_of number body)
+    ≡ 1 + (length (piece_of number body).writes + length (piece_of number body).made)
 unfolding function_of
-points_of_body body t made =
-    let inside : AreInside (1 + length (piece_of body).made) (piece_of body).writes =
-    subst (λ count. AreInside count (piece_of body).writes)
+points_of_body number body t made =
+    let inside : AreInside (1 + length (piece_of number body).made) (piece_of number body).writes =
+    subst (λ count. AreInside count (piece_of number body).writes)
     made.blocks made.inside in
     omega (
       arith,
-      points_all (piece_of body) (piece_of body).writes (1 + length (piece_of body).made) inside,
+      points_all (piece_of number body) (piece_of number body).writes
+          (1 + length (piece_of number body).made) inside,
     )
 
 -- where nothing is too large
@@ -250,67 +256,70 @@ at_most : (limit count : ℕ) → nat_lt limit count ≡ false → count ≤ lim
 at_most limit count is = grind (arith, is)
 
 -- the function that is made within the limits, or the limit that its whole lists pass
-pub meets_whole : (body : Body) (result : Result (Unit {0} × Making) CodeFault)
-    → Meets (begun body) result (piece_of body) → IsWhole body (ended_by body result)
+pub meets_whole : (number : Numbers) (body : Body) (result : Result (Unit {0} × Making) CodeFault)
+    → Meets (begun number body) result (piece_of number body)
+    → IsWhole number body (ended_by body result)
 unfolding function_of
-meets_whole body (Err Memory) meets = tt
-meets_whole body (Err Registers) meets = (
+meets_whole number body (Err Memory) meets = tt
+meets_whole number body (Err Registers) meets = (
   refl,
-  too_many_registers (function_of body)
-      (let many : MAX_REGISTERS < length (piece_of body).regs = omega (arith, meets) in many),
+  too_many_registers (function_of number body)
+      (let many : MAX_REGISTERS < length (piece_of number body).regs = omega (arith, meets) in
+      many),
 )
-meets_whole body (Ok at) meets = by at.1.over refl where
-  made : Makes (piece_of body) (begun body) at.1
+meets_whole number body (Ok at) meets = by at.1.over refl where
+  made : Makes (piece_of number body) (begun number body) at.1
   made = meets.1
 
-  few : length (piece_of body).regs ≤ MAX_REGISTERS
+  few : length (piece_of number body).regs ≤ MAX_REGISTERS
   few = omega (arith, made.few (omega arith), ap length made.regs)
 
   same : at.1.over ≡ false
       → finished at.1.made (length body.takes) (sending_of body) body.sends body.result
-      ≡ function_of body
-  same fits = rw (made.key, made.iso, made.is_async, made.regs, blocks_made body at.1 made fits) refl
+      ≡ function_of number body
+  same fits =
+      rw (made.key, made.iso, made.is_async, made.regs, blocks_made number body at.1 made fits) refl
 
-  as_many : at.1.over ≡ false → points_in (function_of body) ≡ points at.1
+  as_many : at.1.over ≡ false → points_in (function_of number body) ≡ points at.1
   as_many fits = omega (
     arith,
     made.exact fits,
-    points_begun body,
-    points_of_body body at.1 made,
+    points_begun number body,
+    points_of_body number body at.1 made,
   )
 
   measured : (many : Bool) → at.1.over ≡ false → nat_lt MAX_POINTS (points at.1) ≡ many
-      → IsWhole body (if many then Err (faults.TooManyPoints body.key)
+      → IsWhole number body (if many then Err (faults.TooManyPoints body.key)
       else Ok (finished at.1.made (length body.takes) (sending_of body) body.sends body.result))
   measured true fits many = (
     refl,
-    too_many_points (function_of body) few
+    too_many_points (function_of number body) few
         (subst (λ n. MAX_POINTS < n) (sym (as_many fits)) (more_than MAX_POINTS (points at.1) many)),
   )
   measured false fits many = (
     same fits,
-    within_limits (function_of body) few
+    within_limits (function_of number body) few
         (subst (λ n. n ≤ MAX_POINTS) (sym (as_many fits)) (at_most MAX_POINTS (points at.1) many)),
   )
 
   planned : (false ≡ true)
-      ⊎ (MAX_POINTS < points (begun body)
-      + (length (piece_of body).writes + length (piece_of body).made))
-      → MAX_POINTS < points_in (function_of body)
+      ⊎ (MAX_POINTS < points (begun number body)
+      + (length (piece_of number body).writes + length (piece_of number body).made))
+      → MAX_POINTS < points_in (function_of number body)
   planned (inl never) = absurd (cc)
   planned (inr many) =
-      omega (arith, many, points_begun body, points_of_body body at.1 made)
+      omega (arith, many, points_begun number body, points_of_body number body at.1 made)
 
   by : (over : Bool) → at.1.over ≡ over
-      → IsWhole body (if over || nat_lt MAX_POINTS (points at.1)
+      → IsWhole number body (if over || nat_lt MAX_POINTS (points at.1)
       then Err (faults.TooManyPoints body.key)
       else Ok (finished at.1.made (length body.takes) (sending_of body) body.sends body.result))
   by true is =
-      (refl, too_many_points (function_of body) few (planned (made.beyond is)))
+      (refl, too_many_points (function_of number body) few (planned (made.beyond is)))
   by false is = measured (nat_lt MAX_POINTS (points at.1)) is refl
 
-pub lowers_whole : (body : Body) → IsWhole body (lower_body body)
+pub lowers_whole : (number : Numbers) (body : Body) → IsWhole number body (lower_body number body)
 unfolding lower_body
-lowers_whole body =
-    meets_whole body ((code_of body).run (begun body))
-    ((code_of body).same (begun body) (omega arith))
+lowers_whole number body =
+    meets_whole number body ((code_of body).run (begun number body))
+    ((code_of body).same (begun number body) (omega arith))

@@ -5,14 +5,16 @@ use Rattle.std.specs.Option.{unwrap_or}
 use Rattle.sw_graph.specs.declared.function.RegKind.{RegKind}
 use Rattle.sw_graph.specs.declared.instr.Instr.{Instr}
 use Rattle.sw_graph.specs.declared.instr.Last.{Last}
-use Rattle.sw_lower_run.specs.Plan.{Entry, Plan, nothing, plan_bind}
-use Rattle.sw_lower_run.specs.Plan.{plan_after, plan_block, plan_emit, plan_close, plan_reg, plan_resume, var_in}
+use Rattle.sw_lower_run.specs.Plan.{Entry, Plan, nothing, plan_after, plan_bind, plan_block}
+use Rattle.sw_lower_run.specs.Plan.{plan_close, plan_emit, plan_reg, plan_resume, var_in}
 use Rattle.sw_lower_run.specs.Run.{IsGoing, Making, Meets, Run, place_of, run_after, run_bind}
-use Rattle.sw_lower_run.specs.Run.{run_block, run_emit, run_close, run_front, run_resume, run_known, run_reg, run_var}
+use Rattle.sw_lower_run.specs.Run.{run_block, run_close, run_emit, run_front, run_known}
+use Rattle.sw_lower_run.specs.Run.{run_number, run_reg, run_resume, run_var}
 use Rattle.sw_lower_run.specs.declared.bound.Bound.{Bound}
-use Rattle.sw_lower_run.proofs.SameParts.{same_bind, same_block, same_done, same_emit, same_close}
-use Rattle.sw_lower_run.proofs.SameParts.{same_resume}
-use Rattle.sw_lower_run.proofs.SameParts.{same_front, same_known, same_reg, same_var}
+use Rattle.sw_lower_run.specs.declared.name.FunctionName.{FunctionName}
+use Rattle.sw_lower_run.proofs.SameParts.{same_bind, same_block, same_close, same_done, same_emit}
+use Rattle.sw_lower_run.proofs.SameParts.{same_front, same_known, same_number, same_reg}
+use Rattle.sw_lower_run.proofs.SameParts.{same_resume, same_var}
 use Rattle.sw_lower_run.proofs.SameThen.{same_then}
 
 pub record Code (A : Type 0) : Type 0 where
@@ -70,6 +72,14 @@ var key = record {
   run = run_var key;
   plan = λ place. nothing (unwrap_or (var_in key place.vars) no_var) place;
   same = same_var no_var key;
+}
+
+-- the number of a function
+unfoldable pub number : FunctionName → Code ℕ
+number name = record {
+  run = run_number name;
+  plan = λ place. nothing (unwrap_or (place.number name) 0) place;
+  same = same_number 0 name;
 }
 
 -- something that is known of every accepted program

@@ -4,29 +4,20 @@ use Rattle.std.specs.Prelude.{◌≡◌, ℕ, ◌+◌, Bool, ◌||◌, nat_lt, L
 use Rattle.std.specs.Prelude.{length, Some, None, Result, Ok, Err, if◌then◌else◌}
 use Rattle.sw_types.specs.declared.isolation.Iso.{Iso}
 use Rattle.sw_types.specs.declared.ty.Ty.{Ty}
-use Rattle.sw_graph.specs.Limits.{excess_of, first_too_large}
-use Rattle.sw_graph.specs.declared.function.Excess.{Excess}
+use Rattle.sw_graph.specs.Limits.{excess_of}
 use Rattle.sw_graph.specs.declared.function.Excess.TheVariants as excess
 use Rattle.sw_graph.specs.declared.function.Function.{Function}
 use Rattle.sw_graph.specs.declared.function.RegKind.{RegKind}
 use Rattle.sw_graph.specs.declared.function.TheConstants.{MAX_POINTS}
-use Rattle.sw_graph.specs.declared.function.TooLarge.{TooLarge}
 use Rattle.sw_builder.specs.Unfinished.{finished}
 use Rattle.sw_lower_code.specs.Code.{Code, all, bind, reg, ◌>>=◌, ◌>>◌}
-use Rattle.sw_lower_run.specs.Plan.{Piece, Place, block_by, counted_from}
+use Rattle.sw_lower_run.specs.Plan.{Numbers, Piece, Place, block_by, counted_from}
 use Rattle.sw_lower_run.specs.Run.{Making, at_start, points}
 use Rattle.sw_lower_run.specs.declared.fault.CodeFault.{CodeFault}
 use Rattle.sw_lower_run.specs.declared.fault.CodeFault.TheVariants.{Registers, Memory}
-use Rattle.sw_lower_code.specs.declared.fault.LowerFault.{LowerFault}
-use Rattle.sw_lower_code.specs.declared.fault.LowerFault.TheVariants as faults
-
--- a variable that a function takes: its key, the kind of its register, whether that is a box, and
--- whether the parameter is `sending` (SE-0430)
-pub record Taken : Type 0 where
-  pub key : ℕ
-  pub kind : RegKind
-  pub boxed : Bool
-  pub sending : Bool
+use Rattle.sw_lower_code.specs.declared.fault.BodyFault.{BodyFault}
+use Rattle.sw_lower_code.specs.declared.fault.BodyFault.TheVariants as faults
+use Rattle.sw_lower_code.specs.declared.taken.Taken.{Taken}
 
 -- a body of a function, method, initialiser, closure or task, a getter, or what gives a first value
 pub record Body : Type 0 where
@@ -49,18 +40,18 @@ unfoldable pub code_of : Body → Code (Unit {0})
 code_of body = all enter body.takes >> body.code
 
 -- A function begins with one block.
-abbrev pub start_place : Place
-start_place = record { regs = 0; blocks = 1; here = 0; vars = [] }
+abbrev pub start_place : Numbers → Place
+start_place number = record { regs = 0; blocks = 1; here = 0; vars = []; number = number }
 
-abbrev pub piece_of : Body → Piece (Unit {0})
-piece_of body = (code_of body).plan start_place
+abbrev pub piece_of : Numbers → Body → Piece (Unit {0})
+piece_of number body = (code_of body).plan (start_place number)
 
 abbrev pub sending_of : Body → List Bool
 sending_of body = map (λ (taken : Taken). taken.sending) body.takes
 
 -- the function of a body, by whole lists
-unfoldable pub function_of : Body → Function
-function_of body = record {
+unfoldable pub function_of : Numbers → Body → Function
+function_of number body = record {
   key = body.key;
   iso = body.iso;
   is_async = body.is_async;
@@ -68,56 +59,34 @@ function_of body = record {
   sending = sending_of body;
   sends = body.sends;
   result = body.result;
-  regs = (piece_of body).regs;
-  blocks = map (block_by (piece_of body)) (counted_from 0 (1 + length (piece_of body).made));
+  regs = (piece_of number body).regs;
+  blocks = map (block_by (piece_of number body))
+      (counted_from 0 (1 + length (piece_of number body).made));
 }
 
-abbrev pub finish : Body → Making → Result Function LowerFault
+abbrev pub finish : Body → Making → Result Function BodyFault
 finish body making =
     if making.over || nat_lt MAX_POINTS (points making)
     then Err (faults.TooManyPoints body.key)
     else Ok (finished making.made (length body.takes) (sending_of body) body.sends body.result)
 
-abbrev pub ended_by : Body → Result (Unit {0} × Making) CodeFault → Result Function LowerFault
+abbrev pub ended_by : Body → Result (Unit {0} × Making) CodeFault → Result Function BodyFault
 ended_by body (Ok at) = finish body at.1
 ended_by body (Err Registers) = Err (faults.TooManyRegisters body.key)
 ended_by body (Err Memory) = Err faults.Memory
 
 -- the function of a body, as it is made within the limits
-unfoldable pub lower_body : Body → Result Function LowerFault
-lower_body body = ended_by body ((code_of body).run (at_start body.key body.iso body.is_async))
-
-abbrev pub with_first : Result Function LowerFault → Result (List Function) LowerFault
-    → Result (List Function) LowerFault
-with_first (Err fault) later = Err fault
-with_first (Ok function) (Err fault) = Err fault
-with_first (Ok function) (Ok functions) = Ok (function ∷ functions)
-
--- the functions of bodies in order, or what the first one that can't be made has too many of
-unfoldable pub lower_bodies : List Body → Result (List Function) LowerFault
-lower_bodies [] = Ok []
-lower_bodies (body ∷ bodies) = with_first (lower_body body) (lower_bodies bodies)
+unfoldable pub lower_body : Numbers → Body → Result Function BodyFault
+lower_body number body =
+    ended_by body ((code_of body).run (at_start number body.key body.iso body.is_async))
 
 -- What is made of a body is the function of its whole lists, which is within the limits; or else its
 -- whole lists have too many registers, or only too many points. Nothing is said of memory.
-abbrev pub IsWhole : Body → Result Function LowerFault → Type 0
-IsWhole body (Ok function) = (function ≡ function_of body) × (excess_of (function_of body) ≡ None)
-IsWhole body (Err (faults.TooManyRegisters key)) =
-    (key ≡ body.key) × (excess_of (function_of body) ≡ Some excess.Registers)
-IsWhole body (Err (faults.TooManyPoints key)) =
-    (key ≡ body.key) × (excess_of (function_of body) ≡ Some excess.Points)
-IsWhole body (Err faults.Memory) = Unit {0}
-
-abbrev pub too_large : ℕ → Excess → TooLarge
-too_large key of = record { key = key; of = of }
-
--- What is made of bodies in order is the functions of their whole lists, each within the limits; or
--- else the first that is not is named.
-abbrev pub AreWhole : List Body → Result (List Function) LowerFault → Type 0
-AreWhole bodies (Ok functions) = (functions ≡ map function_of bodies)
-    × (first_too_large (map function_of bodies) ≡ None)
-AreWhole bodies (Err (faults.TooManyRegisters key)) =
-    first_too_large (map function_of bodies) ≡ Some (too_large key excess.Registers)
-AreWhole bodies (Err (faults.TooManyPoints key)) =
-    first_too_large (map function_of bodies) ≡ Some (too_large key excess.Points)
-AreWhole bodies (Err faults.Memory) = Unit {0}
+abbrev pub IsWhole : Numbers → Body → Result Function BodyFault → Type 0
+IsWhole number body (Ok function) =
+    (function ≡ function_of number body) × (excess_of (function_of number body) ≡ None)
+IsWhole number body (Err (faults.TooManyRegisters key)) =
+    (key ≡ body.key) × (excess_of (function_of number body) ≡ Some excess.Registers)
+IsWhole number body (Err (faults.TooManyPoints key)) =
+    (key ≡ body.key) × (excess_of (function_of number body) ≡ Some excess.Points)
+IsWhole number body (Err faults.Memory) = Unit {0}

@@ -1,9 +1,9 @@
 use std::alloc::AllocError;
 use thiserror::Error;
 
-/// Why a program has no graph.
+/// Why a body has no function.
 #[derive(Clone, Copy, Debug, PartialEq, Eq, Error)]
-pub enum LowerFault {
+pub enum BodyFault {
     /// The function with this key has more registers than a function of a graph.
     #[error("too many registers in the function at {function}")]
     TooManyRegisters { function: u32 },
@@ -14,13 +14,13 @@ pub enum LowerFault {
     Memory,
 }
 
-impl From<AllocError> for LowerFault {
+impl From<AllocError> for BodyFault {
     ghost use Rattle.std.specs.Prelude.{◌≡◌};
-    ghost use Rattle.sw_lower_code.specs.declared.fault.LowerFault.TheVariants.{Memory};
+    ghost use Rattle.sw_lower_code.specs.declared.fault.BodyFault.TheVariants.{Memory};
 
     ghost from_gives = { λ _ fault. fault ≡ Memory };
 
-    fn from(_error: AllocError) -> LowerFault {
-        LowerFault::Memory
+    fn from(_error: AllocError) -> BodyFault {
+        BodyFault::Memory
     }
 }

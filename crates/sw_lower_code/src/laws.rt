@@ -1,8 +1,8 @@
 //! Laws, without code: what a run makes is what its plan says.
-ghost use Rattle.std.specs.Prelude.{List};
 ghost use Rattle.sw_lower_code.specs.Code.{Code};
+ghost use Rattle.sw_lower_run.specs.Plan.{Numbers};
 ghost use Rattle.sw_lower_run.specs.Run.{IsGoing, Making, Meets, place_of};
-ghost use Rattle.sw_lower_code.specs.Whole.{AreWhole, Body, IsWhole, lower_bodies, lower_body};
+ghost use Rattle.sw_lower_code.specs.Whole.{Body, IsWhole, lower_body};
 
 /// What the run of a piece of code makes is what its plan says of where it begins.
 pub fn runs_make_plans<T>()
@@ -13,11 +13,5 @@ pub fn runs_make_plans<T>()
 /// The function that is made of a body is that of its whole lists, where these are within the limits
 /// of a graph's functions; too many registers are named before too many points.
 pub fn functions_are_their_plans()
-    ensures { (body : Body) → IsWhole body (lower_body body) }
-{}
-
-/// The functions that are made of bodies in order are those of their whole lists. Where one isn't
-/// within the limits, the first such body is named, its registers before its points.
-pub fn bodies_are_their_plans()
-    ensures { (bodies : List Body) → AreWhole bodies (lower_bodies bodies) }
+    ensures { (number : Numbers) (body : Body) → IsWhole number body (lower_body number body) }
 {}

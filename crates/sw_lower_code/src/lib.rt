@@ -4,6 +4,8 @@
 
 mod fault;
 mod laws;
+mod taken;
 
-pub use fault::LowerFault;
-pub use laws::{bodies_are_their_plans, functions_are_their_plans, runs_make_plans};
+pub use fault::BodyFault;
+pub use laws::{functions_are_their_plans, runs_make_plans};
+pub use taken::Taken;

@@ -19,8 +19,9 @@ use Rattle.sw_lower_run.specs.Plan.{Entry, nothing, plan_bind, plan_block, plan_
 use Rattle.sw_lower_run.specs.Plan.{plan_reg, plan_resume, var_in}
 use Rattle.sw_lower_run.specs.Run.{IsGoing, Making, Makes, Meets, place_of, payloads_alone}
 use Rattle.sw_lower_run.specs.Run.{run_bind, run_block, run_emit, run_close, run_front, run_known}
-use Rattle.sw_lower_run.specs.Run.{run_reg, run_resume, run_var}
+use Rattle.sw_lower_run.specs.Run.{run_number, run_reg, run_resume, run_var}
 use Rattle.sw_lower_run.specs.declared.bound.Bound.{Bound}
+use Rattle.sw_lower_run.specs.declared.name.FunctionName.{FunctionName}
 use Rattle.sw_lower_run.specs.declared.fault.CodeFault.TheVariants.{Registers, Memory}
 use Rattle.sw_lower_run.proofs.BlockFacts.{instrs_emitted, instrs_ended, instrs_new, last_emitted}
 use Rattle.sw_lower_run.proofs.BlockFacts.{last_ended, last_new}
@@ -32,6 +33,7 @@ makes_nothing value s going = record {
   key = refl;
   iso = refl;
   is_async = refl;
+  number = refl;
   regs = sym (append-nil _);
   few = λ few. few;
   blocks = omega arith;
@@ -60,6 +62,10 @@ pub same_var : (fallback : Bound) (key : ℕ) (s : Making) → IsGoing s
     → Meets s (run_var key s) (nothing (unwrap_or (var_in key s.vars) fallback) (place_of s))
 same_var fallback key s going = same_known fallback (var_in key s.vars) s going
 
+pub same_number : (fallback : ℕ) (name : FunctionName) (s : Making) → IsGoing s
+    → Meets s (run_number name s) (nothing (unwrap_or (s.number name) fallback) (place_of s))
+same_number fallback name s going = same_known fallback (s.number name) s going
+
 pub same_bind : (bound : Bound) (s : Making) → IsGoing s
     → Meets s (run_bind bound s) (plan_bind bound (place_of s))
 same_bind bound s going = (
@@ -68,6 +74,7 @@ same_bind bound s going = (
     key = refl;
     iso = refl;
     is_async = refl;
+    number = refl;
     regs = sym (append-nil _);
     few = λ few. few;
     blocks = omega arith;
@@ -98,6 +105,7 @@ same_reg kind s going = by (nat_le MAX_REGISTERS (length s.made.regs)) refl wher
       key = refl;
       iso = refl;
       is_async = refl;
+      number = refl;
       regs = refl;
       few = λ few. grind (arith, is, length-append s.made.regs (kind ∷ []));
       blocks = omega arith;
@@ -124,6 +132,7 @@ same_block entry s going =
         key = refl;
         iso = refl;
         is_async = refl;
+        number = refl;
         regs = sym (append-nil _);
         few = λ few. few;
         blocks = longer;
@@ -153,6 +162,7 @@ same_emit instr s going = by (nat_le MAX_POINTS (length (points_of s.made.blocks
       key = refl;
       iso = refl;
       is_async = refl;
+      number = refl;
       regs = sym (append-nil _);
       few = λ few. few;
       blocks = omega arith;
@@ -176,6 +186,7 @@ same_emit instr s going = by (nat_le MAX_POINTS (length (points_of s.made.blocks
           key = refl;
           iso = refl;
           is_async = refl;
+          number = refl;
           regs = sym (append-nil _);
           few = λ few. few;
           blocks = omega (arith, as_long);
@@ -211,6 +222,7 @@ same_close last s going =
         key = refl;
         iso = refl;
         is_async = refl;
+        number = refl;
         regs = sym (append-nil _);
         few = λ few. few;
         blocks = omega (arith, as_long);
@@ -241,6 +253,7 @@ same_resume number s going = by (nat_lt number (length s.made.blocks)) refl wher
       key = refl;
       iso = refl;
       is_async = refl;
+      number = refl;
       regs = sym (append-nil _);
       few = λ few. few;
       blocks = omega arith;

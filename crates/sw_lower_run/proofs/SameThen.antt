@@ -3,7 +3,7 @@ use Rattle.std.proofs.Common.{◌≡◌, ℕ, ◌+◌, ◌<◌, ◌⊎◌, inl, 
 use Rattle.std.proofs.Common.{length, ap, sym, ◌∙◌, arith, append_assoc, length-append, subst}
 use Rattle.std.specs.Prelude.{Result, Ok, Err}
 use Rattle.sw_graph.specs.declared.function.TheConstants.{MAX_POINTS}
-use Rattle.sw_lower_run.specs.Plan.{Piece, Place, Plan, after, ended_in}
+use Rattle.sw_lower_run.specs.Plan.{Numbers, Piece, Place, Plan, after, ended_in}
 use Rattle.sw_lower_run.specs.Plan.{joined, plan_after, written_in}
 use Rattle.sw_lower_run.specs.Run.{IsGoing, Making, Makes, Meets, Run, instrs_at, last_at, place_of}
 use Rattle.sw_lower_run.specs.Run.{points, run_after}
@@ -12,9 +12,9 @@ use Rattle.sw_lower_run.specs.declared.fault.CodeFault.{CodeFault}
 use Rattle.sw_lower_run.specs.declared.fault.CodeFault.TheVariants.{Registers, Memory}
 use Rattle.sw_lower_run.proofs.BlockFacts.{ended_both, inside_both, inside_more, written_both}
 
-abbrev place : ℕ → ℕ → ℕ → List Bound → Place
-place regs blocks here vars =
-    record { regs = regs; blocks = blocks; here = here; vars = vars }
+abbrev place : Numbers → ℕ → ℕ → ℕ → List Bound → Place
+place number regs blocks here vars =
+    record { regs = regs; blocks = blocks; here = here; vars = vars; number = number }
 
 -- A run comes to the place after its plan.
 place_after : {A : Type 0} (piece : Piece A) (s t : Making) → Makes piece s t
@@ -22,13 +22,16 @@ place_after : {A : Type 0} (piece : Piece A) (s t : Making) → Makes piece s t
 place_after piece s t made =
     let regs : length t.made.regs ≡ length s.made.regs + length piece.regs =
     ap length made.regs ∙ length-append s.made.regs piece.regs in
-    ap (λ n. place n (length t.made.blocks) t.here t.vars) regs
-    ∙ ap (λ n. place (length s.made.regs + length piece.regs) n t.here t.vars) made.blocks
+    ap (λ number. place number (length t.made.regs) (length t.made.blocks) t.here t.vars)
+    made.number
+    ∙ ap (λ n. place s.number n (length t.made.blocks) t.here t.vars) regs
+    ∙ ap (λ n. place s.number (length s.made.regs + length piece.regs) n t.here t.vars)
+    made.blocks
     ∙ ap
-    (λ n. place (length s.made.regs + length piece.regs)
+    (λ n. place s.number (length s.made.regs + length piece.regs)
     (length s.made.blocks + length piece.made) n t.vars) made.here
     ∙ ap
-    (place (length s.made.regs + length piece.regs)
+    (place s.number (length s.made.regs + length piece.regs)
     (length s.made.blocks + length piece.made) piece.there) made.vars
 
 -- From s to t by the first piece, and from t to u by the second.
@@ -41,6 +44,7 @@ makes_both first second s t u one two =
       key = two.key ∙ one.key;
       iso = two.iso ∙ one.iso;
       is_async = two.is_async ∙ one.is_async;
+      number = two.number ∙ one.number;
       regs = two.regs ∙ ap (λ regs. regs ++ second.regs) one.regs
           ∙ append_assoc s.made.regs first.regs second.regs;
       few = λ few. two.few (one.few few);

@@ -8,6 +8,7 @@ use Rattle.sw_graph.specs.declared.instr.Instr.{Instr}
 use Rattle.sw_graph.specs.declared.instr.Last.{Last}
 use Rattle.sw_graph.specs.declared.instr.Last.TheVariants.{Return}
 use Rattle.sw_lower_run.specs.declared.bound.Bound.{Bound}
+use Rattle.sw_lower_run.specs.declared.name.FunctionName.{FunctionName}
 
 -- how a block may be entered: from anywhere, or by a switch on a register that holds a case of an
 -- enum, by the numbers of the enum's shape and of the case
@@ -24,13 +25,18 @@ pub record Ended : Type 0 where
   pub block : ℕ
   pub last : Last
 
--- where a piece of code begins: how many registers and blocks there are, the block that goes on, and
--- the variables that are seen
+-- the numbers of functions by their names
+abbrev pub Numbers : Type 0
+Numbers = FunctionName → Option ℕ
+
+-- where a piece of code begins: how many registers and blocks there are, the block that goes on,
+-- the variables that are seen, and the numbers of functions
 pub record Place : Type 0 where
   pub regs : ℕ
   pub blocks : ℕ
   pub here : ℕ
   pub vars : List Bound
+  pub number : Numbers
 
 -- what a piece of code makes: a value, registers, blocks by how they are entered, instructions, last
 -- instructions and variables; and the block that goes on after it
@@ -57,6 +63,7 @@ after place piece = record {
   blocks = place.blocks + length piece.made;
   here = piece.there;
   vars = place.vars ++ piece.vars;
+  number = place.number;
 }
 
 -- one piece, and another after it that gives the value

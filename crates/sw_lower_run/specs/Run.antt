@@ -15,17 +15,21 @@ use Rattle.sw_graph.specs.declared.instr.Last.{Last}
 use Rattle.sw_graph.specs.declared.instr.Last.TheVariants.{Return}
 use Rattle.sw_builder.specs.Blocks.{with_instr, with_last}
 use Rattle.sw_builder.specs.Unfinished.{Unfinished, begun, in_block, with_block, with_register}
-use Rattle.sw_lower_run.specs.Plan.{Piece, Place, Written, ended_in, size, var_in, written_in}
+use Rattle.sw_lower_run.specs.Plan.{Numbers, Piece, Place, Written, ended_in, size, var_in}
+use Rattle.sw_lower_run.specs.Plan.{written_in}
 use Rattle.sw_lower_run.specs.declared.bound.Bound.{Bound}
+use Rattle.sw_lower_run.specs.declared.name.FunctionName.{FunctionName}
 use Rattle.sw_lower_run.specs.declared.fault.CodeFault.{CodeFault}
 use Rattle.sw_lower_run.specs.declared.fault.CodeFault.TheVariants.{Registers, Memory}
 
 -- A function while code for it is made: what is made, the block that goes on, the variables that are
--- seen, and whether an instruction was dropped since the function had all its points.
+-- seen, the numbers of functions, and whether an instruction was dropped since the function had all
+-- its points.
 pub record Making : Type 0 where
   pub made : Unfinished
   pub here : ℕ
   pub vars : List Bound
+  pub number : Numbers
   pub over : Bool
 
 abbrev pub Run : Type 0 → Type 0
@@ -41,6 +45,7 @@ place_of making = record {
   blocks = length making.made.blocks;
   here = making.here;
   vars = making.vars;
+  number = making.number;
 }
 
 abbrev pub run_reg : RegKind → Run ℕ
@@ -90,6 +95,9 @@ run_known (Some value) making = Ok (value, making)
 abbrev pub run_var : ℕ → Run Bound
 run_var key making = run_known (var_in key making.vars) making
 
+abbrev pub run_number : FunctionName → Run ℕ
+run_number name making = run_known (making.number name) making
+
 -- what runs after a run, with what that gave
 abbrev pub run_after : {A B : Type 0} → Result (A × Making) CodeFault → (A → Run B)
     → Result (B × Making) CodeFault
@@ -97,11 +105,12 @@ run_after (Ok at) next = next at.0 at.1
 run_after (Err fault) next = Err fault
 
 -- a function without registers whose first block goes on
-abbrev pub at_start : ℕ → Iso → Bool → Making
-at_start key iso is_async = record {
+abbrev pub at_start : Numbers → ℕ → Iso → Bool → Making
+at_start number key iso is_async = record {
   made = with_block (begun key iso is_async);
   here = 0;
   vars = [];
+  number = number;
   over = false;
 }
 
@@ -132,6 +141,7 @@ pub record Makes {A : Type 0} (piece : Piece A) (s t : Making) : Type 0 where
   pub key : t.made.key ≡ s.made.key
   pub iso : t.made.iso ≡ s.made.iso
   pub is_async : t.made.is_async ≡ s.made.is_async
+  pub number : t.number ≡ s.number
   pub regs : t.made.regs ≡ s.made.regs ++ piece.regs
   pub few : length s.made.regs ≤ MAX_REGISTERS → length t.made.regs ≤ MAX_REGISTERS
   pub blocks : length t.made.blocks ≡ length s.made.blocks + length piece.made

@@ -5,7 +5,9 @@
 mod bound;
 mod fault;
 mod laws;
+mod name;
 
 pub use bound::Bound;
 pub use fault::CodeFault;
 pub use laws::{runs_join, steps_make_plans};
+pub use name::FunctionName;

@@ -13,7 +13,7 @@ use Rattle.sw_graph.specs.declared.graph.Graph.{Graph}
 use Rattle.sw_typing_rules.specs.Worlds.{World}
 use Rattle.sw_isolation_rules.specs.Answers.{Answers}
 use Rattle.sw_lower_code.specs.Whole.{Body, function_of}
-use Rattle.sw_lower_table.specs.Bodies.{Lowered, order_of, program_bodies, tables_of}
+use Rattle.sw_lower_table.specs.Bodies.{Lowered, numbers_of, order_of, program_bodies, tables_of}
 use Rattle.sw_lower_table.specs.Tables.{Isolation}
 
 -- the body of the function with a number
@@ -23,18 +23,19 @@ record BodyAt (ordered : List Body) (number : ℕ) (function : Function) : Type 
   key : function.key ≡ body.key
 
 body_at : (ordered : List Body) (functions : List Function) (number : ℕ) (function : Function)
-    → functions ≡ map function_of ordered → slice_get functions number ≡ Some function
-    → BodyAt ordered number function
+    → functions ≡ map (function_of (numbers_of ordered)) ordered
+    → slice_get functions number ≡ Some function → BodyAt ordered number function
 unfolding function_of
 body_at ordered functions number function are at =
     by (slice_get ordered number) refl
-    (sym (slice_get-map function_of ordered number)
+    (sym (slice_get-map (function_of (numbers_of ordered)) ordered number)
     ∙ ap (λ list. slice_get list number) (sym are) ∙ at) where
       by : (found : Option Body) → slice_get ordered number ≡ found
-          → option_map function_of found ≡ Some function → BodyAt ordered number function
+          → option_map (function_of (numbers_of ordered)) found ≡ Some function
+          → BodyAt ordered number function
       by None is never = cc
       by (Some body) is given =
-          let same : function_of body ≡ function = cc in
+          let same : function_of (numbers_of ordered) body ≡ function = cc in
           record { body = body; is = is; key = ap (λ (f : Function). f.key) (sym same) }
 
 keys_rise : (one other : Body) → order_of one ≤ order_of other → one.key ≤ other.key
@@ -49,13 +50,13 @@ keys_rise one other less = by one.getter other.getter less where
 
 module _ (world : World) (answers : Answers) (isolation : Isolation) (decls : List Decl)
     (graph : Graph) where
-  pub as_many_functions : (lowered : Lowered world answers isolation decls graph)
+  pub as_many_functions : Lowered world answers isolation decls graph
       → length graph.functions
-      ≡ length (program_bodies (tables_of world answers isolation decls lowered.ordered) decls)
+      ≡ length (program_bodies (tables_of world answers isolation decls) decls)
   as_many_functions lowered =
       ap length lowered.functions
-      ∙ length-map lowered.ordered function_of
-      ∙ length_permutation _ _ lowered.bodies
+      ∙ length-map lowered.ordered (function_of (numbers_of lowered.ordered))
+      ∙ length_permutation _ _ lowered.are_ordered.bodies
 
   pub functions_rise : Lowered world answers isolation decls graph → (i j : ℕ)
       (one other : Function) → i ≤ j → slice_get graph.functions i ≡ Some one
@@ -73,6 +74,6 @@ module _ (world : World) (answers : Answers) (isolation : Isolation) (decls : Li
       let rises : order_of first.body ≤ order_of second.body =
       subst (λ b. order_of b ≤ order_of second.body) here
       (subst (λ b. order_of (get_or lowered.ordered i d) ≤ order_of b) there
-      (lowered.in_order i j d before within)) in
+      (lowered.are_ordered.in_order i j d before within)) in
       let keys : first.body.key ≤ second.body.key = keys_rise first.body second.body rises in
       omega (arith, keys, first.key, second.key)

@@ -1,3 +1,5 @@
+pub mod FirstTooLarge
 pub mod Forms
 pub mod InOrder
 pub mod Numbers
+pub mod Orders

@@ -1,18 +1,22 @@
 -- Numbers of functions are places among their names.
-use Rattle.std.proofs.Common.{◌≡◌, ℕ, zero, suc, ◌+◌, ◌-◌, ◌<◌, ◌≤◌, Option, Some, None, List, []}
-use Rattle.std.proofs.Common.{◌∷◌, Bool, true, false, IsTrue, length, refl, ap, sym, ◌∙◌, arith, subst}
+use Rattle.std.proofs.Common.{◌≡◌, ℕ, suc, ◌+◌, ◌-◌, ◌<◌, ◌≤◌, Some, List, []}
+use Rattle.std.proofs.Common.{◌∷◌, Bool, true, false, IsTrue, length, refl, arith, subst}
 use Rattle.std.specs.List.{slice_get}
 use Rattle.std.specs.Prelude.{if◌then◌else◌}
-use Rattle.sw_lower_table.specs.Tables.{Name, is_named, number_from, number_in}
+use Rattle.sw_lower_table.specs.Tables.{is_named, number_from, number_in}
+use Rattle.sw_lower_run.specs.declared.name.FunctionName.{FunctionName}
 
 -- a number counts the names before the one with the name
-record Found (from : ℕ) (names : List Name) (name : Name) (number : ℕ) : Type 0 where
+record Found (from : ℕ) (names : List FunctionName) (name : FunctionName) (number : ℕ)
+    : Type 0 where
   above : from ≤ number
   below : number < from + length names
-  named : (one : Name) → slice_get names (number - from) ≡ Some one → IsTrue (is_named one name)
+  named : (one : FunctionName) → slice_get names (number - from) ≡ Some one
+      → IsTrue (is_named one name)
 
-found_later : (from number : ℕ) (first : Name) (names : List Name) (name : Name)
-    → Found (from + 1) names name number → Found from (first ∷ names) name number
+found_later : (from number : ℕ) (first : FunctionName) (names : List FunctionName)
+    (name : FunctionName) → Found (from + 1) names name number
+    → Found from (first ∷ names) name number
 found_later from number first names name later = record {
   above = omega (arith, later.above);
   below = omega (arith, later.below);
@@ -20,7 +24,7 @@ found_later from number first names name later = record {
       (let next : number - from ≡ suc (number - (from + 1)) = omega (arith, later.above) in next) is);
 }
 
-found : (from : ℕ) (names : List Name) (name : Name) (number : ℕ)
+found : (from : ℕ) (names : List FunctionName) (name : FunctionName) (number : ℕ)
     → number_from from names name ≡ Some number → Found from names name number
 found from [] name number is = cc
 found from (one ∷ names) name number is =
@@ -43,11 +47,11 @@ found from (one ∷ names) name number is =
           }
       by false named second later = found_later from number one names name (later second)
 
-pub number_within : (names : List Name) (name : Name) (number : ℕ)
+pub number_within : (names : List FunctionName) (name : FunctionName) (number : ℕ)
     → number_in names name ≡ Some number → number < length names
 number_within names name number is = omega (arith, (found 0 names name number is).below)
 
-pub number_named : (names : List Name) (name one : Name) (number : ℕ)
+pub number_named : (names : List FunctionName) (name one : FunctionName) (number : ℕ)
     → number_in names name ≡ Some number → slice_get names number ≡ Some one
     → IsTrue (is_named one name)
 number_named names name one number is at =

@@ -1,5 +1,5 @@
 -- The bodies of a program and its graph.
-use Rattle.std.specs.Prelude.{◌≡◌, ℕ, ◌+◌, ◌*◌, ◌==◌, ◌&&◌, Bool, true, false, List, [], ◌∷◌, ◌++◌}
+use Rattle.std.specs.Prelude.{◌≡◌, ℕ, ◌+◌, ◌*◌, ◌==◌, ◌&&◌, true, false, List, [], ◌∷◌, ◌++◌}
 use Rattle.std.specs.Prelude.{map, flat_map, Option, Some, None, slice_get, if◌then◌else◌}
 use Rattle.std.specs.Prelude.{IsPermutation}
 use Rattle.std.specs.List.Sorted.{IsNonDecreasingBy}
@@ -19,6 +19,10 @@ use Rattle.sw_types.specs.declared.shape.ShapeKind.{ShapeKind}
 use Rattle.sw_types.specs.declared.shape.ShapeKind.TheVariants as shapes
 use Rattle.sw_types.specs.declared.ty.Ty.{Ty}
 use Rattle.sw_types.specs.declared.ty.Ty.TheVariants as types
+use Rattle.sw_graph.specs.Limits.{excess_of}
+use Rattle.sw_graph.specs.declared.function.Excess.{Excess}
+use Rattle.sw_graph.specs.declared.function.Excess.TheVariants.{Registers, Points}
+use Rattle.sw_graph.specs.declared.function.Function.{Function}
 use Rattle.sw_graph.specs.declared.function.GlobalKind.{GlobalKind}
 use Rattle.sw_graph.specs.declared.function.RegKind.TheVariants.{Plain}
 use Rattle.sw_graph.specs.declared.graph.Graph.{Graph}
@@ -26,21 +30,23 @@ use Rattle.sw_graph.specs.declared.instr.Instr.{Instr}
 use Rattle.sw_graph.specs.declared.instr.Instr.TheVariants as instr
 use Rattle.sw_graph.specs.declared.instr.Last.TheVariants as last
 use Rattle.sw_graph.specs.declared.instr.Operand.{Operand}
+use Rattle.sw_resolve.specs.Placed.{IsFirst}
 use Rattle.sw_resolve.specs.Words.{shapes_made}
+use Rattle.sw_resolve.specs.declared.placed.Placed.{Placed}
 use Rattle.sw_decls.specs.declared.signature.GlobalVar.{GlobalVar}
 use Rattle.sw_decls.specs.declared.signature.Signature.{Signature}
 use Rattle.sw_typing_rules.specs.Worlds.{World, and_then}
 use Rattle.sw_isolation_rules.specs.Answers.{Answers, for_some}
 use Rattle.sw_isolation_rules.specs.Kinds.{is_isolated, shape_iso}
 use Rattle.sw_isolation_rules.specs.Programs.{func_at}
-use Rattle.sw_isolation_rules.specs.declared.note.BodyIso.{BodyIso}
-use Rattle.sw_isolation_rules.specs.declared.note.Note.{Note}
+use Rattle.sw_lower_run.specs.Plan.{Numbers}
 use Rattle.sw_lower_code.specs.Code.{Code, close, done, each, emit, known, ◌>>=◌, ◌>>◌}
-use Rattle.sw_lower_code.specs.Whole.{Body, Taken, function_of}
-use Rattle.sw_lower_table.specs.Carriers.{BlockCode, ExprCode, Given}
+use Rattle.sw_lower_code.specs.Whole.{Body, function_of}
+use Rattle.sw_lower_code.specs.declared.taken.Taken.{Taken}
+use Rattle.sw_lower_table.specs.Carriers.{ExprCode, Given}
 use Rattle.sw_lower_table.specs.Expressions.{body_code, is_async_of, iso_of}
 use Rattle.sw_lower_table.specs.Statements.{block_code, expr_code}
-use Rattle.sw_lower_table.specs.Tables.{Isolation, Name, Tables, isolation_in, name_of, number_in}
+use Rattle.sw_lower_table.specs.Tables.{Isolation, Tables, name_of, number_in}
 use Rattle.sw_lower_table.specs.Tables.{or_void, part_key_in, plain}
 use Rattle.sw_lower_table.specs.Uses.{give, no_operand, operand}
 
@@ -70,16 +76,36 @@ init_code key number shape givens = each give_value givens
     (λ r. made_instr shape.kind key r number operands)
     >>= λ made. close (last.Return (Some made))
 
-module _ (tables : Tables) where
-  -- `self` of a member of the type with a number
-  abbrev pub self_by : ℕ → Shape → Taken
-  self_by number shape = record {
-    key = shape.at;
-    kind = Plain (types.Named number);
-    boxed = false;
-    sending = false;
-  }
+-- A getter gives what it reads.
+abbrev pub getter_code : Code Operand → Code (Unit {0})
+getter_code read = read >>= λ value. close (last.Return (Some value))
 
+abbrev pub part_read : ℕ → ℕ → Ty → Code Operand
+part_read key index ty = give key ty (λ r. instr.LoadProp key r (operand 0 key) index)
+
+abbrev pub stored_read : ℕ → ℕ → Ty → Code Operand
+stored_read key index ty = give key ty (λ r. instr.LoadGlobal key r index)
+
+-- a global variable is given its first value
+abbrev pub first_code : ℕ → ℕ → Code Operand → Code (Unit {0})
+first_code key index read = read
+    >>= λ given. emit (instr.StoreGlobal key index given) >> close (last.Return None)
+
+-- how many global variables a declaration makes
+abbrev pub globals_made : Decl → ℕ
+globals_made (Global prop) = 1
+globals_made _ = 0
+
+-- `self` of a member of the type with a number
+abbrev pub self_by : ℕ → Shape → Taken
+self_by number shape = record {
+  key = shape.at;
+  kind = Plain (types.Named number);
+  boxed = false;
+  sending = false;
+}
+
+module _ (tables : Tables) where
   abbrev pub self_at : ℕ → List Taken
   self_at number = for_some (slice_get tables.world.shapes number)
       (λ shape. self_by number shape ∷ [])
@@ -156,7 +182,7 @@ module _ (tables : Tables) where
   inits_bodies number props word (init ∷ inits) =
       flat_map (init_bodies number props) (init ∷ inits)
 
-  -- a getter, and what gives a first value
+  -- a getter
   abbrev pub getter : ℕ → List Taken → Ty → Code Operand → Body
   getter key takes ty read = record {
     key = key;
@@ -166,13 +192,12 @@ module _ (tables : Tables) where
     takes = takes;
     sends = false;
     result = ty;
-    code = read >>= λ value. close (last.Return (Some value));
+    code = getter_code read;
   }
 
   abbrev pub part_getter : ℕ → ℕ → ℕ → Shape → Part → Body
   part_getter key number index shape part =
-      getter key (self_by number shape ∷ []) part.ty
-      (give key part.ty (λ r. instr.LoadProp key r (operand 0 key) index))
+      getter key (self_by number shape ∷ []) part.ty (part_read key index part.ty)
 
   -- A `var` of an actor or of a class with a global actor has a getter.
   abbrev pub shape_getters : ℕ → ℕ → PropTree → Shape → List Body
@@ -190,7 +215,7 @@ module _ (tables : Tables) where
   abbrev pub global_getter : ℕ → ℕ → GlobalVar → List Body
   global_getter key index global = for_some global.actor (λ actor.
       if global.mutable
-      then getter key [] global.ty (give key global.ty (λ r. instr.LoadGlobal key r index)) ∷ []
+      then getter key [] global.ty (stored_read key index global.ty) ∷ []
       else [])
 
   -- what gives a global variable its first value
@@ -203,8 +228,7 @@ module _ (tables : Tables) where
     takes = [];
     sends = false;
     result = types.Unit;
-    code = value.read
-        >>= λ given. emit (instr.StoreGlobal key index given) >> close (last.Return None);
+    code = first_code key index value.read;
   }
 
   abbrev pub value_bodies : ℕ → ℕ → Option Expr → List Body
@@ -232,10 +256,6 @@ module _ (tables : Tables) where
   decl_bodies number index (Func func) = func_tree_bodies func
   decl_bodies number index (Global prop) = global_bodies index prop
 
-  abbrev pub globals_made : Decl → ℕ
-  globals_made (Global prop) = 1
-  globals_made _ = 0
-
   abbrev pub bodies_from : ℕ → ℕ → List Decl → List Body
   bodies_from number index [] = []
   bodies_from number index (decl ∷ decls) =
@@ -259,27 +279,62 @@ entry_key [] = None
 entry_key (Entry word written at is_async body ∷ decls) = Some at
 entry_key (_ ∷ decls) = entry_key decls
 
-abbrev pub tables_of : World → Answers → Isolation → List Decl → List Body → Tables
-tables_of world answers isolation decls ordered = record {
+abbrev pub tables_of : World → Answers → Isolation → List Decl → Tables
+tables_of world answers isolation decls = record {
   world = world;
   answers = answers;
   isolation = isolation;
   part_key = part_key_in decls;
-  number = number_in (map name_of ordered);
 }
 
--- The graph is that of a program: its bodies in the order of their keys, each as its plan says.
+-- the numbers of the functions of bodies in order
+abbrev pub numbers_of : List Body → Numbers
+numbers_of ordered = number_in (map name_of ordered)
+
+-- the bodies of a program in the order of their keys
+pub record AreOrdered (tables : Tables) (decls : List Decl) (ordered : List Body) : Type 0 where
+  pub bodies : IsPermutation (program_bodies tables decls) ordered
+  pub in_order : IsNonDecreasingBy order_of ordered
+
+-- the functions of bodies in order
+abbrev pub functions_of : List Body → List Function
+functions_of ordered = map (function_of (numbers_of ordered)) ordered
+
+-- the code of too many registers, and that of too many points alone
+abbrev pub excess_code : Excess → ℕ
+excess_code Registers = 510
+excess_code Points = 511
+
+abbrev pub placed_excess : ℕ → Option Excess → List Placed
+placed_excess key None = []
+placed_excess key (Some excess) = record { at = key; code = excess_code excess } ∷ []
+
+-- the functions that are larger than those of a graph
+abbrev pub too_large_in : List Function → List Placed
+too_large_in functions =
+    flat_map (λ (function : Function). placed_excess function.key (excess_of function)) functions
+
+-- the first function of a program that is too large, by its key
+abbrev pub IsFirstTooLarge : Tables → List Decl → Option Placed → Type 0
+IsFirstTooLarge tables decls first = (ordered : List Body) × AreOrdered tables decls ordered
+    × IsFirst (too_large_in (functions_of ordered)) first
+
+-- The functions are those of a program: its bodies in the order of their keys, each as its plan says.
+pub record HasFunctions (tables : Tables) (decls : List Decl) (functions : List Function)
+    : Type 0 where
+  pub ordered : List Body
+  pub are_ordered : AreOrdered tables decls ordered
+  pub are_those : functions ≡ functions_of ordered
+
+-- The graph is that of a program.
 pub record Lowered (world : World) (answers : Answers) (isolation : Isolation) (decls : List Decl)
     (graph : Graph) : Type 0 where
   pub ordered : List Body
-  pub bodies : IsPermutation
-      (program_bodies (tables_of world answers isolation decls ordered) decls) ordered
-  pub in_order : IsNonDecreasingBy order_of ordered
+  pub are_ordered : AreOrdered (tables_of world answers isolation decls) decls ordered
   pub shapes : graph.shapes ≡ world.shapes
   pub globals : graph.globals ≡ map global_kind world.globals
-  pub functions : graph.functions ≡ map function_of ordered
+  pub functions : graph.functions ≡ functions_of ordered
   pub entry : Some graph.entry
-      ≡ and_then (entry_key decls) (λ key. number_in (map name_of ordered) (plain key))
+      ≡ and_then (entry_key decls) (λ key. numbers_of ordered (plain key))
   pub starts : map Some graph.starts
-      ≡ map (λ (global : GlobalVar). number_in (map name_of ordered) (plain global.key.at))
-      world.globals
+      ≡ map (λ (global : GlobalVar). numbers_of ordered (plain global.key.at)) world.globals

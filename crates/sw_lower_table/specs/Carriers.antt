@@ -7,11 +7,7 @@ use Rattle.sw_tree.specs.declared.stmt.Pattern.{Pattern}
 use Rattle.sw_graph.specs.declared.instr.Operand.{Operand}
 use Rattle.sw_lower_code.specs.Code.{Code}
 use Rattle.sw_lower_code.specs.Whole.{Body}
-
--- where `break` and `continue` go to
-pub record Targets : Type 0 where
-  pub breaks : Option ℕ
-  pub continues : Option ℕ
+use Rattle.sw_lower_table.specs.declared.targets.Targets.{Targets}
 
 abbrev pub no_targets : Targets
 no_targets = record { breaks = None; continues = None }

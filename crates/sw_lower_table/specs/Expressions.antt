@@ -1,7 +1,7 @@
 -- The code of expressions, by one step for each form.
 use Rattle.std.specs.Prelude.{ℕ, Bool, true, false, List, [], ◌∷◌, ◌++◌, map, flat_map, Option, Some}
 use Rattle.std.specs.Prelude.{None, if◌then◌else◌}
-use Rattle.std.specs.Option.{option_map_or, unwrap_or}
+use Rattle.std.specs.Option.{option_map_or}
 use Rattle.sw_tree.specs.NodeKey.{last_or}
 use Rattle.sw_tree.specs.declared.expr.ClosureParam.{ClosureParam}
 use Rattle.sw_tree.specs.declared.expr.Expr.TheOpen as layer
@@ -31,15 +31,16 @@ use Rattle.sw_isolation_rules.specs.Captures.{is_among, self_of}
 use Rattle.sw_isolation_rules.specs.Noting.{task_result}
 use Rattle.sw_isolation_rules.specs.declared.note.BodyIso.{BodyIso}
 use Rattle.sw_isolation_rules.specs.declared.note.Capture.{Capture}
-use Rattle.sw_lower_code.specs.Code.{Code, block_for, close, done, each, emit, known, reg, resume}
-use Rattle.sw_lower_code.specs.Code.{◌>>=◌, ◌>>◌}
+use Rattle.sw_lower_code.specs.Code.{Code, block_for, close, done, each, emit, known, number, reg}
+use Rattle.sw_lower_code.specs.Code.{resume, ◌>>=◌, ◌>>◌}
 use Rattle.sw_lower_run.specs.Plan.{Anywhere}
-use Rattle.sw_lower_code.specs.Whole.{Body, Taken}
+use Rattle.sw_lower_code.specs.Whole.{Body}
+use Rattle.sw_lower_code.specs.declared.taken.Taken.{Taken}
 use Rattle.sw_lower_table.specs.Carriers.{ArgCode, BlockCode, CaseCode, ClosureCode, ExprCode, IfCode}
 use Rattle.sw_lower_table.specs.Carriers.{LinkCode, StmtCode, no_targets}
 use Rattle.sw_lower_table.specs.Tables.{Tables, func_result, or_void, plain}
 use Rattle.sw_lower_table.specs.Uses.{call_closure, call_func, capture, give, make, make_value}
-use Rattle.sw_lower_table.specs.Uses.{numbered, operand, read_global, read_own, read_part, read_self}
+use Rattle.sw_lower_table.specs.Uses.{operand, read_global, read_own, read_part, read_self}
 use Rattle.sw_lower_table.specs.Uses.{read_var, read_word, shape_at, shape_of, typed, unknown}
 use Rattle.sw_lower_table.specs.Uses.{write_var}
 
@@ -142,6 +143,14 @@ abbrev pub own_part_of : Bool → ℕ → Option ℕ
 own_part_of true name = Some name
 own_part_of false name = None
 
+abbrev pub closure_param_taken : Tables → ClosureParam → Taken
+closure_param_taken tables param = record {
+  key = param.name.at;
+  kind = Plain (or_void (tables.answers.type_at param.name.at));
+  boxed = false;
+  sending = false;
+}
+
 module _ (tables : Tables) (owner : Option ℕ) where
   -- A variable is captured with its box or by its value; `self` has the type around.
   abbrev pub captured_type : ℕ → Ty
@@ -162,13 +171,10 @@ module _ (tables : Tables) (owner : Option ℕ) where
     sending = false;
   }
 
-  abbrev pub closure_param_taken : ClosureParam → Taken
-  closure_param_taken param = record {
-    key = param.name.at;
-    kind = Plain (or_void (tables.answers.type_at param.name.at));
-    boxed = false;
-    sending = false;
-  }
+  -- A closure or a task takes its captures and then its parameters.
+  abbrev pub closure_takes : ℕ → List ClosureParam → List Taken
+  closure_takes at params =
+      map capture_taken (tables.isolation.captures_of at) ++ map (closure_param_taken tables) params
 
   -- the body of a closure or a task, by its result
   unfoldable pub closure_body : ClosureCode → Ty → Body
@@ -177,8 +183,7 @@ module _ (tables : Tables) (owner : Option ℕ) where
     getter = false;
     iso = iso_of (tables.isolation.body_at closure.at);
     is_async = is_async_of (tables.isolation.body_at closure.at);
-    takes = map capture_taken (tables.isolation.captures_of closure.at)
-        ++ map closure_param_taken closure.params;
+    takes = closure_takes closure.at closure.params;
     sends = false;
     result = result;
     code = body_code result closure.body;
@@ -190,13 +195,13 @@ module _ (tables : Tables) (owner : Option ℕ) where
 
   abbrev pub fun_read : ClosureCode → Code Operand
   fun_read closure = captured closure.at closure.at
-      >>= λ operands. numbered tables (plain closure.at)
+      >>= λ operands. number (plain closure.at)
       >>= λ f. typed tables closure.at
       >>= λ ty. give closure.at ty (λ r. instr.NewClosure closure.at r f operands)
 
   abbrev pub spawn_read : ℕ → ClosureCode → Code Operand
   spawn_read at closure = captured at closure.at
-      >>= λ operands. numbered tables (plain closure.at)
+      >>= λ operands. number (plain closure.at)
       >>= λ f. typed tables at
       >>= λ ty. give at ty (λ r. instr.NewTask at r f operands)
 
@@ -309,16 +314,23 @@ module _ (tables : Tables) (owner : Option ℕ) where
   abbrev pub awaited : ℕ → ExprCode → Code Operand
   awaited at inner = inner.read >>= λ given. done (operand given.reg at)
 
+  -- the result of a closure, and of a task
+  abbrev pub fun_result : ℕ → Ty
+  fun_result at = func_result (tables.answers.type_at at)
+
+  abbrev pub spawn_result : ℕ → Ty
+  spawn_result at = or_void (task_result (tables.answers.type_at at))
+
   abbrev pub fun_code : ClosureCode → ExprCode
   fun_code closure =
       value closure.at (fun_read closure)
-      (closure_body closure (func_result (tables.answers.type_at closure.at))
+      (closure_body closure (fun_result closure.at)
       ∷ closure.body.inside)
 
   abbrev pub spawn_code : ℕ → ClosureCode → ExprCode
   spawn_code at closure =
       value at (spawn_read at closure)
-      (closure_body closure (or_void (task_result (tables.answers.type_at at)))
+      (closure_body closure (spawn_result at)
       ∷ closure.body.inside)
 
   abbrev pub expr_layer : layer.Expr-F ExprCode StmtCode ArgCode ClosureCode LinkCode BlockCode

@@ -1,7 +1,7 @@
 -- The code of statements and blocks, by one step for each form, and the code of whole trees.
 use Rattle.std.specs.Prelude.{ℕ, ◌+◌, ◌==◌, List, [], ◌∷◌, ◌++◌, map, flat_map, Option, Some, None}
 use Rattle.std.specs.Prelude.{true, false, if◌then◌else◌}
-use Rattle.std.specs.Option.{option_map, option_map_or, unwrap_or}
+use Rattle.std.specs.Option.{unwrap_or}
 use Rattle.sw_tree.specs.Folds.{Steps, fold_block, fold_expr, fold_stmt}
 use Rattle.sw_tree.specs.declared.expr.Expr.{Expr}
 use Rattle.sw_tree.specs.declared.expr.Expr.TheOpen as layer
@@ -21,16 +21,16 @@ use Rattle.sw_graph.specs.declared.instr.BinOp.TheVariants as bin
 use Rattle.sw_graph.specs.declared.instr.Instr.TheVariants as instr
 use Rattle.sw_graph.specs.declared.instr.Last.TheVariants as last
 use Rattle.sw_graph.specs.declared.instr.Operand.{Operand}
-use Rattle.sw_resolve.specs.Words.{or_else}
 use Rattle.sw_lower_code.specs.Code.{Code, all, bind, block_for, close, done, each, emit, front, known}
 use Rattle.sw_lower_code.specs.Code.{reg, resume, ◌>>=◌, ◌>>◌}
-use Rattle.sw_lower_run.specs.Plan.{Anywhere, OfCase}
+use Rattle.sw_lower_run.specs.Plan.{OfCase}
 use Rattle.sw_lower_code.specs.Whole.{Body}
 use Rattle.sw_lower_table.specs.Carriers.{ArgCode, BlockCode, CaseCode, ClosureCode, ExprCode, Given}
-use Rattle.sw_lower_table.specs.Carriers.{IfCode, LinkCode, StmtCode, Targets}
+use Rattle.sw_lower_table.specs.Carriers.{IfCode, LinkCode, StmtCode}
+use Rattle.sw_lower_table.specs.declared.targets.Targets.{Targets}
 use Rattle.sw_lower_table.specs.Expressions.{block_made, expr_layer, jump}
 use Rattle.sw_lower_table.specs.Tables.{Tables}
-use Rattle.sw_lower_table.specs.Uses.{give, operand, shape_at, shape_of, typed}
+use Rattle.sw_lower_table.specs.Uses.{give, shape_at, shape_of, typed}
 
 -- a statement that is no expression and gives no property a value
 abbrev pub statement : (Targets → Code (Unit {0})) → List Body → StmtCode

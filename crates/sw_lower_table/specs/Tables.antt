@@ -1,9 +1,9 @@
 -- What lowering looks up: what a program declares, the types and meanings of its nodes, its isolation
 -- and the numbers of its functions.
-use Rattle.std.specs.Prelude.{ℕ, ◌+◌, ◌*◌, ◌==◌, ◌&&◌, Bool, true, false, List, [], ◌∷◌, ◌++◌, map}
+use Rattle.std.specs.Prelude.{ℕ, ◌+◌, ◌==◌, ◌&&◌, Bool, true, false, List, [], ◌∷◌, map}
 use Rattle.std.specs.Prelude.{flat_map, Option, Some, None, if◌then◌else◌, slice_get}
 use Rattle.std.specs.List.{filter}
-use Rattle.std.specs.Option.{option_map, unwrap_or}
+use Rattle.std.specs.Option.{unwrap_or}
 use Rattle.sw_tree.specs.declared.decl.Decl.{Decl}
 use Rattle.sw_tree.specs.declared.decl.Decl.TheVariants.{Entry, Struct, Enum, Class, Actor}
 use Rattle.sw_tree.specs.declared.decl.Decl.TheVariants.{GlobalActor, Func, Global}
@@ -12,7 +12,6 @@ use Rattle.sw_types.specs.declared.isolation.CallKind.{CallKind}
 use Rattle.sw_types.specs.declared.ty.Ty.{Ty, out-Ty}
 use Rattle.sw_types.specs.declared.ty.Ty.TheOpen as layer
 use Rattle.sw_types.specs.declared.ty.Ty.TheVariants as types
-use Rattle.sw_resolve.specs.Words.{or_else}
 use Rattle.sw_typing_rules.specs.Worlds.{World, and_then}
 use Rattle.sw_isolation_rules.specs.Answers.{Answers}
 use Rattle.sw_isolation_rules.specs.Captures.{is_among}
@@ -21,6 +20,7 @@ use Rattle.sw_isolation_rules.specs.declared.note.BodyIso.{BodyIso}
 use Rattle.sw_isolation_rules.specs.declared.note.Capture.{Capture}
 use Rattle.sw_isolation_rules.specs.declared.note.Kinded.{Kinded}
 use Rattle.sw_isolation_rules.specs.declared.note.Note.{Note}
+use Rattle.sw_lower_run.specs.declared.name.FunctionName.{FunctionName}
 use Rattle.sw_lower_code.specs.Whole.{Body}
 
 -- the body with a key, the kind of the call or crossing read with a key, the captures of a closure
@@ -39,14 +39,19 @@ abbrev pub kind_with : List Kinded → ℕ → Option CallKind
 kind_with [] key = None
 kind_with (one ∷ more) key = if one.at == key then Some one.kind else kind_with more key
 
--- what notes say of a program: the first that says it
-abbrev pub isolation_in : List Note → Isolation
-isolation_in notes = record {
-  body_at = body_with (bodies_in notes);
-  kind_at = kind_with (kinds_in notes);
-  captures_of = λ key. filter (λ (one : Capture). one.closure == key) (captures_in notes);
-  is_boxed = is_among (boxes_in notes);
+-- what lists say: the first that says it
+abbrev pub isolation_by : List BodyIso → List Kinded → List Capture → List ℕ → Isolation
+isolation_by bodies kinds captures boxes = record {
+  body_at = body_with bodies;
+  kind_at = kind_with kinds;
+  captures_of = λ key. filter (λ (one : Capture). one.closure == key) captures;
+  is_boxed = is_among boxes;
 }
+
+-- what notes say of a program
+abbrev pub isolation_in : List Note → Isolation
+isolation_in notes =
+    isolation_by (bodies_in notes) (kinds_in notes) (captures_in notes) (boxes_in notes)
 
 -- the keys of the properties of each shape, in order
 abbrev pub prop_keys : List PropTree → List ℕ
@@ -67,12 +72,7 @@ abbrev pub part_key_in : List Decl → ℕ → ℕ → Option ℕ
 part_key_in decls shape number =
     and_then (slice_get (flat_map shape_keys decls) shape) (λ keys. slice_get keys number)
 
--- A function is named by its key, and a getter by that of its variable.
-pub record Name : Type 0 where
-  pub key : ℕ
-  pub getter : Bool
-
-abbrev pub name_of : Body → Name
+abbrev pub name_of : Body → FunctionName
 name_of body = record { key = body.key; getter = body.getter }
 
 abbrev pub is_same : Bool → Bool → Bool
@@ -80,16 +80,16 @@ is_same true other = other
 is_same false true = false
 is_same false false = true
 
-abbrev pub is_named : Name → Name → Bool
+abbrev pub is_named : FunctionName → FunctionName → Bool
 is_named one other = (one.key == other.key) && is_same one.getter other.getter
 
 -- the number of a function: its place among the names, counted from this
-abbrev pub number_from : ℕ → List Name → Name → Option ℕ
+abbrev pub number_from : ℕ → List FunctionName → FunctionName → Option ℕ
 number_from number [] name = None
 number_from number (one ∷ more) name =
     if is_named one name then Some number else number_from (number + 1) more name
 
-abbrev pub number_in : List Name → Name → Option ℕ
+abbrev pub number_in : List FunctionName → FunctionName → Option ℕ
 number_in names name = number_from 0 names name
 
 pub record Tables : Type 0 where
@@ -97,13 +97,12 @@ pub record Tables : Type 0 where
   pub answers : Answers
   pub isolation : Isolation
   pub part_key : ℕ → ℕ → Option ℕ
-  pub number : Name → Option ℕ
 
 -- the function with a key, and the getter of the variable with a key
-abbrev pub plain : ℕ → Name
+abbrev pub plain : ℕ → FunctionName
 plain key = record { key = key; getter = false }
 
-abbrev pub getter_of : ℕ → Name
+abbrev pub getter_of : ℕ → FunctionName
 getter_of key = record { key = key; getter = true }
 
 -- Typed programs have a type where one is asked for. Elsewhere `Void` stands.

@@ -1,5 +1,5 @@
 -- The code for what names mean: variables, properties, global variables, calls and what is made.
-use Rattle.std.specs.Prelude.{ℕ, ◌+◌, Bool, true, false, ◌&&◌, not, List, [], ◌∷◌, Option, Some}
+use Rattle.std.specs.Prelude.{ℕ, false, ◌&&◌, not, List, [], ◌∷◌, Option, Some}
 use Rattle.std.specs.Prelude.{None, slice_get, if◌then◌else◌}
 use Rattle.std.specs.Option.{option_map}
 use Rattle.sw_types.specs.declared.isolation.Iso.TheVariants as iso
@@ -11,8 +11,7 @@ use Rattle.sw_types.specs.declared.shape.ShapeKind.{ShapeKind}
 use Rattle.sw_types.specs.declared.shape.ShapeKind.TheVariants as shapes
 use Rattle.sw_types.specs.declared.ty.Ty.{Ty}
 use Rattle.sw_types.specs.declared.ty.Ty.TheVariants as types
-use Rattle.sw_graph.specs.declared.function.RegKind.{RegKind}
-use Rattle.sw_graph.specs.declared.function.RegKind.TheVariants.{Plain, BoxOf}
+use Rattle.sw_graph.specs.declared.function.RegKind.TheVariants.{Plain}
 use Rattle.sw_graph.specs.declared.instr.Instr.{Instr}
 use Rattle.sw_graph.specs.declared.instr.Instr.TheVariants as instr
 use Rattle.sw_graph.specs.declared.instr.Operand.{Operand}
@@ -23,9 +22,10 @@ use Rattle.sw_typing_rules.specs.declared.row.Meaning.{Meaning}
 use Rattle.sw_typing_rules.specs.declared.row.Meaning.TheVariants as means
 use Rattle.sw_isolation_rules.specs.Uses.{maker_at, named_shape}
 use Rattle.sw_isolation_rules.specs.declared.note.Capture.{Capture}
-use Rattle.sw_lower_code.specs.Code.{Code, bind, done, each, emit, known, reg, var, ◌>>=◌, ◌>>◌}
+use Rattle.sw_lower_code.specs.Code.{Code, done, emit, known, number, reg, var, ◌>>=◌}
+use Rattle.sw_lower_code.specs.Code.{◌>>◌}
 use Rattle.sw_lower_run.specs.declared.bound.Bound.{Bound}
-use Rattle.sw_lower_table.specs.Tables.{Name, Tables, getter_of, plain}
+use Rattle.sw_lower_table.specs.Tables.{Tables, getter_of, plain}
 
 abbrev pub operand : ℕ → ℕ → Operand
 operand number at = record { reg = number; at = at }
@@ -87,10 +87,6 @@ module _ (tables : Tables) where
   unfoldable pub typed : ℕ → Code Ty
   typed key = known types.Unit (tables.answers.type_at key)
 
-  -- the number of a function
-  unfoldable pub numbered : Name → Code ℕ
-  numbered name = known 0 (tables.number name)
-
   unfoldable pub shape_at : ℕ → Code Shape
   shape_at number = known no_shape (slice_get tables.world.shapes number)
 
@@ -114,7 +110,7 @@ module _ (tables : Tables) where
 
   -- What another actor stores is read by a call of its getter.
   unfoldable pub call_getter : ℕ → CallKind → Ty → ℕ → List Operand → Code Operand
-  call_getter at kind ty key operands = numbered (getter_of key)
+  call_getter at kind ty key operands = number (getter_of key)
       >>= λ f. give at ty (λ r. instr.Call at r kind f operands)
 
   abbrev pub part_by : Option CallKind → ℕ → ℕ → ℕ → Ty → Operand → Code Operand
@@ -149,7 +145,7 @@ module _ (tables : Tables) where
 
   -- the call of a function
   abbrev pub call_signature : ℕ → List Operand → Signature → Code Operand
-  call_signature at operands func = numbered (plain func.key.at)
+  call_signature at operands func = number (plain func.key.at)
       >>= λ f. known kinds.Plain (tables.isolation.kind_at at)
       >>= λ kind. give at func.result (λ r. instr.Call at r kind f operands)
 

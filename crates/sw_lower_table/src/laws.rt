@@ -1,6 +1,6 @@
 //! Laws, without code: what the definitions of lowering say of all programs.
 ghost use Rattle.std.specs.Prelude.{◌≡◌, ℕ, ◌+◌, ◌<◌, ℤ, IsTrue, List, [], ◌∷◌, Option, Some, slice_get};
-ghost use Rattle.std.specs.Prelude.{◌≤◌, length};
+ghost use Rattle.std.specs.Prelude.{◌≤◌, ◌⊎◌, length};
 ghost use Rattle.sw_tree.specs.declared.decl.Decl.{Decl};
 ghost use Rattle.sw_tree.specs.declared.expr.Expr.TheVariants as exprs;
 ghost use Rattle.sw_types.specs.declared.ty.Ty.{Ty};
@@ -13,21 +13,23 @@ ghost use Rattle.sw_graph.specs.declared.instr.Instr.TheVariants as instr;
 ghost use Rattle.sw_graph.specs.declared.instr.Last.TheVariants as last;
 ghost use Rattle.sw_graph.specs.declared.instr.Literal.TheVariants as literals;
 ghost use Rattle.sw_graph.specs.declared.instr.Operand.{Operand};
+ghost use Rattle.sw_resolve.specs.declared.placed.Placed.{Placed};
 ghost use Rattle.sw_typing_rules.specs.Worlds.{World};
 ghost use Rattle.sw_isolation_rules.specs.Answers.{Answers};
 ghost use Rattle.sw_lower_run.specs.Plan.{Ended, Place};
+ghost use Rattle.sw_lower_run.specs.declared.name.FunctionName.{FunctionName};
 ghost use Rattle.sw_lower_code.specs.Code.{Code};
-ghost use Rattle.sw_lower_table.specs.Bodies.{Lowered, program_bodies, tables_of};
+ghost use Rattle.sw_lower_table.specs.Bodies.{IsFirstTooLarge, Lowered, program_bodies, tables_of};
 ghost use Rattle.sw_lower_table.specs.Expressions.{binary, both, either};
 ghost use Rattle.sw_lower_table.specs.Statements.{expr_code};
-ghost use Rattle.sw_lower_table.specs.Tables.{Isolation, Name, Tables, is_named, number_in};
+ghost use Rattle.sw_lower_table.specs.Tables.{Isolation, Tables, is_named, number_in};
 ghost use Rattle.sw_lower_table.specs.Uses.{operand};
 
 /// A function's number is its place among the names of the functions, in the order of their keys.
 pub fn numbers_are_places()
-    ensures within { (names : List Name) (name : Name) (number : ℕ)
+    ensures within { (names : List FunctionName) (name : FunctionName) (number : ℕ)
         → number_in names name ≡ Some number → number < length names }
-    ensures named { (names : List Name) (name one : Name) (number : ℕ)
+    ensures named { (names : List FunctionName) (name one : FunctionName) (number : ℕ)
         → number_in names name ≡ Some number → slice_get names number ≡ Some one
         → IsTrue (is_named one name) }
 {}
@@ -73,12 +75,22 @@ pub fn the_right_operand_is_skipped()
 /// The functions of a program's graph are those of its bodies, in the order of their keys.
 pub fn functions_are_in_order()
     ensures count { (world : World) (answers : Answers) (isolation : Isolation)
-        (decls : List Decl) (graph : Graph)
-        (lowered : Lowered world answers isolation decls graph)
+        (decls : List Decl) (graph : Graph) → Lowered world answers isolation decls graph
         → length graph.functions
-        ≡ length (program_bodies (tables_of world answers isolation decls lowered.ordered) decls) }
+        ≡ length (program_bodies (tables_of world answers isolation decls) decls) }
     ensures rising { (world : World) (answers : Answers) (isolation : Isolation)
         (decls : List Decl) (graph : Graph) → Lowered world answers isolation decls graph
         → (i j : ℕ) (one other : Function) → i ≤ j → slice_get graph.functions i ≡ Some one
         → slice_get graph.functions j ≡ Some other → one.key ≤ other.key }
+{}
+
+/// Each program has one first function that is too large, or none. The code says what it has too
+/// many of.
+pub fn programs_have_one_first_too_large()
+    ensures some { (tables : Tables) (decls : List Decl)
+        → (first : Option Placed) × IsFirstTooLarge tables decls first }
+    ensures one { (tables : Tables) (decls : List Decl) (one other : Option Placed)
+        → IsFirstTooLarge tables decls one → IsFirstTooLarge tables decls other → one ≡ other }
+    ensures codes { (tables : Tables) (decls : List Decl) (one : Placed)
+        → IsFirstTooLarge tables decls (Some one) → (one.code ≡ 510) ⊎ (one.code ≡ 511) }
 {}
