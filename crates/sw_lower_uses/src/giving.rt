@@ -1,0 +1,24 @@
+//! Values that instructions give.
+#![tactic(auto, unfolding(sw_lower_code::specs::Code::andthen, sw_lower_code::specs::Code::done, sw_lower_code::specs::Code::emit))]
+
+ghost use Rattle.sw_draft.specs.Drafts.{Gives, making_of};
+ghost use Rattle.sw_lower_code.specs.Code.{andthen, done, emit};
+ghost use Rattle.sw_lower_table.specs.Uses.{operand};
+
+use sw_draft::Draft;
+use sw_graph::{Instr, Operand};
+use sw_lower_run::CodeFault;
+
+/// Adds the instruction that sets the register `r`, and gives what it sets.
+pub fn emit_value(
+    at: u32,
+    r: u32,
+    instr: Instr,
+    draft: &mut Draft<'_>,
+) -> Result<Operand, CodeFault>
+    ensures { Gives ((andthen (emit instr) (λ _. done (operand r at))).run (making_of draft.old))
+        result draft.new }
+{
+    draft.emit(instr)?;
+    Ok(Operand { reg: r, at })
+}

@@ -1,0 +1,93 @@
+//! Variables, which are in registers or in boxes.
+#![tactic(auto, unfolding(sw_lower_code::specs::Code::andthen, sw_lower_code::specs::Code::done, sw_lower_code::specs::Code::emit, sw_lower_code::specs::Code::known, sw_lower_code::specs::Code::reg, sw_lower_code::specs::Code::var, sw_lower_table::specs::Uses::read_bound, sw_lower_table::specs::Uses::read_var, sw_lower_table::specs::Uses::typed, sw_lower_table::specs::Uses::write_bound))]
+
+ghost use Rattle.sw_draft.specs.Drafts.{Gives, making_of};
+ghost use Rattle.sw_lower_code.specs.Code.{andthen, var};
+ghost use Rattle.sw_lower_known.specs.Knowledge.{tables_by};
+ghost use Rattle.sw_lower_table.specs.Uses.{from_box, read_bound, read_var, write_bound};
+
+use crate::finding::type_of;
+use crate::giving::emit_value;
+use std::alloc::Global;
+use sw_draft::Draft;
+use sw_graph::{Instr, Operand, RegKind};
+use sw_lower_known::Known;
+use sw_lower_run::{Bound, CodeFault};
+
+/// Reads a variable from its box.
+fn from_box(
+    alloc: Global,
+    known: &Known<'_>,
+    at: u32,
+    bound: Bound,
+    draft: &mut Draft<'_>,
+) -> Result<Operand, CodeFault>
+    ensures { Gives ((from_box (tables_by known.now) at bound).run (making_of draft.old))
+        result draft.new }
+{
+    let ty = type_of(alloc, known, bound.key)?;
+    let r = draft.reg(RegKind::Plain(ty))?;
+    let b = Operand { reg: bound.reg, at };
+    let instr = Instr::LoadBox { at, r, b };
+    emit_value(at, r, instr, draft)
+}
+
+/// Reads a variable that was looked up.
+fn read_bound(
+    alloc: Global,
+    known: &Known<'_>,
+    at: u32,
+    bound: Bound,
+    draft: &mut Draft<'_>,
+) -> Result<Operand, CodeFault>
+    ensures { Gives ((read_bound (tables_by known.now) at bound).run (making_of draft.old))
+        result draft.new }
+{
+    if bound.boxed {
+        from_box(alloc, known, at, bound, draft)
+    } else {
+        Ok(Operand { reg: bound.reg, at })
+    }
+}
+
+/// Reads the variable with this key.
+pub fn read_var(
+    alloc: Global,
+    known: &Known<'_>,
+    at: u32,
+    key: u32,
+    draft: &mut Draft<'_>,
+) -> Result<Operand, CodeFault>
+    ensures { Gives ((read_var (tables_by known.now) at key).run (making_of draft.old))
+        result draft.new }
+{
+    let bound = draft.var(key)?;
+    read_bound(alloc, known, at, bound, draft)
+}
+
+/// Assigns to a variable that was looked up.
+fn write_bound(
+    at: u32,
+    given: Operand,
+    bound: Bound,
+    draft: &mut Draft<'_>,
+) -> Result<(), CodeFault>
+    ensures { Gives ((write_bound at given bound).run (making_of draft.old)) result draft.new }
+{
+    if bound.boxed {
+        let b = Operand { reg: bound.reg, at };
+        draft.emit(Instr::StoreBox { at, b, s: given })
+    } else {
+        let r = bound.reg;
+        draft.emit(Instr::Copy { at, r, s: given })
+    }
+}
+
+/// Assigns to the variable with this key.
+pub fn write_var(at: u32, key: u32, given: Operand, draft: &mut Draft<'_>) -> Result<(), CodeFault>
+    ensures { Gives ((andthen (var key) (write_bound at given)).run (making_of draft.old))
+        result draft.new }
+{
+    let bound = draft.var(key)?;
+    write_bound(at, given, bound, draft)
+}
