@@ -1,0 +1,2 @@
+pub mod CodedKeys
+pub mod Parts

@@ -1,0 +1,55 @@
+//! Closures and tasks as values: what they capture, and the number of their body. The body is a
+//! function of its own.
+#![tactic(auto, unfolding(sw_lower_code::specs::Code::andthen, sw_lower_code::specs::Code::known, sw_lower_code::specs::Code::number, sw_lower_code::specs::Code::reg, sw_lower_table::specs::Uses::typed))]
+
+ghost use Rattle.sw_draft.specs.Drafts.{Gives, making_of};
+ghost use Rattle.sw_lower_expr.specs.Walked.{closure_made, task_made};
+ghost use Rattle.sw_lower_known.specs.Knowledge.{tables_by};
+
+use std::alloc::Global;
+use sw_draft::Draft;
+use sw_graph::{Instr, Operand, RegKind};
+use sw_lower_known::Known;
+use sw_lower_run::{CodeFault, FunctionName};
+use sw_lower_uses::{captures, emit_value, type_of};
+
+/// The closure whose body has the key `at`.
+pub fn closure_made(
+    alloc: Global,
+    known: &Known<'_>,
+    at: u32,
+    draft: &mut Draft<'_>,
+) -> Result<Operand, CodeFault>
+    ensures { Gives ((closure_made (tables_by known.now) at).run (making_of draft.old))
+        result draft.new }
+{
+    let cs = captures(alloc, known, at, at, draft)?;
+    let f = draft.number(FunctionName {
+        key: at,
+        getter: false,
+    })?;
+    let ty = type_of(alloc, known, at)?;
+    let r = draft.reg(RegKind::Plain(ty))?;
+    emit_value(at, r, Instr::NewClosure { at, r, f, cs }, draft)
+}
+
+/// The task whose word stands at `at`, and whose body has the key `body`.
+pub fn task_made(
+    alloc: Global,
+    known: &Known<'_>,
+    at: u32,
+    body: u32,
+    draft: &mut Draft<'_>,
+) -> Result<Operand, CodeFault>
+    ensures { Gives ((task_made (tables_by known.now) at body).run (making_of draft.old))
+        result draft.new }
+{
+    let cs = captures(alloc, known, at, body, draft)?;
+    let f = draft.number(FunctionName {
+        key: body,
+        getter: false,
+    })?;
+    let ty = type_of(alloc, known, at)?;
+    let r = draft.reg(RegKind::Plain(ty))?;
+    emit_value(at, r, Instr::NewTask { at, r, f, cs }, draft)
+}

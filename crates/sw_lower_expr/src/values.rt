@@ -1,0 +1,111 @@
+//! Values that one instruction computes.
+#![tactic(auto, unfolding(sw_lower_code::specs::Code::andthen, sw_lower_code::specs::Code::done, sw_lower_code::specs::Code::emit, sw_lower_code::specs::Code::known, sw_lower_code::specs::Code::reg, sw_lower_table::specs::Uses::typed))]
+
+ghost use Rattle.sw_draft.specs.Drafts.{Gives, making_of};
+ghost use Rattle.sw_graph.specs.declared.instr.Instr.TheVariants as instr;
+ghost use Rattle.sw_lower_known.specs.Knowledge.{tables_by};
+ghost use Rattle.sw_lower_expr.specs.Walked.{waited};
+ghost use Rattle.sw_lower_table.specs.Expressions.{copied, prefixed};
+ghost use Rattle.sw_lower_table.specs.Uses.{give};
+ghost use Rattle.sw_types.specs.declared.ty.Ty.TheVariants as types;
+
+use std::alloc::Global;
+use sw_draft::Draft;
+use sw_graph::{BinOp, Instr, Literal, Operand, OperandList, RegKind, UnOp};
+use sw_lower_known::Known;
+use sw_lower_run::CodeFault;
+use sw_lower_uses::{emit_value, type_of};
+use sw_tree::PrefixOp;
+use sw_types::Ty;
+
+/// The value of a literal.
+pub fn literal(at: u32, ty: Ty, v: Literal, draft: &mut Draft<'_>) -> Result<Operand, CodeFault>
+    ensures { Gives ((give at ty (λ r. instr.Const at r v)).run (making_of draft.old))
+        result draft.new }
+{
+    let r = draft.reg(RegKind::Plain(ty))?;
+    emit_value(at, r, Instr::Const { at, r, v }, draft)
+}
+
+/// What a prefix operator gives.
+fn unary(at: u32, ty: Ty, op: UnOp, s: Operand, draft: &mut Draft<'_>) -> Result<Operand, CodeFault>
+    ensures { Gives ((give at ty (λ r. instr.Un at r op s)).run (making_of draft.old))
+        result draft.new }
+{
+    let r = draft.reg(RegKind::Plain(ty))?;
+    emit_value(at, r, Instr::Un { at, r, op, s }, draft)
+}
+
+/// The value of an operator before its operand's value.
+pub fn prefixed(
+    op: PrefixOp,
+    at: u32,
+    value: Operand,
+    draft: &mut Draft<'_>,
+) -> Result<Operand, CodeFault>
+    ensures { Gives ((prefixed op at value).run (making_of draft.old)) result draft.new }
+{
+    match op {
+        PrefixOp::Not => unary(at, Ty::Bool, UnOp::Not, value, draft),
+        PrefixOp::Negate => unary(at, Ty::Int, UnOp::Neg, value, draft),
+    }
+}
+
+/// The value of an operator between two values.
+pub fn computed(
+    at: u32,
+    op: BinOp,
+    ty: Ty,
+    s: Operand,
+    t: Operand,
+    draft: &mut Draft<'_>,
+) -> Result<Operand, CodeFault>
+    ensures { Gives ((give at ty (λ r. instr.Bin at r op s t)).run (making_of draft.old))
+        result draft.new }
+{
+    let r = draft.reg(RegKind::Plain(ty))?;
+    emit_value(at, r, Instr::Bin { at, r, op, s, t }, draft)
+}
+
+/// A register with a copy of a truth value.
+pub fn copied(at: u32, value: Operand, draft: &mut Draft<'_>) -> Result<u32, CodeFault>
+    ensures { Gives ((copied at value).run (making_of draft.old)) result draft.new }
+{
+    let r = draft.reg(RegKind::Plain(Ty::Bool))?;
+    draft.emit(Instr::Copy { at, r, s: value })?;
+    Ok(r)
+}
+
+/// The call of `print`.
+pub fn print(at: u32, ss: OperandList, draft: &mut Draft<'_>) -> Result<Operand, CodeFault>
+    ensures { Gives ((give at types.Unit (λ r. instr.Print at r ss)).run (making_of draft.old))
+        result draft.new }
+{
+    let r = draft.reg(RegKind::Plain(Ty::Unit))?;
+    emit_value(at, r, Instr::Print { at, r, ss }, draft)
+}
+
+/// The call of `Task.yield`.
+pub fn yielded(at: u32, draft: &mut Draft<'_>) -> Result<Operand, CodeFault>
+    ensures { Gives ((give at types.Unit (λ r. instr.Yield at r)).run (making_of draft.old))
+        result draft.new }
+{
+    let r = draft.reg(RegKind::Plain(Ty::Unit))?;
+    emit_value(at, r, Instr::Yield { at, r }, draft)
+}
+
+/// The result of a task.
+pub fn waited(
+    alloc: Global,
+    known: &Known<'_>,
+    at: u32,
+    t: Operand,
+    draft: &mut Draft<'_>,
+) -> Result<Operand, CodeFault>
+    ensures { Gives ((waited (tables_by known.now) at t).run (making_of draft.old))
+        result draft.new }
+{
+    let ty = type_of(alloc, known, at)?;
+    let r = draft.reg(RegKind::Plain(ty))?;
+    emit_value(at, r, Instr::Await { at, r, t }, draft)
+}
