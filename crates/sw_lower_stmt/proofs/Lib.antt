@@ -1,0 +1,7 @@
+pub mod Arms
+pub mod CaseArms
+pub mod GivenValues
+pub mod Loops
+pub mod Patterns
+pub mod Switches
+pub mod Whole
