@@ -1,0 +1,51 @@
+-- The functions that are made of a program's bodies, and the fault of a program that has none.
+use Rattle.std.specs.Prelude.{◌≡◌, ℕ, Bool, ◌||◌, nat_lt, List, [], Some, Result, Ok, Err}
+use Rattle.std.specs.Prelude.{if◌then◌else◌}
+use Rattle.sw_types.specs.declared.ty.Ty.{Ty}
+use Rattle.sw_graph.specs.declared.function.TheConstants.{MAX_POINTS}
+use Rattle.sw_builder.specs.Unfinished.{finished}
+use Rattle.sw_lower_run.specs.Run.{Making, points}
+use Rattle.sw_lower_code.specs.declared.fault.BodyFault.{BodyFault}
+use Rattle.sw_lower_code.specs.declared.fault.BodyFault.TheVariants as body_faults
+use Rattle.sw_graph.specs.declared.function.Function.{Function}
+use Rattle.sw_tree.specs.declared.decl.Decl.{Decl}
+use Rattle.sw_draft.specs.Drafts.{number_by}
+use Rattle.sw_draft.specs.declared.numbers.NumberTable.{NumberTable}
+use Rattle.sw_lower.specs.declared.lowering.LowerFault.{LowerFault}
+use Rattle.sw_lower.specs.declared.lowering.LowerFault.TheVariants as faults
+use Rattle.sw_lower.specs.declared.lowering.Made.{Made}
+use Rattle.sw_lower_bodies.specs.Trees.{body_by}
+use Rattle.sw_lower_bodies.specs.declared.body_tree.BodyTree.{BodyTree}
+use Rattle.sw_lower_code.specs.Whole.{Body, function_of}
+use Rattle.sw_lower_known.specs.Knowledge.{tables_by}
+use Rattle.sw_lower_known.specs.declared.known.Known.{Known}
+use Rattle.sw_lower_table.specs.Bodies.{AreOrdered, IsFirstTooLarge, functions_of, too_large_in}
+use Rattle.sw_lower_table.specs.Tables.{Tables}
+
+-- what a function is that is made, where it has no more points than it may have
+abbrev pub finished_by : ℕ → ℕ → List Bool → Bool → Ty → Making → Result Function BodyFault
+finished_by key takes sending sends gives making =
+    if making.over || nat_lt MAX_POINTS (points making)
+    then Err (body_faults.TooManyPoints key)
+    else Ok (finished making.made takes sending sends gives)
+
+-- the function of a body
+abbrev pub function_by : Known → NumberTable → BodyTree → Function
+function_by known numbers tree = function_of (number_by numbers) (body_by (tables_by known) tree)
+
+-- The functions are made where none is too large, and all that are too large are named.
+pub record AreMade (functions : List Function) (made : Made) : Type 0 where
+  pub too_large : made.too_large ≡ too_large_in functions
+  pub fitting : made.too_large ≡ [] → made.functions ≡ functions
+
+-- what is made of a program
+pub record IsMadeOf (tables : Tables) (decls : List Decl) (made : Made) : Type 0 where
+  pub ordered : List Body
+  pub are_ordered : AreOrdered tables decls ordered
+  pub are_made : AreMade (functions_of ordered) made
+
+-- The fault is the first function of a program that is too large. Nothing is said of memory.
+abbrev pub IsTooLarge : Tables → List Decl → LowerFault → Type 0
+IsTooLarge tables decls (faults.Breach code at) =
+    IsFirstTooLarge tables decls (Some (record { at = at; code = code }))
+IsTooLarge tables decls faults.Memory = Unit {0}

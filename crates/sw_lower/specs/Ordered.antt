@@ -1,0 +1,11 @@
+-- The order and the names of bodies.
+use Rattle.std.specs.Prelude.{ℕ, ◌+◌, ◌*◌, if◌then◌else◌}
+use Rattle.sw_lower_bodies.specs.declared.body_tree.BodyTree.{BodyTree}
+use Rattle.sw_lower_run.specs.declared.name.FunctionName.{FunctionName}
+
+-- by the key, and a getter after what gives a first value
+abbrev pub tree_order : BodyTree → ℕ
+tree_order tree = 2 * tree.key + (if tree.getter then 1 else 0)
+
+abbrev pub tree_name : BodyTree → FunctionName
+tree_name tree = record { key = tree.key; getter = tree.getter }

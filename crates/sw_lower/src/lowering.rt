@@ -1,0 +1,169 @@
+//! The functions of a program.
+ghost use Rattle.std.specs.Prelude.{◌≡◌, ◌++◌, ◌∷◌, ◌<◌, ◌^◌, [], None, List, length, map, IfErr, IfOk, OnOk};
+ghost use Rattle.sw_capture.specs.Known.{answers_of};
+ghost use Rattle.sw_lower.specs.Lowered.{AreMade, IsMadeOf, IsTooLarge, function_by};
+ghost use Rattle.sw_lower.specs.declared.lowering.LowerFault.{LowerFault};
+ghost use Rattle.sw_lower_known.specs.Knowledge.{isolation_of, tables_by};
+ghost use Rattle.sw_lower_table.specs.Bodies.{HasFunctions, IsFirstTooLarge, tables_of, too_large_in};
+ghost use Rattle.sw_lower_table.specs.Tables.{Tables};
+ghost use Rattle.sw_tree.specs.declared.decl.Decl.{Decl};
+ghost use Rattle.sw_typing_rules.specs.Worlds.{world_of};
+
+use crate::making::function_of;
+use crate::numbers::{in_order, numbers_of};
+use std::alloc::{AllocError, Global};
+use sw_decls::Decls;
+use sw_draft::NumberTable;
+use sw_graph::FunctionList;
+use sw_isolation::Isolated;
+use sw_list::ListOf;
+use sw_lower_bodies::{BodyTree, bodies_of};
+use sw_lower_code::BodyFault;
+use sw_lower_known::Known;
+use sw_resolve::{Placed, first_of};
+use sw_tree::{Decl, Program};
+use sw_typing::Typed;
+use thiserror::Error;
+
+/// A function with more registers than a function of a graph.
+const TOO_MANY_REGISTERS: u16 = 510;
+
+/// A function with more points than a function of a graph.
+const TOO_MANY_POINTS: u16 = 511;
+
+/// How many functions have a number.
+const MOST_FUNCTIONS: usize = 4_294_967_295;
+
+/// Why a program has no functions.
+#[derive(Clone, Copy, Debug, PartialEq, Eq, Error)]
+pub enum LowerFault {
+    /// The first function that is too large, by its key.
+    #[error("E{code} at {at}")]
+    Breach { code: u16, at: u32 },
+    #[error("out of memory")]
+    Memory,
+}
+
+impl From<AllocError> for LowerFault {
+    ghost use Rattle.std.specs.Prelude.{◌≡◌};
+    ghost use Rattle.sw_lower.specs.declared.lowering.LowerFault.{LowerFault};
+
+    ghost from_gives = { λ _ fault. fault ≡ LowerFault.Memory };
+
+    fn from(_error: AllocError) -> LowerFault {
+        LowerFault::Memory
+    }
+}
+
+/// The functions of bodies, and those that are too large.
+#[derive(Drop)]
+pub struct Made {
+    pub functions: FunctionList,
+    pub too_large: ListOf<Placed>,
+}
+
+/// Adds the function of a body to others.
+#[tactic(auto, unfolding(sw_lower_code::specs::Whole::function_of))]
+fn add(
+    alloc: Global,
+    known: &Known<'_>,
+    numbers: &NumberTable,
+    tree: BodyTree<'_>,
+    made: &mut Made,
+) -> Result<(), AllocError>
+    ensures too_large { OnOk result (made.new.too_large ≡ made.old.too_large
+        ++ too_large_in (function_by known.now numbers.now tree.entry ∷ [])) }
+    ensures functions { OnOk result (made.new.too_large ≡ [] → made.new.functions
+        ≡ made.old.functions ++ function_by known.now numbers.now tree.entry ∷ []) }
+{
+    match function_of(alloc, known, numbers, tree) {
+        Ok(function) => made.functions.push(function),
+        Err(BodyFault::TooManyRegisters { function }) => made.too_large.push(Placed {
+            at: function,
+            code: TOO_MANY_REGISTERS,
+        }),
+        Err(BodyFault::TooManyPoints { function }) => made.too_large.push(Placed {
+            at: function,
+            code: TOO_MANY_POINTS,
+        }),
+        Err(BodyFault::Memory) => Err(AllocError),
+    }
+}
+
+/// The functions of bodies in order.
+fn make_all(
+    alloc: Global,
+    known: &Known<'_>,
+    numbers: &NumberTable,
+    bodies: &[BodyTree<'_>],
+) -> Result<Made, AllocError>
+    ensures { IfOk result (AreMade (map (function_by known.now numbers.now) bodies.now)) }
+{
+    let mut made = Made {
+        functions: ListOf::new(alloc),
+        too_large: ListOf::new(alloc),
+    };
+    for tree in bodies {
+        add(alloc, known, numbers, *tree, &mut made)?;
+    }
+    Ok(made)
+}
+
+/// The functions of a program in the order of their keys.
+fn make_program<'a>(
+    alloc: Global,
+    known: &'a Known<'a>,
+    decls: &'a [Decl],
+) -> Result<Made, AllocError>
+    requires { length decls.now < 2 ^ 31 }
+    ensures { IfOk result (IsMadeOf (tables_by known.now) decls.now) }
+{
+    let bodies = in_order(bodies_of(alloc, known, decls)?);
+    if bodies.len() > MOST_FUNCTIONS {
+        return Err(AllocError);
+    }
+    let numbers = numbers_of(alloc, bodies.as_slice())?;
+    make_all(alloc, known, &numbers, bodies.as_slice())
+}
+
+/// The functions that were made, or the first that is too large.
+fn decided(made: Made) -> Result<FunctionList, LowerFault>
+    ensures functions { (tables : Tables) (decls : List Decl) → IsMadeOf tables decls made
+        → IfOk result (HasFunctions tables decls) }
+    ensures none { (tables : Tables) (decls : List Decl) → IsMadeOf tables decls made
+        → OnOk result (IsFirstTooLarge tables decls None) }
+    ensures first { (tables : Tables) (decls : List Decl) → IsMadeOf tables decls made
+        → IfErr result (IsTooLarge tables decls) }
+{
+    match first_of(made.too_large.as_slice()) {
+        None => Ok(made.functions),
+        Some(first) => Err(LowerFault::Breach {
+            code: first.code,
+            at: first.at,
+        }),
+    }
+}
+
+/// The functions of a program in the order of their keys, or the first that is too large. The
+/// program declares `world`, its nodes have the types and meanings of `typed`, and `isolated` is what
+/// is known of its isolation.
+pub fn lower(
+    alloc: Global,
+    program: &Program,
+    world: &Decls,
+    typed: &Typed,
+    isolated: &Isolated,
+) -> Result<FunctionList, LowerFault>
+    requires { length program.now.decls < 2 ^ 31 }
+    ensures functions { IfOk result (HasFunctions (tables_of (world_of world.now)
+        (answers_of typed.now) (isolation_of isolated.now) program.now.decls) program.now.decls) }
+    ensures none { OnOk result (IsFirstTooLarge (tables_of (world_of world.now)
+        (answers_of typed.now) (isolation_of isolated.now) program.now.decls) program.now.decls None) }
+    ensures first { IfErr result (IsTooLarge (tables_of (world_of world.now)
+        (answers_of typed.now) (isolation_of isolated.now) program.now.decls) program.now.decls) }
+{
+    let decls = program.decls();
+    let known = Known::of(alloc, decls, world, typed, isolated)?;
+    let made = make_program(alloc, &known, decls)?;
+    decided(made)
+}
