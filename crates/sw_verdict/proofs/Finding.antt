@@ -26,6 +26,8 @@ use Rattle.sw_resolve.specs.declared.placed.Placed.{Placed}
 use Rattle.sw_isolation_rules.specs.Races.{AreRaces}
 use Rattle.sw_isolation.specs.Isolated.{IsRefused}
 use Rattle.sw_isolation.specs.declared.isolating.IsoFault.TheVariants as isolation_faults
+use Rattle.sw_lower.specs.Lowered.{IsTooLarge}
+use Rattle.sw_lower.specs.declared.lowering.LowerFault.TheVariants as lower_faults
 use Rattle.sw_typing.specs.Typed.{IsIllProgram, IsTyped}
 use Rattle.sw_typing.specs.declared.answers.Typed.{Typed}
 use Rattle.sw_typing.specs.declared.typing.TypeFault.TheVariants as type_faults
@@ -36,7 +38,8 @@ use Rattle.sw_verdict.specs.Phases.{breach_at, lexical_code, LexisFinds, has_fau
 use Rattle.sw_verdict.specs.Phases.{SyntaxFinds, has_syntax_fault, syntax_code, token_of}
 use Rattle.sw_verdict.specs.Phases.{token_position, DeclarationsFinds, breaks_one, TypesFinds}
 use Rattle.sw_verdict.specs.Phases.{ill_typed, answers_of_program, breach_of, IsolationFinds}
-use Rattle.sw_verdict.specs.Phases.{reaches_out, SharingFinds, shares}
+use Rattle.sw_verdict.specs.Phases.{reaches_out, SharingFinds, shares, SizeFinds, too_large}
+use Rattle.sw_verdict.specs.Phases.{tables_of_program}
 use Rattle.sw_verdict.specs.Found.{FoundBy}
 
 -- one breach, unless memory ran out
@@ -122,6 +125,17 @@ pub found_refusal : (text : List ℕ) (tokens : List Token) (decls : List Decl) 
 found_refusal text tokens decls world code at refusal are spelled is_world first is =
     found_breach (IsolationFinds text) code at refusal is
     (reaches_out tokens decls world (record { at = at; code = code }) are spelled is_world first)
+
+-- what the first function that is too large is found as
+pub found_too_large : (text : List ℕ) (tokens : List Token) (decls : List Decl) (world : World)
+    (code at : ℕ) (refusal : Refusal) → IsTokens text tokens
+    → IsProgramOf decls (spelling_of text tokens) → IsWorldOf decls Concurrent world
+    → IsTooLarge (tables_of_program world decls) decls (lower_faults.Breach code at)
+    → (refusal ≢ Memory → refusal ≡ Breached (breach_at code at))
+    → FoundBy (SizeFinds text) refusal
+found_too_large text tokens decls world code at refusal are spelled is_world first is =
+    found_breach (SizeFinds text) code at refusal is
+    (too_large tokens decls world (record { at = at; code = code }) are spelled is_world first)
 
 -- what the values that may not be shared are found as
 pub found_races : (text : List ℕ) (tokens : List Token) (decls : List Decl) (made : Decls)

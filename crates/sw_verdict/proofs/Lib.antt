@@ -1,4 +1,5 @@
 pub mod Finding
 pub mod InOrder
 pub mod Ordered
+pub mod Tables
 pub mod Verdicts

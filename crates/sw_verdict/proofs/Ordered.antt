@@ -10,7 +10,8 @@ use Rattle.sw_breach.specs.Order.{breach_cmp}
 use Rattle.sw_resolve.specs.Placed.{placed_cmp}
 use Rattle.sw_resolve.specs.declared.placed.Placed.{Placed}
 use Rattle.sw_verdict.specs.Phases.{Phase, Encoding, Lexis, Syntax, Declarations, Types, Isolation}
-use Rattle.sw_verdict.specs.Phases.{Sharing, SmallForm, Size, Finds, is_utf8, not_utf8, has_tokens}
+use Rattle.sw_verdict.specs.Phases.{Size, Sharing, SmallForm, SmallSize, Finds, is_utf8, not_utf8}
+use Rattle.sw_verdict.specs.Phases.{has_tokens, small_within, small_too_large}
 use Rattle.sw_verdict.specs.Phases.{has_fault, spells_program, has_syntax_fault, keeps_all}
 use Rattle.sw_verdict.specs.Phases.{breaks_one, well_typed, ill_typed, keeps_apart, reaches_out}
 use Rattle.sw_verdict.specs.Phases.{shares, spelled, unexpected, within, too_large, breach_of}
@@ -47,11 +48,13 @@ found_in_order Types text _ (well_typed _ _ _ _ _ _ _) = tt
 found_in_order Types text _ (ill_typed _ _ _ _ _ _ _ _) = (tt, tt)
 found_in_order Isolation text _ (keeps_apart _ _ _ _ _ _ _) = tt
 found_in_order Isolation text _ (reaches_out _ _ _ _ _ _ _ _) = (tt, tt)
+found_in_order Size text _ (within _ _ _ _ _ _ _) = tt
+found_in_order Size text _ (too_large _ _ _ _ _ _ _ _) = (tt, tt)
 found_in_order Sharing text _ (shares _ _ _ races _ _ _ all) = breaches_rise races all.rises
 found_in_order SmallForm text _ (spelled _ _ _ _) = tt
 found_in_order SmallForm text _ (unexpected _ _ _ _) = (tt, tt)
-found_in_order Size text _ (within _ _ _) = tt
-found_in_order Size text _ (too_large _ _ _ _) = (tt, tt)
+found_in_order SmallSize text _ (small_within _ _ _) = tt
+found_in_order SmallSize text _ (small_too_large _ _ _ _) = (tt, tt)
 
 pub breaches_in_order : (phases : List Phase) (text : List ℕ) (list : List Breach)
     → Breaches phases text list → IsStrictlySortedBy breach_cmp list

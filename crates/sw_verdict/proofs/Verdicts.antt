@@ -49,6 +49,8 @@ use Rattle.sw_isolation_rules.proofs.SoundPrograms.{race_codes, refusal_codes}
 use Rattle.sw_isolation_rules.specs.Programs.{IsFirstRefusal, refusals}
 use Rattle.sw_isolation_rules.specs.Races.{AreRaces, races as all_races}
 use Rattle.sw_isolation.proofs.SomeMerged.{some_merged}
+use Rattle.sw_lower_table.proofs.FirstTooLarge.{one_too_large, some_too_large, too_large_code}
+use Rattle.sw_lower_table.specs.Bodies.{IsFirstTooLarge}
 use Rattle.sw_small.proofs.OneGraph.{lowered_within, some_graph, one_graph}
 use Rattle.sw_small.proofs.Runnable.{lowered_runnable}
 use Rattle.sw_small.proofs.SmallLaws.{decided as program_or_unexpected, never_both as no_unexpected}
@@ -57,11 +59,13 @@ use Rattle.sw_small.proofs.SmallSize.{size_of-spelled}
 use Rattle.sw_reader.proofs.TokensSpelled.{tokens_spelled}
 use Rattle.sw_text.specs.declared.TheConstants.{MAX_LENGTH}
 use Rattle.sw_verdict.specs.Phases.{Phase, Encoding, Lexis, Syntax, Declarations, Types, SmallForm}
-use Rattle.sw_verdict.specs.Phases.{Size, DeclarationsFinds, keeps_all, breaks_one}
+use Rattle.sw_verdict.specs.Phases.{Size, SmallSize, DeclarationsFinds, keeps_all, breaks_one}
 use Rattle.sw_verdict.specs.Phases.{TypesFinds, well_typed, ill_typed, answers_of_program}
 use Rattle.sw_verdict.specs.Phases.{Isolation, IsolationFinds, keeps_apart, reaches_out}
 use Rattle.sw_verdict.specs.Phases.{Sharing, SharingFinds, shares, breach_of}
 use Rattle.sw_verdict.specs.Phases.{all_phases, IsProgram, SizeFinds, within, too_large, size_code}
+use Rattle.sw_verdict.specs.Phases.{SmallSizeFinds, small_within, small_too_large}
+use Rattle.sw_verdict.specs.Phases.{tables_of_program}
 use Rattle.sw_verdict.specs.Phases.{EncodingFinds, is_utf8, not_utf8, LexisFinds, has_tokens}
 use Rattle.sw_verdict.specs.Phases.{has_fault, SmallFormFinds}
 use Rattle.sw_verdict.specs.Phases.{spelled, unexpected, Finds, breach_at, not_built, SyntaxFinds}
@@ -206,6 +210,10 @@ FirstRefusal world decls one =
 abbrev Shared : World → List Decl → List Placed → Type 0
 Shared world decls races = AreRaces world (answers_of_program world decls) decls races
 
+-- the first function of a program in its world that is too large
+abbrev FirstTooLarge : World → List Decl → Option Placed → Type 0
+FirstTooLarge world decls one = IsFirstTooLarge (tables_of_program world decls) decls one
+
 -- The program of a text has one first breach of isolation or none.
 same_refusal : (text : List ℕ) (a b : List Token) (ds es : List Decl) (v w : World)
     (one other : Option Placed) → IsTokens text a → IsProgramOf ds (spelling_of text a)
@@ -215,6 +223,17 @@ same_refusal : (text : List ℕ) (a b : List Token) (ds es : List Decl) (v w : W
 same_refusal text a b ds es v w one other are_a is_a world_a first_a are_b is_b world_b first_b =
     one_first (refusals w (answers_of_program w es) es) one other
     (of_same (λ world decls. FirstRefusal world decls one) v w ds es
+    (same_world text a b ds es v w are_a is_a world_a are_b is_b world_b) first_a) first_b
+
+-- The program of a text has one first function that is too large, or none.
+same_too_large : (text : List ℕ) (a b : List Token) (ds es : List Decl) (v w : World)
+    (one other : Option Placed) → IsTokens text a → IsProgramOf ds (spelling_of text a)
+    → IsWorldOf ds Concurrent v → FirstTooLarge v ds one → IsTokens text b
+    → IsProgramOf es (spelling_of text b) → IsWorldOf es Concurrent w → FirstTooLarge w es other
+    → one ≡ other
+same_too_large text a b ds es v w one other are_a is_a world_a first_a are_b is_b world_b first_b =
+    one_too_large (tables_of_program w es) es one other
+    (of_same (λ world decls. FirstTooLarge world decls one) v w ds es
     (same_world text a b ds es v w are_a is_a world_a are_b is_b world_b) first_a) first_b
 
 types_one : (text : List ℕ) (a b : List Breach) → TypesFinds text a → TypesFinds text b → a ≡ b
@@ -250,6 +269,22 @@ isolation_one text _ _ (reaches_out a ds v one are_a is_a world_a first_a)
     (same_refusal text a b ds es v w (Some one) (Some other) are_a is_a world_a first_a are_b is_b
     world_b first_b))
 
+size_one : (text : List ℕ) (a b : List Breach) → SizeFinds text a → SizeFinds text b → a ≡ b
+size_one text _ _ (within _ _ _ _ _ _ _) (within _ _ _ _ _ _ _) = refl
+size_one text _ _ (within a ds v are_a is_a world_a fits)
+    (too_large b es w placed are_b is_b world_b some) =
+    cc (same_too_large text a b ds es v w None (Some placed) are_a is_a world_a fits are_b is_b
+    world_b some)
+size_one text _ _ (too_large a ds v placed are_a is_a world_a some)
+    (within b es w are_b is_b world_b fits) =
+    cc (same_too_large text a b ds es v w (Some placed) None are_a is_a world_a some are_b is_b
+    world_b fits)
+size_one text _ _ (too_large a ds v one are_a is_a world_a first_a)
+    (too_large b es w other are_b is_b world_b first_b) =
+    ap (λ (placed : Placed). breach_at placed.code placed.at) (some_injective
+    (same_too_large text a b ds es v w (Some one) (Some other) are_a is_a world_a first_a are_b is_b
+    world_b first_b))
+
 sharing_one : (text : List ℕ) (a b : List Breach) → SharingFinds text a → SharingFinds text b
     → a ≡ b
 sharing_one text _ _ (shares a ds v races are_a is_a world_a all_a)
@@ -265,17 +300,18 @@ one_text_program text a b is_a is_b =
     (one_tokens text is_a.tokens is_b.tokens is_a.are_tokens is_b.are_tokens) is_a.spells)
     is_b.spells
 
-size_one : (text : List ℕ) (a b : List Breach) → SizeFinds text a → SizeFinds text b → a ≡ b
-size_one text _ _ (within _ _ _) (within _ _ _) = refl
-size_one text _ _ (within a is_a fits) (too_large b function is_b some) =
+small_size_one : (text : List ℕ) (a b : List Breach) → SmallSizeFinds text a → SmallSizeFinds text b
+    → a ≡ b
+small_size_one text _ _ (small_within _ _ _) (small_within _ _ _) = refl
+small_size_one text _ _ (small_within a is_a fits) (small_too_large b function is_b some) =
     let same = ap (λ program. first_too_large (functions_of program))
     (one_text_program text a b is_a is_b) in
     cc (sym fits ∙ same ∙ some)
-size_one text _ _ (too_large a function is_a some) (within b is_b fits) =
+small_size_one text _ _ (small_too_large a function is_a some) (small_within b is_b fits) =
     let same = ap (λ program. first_too_large (functions_of program))
     (one_text_program text a b is_a is_b) in
     cc (sym some ∙ same ∙ fits)
-size_one text _ _ (too_large a f is_a is_f) (too_large b g is_b is_g) =
+small_size_one text _ _ (small_too_large a f is_a is_f) (small_too_large b g is_b is_g) =
     let same = ap (λ program. first_too_large (functions_of program))
     (one_text_program text a b is_a is_b) in
     let function : f ≡ g = some_injective (sym is_f ∙ same ∙ is_g) in
@@ -289,9 +325,10 @@ one_found Syntax text a b is_a is_b = syntax_one text a b is_a is_b
 one_found Declarations text a b is_a is_b = declarations_one text a b is_a is_b
 one_found Types text a b is_a is_b = types_one text a b is_a is_b
 one_found Isolation text a b is_a is_b = isolation_one text a b is_a is_b
+one_found Size text a b is_a is_b = size_one text a b is_a is_b
 one_found Sharing text a b is_a is_b = sharing_one text a b is_a is_b
 one_found SmallForm text a b is_a is_b = small_form_one text a b is_a is_b
-one_found Size text a b is_a is_b = size_one text a b is_a is_b
+one_found SmallSize text a b is_a is_b = small_size_one text a b is_a is_b
 
 -- and so do phases in order
 pub one_list : (phases : List Phase) (text : List ℕ) (a b : List Breach) → Breaches phases text a
@@ -321,11 +358,13 @@ few_found Types text _ other (well_typed _ _ _ _ _ _ _) = omega arith
 few_found Types text _ other (ill_typed _ _ _ _ _ _ _ _) = omega arith
 few_found Isolation text _ other (keeps_apart _ _ _ _ _ _ _) = omega arith
 few_found Isolation text _ other (reaches_out _ _ _ _ _ _ _ _) = omega arith
+few_found Size text _ other (within _ _ _ _ _ _ _) = omega arith
+few_found Size text _ other (too_large _ _ _ _ _ _ _ _) = omega arith
 few_found Sharing text _ other (shares _ _ _ _ _ _ _ _) = absurd (other refl)
 few_found SmallForm text _ other (spelled _ _ _ _) = omega arith
 few_found SmallForm text _ other (unexpected _ _ _ _) = omega arith
-few_found Size text _ other (within _ _ _) = omega arith
-few_found Size text _ other (too_large _ _ _ _) = omega arith
+few_found SmallSize text _ other (small_within _ _ _) = omega arith
+few_found SmallSize text _ other (small_too_large _ _ _ _) = omega arith
 
 -- the codes that these phases name have texts
 not_built_is_code : IsCode not_built
@@ -357,6 +396,14 @@ size_is_code : (excess : Excess) → IsCode (size_code excess)
 unfolding text_of texts
 size_is_code Registers = refl
 size_is_code Points = refl
+
+first_size_is_code : (world : World) (decls : List Decl) (placed : Placed)
+    → FirstTooLarge world decls (Some placed) → IsCode placed.code
+first_size_is_code world decls placed some =
+    by (too_large_code (tables_of_program world decls) decls placed some) where
+      by : (placed.code ≡ 510) ⊎ (placed.code ≡ 511) → IsCode placed.code
+      by (inl registers) = subst IsCode (sym registers) (size_is_code Registers)
+      by (inr points) = subst IsCode (sym points) (size_is_code Points)
 
 -- the codes of the rules on declarations have texts
 listed : IsCode 301 × IsCode 302 × IsCode 303 × IsCode 304 × IsCode 305 × IsCode 306 × IsCode 307
@@ -468,12 +515,15 @@ codes_found Types text _ (ill_typed _ decls world placed _ _ _ some) =
 codes_found Isolation text _ (keeps_apart _ _ _ _ _ _ _) = tt
 codes_found Isolation text _ (reaches_out _ decls world placed _ _ _ some) =
     (refusal_is_code world decls placed some, tt)
+codes_found Size text _ (within _ _ _ _ _ _ _) = tt
+codes_found Size text _ (too_large _ decls world placed _ _ _ some) =
+    (first_size_is_code world decls placed some, tt)
 codes_found Sharing text _ (shares _ decls world races _ _ _ all) =
     all_coded races (λ one has. race_is_code world decls races one all has)
 codes_found SmallForm text _ (spelled _ _ _ _) = tt
 codes_found SmallForm text _ (unexpected _ _ _ _) = (not_built_is_code, tt)
-codes_found Size text _ (within _ _ _) = tt
-codes_found Size text _ (too_large _ function _ _) = (size_is_code function.of, tt)
+codes_found SmallSize text _ (small_within _ _ _) = tt
+codes_found SmallSize text _ (small_too_large _ function _ _) = (size_is_code function.of, tt)
 
 pub have_codes : (phases : List Phase) (text : List ℕ) (list : List Breach)
     → Breaches phases text list → AllByRecursion (λ breach. IsCode breach.code) list
@@ -483,10 +533,13 @@ have_codes _ text list (later _ phases _ _ _ found) = have_codes phases text lis
 
 -- the phases after the tokens, after the syntax, and so on
 abbrev after_sharing : List Phase
-after_sharing = SmallForm ∷ Size ∷ []
+after_sharing = SmallForm ∷ SmallSize ∷ []
+
+abbrev after_size : List Phase
+after_size = Sharing ∷ after_sharing
 
 abbrev after_isolation : List Phase
-after_isolation = Sharing ∷ after_sharing
+after_isolation = Size ∷ after_size
 
 abbrev after_types : List Phase
 after_types = Isolation ∷ after_isolation
@@ -510,19 +563,20 @@ and_before : (phase : Phase) (phases : List Phase) (text : List ℕ) → Finds p
 and_before phase phases text passes (list, found) =
     (list, later phase phases text list passes found)
 
-size_decides : (text : List ℕ) (program : Small) → IsProgram text program
+small_size_decides : (text : List ℕ) (program : Small) → IsProgram text program
     → (found : Option TooLarge) → first_too_large (functions_of program) ≡ found
-    → SomeList (Size ∷ []) text
-size_decides text program is None fits =
-    ([], later Size [] text [] (within program is fits) (none text))
-size_decides text program is (Some function) large =
-    (_, first Size [] text _ [] (too_large program function is large))
+    → SomeList (SmallSize ∷ []) text
+small_size_decides text program is None fits =
+    ([], later SmallSize [] text [] (small_within program is fits) (none text))
+small_size_decides text program is (Some function) large =
+    (_, first SmallSize [] text _ [] (small_too_large program function is large))
 
 form_decides : (text : List ℕ) → IsUtf8 text → (tokens : List Token) → IsTokens text tokens
-    → Pass (Syntax ∷ Declarations ∷ Types ∷ Isolation ∷ Sharing ∷ []) text
+    → Pass (Syntax ∷ Declarations ∷ Types ∷ Isolation ∷ Size ∷ Sharing ∷ []) text
     → ((program : Small) × Spells program (spelling_of text tokens))
     ⊎ ((n : ℕ) × IsUnexpected (spelling_of text tokens) n) → SomeList after_sharing text
-form_decides text utf8 tokens are (syntax, (declarations, (types, (isolation, (sharing, _)))))
+form_decides text utf8 tokens are
+    (syntax, (declarations, (types, (isolation, (size, (sharing, _))))))
     (inl (program, spells)) =
     let is : IsProgram text program = record {
       utf8 = utf8;
@@ -532,11 +586,12 @@ form_decides text utf8 tokens are (syntax, (declarations, (types, (isolation, (s
       declarations = declarations;
       types = types;
       isolation = isolation;
+      size = size;
       sharing = sharing;
       spells = spells;
     } in
-    and_before SmallForm (Size ∷ []) text (spelled tokens program are spells)
-    (size_decides text program is (first_too_large (functions_of program)) refl)
+    and_before SmallForm (SmallSize ∷ []) text (spelled tokens program are spells)
+    (small_size_decides text program is (first_too_large (functions_of program)) refl)
 form_decides text utf8 tokens are pass (inr (n, place)) =
     (_, first SmallForm _ text _ [] (unexpected tokens n are place))
 
@@ -546,22 +601,31 @@ module _ (text : List ℕ) (utf8 : IsUtf8 text) (tokens : List Token) (are : IsT
     (decls : List Decl) (is : IsProgramOf decls (spelling_of text tokens))
     (keeps : DeclarationsFinds text []) (world : World) (is_world : IsWorldOf decls Concurrent world)
   where
-    by_shared : TypesFinds text [] → IsolationFinds text [] → (races : List Placed)
-        → Shared world decls races → SomeList after_isolation text
-    by_shared types isolation [] all =
+    by_shared : TypesFinds text [] → IsolationFinds text [] → SizeFinds text []
+        → (races : List Placed) → Shared world decls races → SomeList after_size text
+    by_shared types isolation size [] all =
         let sharing : SharingFinds text [] = shares tokens decls world [] are is is_world all in
         and_before Sharing after_sharing text sharing (form_decides text utf8 tokens are
-        (spells_program tokens decls are is, (keeps, (types, (isolation, (sharing, tt)))))
+        (spells_program tokens decls are is, (keeps, (types, (isolation, (size, (sharing, tt))))))
         (program_or_unexpected (spelling_of text tokens) (tokens_spelled text tokens utf8 are)))
-    by_shared types isolation (race ∷ races) all =
+    by_shared types isolation size (race ∷ races) all =
         (_, first Sharing _ text _ _ (shares tokens decls world (race ∷ races) are is is_world all))
+
+    by_size : TypesFinds text [] → IsolationFinds text [] → (found : Option Placed)
+        → FirstTooLarge world decls found → SomeList after_isolation text
+    by_size types isolation None fits =
+        let size = within tokens decls world are is is_world fits in
+        let (races, all) = some_merged (all_races world (answers_of_program world decls) decls) in
+        and_before Size after_size text size (by_shared types isolation size races all)
+    by_size types isolation (Some placed) some =
+        (_, first Size _ text _ [] (too_large tokens decls world placed are is is_world some))
 
     by_refusal : TypesFinds text [] → (found : Option Placed) → FirstRefusal world decls found
         → SomeList after_types text
     by_refusal types None none_refused =
         let isolation = keeps_apart tokens decls world are is is_world none_refused in
-        let (races, all) = some_merged (all_races world (answers_of_program world decls) decls) in
-        and_before Isolation after_isolation text isolation (by_shared types isolation races all)
+        let (placed, is_first) = some_too_large (tables_of_program world decls) decls in
+        and_before Isolation after_isolation text isolation (by_size types isolation placed is_first)
     by_refusal types (Some placed) some =
         (_, first Isolation _ text _ [] (reaches_out tokens decls world placed are is is_world some))
 
@@ -629,15 +693,15 @@ pub never_both : (phases : List Phase) (text : List ℕ) → Breaches phases tex
 never_both phases text accepts (list, some, found) =
     some (one_list phases text list [] found accepts)
 
-sized : (text : List ℕ) → SizeFinds text [] → (program : Small) × IsProgram text program
+sized : (text : List ℕ) → SmallSizeFinds text [] → (program : Small) × IsProgram text program
     × (first_too_large (functions_of program) ≡ None)
-sized text (within program is fits) = (program, is, fits)
+sized text (small_within program is fits) = (program, is, fits)
 
 -- an accepted text has a program none of whose functions is too large
 accepted_program : (text : List ℕ) → Accepts text → (program : Small) × IsProgram text program
     × (first_too_large (functions_of program) ≡ None)
 accepted_program text accepts =
-    let (_, (_, (_, (_, (_, (_, (_, (_, (size, _))))))))) = passed all_phases text accepts in
+    let (_, (_, (_, (_, (_, (_, (_, (_, (_, (size, _)))))))))) = passed all_phases text accepts in
     sized text size
 
 pub some_graph_of : (text : List ℕ) → Accepts text → (graph : Graph) × IsGraphOf text graph
@@ -662,10 +726,13 @@ program_accepted text program is fits =
               (
                 is.isolation,
                 (
-                  is.sharing,
+                  is.size,
                   (
-                    spelled is.tokens program is.are_tokens is.spells,
-                    (within program is fits, tt),
+                    is.sharing,
+                    (
+                      spelled is.tokens program is.are_tokens is.spells,
+                      (small_within program is fits, tt),
+                    ),
                   ),
                 ),
               ),
@@ -709,10 +776,10 @@ spelled_read text read given same handed are is few short =
 -- the program that was read of a text
 pub program_read : (text : List ℕ) (read : Read) (given : List Token) (program : Small)
     → IsSpelled text read → given ≡ read.tokens.items → Pass (Encoding ∷ Lexis ∷ Syntax ∷ []) text
-    → Pass (Declarations ∷ Types ∷ Isolation ∷ Sharing ∷ []) text
+    → Pass (Declarations ∷ Types ∷ Isolation ∷ Size ∷ Sharing ∷ []) text
     → Spells program (spelling_of read.source given) → IsProgram text program
 program_read text read given program is handed (utf8, (_, (syntax, _)))
-    (declarations, (types, (isolation, (sharing, _)))) spells = record {
+    (declarations, (types, (isolation, (size, (sharing, _))))) spells = record {
       utf8 = utf8_found text utf8;
       tokens = read.tokens.items;
       are_tokens = is.are_tokens;
@@ -720,6 +787,7 @@ program_read text read given program is handed (utf8, (_, (syntax, _)))
       declarations = declarations;
       types = types;
       isolation = isolation;
+      size = size;
       sharing = sharing;
       spells = subst (λ source. Spells program (spelling_of source read.tokens.items)) is.source
           (subst (λ tokens. Spells program (spelling_of read.source tokens)) handed spells);

@@ -27,8 +27,10 @@ use Rattle.sw_decls.specs.declared.signature.AsyncDefault.TheVariants.{Concurren
 use Rattle.sw_typing_rules.specs.Programs.{IsFirstIll, said}
 use Rattle.sw_typing_rules.specs.Worlds.{IsWorldOf, World}
 use Rattle.sw_isolation_rules.specs.Answers.{Answers, answers_in}
-use Rattle.sw_isolation_rules.specs.Programs.{IsFirstRefusal}
+use Rattle.sw_isolation_rules.specs.Programs.{IsFirstRefusal, noted}
 use Rattle.sw_isolation_rules.specs.Races.{AreRaces}
+use Rattle.sw_lower_table.specs.Bodies.{IsFirstTooLarge, tables_of}
+use Rattle.sw_lower_table.specs.Tables.{Tables, isolation_in}
 
 pub data Phase : Type 0 where
   -- the text is UTF-8
@@ -43,17 +45,20 @@ pub data Phase : Type 0 where
   Types : Phase
   -- each body keeps to its isolation, and awaits what leaves it
   Isolation : Phase
+  -- the program's functions are no larger than those of a graph
+  Size : Phase
   -- no value is shared that may not be
   Sharing : Phase
   -- the program has only forms that can be run so far: those of the small language
   SmallForm : Phase
-  -- the program's functions are no larger than those of a graph
-  Size : Phase
+  -- the functions of the small program's graph, which is made apart, are no larger either
+  SmallSize : Phase
 
 -- the phases that are built, in order
 abbrev pub all_phases : List Phase
 all_phases =
-    Encoding ∷ Lexis ∷ Syntax ∷ Declarations ∷ Types ∷ Isolation ∷ Sharing ∷ SmallForm ∷ Size ∷ []
+    Encoding ∷ Lexis ∷ Syntax ∷ Declarations ∷ Types ∷ Isolation ∷ Size ∷ Sharing ∷ SmallForm
+    ∷ SmallSize ∷ []
 
 -- the code of a text that isn't UTF-8
 abbrev pub not_utf8_code : ℕ
@@ -156,6 +161,23 @@ pub data IsolationFinds (text : List ℕ) : List Breach → Type 0 where
       → IsFirstRefusal world (answers_of_program world decls) decls (Some placed)
       → IsolationFinds text (breach_at placed.code placed.at)
 
+-- what lowering looks up in a program
+abbrev pub tables_of_program : World → List Decl → Tables
+tables_of_program world decls =
+    let answers = answers_of_program world decls in
+    tables_of world answers (isolation_in (noted world answers decls)) decls
+
+-- The breach is at the key of the first function that is too large.
+pub data SizeFinds (text : List ℕ) : List Breach → Type 0 where
+  within : (tokens : List Token) (decls : List Decl) (world : World) → IsTokens text tokens
+      → IsProgramOf decls (spelling_of text tokens) → IsWorldOf decls Concurrent world
+      → IsFirstTooLarge (tables_of_program world decls) decls None → SizeFinds text []
+  too_large : (tokens : List Token) (decls : List Decl) (world : World) (placed : Placed)
+      → IsTokens text tokens → IsProgramOf decls (spelling_of text tokens)
+      → IsWorldOf decls Concurrent world
+      → IsFirstTooLarge (tables_of_program world decls) decls (Some placed)
+      → SizeFinds text (breach_at placed.code placed.at)
+
 -- The breaches are all values that may not be shared, by position and then by code, each once
 -- (SE-0302, SE-0414, SE-0430).
 pub data SharingFinds (text : List ℕ) : List Breach → Type 0 where
@@ -175,8 +197,8 @@ pub data SmallFormFinds (text : List ℕ) : List Breach → Type 0 where
       → SmallFormFinds text (breach_at not_built (token_position text tokens n))
 
 -- the text is that of the program: it is UTF-8, and its tokens spell the program, which has no
--- breach of the syntax or of the rules on declarations, of types and on isolation, and shares no
--- value that may not be shared
+-- breach of the syntax or of the rules on declarations, of types and on isolation, has no function
+-- that is too large, and shares no value that may not be shared
 pub record IsProgram (text : List ℕ) (program : Small) : Type 0 where
   pub utf8 : IsUtf8 text
   pub tokens : List Token
@@ -185,16 +207,18 @@ pub record IsProgram (text : List ℕ) (program : Small) : Type 0 where
   pub declarations : DeclarationsFinds text []
   pub types : TypesFinds text []
   pub isolation : IsolationFinds text []
+  pub size : SizeFinds text []
   pub sharing : SharingFinds text []
   pub spells : Spells program (spelling_of text tokens)
 
--- The breach is at the key of the first function that is too large.
-pub data SizeFinds (text : List ℕ) : List Breach → Type 0 where
-  within : (program : Small) → IsProgram text program
-      → first_too_large (functions_of program) ≡ None → SizeFinds text []
-  too_large : (program : Small) (function : TooLarge) → IsProgram text program
+-- The breach is at the key of the first function that is too large. The phase Size measures the
+-- functions of the program before; those of the small program's graph are made apart.
+pub data SmallSizeFinds (text : List ℕ) : List Breach → Type 0 where
+  small_within : (program : Small) → IsProgram text program
+      → first_too_large (functions_of program) ≡ None → SmallSizeFinds text []
+  small_too_large : (program : Small) (function : TooLarge) → IsProgram text program
       → first_too_large (functions_of program) ≡ Some function
-      → SizeFinds text (breach_at (size_code function.of) function.key)
+      → SmallSizeFinds text (breach_at (size_code function.of) function.key)
 
 -- `Finds phase text list`: where the phases before it find no breach in the text, this one finds
 -- these.
@@ -205,6 +229,7 @@ Finds Syntax text list = SyntaxFinds text list
 Finds Declarations text list = DeclarationsFinds text list
 Finds Types text list = TypesFinds text list
 Finds Isolation text list = IsolationFinds text list
+Finds Size text list = SizeFinds text list
 Finds Sharing text list = SharingFinds text list
 Finds SmallForm text list = SmallFormFinds text list
-Finds Size text list = SizeFinds text list
+Finds SmallSize text list = SmallSizeFinds text list

@@ -5,12 +5,13 @@ ghost use Rattle.sw_token.specs.Spelling.{spelling_of};
 ghost use Rattle.sw_token.specs.Tokens.{IsTokens};
 ghost use Rattle.sw_token.specs.declared.Token.{Token};
 ghost use Rattle.sw_verdict.specs.Decided.{Decided, IsSpelled};
-ghost use Rattle.sw_verdict.specs.Phases.{Declarations, Encoding, Isolation, Lexis, Sharing, Syntax};
-ghost use Rattle.sw_verdict.specs.Phases.{Types, all_phases};
+ghost use Rattle.sw_verdict.specs.Phases.{Declarations, Encoding, Isolation, Lexis, Sharing, Size};
+ghost use Rattle.sw_verdict.specs.Phases.{Syntax, Types, all_phases};
 ghost use Rattle.sw_verdict.specs.Verdict.{IsVerdict};
 
 use crate::phases::{
-    Refusal, declarations, encoding, isolation, lexis, sharing, size, small_form, syntax, types,
+    Refusal, declarations, encoding, isolation, lexis, sharing, size, small_form, small_size,
+    syntax, types,
 };
 use std::alloc::Global;
 use sw_graph::Graph;
@@ -47,11 +48,12 @@ fn judge_program(alloc: Global, program: &Program) -> Result<(), Refusal>
     requires { length program.now.decls < 2 ^ 31 }
     ensures { (text : List ℕ) (tokens : List Token) → IsTokens text tokens
         → IsProgramOf program.now.decls (spelling_of text tokens)
-        → Decided (Declarations ∷ Types ∷ Isolation ∷ Sharing ∷ []) text result }
+        → Decided (Declarations ∷ Types ∷ Isolation ∷ Size ∷ Sharing ∷ []) text result }
 {
     let declared = declarations(alloc, program)?;
     let typed = types(alloc, program, &declared)?;
     let isolated = isolation(alloc, program, &declared, &typed)?;
+    size(alloc, program, &declared, &typed, &isolated)?;
     sharing(alloc, program, &declared, &typed, &isolated)
 }
 
@@ -65,5 +67,5 @@ pub fn judge(alloc: Global, text: &[u8]) -> Result<Graph, Refusal>
     let spelled = read(alloc, text)?;
     judge_program(alloc, &spelled.program)?;
     let small = small_form(alloc, &spelled.source, &spelled.tokens)?;
-    size(alloc, &small)
+    small_size(alloc, &small)
 }

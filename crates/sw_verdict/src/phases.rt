@@ -13,9 +13,11 @@ ghost use Rattle.sw_typing.specs.Typed.{IsTyped};
 ghost use Rattle.sw_typing_rules.specs.Worlds.{world_of};
 ghost use Rattle.sw_capture.specs.Known.{answers_of};
 ghost use Rattle.sw_isolation.specs.Isolated.{IsIsolated};
+ghost use Rattle.sw_lower_known.specs.Knowledge.{isolation_of};
+ghost use Rattle.sw_lower_table.specs.Bodies.{HasFunctions, tables_of};
 ghost use Rattle.sw_verdict.specs.Phases.{Encoding, Lexis, Syntax, Declarations, Types};
-ghost use Rattle.sw_verdict.specs.Phases.{Isolation, Sharing, breach_of};
-ghost use Rattle.sw_verdict.specs.Phases.{SmallForm, Size, Finds};
+ghost use Rattle.sw_verdict.specs.Phases.{Isolation, Size, Sharing, breach_of};
+ghost use Rattle.sw_verdict.specs.Phases.{SmallForm, SmallSize, Finds};
 ghost use Rattle.sw_verdict.specs.Phases.{IsProgram, breach_at, lexical_code, syntax_code};
 ghost use Rattle.sw_verdict.specs.Phases.{token_of, size_code, token_position};
 ghost use Rattle.sw_verdict.specs.Found.{Found};
@@ -23,13 +25,16 @@ ghost use Rattle.sw_verdict.specs.Found.{Found};
 use std::alloc::{AllocError, Global};
 use sw_breach::Breach;
 use sw_decls::{AsyncDefault, DeclFault, Decls, declare};
-use sw_graph::{Excess, Graph};
+use sw_graph::{Excess, FunctionList, Graph};
 use sw_isolation::{IsoFault, Isolated, isolate, race_forms};
 use sw_list::ListOf;
+use sw_lower::{LowerFault, lower};
 use sw_parse_body::program;
 use sw_parse_decl::ParseFault;
 use sw_resolve::Placed;
-use sw_small::{LowerFault, ParseFault as SmallFault, Small, lower, parse};
+use sw_small::{
+    LowerFault as SmallLowerFault, ParseFault as SmallFault, Small, lower as lower_small, parse,
+};
 use sw_text::{MAX_LENGTH, Source, TextFault};
 use sw_token::{LexFault, Token, tokens};
 use sw_tree::Program;
@@ -241,6 +246,34 @@ pub fn isolation(
     }
 }
 
+/// The functions of a program none of whose functions is too large. It declares these, its nodes have
+/// these types, and it is isolated so.
+pub fn size(
+    alloc: Global,
+    program: &Program,
+    declared: &Decls,
+    typed: &Typed,
+    isolated: &Isolated,
+) -> Result<FunctionList, Refusal>
+    requires small { length program.now.decls < 2 ^ 31 }
+    requires declared { IsDeclared program.now.decls Concurrent declared.now }
+    requires typed { IsTyped (world_of declared.now) program.now.decls typed.now }
+    requires isolated { IsIsolated (world_of declared.now) (answers_of typed.now)
+        program.now.decls isolated.now }
+    ensures found { (text : List ℕ) (tokens : List Token) → IsTokens text tokens
+        → IsProgramOf program.now.decls (spelling_of text tokens)
+        → Found (Finds Size text) result }
+    ensures functions { IfOk result (HasFunctions (tables_of (world_of declared.now)
+        (answers_of typed.now) (isolation_of isolated.now) program.now.decls)
+        program.now.decls) }
+{
+    match lower(alloc, program, declared, typed, isolated) {
+        Ok(functions) => Ok(functions),
+        Err(LowerFault::Breach { code, at }) => Err(refused(alloc, code, at)),
+        Err(LowerFault::Memory) => Err(Refusal::Memory),
+    }
+}
+
 /// Breaches without notes.
 fn breaches_of(alloc: Global, races: &[Placed]) -> Result<ListOf<Breach>, AllocError>
     ensures { IfOk result (λ breaches. breaches ≡ map breach_of races.now) }
@@ -295,19 +328,19 @@ pub fn small_form(alloc: Global, source: &Source, tokens: &[Token]) -> Result<Sm
     }
 }
 
-/// The graph of a program none of whose functions is too large.
-pub fn size(alloc: Global, program: &Small) -> Result<Graph, Refusal>
+/// The graph of a small program none of whose functions is too large.
+pub fn small_size(alloc: Global, program: &Small) -> Result<Graph, Refusal>
     requires { size_of program.now < 2 ^ 31 }
     ensures found { (text : List ℕ) → IsProgram text program.now
-        → Found (Finds Size text) result }
+        → Found (Finds SmallSize text) result }
     ensures lowered { IfOk result (IsLowered program.now) }
 {
-    match lower(alloc, program) {
+    match lower_small(alloc, program) {
         Ok(graph) => Ok(graph),
-        Err(LowerFault::TooLarge { function }) => {
+        Err(SmallLowerFault::TooLarge { function }) => {
             Err(refused(alloc, size_code(function.of), function.key))
         }
-        Err(LowerFault::Memory) => Err(Refusal::Memory),
+        Err(SmallLowerFault::Memory) => Err(Refusal::Memory),
     }
 }
 

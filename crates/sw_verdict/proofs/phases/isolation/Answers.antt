@@ -1,4 +1,4 @@
-use Rattle.std.proofs.Common.{None, Some, subst}
+use Rattle.std.proofs.Common.{None, subst}
 use Rattle.sw_isolation.proofs.Answering.{answers_are_said}
 use Rattle.sw_capture.specs.Known.{answers_of}
 use Rattle.sw_isolation.specs.Isolated.{IsRefused}

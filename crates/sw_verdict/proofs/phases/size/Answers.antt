@@ -1,17 +1,37 @@
-use Rattle.std.proofs.Common.{Err, ap, sym, subst}
-use Rattle.sw_verdict.specs.Phases.{SizeFinds, within, too_large, breach_at}
-use Rattle.sw_verdict.proofs.Finding.{found_breach}
+use Rattle.std.proofs.Common.{None, subst}
+use Rattle.sw_decls.specs.declared.signature.AsyncDefault.TheVariants.{Concurrent}
+use Rattle.sw_capture.specs.Known.{answers_of}
+use Rattle.sw_lower.specs.Lowered.{IsTooLarge}
+use Rattle.sw_lower.specs.declared.lowering.LowerFault.TheVariants.{Breach}
+use Rattle.sw_lower_known.specs.Knowledge.{isolation_of}
+use Rattle.sw_lower_table.specs.Bodies.{IsFirstTooLarge, tables_of}
+use Rattle.sw_typing_rules.proofs.OneWorld.{declared_world}
+use Rattle.sw_typing_rules.specs.Worlds.{world_of}
+use Rattle.sw_verdict.specs.Phases.{within}
+use Rattle.sw_verdict.proofs.Finding.{found_too_large}
+use Rattle.sw_verdict.proofs.Tables.{tables_are_said}
 use Rattle.sw_verdict.proofs.phases.size.Goals as goal
 
 pub returns-in-Ok-clause-found : goal.returns-in-Ok-clause-found
-returns-in-Ok-clause-found c = λ text is. within c.args.program.now is c.in-Ok.ensures.within
+returns-in-Ok-clause-found c text tokens are is =
+    let decls = c.args.program.now.decls in
+    let world = world_of c.args.declared.now in
+    within tokens decls world are is
+    (declared_world decls Concurrent c.args.declared.now c.requires.declared)
+    (subst (λ tables. IsFirstTooLarge tables decls None)
+    (tables_are_said world decls c.args.typed.now c.args.isolated.now c.requires.typed
+    c.requires.isolated) c.in-Ok.ensures.none)
 
-pub returns-in-Err-TooLarge-clause-found : goal.returns-in-Err-TooLarge-clause-found
-returns-in-Err-TooLarge-clause-found c = λ text is.
-    found_breach (SizeFinds text) c.size_code.result c.in-Err-TooLarge.function.key _
+pub returns-in-Err-Breach-clause-found : goal.returns-in-Err-Breach-clause-found
+returns-in-Err-Breach-clause-found c text tokens are is =
+    let decls = c.args.program.now.decls in
+    let world = world_of c.args.declared.now in
+    let tables = tables_of world (answers_of c.args.typed.now)
+    (isolation_of c.args.isolated.now) decls in
+    found_too_large text tokens decls world c.in-Err-Breach.code c.in-Err-Breach.at _ are is
+    (declared_world decls Concurrent c.args.declared.now c.requires.declared)
+    (subst (λ tables. IsTooLarge tables decls (Breach c.in-Err-Breach.code c.in-Err-Breach.at))
+    (tables_are_said world decls c.args.typed.now c.args.isolated.now c.requires.typed
+    c.requires.isolated)
+    (subst (IsTooLarge tables decls) c.in-Err-Breach.field-0-is c.in-Err-Breach.ensures.first))
     c.refused.ensures
-    (subst (λ code. SizeFinds text (breach_at code c.in-Err-TooLarge.function.key))
-    (sym c.size_code.ensures)
-    (too_large c.args.program.now c.in-Err-TooLarge.function is
-    (c.in-Err-TooLarge.ensures.too_large c.in-Err-TooLarge.function
-    (ap Err c.in-Err-TooLarge.field-0-is))))
