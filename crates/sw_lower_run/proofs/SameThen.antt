@@ -1,12 +1,15 @@
--- What two runs make, the one after the other, is what their plans say together.
+-- What two runs make, the one after the other, is what their plans say together, and what a run
+-- makes whose variables are seen in it alone is what its plan says.
 use Rattle.std.proofs.Common.{◌≡◌, ℕ, ◌+◌, ◌<◌, ◌⊎◌, inl, inr, List, ◌++◌, true}
-use Rattle.std.proofs.Common.{length, ap, sym, ◌∙◌, arith, append_assoc, length-append, subst}
+use Rattle.std.proofs.Common.{length, ap, sym, ◌∙◌, arith, append-nil, append_assoc, length-append}
+use Rattle.std.proofs.Common.{[], subst, take}
+use Rattle.std.proofs.Math.Seq.{take-append_seam}
 use Rattle.std.specs.Prelude.{Result, Ok, Err}
 use Rattle.sw_graph.specs.declared.function.TheConstants.{MAX_POINTS}
 use Rattle.sw_lower_run.specs.Plan.{Numbers, Piece, Place, Plan, after, ended_in}
-use Rattle.sw_lower_run.specs.Plan.{joined, plan_after, written_in}
+use Rattle.sw_lower_run.specs.Plan.{joined, plan_after, plan_scope, written_in}
 use Rattle.sw_lower_run.specs.Run.{IsGoing, Making, Makes, Meets, Run, instrs_at, last_at, place_of}
-use Rattle.sw_lower_run.specs.Run.{points, run_after}
+use Rattle.sw_lower_run.specs.Run.{points, run_after, run_scope, with_vars}
 use Rattle.sw_lower_run.specs.declared.bound.Bound.{Bound}
 use Rattle.sw_lower_run.specs.declared.fault.CodeFault.{CodeFault}
 use Rattle.sw_lower_run.specs.declared.fault.CodeFault.TheVariants.{Registers, Memory}
@@ -17,7 +20,7 @@ place number regs blocks here vars =
     record { regs = regs; blocks = blocks; here = here; vars = vars; number = number }
 
 -- A run comes to the place after its plan.
-place_after : {A : Type 0} (piece : Piece A) (s t : Making) → Makes piece s t
+pub place_after : {A : Type 0} (piece : Piece A) (s t : Making) → Makes piece s t
     → place_of t ≡ after (place_of s) piece
 place_after piece s t made =
     let regs : length t.made.regs ≡ length s.made.regs + length piece.regs =
@@ -35,7 +38,7 @@ place_after piece s t made =
     (length s.made.blocks + length piece.made) piece.there) made.vars
 
 -- From s to t by the first piece, and from t to u by the second.
-makes_both : {A B : Type 0} (first : Piece A) (second : Piece B) (s t u : Making)
+pub makes_both : {A B : Type 0} (first : Piece A) (second : Piece B) (s t u : Making)
     → Makes first s t → Makes second t u → Makes (joined first second) s u
 makes_both first second s t u one two =
     let more_writes = length-append first.writes second.writes in
@@ -145,3 +148,42 @@ same_then {A = A} {B = B} run plan runs plans same sames s going =
           second_meets (plan (place_of s)) _ s at.1 (runs at.0 at.1) meets.1
           (subst (λ there. Meets at.1 (runs at.0 at.1) (plans (plan (place_of s)).value there)) here
           (subst (λ value. Meets at.1 (runs at.0 at.1) (plans value (place_of at.1))) meets.0 second))
+
+-- Of variables to which others were added, the first are those that were there.
+scope_vars : {A : Type 0} (piece : Piece A) (s t : Making) → Makes piece s t
+    → take (length s.vars) t.vars ≡ s.vars ++ []
+scope_vars piece s t made =
+    ap (take (length s.vars)) made.vars ∙ take-append_seam s.vars piece.vars
+    ∙ sym (append-nil s.vars)
+
+pub same_scope : {A : Type 0} (run : Run A) (plan : Plan A)
+    → ((s : Making) → IsGoing s → Meets s (run s) (plan (place_of s)))
+    → (s : Making) → IsGoing s → Meets s (run_scope run s) (plan_scope plan (place_of s))
+same_scope {A = A} run plan same s going = by (run s) (same s going) where
+  by : (result : Result (A × Making) CodeFault) → Meets s result (plan (place_of s))
+      → Meets s (with_vars (length s.vars) result) (plan_scope plan (place_of s))
+  by (Err Registers) meets = meets
+  by (Err Memory) meets = tt
+  by (Ok at) meets =
+      let made = meets.1 in (
+        meets.0,
+        record {
+          key = made.key;
+          iso = made.iso;
+          is_async = made.is_async;
+          number = made.number;
+          regs = made.regs;
+          few = made.few;
+          blocks = made.blocks;
+          here = made.here;
+          there = made.there;
+          vars = scope_vars (plan (place_of s)) s at.1 made;
+          lasts = made.lasts;
+          inside = made.inside;
+          most = made.most;
+          beyond = made.beyond;
+          before = made.before;
+          exact = made.exact;
+          instrs = made.instrs;
+        },
+      )

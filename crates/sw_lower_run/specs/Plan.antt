@@ -16,6 +16,11 @@ pub data Entry : Type 0 where
   Anywhere : Entry
   OfCase : ℕ → ℕ → ℕ → Entry
 
+-- a block that is made: how it may be entered, and the block that went on when it was made
+pub record NewBlock : Type 0 where
+  pub entry : Entry
+  pub from : ℕ
+
 -- an instruction in a block, and the last instruction of a block
 pub record Written : Type 0 where
   pub block : ℕ
@@ -38,12 +43,12 @@ pub record Place : Type 0 where
   pub vars : List Bound
   pub number : Numbers
 
--- what a piece of code makes: a value, registers, blocks by how they are entered, instructions, last
--- instructions and variables; and the block that goes on after it
+-- what a piece of code makes: a value, registers, blocks, instructions, last instructions and
+-- variables; and the block that goes on after it
 pub record Piece (A : Type 0) : Type 0 where
   pub value : A
   pub regs : List RegKind
-  pub made : List Entry
+  pub made : List NewBlock
   pub writes : List Written
   pub lasts : List Ended
   pub there : ℕ
@@ -96,7 +101,8 @@ plan_reg kind place = record (nothing place.regs place) { regs = kind ∷ [] }
 
 -- the number that comes next among the blocks
 abbrev pub plan_block : Entry → Plan ℕ
-plan_block entry place = record (nothing place.blocks place) { made = entry ∷ [] }
+plan_block entry place =
+    record (nothing place.blocks place) { made = record { entry = entry; from = place.here } ∷ [] }
 
 abbrev pub plan_emit : Instr → Plan (Unit {0})
 plan_emit instr place =
@@ -119,6 +125,10 @@ abbrev pub plan_after : {A B : Type 0} → Plan A → (A → Plan B) → Plan B
 plan_after first next place =
     let piece = first place in
     joined piece (next piece.value (after place piece))
+
+-- a plan whose variables are seen in it alone
+abbrev pub plan_scope : {A : Type 0} → Plan A → Plan A
+plan_scope plan place = record (plan place) { vars = [] }
 
 -- the first variable with a key
 abbrev pub var_in : ℕ → List Bound → Option Bound

@@ -2,7 +2,7 @@
 -- that this makes what a plan says.
 use Rattle.std.specs.Prelude.{◌≡◌, ℕ, ◌+◌, ◌<◌, ◌≤◌, ◌⊎◌, Bool, true, false, ◌&&◌, nat_le, nat_lt}
 use Rattle.std.specs.Prelude.{List, [], ◌∷◌, ◌++◌, Option, Some, None, Result, Ok, Err, length}
-use Rattle.std.specs.Prelude.{slice_get, if◌then◌else◌}
+use Rattle.std.specs.Prelude.{slice_get, take, if◌then◌else◌}
 use Rattle.std.specs.List.{list_all}
 use Rattle.sw_types.specs.declared.isolation.Iso.{Iso}
 use Rattle.sw_graph.specs.Payloads.{is_payload}
@@ -103,6 +103,16 @@ abbrev pub run_after : {A B : Type 0} → Result (A × Making) CodeFault → (A 
     → Result (B × Making) CodeFault
 run_after (Ok at) next = next at.0 at.1
 run_after (Err fault) next = Err fault
+
+-- after a run, the variables are the first ones, as many as a count
+abbrev pub with_vars : {A : Type 0} → ℕ → Result (A × Making) CodeFault
+    → Result (A × Making) CodeFault
+with_vars count (Ok at) = Ok (at.0, record at.1 { vars = take count at.1.vars })
+with_vars count (Err fault) = Err fault
+
+-- a run after which the variables are those before it
+abbrev pub run_scope : {A : Type 0} → Run A → Run A
+run_scope run making = with_vars (length making.vars) (run making)
 
 -- a function without registers whose first block goes on
 abbrev pub at_start : Numbers → ℕ → Iso → Bool → Making

@@ -4,10 +4,10 @@ ghost use Rattle.sw_graph.specs.declared.function.RegKind.{RegKind};
 ghost use Rattle.sw_graph.specs.declared.instr.Instr.{Instr};
 ghost use Rattle.sw_graph.specs.declared.instr.Last.{Last};
 ghost use Rattle.sw_lower_run.specs.Plan.{Entry, Plan, plan_after, plan_bind, plan_block, plan_close};
-ghost use Rattle.sw_lower_run.specs.Plan.{plan_emit, plan_reg, plan_resume};
+ghost use Rattle.sw_lower_run.specs.Plan.{plan_emit, plan_reg, plan_resume, plan_scope};
 ghost use Rattle.sw_lower_run.specs.Run.{IsGoing, Making, Meets, Run, place_of, run_after, run_bind};
 ghost use Rattle.sw_lower_run.specs.Run.{run_block, run_close, run_emit, run_front, run_reg};
-ghost use Rattle.sw_lower_run.specs.Run.{run_resume};
+ghost use Rattle.sw_lower_run.specs.Run.{run_resume, run_scope};
 ghost use Rattle.sw_lower_run.specs.declared.bound.Bound.{Bound};
 
 /// Each single step makes what its plan says of the place at which the function has come.
@@ -36,4 +36,12 @@ pub fn runs_join<A, B>()
         → Meets s (runs value s) (plans value (place_of s)))
         → (s : Making) → IsGoing s
         → Meets s (run_after (run s) runs) (plan_after plan plans (place_of s)) }
+{}
+
+/// A run whose variables are seen in it alone makes what its plan says without its variables.
+pub fn scopes_end<A>()
+    ensures { (run : Run A) (plan : Plan A)
+        → ((s : Making) → IsGoing s → Meets s (run s) (plan (place_of s)))
+        → (s : Making) → IsGoing s
+        → Meets s (run_scope run s) (plan_scope plan (place_of s)) }
 {}

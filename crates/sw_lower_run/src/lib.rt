@@ -9,5 +9,5 @@ mod name;
 
 pub use bound::Bound;
 pub use fault::CodeFault;
-pub use laws::{runs_join, steps_make_plans};
+pub use laws::{runs_join, scopes_end, steps_make_plans};
 pub use name::FunctionName;
