@@ -1,5 +1,5 @@
 //! The steps of making a function, each as its run.
-ghost use Rattle.std.specs.Prelude.{◌≡◌, ◌||◌, Ok, IfOk, nat_lt};
+ghost use Rattle.std.specs.Prelude.{◌≡◌, ◌||◌, Ok, IfOk, length, nat_lt, take};
 ghost use Rattle.sw_builder.specs.Unfinished.{finished};
 ghost use Rattle.sw_draft.specs.Drafts.{Gives, making_of, number_by};
 ghost use Rattle.sw_lower_run.specs.Run.{at_start, points, run_bind, run_block, run_close};
@@ -111,6 +111,21 @@ impl<'a> Draft<'a> {
         ensures { Gives (run_bind bound (making_of self.old)) result self.new }
     {
         Ok(self.vars.push(bound)?)
+    }
+
+    /// How many variables are seen.
+    pub fn var_count(&self) -> usize
+        ensures { result ≡ length (making_of self.now).vars }
+    {
+        self.vars.len()
+    }
+
+    /// From here on the variables are the first ones, as many as `count`.
+    pub fn forget(&mut self, count: usize)
+        ensures { making_of self.new
+            ≡ record (making_of self.old) { vars = take count (making_of self.old).vars } }
+    {
+        self.vars.truncate(count);
     }
 
     /// The variable with this key.
