@@ -6,16 +6,17 @@ use Rattle.sw_graph.specs.declared.function.RegKind.{RegKind}
 use Rattle.sw_graph.specs.declared.instr.Instr.{Instr}
 use Rattle.sw_graph.specs.declared.instr.Last.{Last}
 use Rattle.sw_lower_run.specs.Plan.{Entry, Plan, nothing, plan_after, plan_bind, plan_block}
-use Rattle.sw_lower_run.specs.Plan.{plan_close, plan_emit, plan_reg, plan_resume, var_in}
+use Rattle.sw_lower_run.specs.Plan.{plan_close, plan_emit, plan_reg, plan_resume, plan_scope}
+use Rattle.sw_lower_run.specs.Plan.{var_in}
 use Rattle.sw_lower_run.specs.Run.{IsGoing, Making, Meets, Run, place_of, run_after, run_bind}
 use Rattle.sw_lower_run.specs.Run.{run_block, run_close, run_emit, run_front, run_known}
-use Rattle.sw_lower_run.specs.Run.{run_number, run_reg, run_resume, run_var}
+use Rattle.sw_lower_run.specs.Run.{run_number, run_reg, run_resume, run_scope, run_var}
 use Rattle.sw_lower_run.specs.declared.bound.Bound.{Bound}
 use Rattle.sw_lower_run.specs.declared.name.FunctionName.{FunctionName}
 use Rattle.sw_lower_run.proofs.SameParts.{same_bind, same_block, same_close, same_done, same_emit}
 use Rattle.sw_lower_run.proofs.SameParts.{same_front, same_known, same_number, same_reg}
 use Rattle.sw_lower_run.proofs.SameParts.{same_resume, same_var}
-use Rattle.sw_lower_run.proofs.SameThen.{same_then}
+use Rattle.sw_lower_run.proofs.SameThen.{same_scope, same_then}
 
 pub record Code (A : Type 0) : Type 0 where
   pub run : Run A
@@ -97,6 +98,14 @@ andthen first next = record {
   plan = plan_after first.plan (λ value. (next value).plan);
   same = same_then first.run first.plan (λ value. (next value).run) (λ value. (next value).plan)
       first.same (λ value. (next value).same);
+}
+
+-- code whose variables are seen in it alone
+unfoldable pub scope : {A : Type 0} → Code A → Code A
+scope code = record {
+  run = run_scope code.run;
+  plan = plan_scope code.plan;
+  same = same_scope code.run code.plan code.same;
 }
 
 infixr 10 ◌>>=◌

@@ -1,7 +1,7 @@
 -- The bodies of a program and its graph.
 use Rattle.std.specs.Prelude.{◌≡◌, ℕ, ◌+◌, ◌*◌, ◌==◌, ◌&&◌, true, false, List, [], ◌∷◌, ◌++◌}
 use Rattle.std.specs.Prelude.{map, flat_map, Option, Some, None, slice_get, if◌then◌else◌}
-use Rattle.std.specs.Prelude.{IsPermutation}
+use Rattle.std.specs.Prelude.{All, IsOk, IsPermutation}
 use Rattle.std.specs.List.Sorted.{IsNonDecreasingBy}
 use Rattle.sw_tree.specs.declared.decl.Decl.{Decl}
 use Rattle.sw_tree.specs.declared.decl.Decl.TheVariants.{Entry, Struct, Enum, Class, Actor}
@@ -41,7 +41,7 @@ use Rattle.sw_isolation_rules.specs.Kinds.{is_isolated, shape_iso}
 use Rattle.sw_isolation_rules.specs.Programs.{func_at}
 use Rattle.sw_lower_run.specs.Plan.{Numbers}
 use Rattle.sw_lower_code.specs.Code.{Code, close, done, each, emit, known, ◌>>=◌, ◌>>◌}
-use Rattle.sw_lower_code.specs.Whole.{Body, function_of}
+use Rattle.sw_lower_code.specs.Whole.{Body, function_of, lower_body}
 use Rattle.sw_lower_code.specs.declared.taken.Taken.{Taken}
 use Rattle.sw_lower_table.specs.Carriers.{ExprCode, Given}
 use Rattle.sw_lower_table.specs.Expressions.{body_code, is_async_of, iso_of}
@@ -319,12 +319,24 @@ abbrev pub IsFirstTooLarge : Tables → List Decl → Option Placed → Type 0
 IsFirstTooLarge tables decls first = (ordered : List Body) × AreOrdered tables decls ordered
     × IsFirst (too_large_in (functions_of ordered)) first
 
+-- Each body is found by its name.
+abbrev pub AreNumbered : List Body → Type 0
+AreNumbered ordered = (number : ℕ) (body : Body) → slice_get ordered number ≡ Some body
+    → numbers_of ordered (name_of body) ≡ Some number
+
+-- The code of each body asks for nothing that isn't known.
+abbrev pub AreMade : List Body → Type 0
+AreMade ordered = All (λ (body : Body). IsOk (lower_body (numbers_of ordered) body)) ordered
+
 -- The functions are those of a program: its bodies in the order of their keys, each as its plan says.
+-- Each is found by its name, and its code asks for nothing that isn't known.
 pub record HasFunctions (tables : Tables) (decls : List Decl) (functions : List Function)
     : Type 0 where
   pub ordered : List Body
   pub are_ordered : AreOrdered tables decls ordered
   pub are_those : functions ≡ functions_of ordered
+  pub numbered : AreNumbered ordered
+  pub made : AreMade ordered
 
 -- The graph is that of a program.
 pub record Lowered (world : World) (answers : Answers) (isolation : Isolation) (decls : List Decl)

@@ -171,12 +171,12 @@ module _ (tables : Tables) (owner : Option ℕ) where
     sending = false;
   }
 
-  -- A closure or a task takes its captures and then its parameters.
+  -- A closure takes its captures and then its parameters.
   abbrev pub closure_takes : ℕ → List ClosureParam → List Taken
   closure_takes at params =
       map capture_taken (tables.isolation.captures_of at) ++ map (closure_param_taken tables) params
 
-  -- the body of a closure or a task, by its result
+  -- the body of a closure, by its result
   unfoldable pub closure_body : ClosureCode → Ty → Body
   closure_body closure result = record {
     key = closure.at;
@@ -188,6 +188,10 @@ module _ (tables : Tables) (owner : Option ℕ) where
     result = result;
     code = body_code result closure.body;
   }
+
+  -- the body of a task, which takes its captures alone
+  abbrev pub task_body : ClosureCode → Ty → Body
+  task_body closure result = closure_body (record closure { params = [] }) result
 
   -- the captures of a closure, and its number
   abbrev pub captured : ℕ → ℕ → Code (List Operand)
@@ -330,7 +334,7 @@ module _ (tables : Tables) (owner : Option ℕ) where
   abbrev pub spawn_code : ℕ → ClosureCode → ExprCode
   spawn_code at closure =
       value at (spawn_read at closure)
-      (closure_body closure (spawn_result at)
+      (task_body closure (spawn_result at)
       ∷ closure.body.inside)
 
   abbrev pub expr_layer : layer.Expr-F ExprCode StmtCode ArgCode ClosureCode LinkCode BlockCode

@@ -22,7 +22,7 @@ use Rattle.sw_graph.specs.declared.instr.Instr.TheVariants as instr
 use Rattle.sw_graph.specs.declared.instr.Last.TheVariants as last
 use Rattle.sw_graph.specs.declared.instr.Operand.{Operand}
 use Rattle.sw_lower_code.specs.Code.{Code, all, bind, block_for, close, done, each, emit, front, known}
-use Rattle.sw_lower_code.specs.Code.{reg, resume, ◌>>=◌, ◌>>◌}
+use Rattle.sw_lower_code.specs.Code.{reg, resume, scope, ◌>>=◌, ◌>>◌}
 use Rattle.sw_lower_run.specs.Plan.{OfCase}
 use Rattle.sw_lower_code.specs.Whole.{Body}
 use Rattle.sw_lower_table.specs.Carriers.{ArgCode, BlockCode, CaseCode, ClosureCode, ExprCode, Given}
@@ -121,9 +121,10 @@ block_only [] = None
 block_only (one ∷ []) = one.only
 block_only (one ∷ other ∷ more) = None
 
+-- What a block declares is seen in it alone.
 abbrev pub block_layer : List StmtCode → BlockCode
 block_layer stmts = record {
-  code = λ targets. all (λ (one : StmtCode). one.code targets) stmts;
+  code = λ targets. scope (all (λ (one : StmtCode). one.code targets) stmts);
   only = block_only stmts;
   gives = flat_map (λ (one : StmtCode). one.gives) stmts;
   inside = flat_map (λ (one : StmtCode). one.inside) stmts;
@@ -171,10 +172,11 @@ module _ (tables : Tables) where
   abbrev pub switch_targets : Targets → ℕ → Targets
   switch_targets targets merge = record targets { breaks = Some merge }
 
+  -- What the patterns of an arm declare is seen in the arm alone.
   abbrev pub arm_code : Operand → Targets → ℕ → Arm → Code (Unit {0})
   arm_code subject targets merge one = resume one.block
-      >> patterns_code subject 0 one.arm.patterns
-      >> one.arm.body.code (switch_targets targets merge)
+      >> scope (patterns_code subject 0 one.arm.patterns
+      >> one.arm.body.code (switch_targets targets merge))
       >> jump merge
 
   -- Without `default` a `switch` makes no block for it.

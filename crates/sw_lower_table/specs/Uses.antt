@@ -1,5 +1,5 @@
 -- The code for what names mean: variables, properties, global variables, calls and what is made.
-use Rattle.std.specs.Prelude.{ℕ, false, ◌&&◌, not, List, [], ◌∷◌, Option, Some}
+use Rattle.std.specs.Prelude.{ℕ, false, List, [], ◌∷◌, Option, Some}
 use Rattle.std.specs.Prelude.{None, slice_get, if◌then◌else◌}
 use Rattle.std.specs.Option.{option_map}
 use Rattle.sw_types.specs.declared.isolation.Iso.TheVariants as iso
@@ -171,7 +171,8 @@ module _ (tables : Tables) where
   make at shape operands = shape_at shape >>= λ s. make_by s.kind at shape operands
 
   -- A captured variable goes into a closure with its box, or by its value; one in a box that the
-  -- closure lists is read where the closure is made.
+  -- closure lists is read where the closure is made. No accepted program captures by reference what
+  -- is in no box.
   abbrev pub listed_value : ℕ → Capture → Bound → Code Operand
   listed_value at capture bound = typed bound.key
       >>= λ ty. reg (Plain ty)
@@ -180,8 +181,9 @@ module _ (tables : Tables) where
 
   unfoldable pub capture_bound : ℕ → Capture → Bound → Code Operand
   capture_bound at capture bound =
-      if bound.boxed && not capture.by_ref then listed_value at capture bound
-      else done (operand bound.reg capture.first)
+      if capture.by_ref then (if bound.boxed then done (operand bound.reg capture.first) else unknown)
+      else (if bound.boxed then listed_value at capture bound
+      else done (operand bound.reg capture.first))
 
   unfoldable pub capture : ℕ → Capture → Code Operand
   capture at one = var one.variable >>= capture_bound at one
