@@ -13,7 +13,7 @@ use Rattle.sw_tree.specs.declared.stmt.Stmt.{Stmt}
 use Rattle.sw_lower_bodies.specs.Trees.{closure_code}
 use Rattle.sw_lower_code.specs.Whole.{Body}
 use Rattle.sw_lower_table.specs.Carriers.{ArgCode, CaseCode, IfCode, LinkCode, StmtCode}
-use Rattle.sw_lower_table.specs.Expressions.{closure_body, fun_result, spawn_result}
+use Rattle.sw_lower_table.specs.Expressions.{closure_body, fun_result, spawn_result, task_body}
 use Rattle.sw_lower_table.specs.Statements.{block_code, code_steps, expr_code, inside_of, stmt_code}
 use Rattle.sw_lower_table.specs.Tables.{Tables}
 
@@ -60,4 +60,4 @@ module _ (tables : Tables) (owner : Option ℕ) where
   abbrev pub task_inside : ℕ → Closure → List Body
   task_inside at closure =
       let code = closure_code tables owner closure in
-      closure_body tables owner code (spawn_result tables owner at) ∷ code.body.inside
+      task_body tables owner code (spawn_result tables owner at) ∷ code.body.inside

@@ -36,8 +36,8 @@ module _ (tables : Tables) where
   takes_by (form.Init number shape props params block func) = map (param_taken tables) params.now
   takes_by (form.Closure owner closure) = closure_takes tables owner
       (closure_code owner closure.now).at (closure_code owner closure.now).params
-  takes_by (form.Task owner at closure) = closure_takes tables owner
-      (closure_code owner closure.now).at (closure_code owner closure.now).params
+  takes_by (form.Task owner at closure) =
+      closure_takes tables owner (closure_code owner closure.now).at []
   takes_by (form.PartGetter number index shape part) = self_by number shape.now ∷ []
   takes_by (form.GlobalGetter index global) = []
   takes_by (form.FirstValue index value) = []

@@ -1,5 +1,5 @@
 //! What closures and tasks take when they are made.
-#![tactic(auto, unfolding(sw_lower_code::specs::Code::andthen, sw_lower_code::specs::Code::done, sw_lower_code::specs::Code::emit, sw_lower_code::specs::Code::known, sw_lower_code::specs::Code::reg, sw_lower_code::specs::Code::var, sw_lower_table::specs::Uses::capture, sw_lower_table::specs::Uses::capture_bound, sw_lower_table::specs::Uses::listed_value, sw_lower_table::specs::Uses::typed))]
+#![tactic(auto, unfolding(sw_lower_code::specs::Code::andthen, sw_lower_code::specs::Code::done, sw_lower_code::specs::Code::emit, sw_lower_code::specs::Code::known, sw_lower_code::specs::Code::reg, sw_lower_code::specs::Code::var, sw_lower_table::specs::Uses::capture, sw_lower_table::specs::Uses::capture_bound, sw_lower_table::specs::Uses::listed_value, sw_lower_table::specs::Uses::typed, sw_lower_table::specs::Uses::unknown))]
 
 ghost use Rattle.sw_draft.specs.Drafts.{Gives, making_of};
 ghost use Rattle.sw_lower_code.specs.Code.{each};
@@ -39,7 +39,8 @@ fn listed_value(
     emit_value(capture.first, r, instr, draft)
 }
 
-/// What goes into a closure for a variable that was looked up.
+/// What goes into a closure for a variable that was looked up. One that is captured by reference and
+/// is in no box has no code, as where memory runs out.
 fn capture_bound(
     alloc: Global,
     known: &Known<'_>,
@@ -52,13 +53,13 @@ fn capture_bound(
         ((capture_bound (tables_by known.now) at capture bound).run (making_of draft.old))
         result draft.new }
 {
-    if bound.boxed && !capture.by_ref {
-        listed_value(alloc, known, at, capture, bound, draft)
-    } else {
-        Ok(Operand {
+    match (capture.by_ref, bound.boxed) {
+        (true, false) => Err(CodeFault::Memory),
+        (false, true) => listed_value(alloc, known, at, capture, bound, draft),
+        (true, true) | (false, false) => Ok(Operand {
             reg: bound.reg,
             at: capture.first,
-        })
+        }),
     }
 }
 
