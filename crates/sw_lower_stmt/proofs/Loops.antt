@@ -1,10 +1,10 @@
 -- How loops do what the code of each item does.
 use Rattle.std.proofs.Common.{◌≡◌, ◌+◌, ◌<◌, ◌≤◌, ℕ, List, [], ◌∷◌, ◌++◌, Result, Ok, Err, refl, ap}
-use Rattle.std.proofs.Common.{append_assoc, drop, get_or, length, map, sym, ◌∙◌}
+use Rattle.std.proofs.Common.{append_assoc, drop, get_or, length, map, sym, take, ◌∙◌}
 use Rattle.std.proofs.lemmas.List.{at_drop_all, drop_more}
-use Rattle.sw_lower_run.specs.Run.{Making, Run, run_after}
+use Rattle.sw_lower_run.specs.Run.{Making, Run, run_after, with_vars}
 use Rattle.sw_lower_run.specs.declared.fault.CodeFault.{CodeFault}
-use Rattle.sw_lower_code.specs.Code.{Code, all, andthen, done, ◌>>=◌}
+use Rattle.sw_lower_code.specs.Code.{Code, all, andthen, done, scope, ◌>>=◌}
 use Rattle.sw_lower_uses.specs.Gathering.{each_after}
 
 -- what a run gives
@@ -54,6 +54,21 @@ pub done_then : {A B : Type 0} (value : A) (f : A → Code B) (s : Making)
     → (done value >>= f).run s ≡ (f value).run s
 unfolding andthen done
 done_then value f s = refl
+
+-- code whose variables are seen in it alone
+module _ {A : Type 0} (code : Code A) (s : Making) where
+  pub scope_ends : (value : A) (t u : Making) (count : ℕ) → count ≡ length s.vars
+      → code.run s ≡ Ok (value, t) → u ≡ record t { vars = take count t.vars }
+      → (scope code).run s ≡ Ok (value, u)
+  unfolding scope
+  scope_ends value t u count counted is forgets =
+      ap (with_vars (length s.vars)) is
+      ∙ (ap (λ n. Ok (value, record t { vars = take n t.vars })) (sym counted)
+      ∙ ap (λ making. Ok (value, making)) (sym forgets))
+
+  pub scope_fails : (fault : CodeFault) → code.run s ≡ Err fault → (scope code).run s ≡ Err fault
+  unfolding scope
+  scope_fails fault is = ap (with_vars (length s.vars)) is
 
 -- the first of the items that are left
 pub next_item : {A : Type 0} (xs : List A) (i : ℕ) (x : A) → i < length xs → x ≡ get_or xs i x

@@ -8,7 +8,7 @@ use Rattle.sw_tree.specs.declared.stmt.IfArm.{IfArm}
 use Rattle.sw_tree.specs.declared.stmt.Stmt.{Stmt}
 use Rattle.sw_tree.specs.declared.stmt.Stmt.TheVariants as stmts
 use Rattle.sw_lower_run.specs.Run.{Making}
-use Rattle.sw_lower_code.specs.Code.{all, each, ◌>>=◌, ◌>>◌}
+use Rattle.sw_lower_code.specs.Code.{all, each, scope, ◌>>=◌, ◌>>◌}
 use Rattle.sw_lower_table.specs.Carriers.{StmtCode}
 use Rattle.sw_lower_table.specs.Statements.{block_code, code_steps, else_code, expr_code, stmt_code}
 use Rattle.sw_lower_table.specs.Tables.{Tables}
@@ -21,12 +21,12 @@ use Rattle.sw_lower_stmt.specs.Parts.{otherwise_code, stmt_codes, switch_arms, s
 module _ (tables : Tables) (owner : Option ℕ) (targets : Targets) where
   pub block_whole : (tree : Block) (trees : List Stmt) (s : Making) → trees ≡ (out-Block tree).stmts
       → ((block_code tables owner tree).code targets).run s
-      ≡ (all (λ (one : StmtCode). one.code targets) (stmt_codes tables owner trees)).run s
+      ≡ (scope (all (λ (one : StmtCode). one.code targets) (stmt_codes tables owner trees))).run s
   unfolding block_code stmt_code
   block_whole tree trees s is =
       ap (λ code. (code.code targets).run s) (eq.fold_block-out (code_steps tables owner) tree)
-      ∙ ap (λ ys. (all (λ (one : StmtCode). one.code targets) (stmt_codes tables owner ys)).run s)
-      (sym is)
+      ∙ ap (λ ys. (scope (all (λ (one : StmtCode). one.code targets)
+      (stmt_codes tables owner ys))).run s) (sym is)
 
   pub if_whole : (tree : Stmt) (arms given : List IfArm) (otherwise : Option Block) (s : Making)
       → tree ≡ stmts.If arms otherwise → given ≡ arms

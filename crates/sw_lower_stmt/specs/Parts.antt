@@ -25,7 +25,8 @@ use Rattle.sw_lower_code.specs.Code.{resume, ◌>>=◌, ◌>>◌}
 use Rattle.sw_lower_table.specs.Carriers.{BlockCode, CaseCode, Given, IfCode, StmtCode}
 use Rattle.sw_lower_table.specs.Expressions.{block_made, jump}
 use Rattle.sw_lower_table.specs.Statements.{Arm, arm_code, block_code, case_from, code_steps}
-use Rattle.sw_lower_table.specs.Statements.{default_code, expr_code, in_new_block, stmt_code}
+use Rattle.sw_lower_table.specs.Statements.{default_code, expr_code, in_new_block, patterns_code}
+use Rattle.sw_lower_table.specs.Statements.{stmt_code}
 use Rattle.sw_lower_table.specs.Tables.{Tables}
 use Rattle.sw_lower_table.specs.Uses.{shape_at, shape_of}
 use Rattle.sw_lower_table.specs.declared.targets.Targets.{Targets}
@@ -88,9 +89,13 @@ arm_number subject number shape arm = known 0 (case_from 0 shape.cases (out-Case
     >>= λ tag. block_for (OfCase subject.reg number tag)
 
 -- what stands in an arm of a `switch`, or in its `default`
-unfoldable pub switch_body : BlockCode → Targets → ℕ → Code (Unit {0})
-switch_body body targets merge =
-    body.code (record targets { breaks = Some merge }) >> jump merge
+abbrev pub switch_body : BlockCode → Targets → ℕ → Code (Unit {0})
+switch_body body targets merge = body.code (record targets { breaks = Some merge })
+
+-- what an arm of a `switch` declares, and what stands in it
+abbrev pub arm_inside : Tables → Operand → Targets → ℕ → CaseCode → Code (Unit {0})
+arm_inside tables subject targets merge arm =
+    patterns_code tables subject 0 arm.patterns >> switch_body arm.body targets merge
 
 -- the block of `default`, where there is one
 abbrev pub default_number : Option Block → Code (Option ℕ)

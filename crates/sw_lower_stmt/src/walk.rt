@@ -1,10 +1,10 @@
 //! Statements and blocks at any depth.
-#![tactic(auto, unfolding(crate::specs::Parts::arm_opened, crate::specs::Parts::case_code, crate::specs::Parts::ended, crate::specs::Parts::if_arm_code, crate::specs::Parts::joined_in, crate::specs::Parts::switch_body, sw_lower_code::specs::Code::andthen, sw_lower_code::specs::Code::block_for, sw_lower_code::specs::Code::close, sw_lower_code::specs::Code::done, sw_lower_code::specs::Code::resume, sw_lower_table::specs::Statements::block_code, sw_lower_table::specs::Statements::expr_code, sw_lower_table::specs::Statements::stmt_code))]
+#![tactic(auto, unfolding(crate::specs::Parts::arm_opened, crate::specs::Parts::case_code, crate::specs::Parts::ended, crate::specs::Parts::if_arm_code, crate::specs::Parts::joined_in, sw_lower_code::specs::Code::andthen, sw_lower_code::specs::Code::block_for, sw_lower_code::specs::Code::close, sw_lower_code::specs::Code::done, sw_lower_code::specs::Code::resume, sw_lower_code::specs::Code::scope, sw_lower_table::specs::Statements::block_code, sw_lower_table::specs::Statements::expr_code, sw_lower_table::specs::Statements::stmt_code))]
 
 ghost use Rattle.sw_draft.specs.Drafts.{Gives, making_of};
 ghost use Rattle.sw_lower_code.specs.Code.{all, each};
 ghost use Rattle.sw_lower_known.specs.Knowledge.{tables_by};
-ghost use Rattle.sw_lower_stmt.specs.Parts.{arm_opened, case_code, if_arm_code, if_codes};
+ghost use Rattle.sw_lower_stmt.specs.Parts.{arm_inside, arm_opened, case_code, if_arm_code, if_codes};
 ghost use Rattle.sw_lower_stmt.specs.Parts.{joined_all, joined_in, numbered, otherwise_code};
 ghost use Rattle.sw_lower_stmt.specs.Parts.{stmt_codes, switch_body};
 ghost use Rattle.sw_lower_table.specs.Carriers.{StmtCode};
@@ -61,7 +61,7 @@ fn ignored(
 }
 
 /// The code of a block, in a member of the type with the number `owner`; `targets` says where `break`
-/// and `continue` lead.
+/// and `continue` lead. What it declares is seen in it alone.
 #[cycle(walk)]
 pub fn block(
     alloc: Global,
@@ -74,7 +74,10 @@ pub fn block(
     ensures { Gives (((block_code (tables_by known.now) owner tree.now).code targets).run
         (making_of draft.old)) result draft.new }
 {
-    stmts(alloc, known, owner, targets, tree.stmts.as_slice(), draft)
+    let count = draft.var_count();
+    stmts(alloc, known, owner, targets, tree.stmts.as_slice(), draft)?;
+    draft.forget(count);
+    Ok(())
 }
 
 /// The code of statements in order.
@@ -199,7 +202,7 @@ fn repeated(
     draft.resume(after)
 }
 
-/// The statements of an arm of a `switch`, or of its `default`. What follows goes on in the block
+/// The statements of an arm of a `switch`, or of its `default`, where `break` leads to the block
 /// `merge`.
 #[cycle(walk)]
 fn switch_body(
@@ -218,28 +221,24 @@ fn switch_body(
         breaks: Some(merge),
         ..targets
     };
-    block(alloc, known, owner, targets, tree, draft)?;
-    jump(merge, draft);
-    Ok(())
+    block(alloc, known, owner, targets, tree, draft)
 }
 
-/// An arm of a `switch`, in the block with this number.
+/// The patterns and the statements of an arm of a `switch`.
 #[cycle(walk)]
-fn case_arm(
+fn arm_inside(
     alloc: Global,
     known: &Known<'_>,
     owner: Option<u32>,
     targets: Targets,
     tree: &CaseArm,
     opened: &OpenSwitch,
-    number: u32,
     draft: &mut Draft<'_>,
 ) -> Result<(), CodeFault>
-    ensures { Gives ((arm_code (tables_by known.now) opened.now.subject targets opened.now.merge
-        (record { arm = case_code (tables_by known.now) owner tree.now; block = number })).run
-        (making_of draft.old)) result draft.new }
+    ensures { Gives ((arm_inside (tables_by known.now) opened.now.subject targets opened.now.merge
+        (case_code (tables_by known.now) owner tree.now)).run (making_of draft.old))
+        result draft.new }
 {
-    draft.resume(number)?;
     patterns(
         alloc,
         known,
@@ -256,6 +255,30 @@ fn case_arm(
         &tree.body,
         draft,
     )
+}
+
+/// An arm of a `switch`, in the block with this number. What it declares is seen in it alone.
+#[cycle(walk)]
+fn case_arm(
+    alloc: Global,
+    known: &Known<'_>,
+    owner: Option<u32>,
+    targets: Targets,
+    tree: &CaseArm,
+    opened: &OpenSwitch,
+    number: u32,
+    draft: &mut Draft<'_>,
+) -> Result<(), CodeFault>
+    ensures { Gives ((arm_code (tables_by known.now) opened.now.subject targets opened.now.merge
+        (record { arm = case_code (tables_by known.now) owner tree.now; block = number })).run
+        (making_of draft.old)) result draft.new }
+{
+    draft.resume(number)?;
+    let count = draft.var_count();
+    arm_inside(alloc, known, owner, targets, tree, opened, draft)?;
+    draft.forget(count);
+    jump(opened.merge, draft);
+    Ok(())
 }
 
 /// The arms of a `switch`, each in its block.
@@ -297,7 +320,9 @@ fn default_arm(
     match (tree, opened.default) {
         (Some(tree), Some(number)) => {
             draft.resume(number)?;
-            switch_body(alloc, known, owner, targets, opened.merge, tree, draft)
+            switch_body(alloc, known, owner, targets, opened.merge, tree, draft)?;
+            jump(opened.merge, draft);
+            Ok(())
         }
         (None, _) | (Some(_), None) => Ok(()),
     }

@@ -10,17 +10,31 @@ use Rattle.sw_lower_code.specs.Code.{all, each, resume}
 use Rattle.sw_lower_stmt.proofs.CaseArms.{next_numbered, none_numbered}
 use Rattle.sw_lower_stmt.proofs.Loops.{all_ends, all_fails, all_next, each_ends, each_fails}
 use Rattle.sw_lower_stmt.proofs.Loops.{each_next, first_fails, given_then, next_item}
-use Rattle.sw_lower_stmt.proofs.Loops.{no_item}
+use Rattle.sw_lower_stmt.proofs.Loops.{no_item, scope_ends, scope_fails}
 use Rattle.sw_lower_stmt.proofs.Whole.{block_whole, if_whole, switch_whole}
 use Rattle.sw_lower_stmt.specs.Parts.{arm_opened, if_arm_code, if_codes, numbered, otherwise_code}
 use Rattle.sw_lower_stmt.specs.Parts.{stmt_codes, switch_opened}
 use Rattle.sw_lower_uses.proofs.Gathered.{each_is}
 use Rattle.sw_lower_stmt.proofs.walk.+walk.Goals as goal
 
+pub block-returns-in_err-stmts : goal.block-returns-in_err-stmts
+block-returns-in_err-stmts t c =
+    let p = err_from_is_err_and c.from_residual.result c.from_residual.ensures.1 in
+    rw (p.1, p.2) (λ other.
+    block_whole (tables_by c.args.known.now) c.args.owner c.args.targets c.args.tree.now
+    c.as_slice.result.now (making_of c.args.draft.now) c.as_slice.ensures
+    ∙ scope_fails (all (λ (one : StmtCode). one.code c.args.targets)
+    (stmt_codes (tables_by c.args.known.now) c.args.owner c.as_slice.result.now))
+    (making_of c.args.draft.now) _ (c.in_err-stmts.ensures other))
+
 pub block-returns : goal.block-returns
 block-returns t c =
-    rw (block_whole (tables_by c.args.known.now) c.args.owner c.args.targets c.args.tree.now
-    c.as_slice.result.now (making_of c.args.draft.now) c.as_slice.ensures) c.stmts.ensures
+    block_whole (tables_by c.args.known.now) c.args.owner c.args.targets c.args.tree.now
+    c.as_slice.result.now (making_of c.args.draft.now) c.as_slice.ensures
+    ∙ scope_ends (all (λ (one : StmtCode). one.code c.args.targets)
+    (stmt_codes (tables_by c.args.known.now) c.args.owner c.as_slice.result.now))
+    (making_of c.args.draft.now) _ (making_of c.stmts.new.draft) (making_of c.forget.new.self)
+    c.var_count-count.result c.var_count-count.ensures c.in_ok-stmts.ensures c.forget.ensures
 
 pub case_arms-loop-tree-preserved : goal.case_arms-loop-tree-preserved
 case_arms-loop-tree-preserved t c =
