@@ -1,3 +1,4 @@
 pub mod Finishing
 pub mod Givens
+pub mod Numbered
 pub mod Programs

@@ -1,6 +1,6 @@
 -- The functions that are made of a program's bodies, and the fault of a program that has none.
 use Rattle.std.specs.Prelude.{◌≡◌, ℕ, Bool, ◌||◌, nat_lt, List, [], Some, Result, Ok, Err}
-use Rattle.std.specs.Prelude.{if◌then◌else◌}
+use Rattle.std.specs.Prelude.{IsOk, map, if◌then◌else◌}
 use Rattle.sw_types.specs.declared.ty.Ty.{Ty}
 use Rattle.sw_graph.specs.declared.function.TheConstants.{MAX_POINTS}
 use Rattle.sw_builder.specs.Unfinished.{finished}
@@ -13,14 +13,19 @@ use Rattle.sw_draft.specs.Drafts.{number_by}
 use Rattle.sw_draft.specs.declared.numbers.NumberTable.{NumberTable}
 use Rattle.sw_lower.specs.declared.lowering.LowerFault.{LowerFault}
 use Rattle.sw_lower.specs.declared.lowering.LowerFault.TheVariants as faults
+use Rattle.sw_lower.specs.declared.lowering.Lowering.{Lowering}
 use Rattle.sw_lower.specs.declared.lowering.Made.{Made}
+use Rattle.sw_lower.specs.declared.lowering.MadeProgram.{MadeProgram}
+use Rattle.sw_lower.specs.Ordered.{starts_in}
+use Rattle.sw_typing_rules.specs.Worlds.{and_then}
 use Rattle.sw_lower_bodies.specs.Trees.{body_by}
 use Rattle.sw_lower_bodies.specs.declared.body_tree.BodyTree.{BodyTree}
-use Rattle.sw_lower_code.specs.Whole.{Body, function_of}
+use Rattle.sw_lower_code.specs.Whole.{Body, function_of, lower_body}
 use Rattle.sw_lower_known.specs.Knowledge.{tables_by}
 use Rattle.sw_lower_known.specs.declared.known.Known.{Known}
-use Rattle.sw_lower_table.specs.Bodies.{AreOrdered, IsFirstTooLarge, functions_of, too_large_in}
-use Rattle.sw_lower_table.specs.Tables.{Tables}
+use Rattle.sw_lower_table.specs.Bodies.{AreMade, AreNumbered, AreOrdered, IsFirstTooLarge}
+use Rattle.sw_lower_table.specs.Bodies.{HasFunctions, entry_key, functions_of, numbers_of, too_large_in}
+use Rattle.sw_lower_table.specs.Tables.{Tables, plain}
 
 -- what a function is that is made, where it has no more points than it may have
 abbrev pub finished_by : ℕ → ℕ → List Bool → Bool → Ty → Making → Result Function BodyFault
@@ -33,16 +38,37 @@ finished_by key takes sending sends gives making =
 abbrev pub function_by : Known → NumberTable → BodyTree → Function
 function_by known numbers tree = function_of (number_by numbers) (body_by (tables_by known) tree)
 
+-- the run of a body's code ends well
+abbrev pub EndsWell : Known → NumberTable → BodyTree → Type 0
+EndsWell known numbers tree =
+    IsOk (lower_body (number_by numbers) (body_by (tables_by known) tree))
+
 -- The functions are made where none is too large, and all that are too large are named.
-pub record AreMade (functions : List Function) (made : Made) : Type 0 where
+pub record HasMade (functions : List Function) (made : Made) : Type 0 where
   pub too_large : made.too_large ≡ too_large_in functions
   pub fitting : made.too_large ≡ [] → made.functions ≡ functions
 
+-- the function with a number is that of the entry
+abbrev pub IsEntry : List Decl → List Body → ℕ → Type 0
+IsEntry decls ordered entry =
+    Some entry ≡ and_then (entry_key decls) (λ key. numbers_of ordered (plain key))
+
 -- what is made of a program
-pub record IsMadeOf (tables : Tables) (decls : List Decl) (made : Made) : Type 0 where
+pub record IsMadeOf (tables : Tables) (decls : List Decl) (program : MadeProgram) : Type 0 where
   pub ordered : List Body
   pub are_ordered : AreOrdered tables decls ordered
-  pub are_made : AreMade (functions_of ordered) made
+  pub are_made : HasMade (functions_of ordered) program.made
+  pub numbered : AreNumbered ordered
+  pub ended : program.made.too_large ≡ [] → AreMade ordered
+  pub entry : IsEntry decls ordered program.entry
+  pub starts : map Some program.starts ≡ starts_in (numbers_of ordered) tables.world.globals
+
+-- the functions are those of a program, and so are the numbers of its entry and of its first values
+pub record IsLowering (tables : Tables) (decls : List Decl) (lowering : Lowering) : Type 0 where
+  pub has : HasFunctions tables decls lowering.functions
+  pub entry : IsEntry decls has.ordered lowering.entry
+  pub starts : map Some lowering.starts
+      ≡ starts_in (numbers_of has.ordered) tables.world.globals
 
 -- The fault is the first function of a program that is too large. Nothing is said of memory.
 abbrev pub IsTooLarge : Tables → List Decl → LowerFault → Type 0

@@ -9,4 +9,4 @@ mod making;
 mod numbers;
 mod takes;
 
-pub use lowering::{LowerFault, lower};
+pub use lowering::{LowerFault, Lowering, lower};

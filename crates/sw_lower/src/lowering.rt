@@ -1,20 +1,21 @@
 //! The functions of a program.
-ghost use Rattle.std.specs.Prelude.{◌≡◌, ◌++◌, ◌∷◌, ◌<◌, ◌^◌, [], None, List, length, map, IfErr, IfOk, OnOk};
+ghost use Rattle.std.specs.Prelude.{◌≡◌, ◌++◌, ◌∷◌, ◌<◌, ◌^◌, [], None, List, length, map, All, IfErr, IfOk, OnOk};
 ghost use Rattle.sw_capture.specs.Known.{answers_of};
-ghost use Rattle.sw_lower.specs.Lowered.{AreMade, IsMadeOf, IsTooLarge, function_by};
+ghost use Rattle.sw_lower.specs.Lowered.{EndsWell, HasMade, IsLowering, IsMadeOf, IsTooLarge};
+ghost use Rattle.sw_lower.specs.Lowered.{function_by};
 ghost use Rattle.sw_lower.specs.declared.lowering.LowerFault.{LowerFault};
 ghost use Rattle.sw_lower_known.specs.Knowledge.{isolation_of, tables_by};
-ghost use Rattle.sw_lower_table.specs.Bodies.{HasFunctions, IsFirstTooLarge, tables_of, too_large_in};
+ghost use Rattle.sw_lower_table.specs.Bodies.{IsFirstTooLarge, tables_of, too_large_in};
 ghost use Rattle.sw_lower_table.specs.Tables.{Tables};
 ghost use Rattle.sw_tree.specs.declared.decl.Decl.{Decl};
 ghost use Rattle.sw_typing_rules.specs.Worlds.{world_of};
 
 use crate::making::function_of;
-use crate::numbers::{in_order, numbers_of};
+use crate::numbers::{entry_of, in_order, numbers_of, starts_of};
 use std::alloc::{AllocError, Global};
 use sw_decls::Decls;
 use sw_draft::NumberTable;
-use sw_graph::FunctionList;
+use sw_graph::{FunctionList, IdList};
 use sw_isolation::Isolated;
 use sw_list::ListOf;
 use sw_lower_bodies::{BodyTree, bodies_of};
@@ -62,6 +63,24 @@ pub struct Made {
     pub too_large: ListOf<Placed>,
 }
 
+/// The functions of a program, with the numbers of those that a graph names.
+#[derive(Drop)]
+pub struct Lowering {
+    pub functions: FunctionList,
+    /// The function of the entry.
+    pub entry: u32,
+    /// The functions that give the global variables their first values, in order.
+    pub starts: IdList,
+}
+
+/// What is made of a program: its functions, and the numbers of those that a graph names.
+#[derive(Drop)]
+pub struct MadeProgram {
+    pub made: Made,
+    pub entry: u32,
+    pub starts: IdList,
+}
+
 /// Adds the function of a body to others.
 #[tactic(auto, unfolding(sw_lower_code::specs::Whole::function_of))]
 fn add(
@@ -75,6 +94,8 @@ fn add(
         ++ too_large_in (function_by known.now numbers.now tree.entry ∷ [])) }
     ensures functions { OnOk result (made.new.too_large ≡ [] → made.new.functions
         ≡ made.old.functions ++ function_by known.now numbers.now tree.entry ∷ []) }
+    ensures made { OnOk result (made.new.too_large ≡ []
+        → EndsWell known.now numbers.now tree.entry) }
 {
     match function_of(alloc, known, numbers, tree) {
         Ok(function) => made.functions.push(function),
@@ -97,7 +118,9 @@ fn make_all(
     numbers: &NumberTable,
     bodies: &[BodyTree<'_>],
 ) -> Result<Made, AllocError>
-    ensures { IfOk result (AreMade (map (function_by known.now numbers.now) bodies.now)) }
+    ensures functions { IfOk result (HasMade (map (function_by known.now numbers.now) bodies.now)) }
+    ensures made { IfOk result (λ made. made.too_large ≡ []
+        → All (EndsWell known.now numbers.now) bodies.now) }
 {
     let mut made = Made {
         functions: ListOf::new(alloc),
@@ -114,7 +137,7 @@ fn make_program<'a>(
     alloc: Global,
     known: &'a Known<'a>,
     decls: &'a [Decl],
-) -> Result<Made, AllocError>
+) -> Result<MadeProgram, AllocError>
     requires { length decls.now < 2 ^ 31 }
     ensures { IfOk result (IsMadeOf (tables_by known.now) decls.now) }
 {
@@ -123,20 +146,36 @@ fn make_program<'a>(
         return Err(AllocError);
     }
     let numbers = numbers_of(alloc, bodies.as_slice())?;
-    make_all(alloc, known, &numbers, bodies.as_slice())
+    let made = make_all(alloc, known, &numbers, bodies.as_slice())?;
+    let entry = entry_of(decls, &numbers)?;
+    let starts = starts_of(alloc, known.world.globals.as_slice(), &numbers)?;
+    Ok(MadeProgram {
+        made,
+        entry,
+        starts,
+    })
 }
 
 /// The functions that were made, or the first that is too large.
-fn decided(made: Made) -> Result<FunctionList, LowerFault>
-    ensures functions { (tables : Tables) (decls : List Decl) → IsMadeOf tables decls made
-        → IfOk result (HasFunctions tables decls) }
-    ensures none { (tables : Tables) (decls : List Decl) → IsMadeOf tables decls made
+fn decided(program: MadeProgram) -> Result<Lowering, LowerFault>
+    ensures functions { (tables : Tables) (decls : List Decl) → IsMadeOf tables decls program
+        → IfOk result (IsLowering tables decls) }
+    ensures none { (tables : Tables) (decls : List Decl) → IsMadeOf tables decls program
         → OnOk result (IsFirstTooLarge tables decls None) }
-    ensures first { (tables : Tables) (decls : List Decl) → IsMadeOf tables decls made
+    ensures first { (tables : Tables) (decls : List Decl) → IsMadeOf tables decls program
         → IfErr result (IsTooLarge tables decls) }
 {
+    let MadeProgram {
+        made,
+        entry,
+        starts,
+    } = program;
     match first_of(made.too_large.as_slice()) {
-        None => Ok(made.functions),
+        None => Ok(Lowering {
+            functions: made.functions,
+            entry,
+            starts,
+        }),
         Some(first) => Err(LowerFault::Breach {
             code: first.code,
             at: first.at,
@@ -153,9 +192,9 @@ pub fn lower(
     world: &Decls,
     typed: &Typed,
     isolated: &Isolated,
-) -> Result<FunctionList, LowerFault>
+) -> Result<Lowering, LowerFault>
     requires { length program.now.decls < 2 ^ 31 }
-    ensures functions { IfOk result (HasFunctions (tables_of (world_of world.now)
+    ensures functions { IfOk result (IsLowering (tables_of (world_of world.now)
         (answers_of typed.now) (isolation_of isolated.now) program.now.decls) program.now.decls) }
     ensures none { OnOk result (IsFirstTooLarge (tables_of (world_of world.now)
         (answers_of typed.now) (isolation_of isolated.now) program.now.decls) program.now.decls None) }

@@ -1,8 +1,8 @@
 //! The function of a body.
-ghost use Rattle.std.specs.Prelude.{◌≡◌, ◌≢◌, Err, length, IfOk};
+ghost use Rattle.std.specs.Prelude.{◌≡◌, ◌≢◌, Err, length, IfOk, OnOk};
 ghost use Rattle.std.specs.Option.{option_copied};
 ghost use Rattle.sw_draft.specs.Drafts.{Gives, making_of, number_by};
-ghost use Rattle.sw_lower.specs.Lowered.{finished_by};
+ghost use Rattle.sw_lower.specs.Lowered.{EndsWell, finished_by};
 ghost use Rattle.sw_lower_bodies.specs.Trees.{body_by, result_by, sends_by, takes_by};
 ghost use Rattle.sw_lower_code.specs.Whole.{IsWhole, code_of, lower_body};
 ghost use Rattle.sw_lower_code.specs.declared.fault.BodyFault.TheVariants as faults;
@@ -151,7 +151,8 @@ pub fn function_of(
     numbers: &NumberTable,
     tree: BodyTree<'_>,
 ) -> Result<Function, BodyFault>
-    ensures { IsWhole (number_by numbers.now) (body_by (tables_by known.now) tree.entry) result }
+    ensures whole { IsWhole (number_by numbers.now) (body_by (tables_by known.now) tree.entry) result }
+    ensures made { OnOk result (EndsWell known.now numbers.now tree.entry) }
 {
     functions_are_their_plans();
     made(alloc, known, numbers, tree)

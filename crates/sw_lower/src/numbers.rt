@@ -4,17 +4,22 @@ ghost use Rattle.std.specs.Prelude.{IsPermutation, OnOk, if◌then◌else◌};
 ghost use Rattle.std.specs.List.Sorted.{IsNonDecreasingBy};
 ghost use Rattle.indexmap.specs.IndexMap.{get};
 ghost use Rattle.sw_draft.specs.Drafts.{number_by};
-ghost use Rattle.sw_lower.specs.Ordered.{tree_name, tree_order};
+ghost use Rattle.sw_lower.specs.Ordered.{AreFound, starts_in, tree_name, tree_order};
 ghost use Rattle.sw_lower_run.specs.declared.name.FunctionName.{FunctionName};
-ghost use Rattle.sw_lower_table.specs.Tables.{is_named, number_in};
+ghost use Rattle.sw_lower_table.specs.Bodies.{entry_key};
+ghost use Rattle.sw_lower_table.specs.Tables.{is_named, number_in, plain};
+ghost use Rattle.sw_typing_rules.specs.Worlds.{and_then};
 ghost use Rattle.sw_resolve.specs.Words.{or_else};
 
 use indexmap::IndexMap;
 use std::alloc::{AllocError, Global};
+use sw_decls::GlobalVar;
 use sw_draft::NumberTable;
+use sw_graph::IdList;
 use sw_list::ListOf;
 use sw_lower_bodies::{BodyList, BodyTree};
 use sw_lower_run::FunctionName;
+use sw_tree::Decl;
 
 /// The place of a body among others: by its key, and a getter after what gives a first value.
 fn order_of(tree: &BodyTree<'_>) -> u64
@@ -33,21 +38,25 @@ pub fn in_order<'a>(bodies: BodyList<'a>) -> BodyList<'a>
     ListOf::from_vec(bodies)
 }
 
-/// Notes the number of a function, where none is noted of its name.
+/// Notes the number of a function. A key that is noted counts as want of memory: no program has two
+/// functions of a name.
 fn note(table: &mut IndexMap<u32, u32>, key: u32, number: u32) -> Result<(), AllocError>
-    ensures { OnOk result ((other : ℕ) → get nat_eq table.new other
+    ensures noted { OnOk result ((other : ℕ) → get nat_eq table.new other
         ≡ or_else (get nat_eq table.old other) (if key == other then Some number else None)) }
+    ensures first { OnOk result (get nat_eq table.old key ≡ None) }
 {
-    if !table.contains_key(&key) {
-        table.insert(key, number)?;
+    if table.contains_key(&key) {
+        return Err(AllocError);
     }
+    table.insert(key, number)?;
     Ok(())
 }
 
-/// Notes the number of the function with a name, where none is noted of the name.
+/// Notes the number of the function with a name. A name that is noted counts as want of memory.
 fn note_name(table: &mut NumberTable, name: FunctionName, number: u32) -> Result<(), AllocError>
-    ensures { OnOk result ((other : FunctionName) → number_by table.new other
+    ensures noted { OnOk result ((other : FunctionName) → number_by table.new other
         ≡ or_else (number_by table.old other) (if is_named name other then Some number else None)) }
+    ensures first { OnOk result (number_by table.old name ≡ None) }
 {
     if name.getter {
         note(&mut table.getters, name.key, number)
@@ -56,11 +65,12 @@ fn note_name(table: &mut NumberTable, name: FunctionName, number: u32) -> Result
     }
 }
 
-/// The numbers of the functions of bodies in order.
+/// The numbers of the functions of bodies in order. Two bodies of a name count as want of memory.
 pub fn numbers_of(alloc: Global, bodies: &[BodyTree<'_>]) -> Result<NumberTable, AllocError>
     requires { length bodies.now < 2 ^ 32 }
-    ensures { IfOk result (λ table. (name : FunctionName)
+    ensures numbers { IfOk result (λ table. (name : FunctionName)
         → number_by table name ≡ number_in (map tree_name bodies.now) name) }
+    ensures places { OnOk result (AreFound (map tree_name bodies.now)) }
 {
     let mut table = NumberTable {
         getters: IndexMap::new(alloc),
@@ -74,4 +84,50 @@ pub fn numbers_of(alloc: Global, bodies: &[BodyTree<'_>]) -> Result<NumberTable,
         note_name(&mut table, name, number as u32)?;
     }
     Ok(table)
+}
+
+/// The number of the function with this key that is no getter. A key of none counts as want of
+/// memory: each program has those that are asked for.
+fn number_of(numbers: &NumberTable, key: u32) -> Result<u32, AllocError>
+    ensures { IfOk result (λ number. number_by numbers.now (plain key) ≡ Some number) }
+{
+    let name = FunctionName { key, getter: false };
+    numbers.get(name).ok_or(AllocError)
+}
+
+/// Where the key of the first entry stands, if there is one.
+fn entry_key(decls: &[Decl]) -> Option<u32>
+    ensures { result ≡ entry_key decls.now }
+{
+    for decl in decls {
+        if let Decl::Entry { at, .. } = decl {
+            return Some(*at);
+        }
+    }
+    None
+}
+
+/// The number of the entry's function.
+pub fn entry_of(decls: &[Decl], numbers: &NumberTable) -> Result<u32, AllocError>
+    ensures { IfOk result (λ entry. Some entry
+        ≡ and_then (entry_key decls.now) (λ key. number_by numbers.now (plain key))) }
+{
+    let key = entry_key(decls).ok_or(AllocError)?;
+    number_of(numbers, key)
+}
+
+/// The numbers of the functions that give global variables their first values, in order.
+pub fn starts_of(
+    alloc: Global,
+    globals: &[GlobalVar],
+    numbers: &NumberTable,
+) -> Result<IdList, AllocError>
+    ensures { IfOk result (λ starts. map Some starts ≡ starts_in (number_by numbers.now)
+        globals.now) }
+{
+    let mut starts = ListOf::new(alloc);
+    for global in globals {
+        starts.push(number_of(numbers, global.key.at)?)?;
+    }
+    Ok(starts)
 }

@@ -175,7 +175,7 @@ fn add_closure_params(
     Ok(())
 }
 
-/// Adds what a closure or a task takes.
+/// Adds what a closure takes.
 #[tactic(auto, unfolding(sw_lower_bodies::specs::Trees::closure_code,))]
 fn add_closure(
     alloc: Global,
@@ -190,6 +190,21 @@ fn add_closure(
 {
     add_captures(alloc, known, owner, known.captures_of(closure.at), takes)?;
     add_closure_params(alloc, known, closure.params.as_slice(), takes)
+}
+
+/// Adds what a task takes: its captures alone.
+#[tactic(auto, unfolding(sw_lower_bodies::specs::Trees::closure_code,))]
+fn add_task(
+    alloc: Global,
+    known: &Known<'_>,
+    owner: Option<u32>,
+    closure: &Closure,
+    takes: &mut TakenList,
+) -> Result<(), AllocError>
+    ensures { OnOk result (takes.new ≡ takes.old ++ closure_takes (tables_by known.now) owner
+        (closure_code (tables_by known.now) owner closure.now).at []) }
+{
+    add_captures(alloc, known, owner, known.captures_of(closure.at), takes)
 }
 
 /// What the function of a body takes.
@@ -207,9 +222,12 @@ pub fn takes_of(
             add_params(alloc, known, params, &mut takes)?;
         }
         BodyForm::Init { params, .. } => add_params(alloc, known, params, &mut takes)?,
-        BodyForm::Closure { owner, closure } | BodyForm::Task { owner, closure, .. } => {
+        BodyForm::Closure { owner, closure } => {
             add_closure(alloc, known, owner, closure, &mut takes)?;
         }
+        BodyForm::Task { owner, closure, .. } => add_task(
+            alloc, known, owner, closure, &mut takes,
+        )?,
         BodyForm::PartGetter { number, shape, .. } => add_self(number, shape, &mut takes)?,
         BodyForm::GlobalGetter { .. } | BodyForm::FirstValue { .. } => {}
     }

@@ -1,44 +1,54 @@
-use Rattle.std.proofs.Common.{◌≡◌, List, Result, Ok, Err, IfOk, ap, map, subst, ◌∙◌}
+use Rattle.std.proofs.Common.{◌≡◌, List, Some, All, ap, map, subst, ◌∙◌}
 use Rattle.std.specs.List.Sorted.{IsPermutation}
-use Rattle.sw_graph.specs.declared.function.Function.{Function}
-use Rattle.sw_tree.specs.declared.decl.Decl.{Decl}
+use Rattle.sw_decls.specs.declared.signature.GlobalVar.{GlobalVar}
 use Rattle.sw_draft.specs.Drafts.{number_by}
+use Rattle.sw_lower_run.specs.Plan.{Numbers}
 use Rattle.sw_lower_run.specs.declared.name.FunctionName.{FunctionName}
 use Rattle.sw_lower_bodies.specs.Trees.{bodies_by}
-use Rattle.sw_lower_code.specs.Whole.{Body}
 use Rattle.sw_lower_known.specs.Knowledge.{tables_by}
-use Rattle.sw_lower_table.specs.Bodies.{AreOrdered, functions_of}
-use Rattle.sw_lower_table.specs.Tables.{Tables, number_in}
-use Rattle.sw_lower.specs.Ordered.{tree_name}
-use Rattle.sw_lower.specs.Lowered.{AreMade, IsMadeOf, function_by}
-use Rattle.sw_lower.specs.declared.lowering.Made.{Made}
-use Rattle.sw_lower.proofs.Programs.{bodies_moved, functions_are, order_kept}
+use Rattle.sw_lower_table.specs.Bodies.{entry_key}
+use Rattle.sw_lower_table.specs.Tables.{number_in, plain}
+use Rattle.sw_typing_rules.specs.Worlds.{and_then}
+use Rattle.sw_lower.specs.Ordered.{AreFound, starts_in, tree_name}
+use Rattle.sw_lower.specs.Lowered.{EndsWell, HasMade, function_by}
+use Rattle.sw_lower.proofs.Numbered.{bodies_found}
+use Rattle.sw_lower.proofs.Programs.{bodies_end, bodies_moved, functions_are, order_kept, same_numbers}
 use Rattle.sw_lower.proofs.lowering.make_program.Goals as goal
 
-made_of : {E : Type 0} (tables : Tables) (decls : List Decl) (ordered : List Body)
-    (functions : List Function) (result : Result Made E) → AreOrdered tables decls ordered
-    → functions ≡ functions_of ordered → IfOk result (AreMade functions)
-    → IfOk result (IsMadeOf tables decls)
-made_of tables decls ordered functions (Err _) are same made = tt
-made_of tables decls ordered functions (Ok made) are same is = record {
-  ordered = ordered;
-  are_ordered = are;
-  are_made = subst (λ list. AreMade list made) same is;
-}
-
 pub returns : goal.returns
+unfolding bodies_by tables_by
 returns c =
-    let tables = tables_by c.args.known.now in
+    let known = c.args.known.now in
+    let numbers = c.in_ok-numbers.numbers in
+    let tables = tables_by known in
     let trees = c.in_order-bodies.result in
-    made_of tables c.args.decls.now (bodies_by tables trees) _ c.make_all.result
-    (record {
-      bodies = subst (λ bodies. IsPermutation bodies (bodies_by tables trees))
-          c.in_ok-bodies_of.ensures
-          (bodies_moved tables c.in_ok-bodies_of.field-0 trees c.in_order-bodies.ensures.same);
-      in_order = order_kept tables trees c.in_order-bodies.ensures.ordered;
-    })
-    (ap (map (function_by c.args.known.now c.in_ok-numbers.numbers)) c.as_slice-2.ensures
-    ∙ functions_are c.args.known.now c.in_ok-numbers.numbers trees
-    (subst (λ list. (name : FunctionName) → number_by c.in_ok-numbers.numbers name
-    ≡ number_in (map tree_name list) name) c.as_slice.ensures c.in_ok-numbers.ensures))
-    c.make_all.ensures
+    let named : (name : FunctionName) → number_by numbers name
+    ≡ number_in (map tree_name trees) name =
+    subst (λ list. (name : FunctionName) → number_by numbers name
+    ≡ number_in (map tree_name list) name) c.as_slice.ensures c.in_ok-numbers.ensures.numbers in
+    let number : number_by numbers ≡ _ = same_numbers known numbers trees named in
+    record {
+      ordered = bodies_by tables trees;
+      are_ordered = record {
+        bodies = subst (λ bodies. IsPermutation bodies (bodies_by tables trees))
+            c.in_ok-bodies_of.ensures
+            (bodies_moved tables c.in_ok-bodies_of.field-0 trees c.in_order-bodies.ensures.same);
+        in_order = order_kept tables trees c.in_order-bodies.ensures.ordered;
+      };
+      are_made = subst (λ list. HasMade list c.in_ok-made.made)
+          (ap (map (function_by known numbers)) c.as_slice-2.ensures
+          ∙ functions_are known numbers trees named)
+          c.in_ok-made.ensures.functions;
+      numbered = bodies_found tables trees (subst (λ list. AreFound (map tree_name list))
+          c.as_slice.ensures c.in_ok-numbers.ensures.places);
+      ended = λ none_large. bodies_end known numbers trees named
+          (subst (All (EndsWell known numbers)) c.as_slice-2.ensures
+          (c.in_ok-made.ensures.made none_large));
+      entry = subst (λ (by : Numbers). Some c.in_ok-entry.entry
+          ≡ and_then (entry_key c.args.decls.now) (λ key. by (plain key)))
+          number c.in_ok-entry.ensures;
+      starts = subst (λ (by : Numbers). map Some c.in_ok-starts.starts
+          ≡ starts_in by tables.world.globals)
+          number (subst (λ (globals : List GlobalVar). map Some c.in_ok-starts.starts
+          ≡ starts_in (number_by numbers) globals) c.as_slice-3.ensures c.in_ok-starts.ensures);
+    }

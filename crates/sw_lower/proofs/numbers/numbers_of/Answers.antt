@@ -1,16 +1,39 @@
-use Rattle.std.proofs.Common.{ap, map, sym, ◌∙◌}
-use Rattle.std.proofs.lemmas.List.{at_drop_all}
+use Rattle.std.proofs.Common.{ap, arith, map, sym, ◌∙◌}
+use Rattle.std.proofs.lemmas.List.{at_drop_all, length-map}
 use Rattle.sw_draft.specs.Drafts.{number_by}
 use Rattle.sw_lower_table.specs.Tables.{number_from}
 use Rattle.sw_resolve.specs.Words.{or_else}
 use Rattle.sw_lower.specs.Ordered.{tree_name}
+use Rattle.sw_lower.proofs.Numbered.{all_found, found_next, name_at, noted_next}
 use Rattle.sw_lower.proofs.Programs.{or_else-none}
 use Rattle.sw_lower.proofs.numbers.numbers_of.Goals as goal
 
-pub returns : goal.returns
-returns c = λ name.
+pub loop-number-preserved : goal.loop-number-preserved
+loop-number-preserved c = record {
+  noted = λ name.
+      noted_next c.args.bodies.now c.loop-number.number c.index-bodies-number.result
+      (number_by c.loop-number.table) (number_by c.note_name.new.table) name _
+      c.loop-number-test.true c.index-bodies-number.is c.in_ok-note_name.ensures.noted
+      (c.loop-number.invariant.noted name);
+  found = found_next (map tree_name c.args.bodies.now) c.loop-number.number
+      (tree_name c.index-bodies-number.result) (number_by c.loop-number.table)
+      (number_by c.note_name.new.table)
+      (name_at c.args.bodies.now c.loop-number.number c.index-bodies-number.result
+      c.loop-number-test.true c.index-bodies-number.is) c.in_ok-note_name.ensures.first
+      c.in_ok-note_name.ensures.noted c.loop-number.invariant.found;
+}
+
+pub returns-clause-numbers : goal.returns-clause-numbers
+returns-clause-numbers c = λ name.
     sym (or_else-none (number_by c.loop-number.table name))
     ∙ sym (ap (or_else (number_by c.loop-number.table name))
     (at_drop_all (λ trees. number_from c.loop-number.number (map tree_name trees) name)
     c.args.bodies.now c.loop-number.number c.loop-number-test.false))
-    ∙ c.loop-number.invariant name
+    ∙ c.loop-number.invariant.noted name
+
+pub returns-clause-places : goal.returns-clause-places
+returns-clause-places c =
+    all_found (map tree_name c.args.bodies.now) c.loop-number.number
+    (number_by c.loop-number.table)
+    (omega (arith, length-map c.args.bodies.now tree_name, c.loop-number-test.false))
+    (returns-clause-numbers c) c.loop-number.invariant.found

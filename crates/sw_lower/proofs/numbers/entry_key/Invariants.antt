@@ -1,0 +1,7 @@
+use Rattle.std.proofs.Common.{◌≡◌, drop}
+use Rattle.sw_lower_table.specs.Bodies.{entry_key}
+use Rattle.sw_lower.proofs.numbers.entry_key.Given as goal
+
+-- no entry came so far
+abbrev pub invariant-loop-decl : goal.invariant-loop-decl
+invariant-loop-decl l = entry_key (drop l.decl-index l.decls) ≡ entry_key l.decls
