@@ -1,0 +1,79 @@
+-- What is known of what a word means, by the variables and the type around.
+use Rattle.std.proofs.Common.{◌≡◌, ℕ, Option, Some, None, refl, sym, Bool, true, false}
+use Rattle.std.specs.Prelude.{◌==◌, if◌then◌else◌}
+use Rattle.sw_resolve.specs.declared.members.Member.{Member}
+use Rattle.sw_resolve.specs.declared.members.Role.{Role}
+use Rattle.sw_resolve.specs.declared.members.Role.TheVariants as role
+use Rattle.sw_resolve.specs.declared.words.Meaning as words
+use Rattle.sw_typing_rules.specs.Words.{Nothing, OwnCase, OwnMethod, OwnProperty, Printing, Sense}
+use Rattle.sw_typing_rules.specs.Words.{Setting, Top, Variable, local, local_sense, member_sense}
+use Rattle.sw_typing_rules.specs.Words.{owned, role_sense, sense, top_sense}
+use Rattle.sw_typing_rules.specs.Worlds.{World}
+use Rattle.sw_typing_rules.specs.declared.scope.Var.{Var}
+use Rattle.sw_lower_table.specs.Tables.{Tables}
+use Rattle.sw_lower_safe.specs.Forms.{VarHolds, VarsHold}
+use Rattle.sw_lower_safe.proofs.Lists.Found.{local_has}
+
+-- A name means a method of a type.
+pub record IsMethod (world : World) (k key : ℕ) : Type 0 where
+  pub id : ℕ
+  pub member : Member
+  pub at : world.known.members k id ≡ Some member
+  pub role_is : member.role ≡ role.Method
+  pub key_is : member.word.at ≡ key
+
+module _ (tables : Tables) (owner : Option ℕ) where
+  -- a method of the type around
+  pub record IsOwnMethod (key : ℕ) : Type 0 where
+    pub shape : ℕ
+    pub owner_is : owner ≡ Some shape
+    pub method : IsMethod tables.world shape key
+
+  -- what is known of what a word means
+  abbrev pub SenseOk : Sense → Type 0
+  SenseOk (Variable one) = VarHolds tables.answers one
+  SenseOk (OwnProperty k i) = owner ≡ Some k
+  SenseOk (OwnMethod key) = IsOwnMethod key
+  SenseOk OwnCase = Unit {0}
+  SenseOk (Top meaning) = (id : ℕ) × (tables.world.known.top id ≡ Some meaning)
+  SenseOk Printing = Unit {0}
+  SenseOk Nothing = Unit {0}
+
+  -- What a word means is known.
+  pub sense_ok : (setting : Setting) (id : ℕ) → VarsHold tables.answers setting.vars
+      → setting.owner ≡ owner → SenseOk (sense tables.world setting id)
+  sense_ok setting id vars same = by (local setting.vars id)
+      (λ one is. local_has (VarHolds tables.answers) setting.vars id one vars is) where
+        top : (found : Option words.Meaning) → tables.world.known.top id ≡ found
+            → SenseOk (top_sense found id)
+        top (Some meaning) is = (id, is)
+        top None is = print (id == 7) where
+          print : (so : Bool) → SenseOk (if so then Printing else Nothing)
+          print true = tt
+          print false = tt
+
+        by_role : (k : ℕ) (member : Member) → owner ≡ Some k
+            → tables.world.known.members k id ≡ Some member
+            → (is : Role) → member.role ≡ is → SenseOk (role_sense k member.word.at is)
+        by_role k member owner_is at (role.Part i) is = owner_is
+        by_role k member owner_is at (role.Case i) is = tt
+        by_role k member owner_is at role.Method is = record {
+          shape = k;
+          owner_is = owner_is;
+          method = record { id = id; member = member; at = at; role_is = is; key_is = refl };
+        }
+
+        in_type : (around : Option ℕ) → around ≡ owner → (found : Option Member)
+            → owned tables.world around id ≡ found
+            → SenseOk (member_sense around found (top_sense (tables.world.known.top id) id))
+        in_type None is found at = top (tables.world.known.top id) refl
+        in_type (Some k) is None at = top (tables.world.known.top id) refl
+        in_type (Some k) is (Some member) at = by_role k member (sym is) at member.role refl
+
+        by : (found : Option Var)
+            → ((one : Var) → found ≡ Some one → VarHolds tables.answers one)
+            → SenseOk (local_sense found (member_sense setting.owner
+            (owned tables.world setting.owner id) (top_sense (tables.world.known.top id) id)))
+        by (Some one) holds = holds one refl
+        by None holds =
+            in_type setting.owner same (owned tables.world setting.owner id) refl

@@ -1,0 +1,54 @@
+-- Elements of lists by their places.
+use Rattle.std.proofs.Common.{◌≡◌, ℕ, zero, suc, ◌<◌, Some, List, [], ◌∷◌, map, length, Contains}
+use Rattle.std.proofs.Common.{refl, ap, ◌∙◌, arith}
+use Rattle.std.proofs.lemmas.List.Elements.{Contains-append_right}
+use Rattle.std.proofs.lemmas.Option.{get_or_from_slice_get, slice_get-get_or, slice_get-map}
+use Rattle.std.proofs.lemmas.Option.{slice_get_within}
+use Rattle.std.specs.Option.{option_map}
+use Rattle.std.specs.Prelude.{slice_get}
+
+-- an element of a list is at some place
+pub place_in : {X : Type 0} (xs : List X) (x : X) → Contains xs x
+    → (k : ℕ) × (slice_get xs k ≡ Some x)
+place_in xs x (k, below, is) = (k, slice_get-get_or xs k x below ∙ ap Some is)
+
+-- and what is at a place is an element
+pub in_place : {X : Type 0} (xs : List X) (k : ℕ) (x : X) → slice_get xs k ≡ Some x
+    → Contains xs x
+in_place xs k x at = (k, slice_get_within xs k x at, get_or_from_slice_get xs k x x at)
+
+-- there is an element at each place
+pub some_at : {X : Type 0} (xs : List X) (k : ℕ) → k < length xs
+    → (x : X) × (slice_get xs k ≡ Some x)
+some_at [] k below = absurd (omega arith)
+some_at (x ∷ xs) zero below = (x, refl)
+some_at (x ∷ xs) (suc k) below = some_at xs k (omega (arith, below))
+
+-- an element of a list, after a function
+pub in_map : {X Y : Type 0} (f : X → Y) (xs : List X) (x : X) → Contains xs x
+    → Contains (map f xs) (f x)
+in_map f xs x has =
+    let (k, at) = place_in xs x has in
+    in_place (map f xs) k (f x) (slice_get-map f xs k ∙ ap (option_map f) at)
+
+-- what an element after a function was made of
+pub of_map : {X Y : Type 0} (f : X → Y) (xs : List X) (y : Y) → Contains (map f xs) y
+    → (x : X) × Contains xs x × (f x ≡ y)
+of_map f [] y (k, below, is) = absurd (omega (arith, below))
+of_map f (x ∷ xs) y (zero, below, is) = (x, (0, omega arith, refl), is)
+of_map f (x ∷ xs) y (suc k, below, is) =
+    let (one, has, same) = of_map f xs y (k, omega (arith, below), is) in
+    (one, Contains-append_right (x ∷ []) xs one has, same)
+
+-- the first of a list, which is in it
+pub in_first : {X : Type 0} (x : X) (xs : List X) → Contains (x ∷ xs) x
+in_first x xs = (0, omega arith, refl)
+
+-- what is in the rest of a list is in the list
+pub in_rest : {X : Type 0} (x : X) (xs : List X) (y : X) → Contains xs y → Contains (x ∷ xs) y
+in_rest x xs y has = Contains-append_right (x ∷ []) xs y has
+
+-- what is in a list of one thing is that thing
+pub only_in : {X : Type 0} (x y : X) → Contains (x ∷ []) y → x ≡ y
+only_in x y (zero, below, is) = is
+only_in x y (suc k, below, is) = absurd (omega (arith, below))

@@ -1,0 +1,147 @@
+-- What is made of a declaration is made of its program.
+use Rattle.std.proofs.Common.{◌≡◌, ℕ, ◌+◌, Option, Some, List, [], ◌∷◌, ◌++◌, ◌≤◌, length, Contains}
+use Rattle.std.proofs.Common.{refl, ap, sym, ◌∙◌, subst, arith}
+use Rattle.std.specs.Prelude.{slice_get}
+use Rattle.sw_tree.specs.declared.decl.Decl.{Decl}
+use Rattle.sw_tree.specs.declared.decl.Decl.TheVariants.{Entry, Struct, Enum, Class, Actor}
+use Rattle.sw_tree.specs.declared.decl.Decl.TheVariants.{GlobalActor, Func, Global}
+use Rattle.sw_types.specs.declared.shape.Shape.{Shape}
+use Rattle.sw_resolve.specs.Evident.{Meanings}
+use Rattle.sw_resolve.specs.Members.{members_from, members_of}
+use Rattle.sw_resolve.specs.Shaped.{shape_of, shapes_from}
+use Rattle.sw_resolve.specs.declared.members.Owned.{Owned}
+use Rattle.sw_resolve.specs.Words.{shapes_made}
+use Rattle.sw_resolve.specs.declared.words.Meaning.{Meaning}
+use Rattle.sw_decls.specs.Signatures.{funcs_from, funcs_of}
+use Rattle.sw_decls.specs.declared.signature.AsyncDefault.{AsyncDefault}
+use Rattle.sw_decls.specs.declared.signature.Signature.{Signature}
+use Rattle.sw_typing_rules.specs.Programs.{BodyOf, HasType, bodies_of, body_noted, body_state}
+use Rattle.sw_typing_rules.specs.Programs.{func_body, of_body, param_var, params_of as vars_of}
+use Rattle.sw_typing_rules.specs.Programs as typing
+use Rattle.sw_typing_rules.specs.Worlds.{World}
+use Rattle.sw_lower_code.specs.Whole.{Body}
+use Rattle.sw_lower_table.specs.Bodies.{bodies_from, decl_bodies, globals_made, program_bodies}
+use Rattle.sw_lower_table.specs.Tables.{Tables}
+use Rattle.sw_lower_safe.proofs.Lists.Listed.{some_at}
+use Rattle.sw_lower_safe.proofs.Programs.Standing.{MadeBy, Stands, at_place, made_by_one, made_from}
+use Rattle.sw_lower_safe.proofs.Programs.Standing.{maker_of}
+
+-- what functions a program declares is made of its declarations
+funcs_are : (known : ℕ → Option Meaning) (rule : AsyncDefault) (number index : ℕ)
+    (decls : List Decl)
+    → funcs_from known rule number decls
+    ≡ made_from (λ n g decl. funcs_of known rule n decl) number index decls
+funcs_are known rule number index [] = refl
+funcs_are known rule number index (decl ∷ decls) =
+    ap (λ more. funcs_of known rule number decl ++ more)
+    (funcs_are known rule (number + shapes_made decl) (index + globals_made decl) decls)
+
+-- a function of a declaration is one of the program
+pub func_stands : (known : ℕ → Option Meaning) (rule : AsyncDefault) (decls : List Decl) (n g : ℕ)
+    (decl : Decl) (func : Signature) → Stands decls n g decl
+    → Contains (funcs_of known rule n decl) func → Contains (funcs_from known rule 0 decls) func
+func_stands known rule decls n g decl func stands has =
+    subst (λ funcs. Contains funcs func) (sym (funcs_are known rule 0 0 decls))
+    (made_by_one (λ n g decl. funcs_of known rule n decl) 0 0 decls n g decl func stands has)
+
+-- and so are the bodies that have types
+typed_are : (world : World) (number index : ℕ) (decls : List Decl)
+    → typing.bodies_from world number decls
+    ≡ made_from (λ n g decl. bodies_of world n decl) number index decls
+typed_are world number index [] = refl
+typed_are world number index (decl ∷ decls) =
+    ap (λ more. bodies_of world number decl ++ more)
+    (typed_are world (number + shapes_made decl) (index + globals_made decl) decls)
+
+-- a typed body of a declaration is one of the program
+pub typed_stands : (world : World) (decls : List Decl) (n g : ℕ) (decl : Decl) (body : BodyOf)
+    → Stands decls n g decl → Contains (bodies_of world n decl) body
+    → Contains (typing.bodies_from world 0 decls) body
+typed_stands world decls n g decl body stands has =
+    subst (λ bodies. Contains bodies body) (sym (typed_are world 0 0 decls))
+    (made_by_one (λ n g decl. bodies_of world n decl) 0 0 decls n g decl body stands has)
+
+-- and the bodies that are lowered
+bodies_are : (tables : Tables) (number index : ℕ) (decls : List Decl)
+    → bodies_from tables number index decls ≡ made_from (decl_bodies tables) number index decls
+bodies_are tables number index [] = refl
+bodies_are tables number index (decl ∷ decls) =
+    ap (λ more. decl_bodies tables number index decl ++ more)
+    (bodies_are tables (number + shapes_made decl) (index + globals_made decl) decls)
+
+-- a body of a declaration is one of the program
+pub body_stands : (tables : Tables) (decls : List Decl) (n g : ℕ) (decl : Decl) (body : Body)
+    → Stands decls n g decl → Contains (decl_bodies tables n g decl) body
+    → Contains (program_bodies tables decls) body
+body_stands tables decls n g decl body stands has =
+    subst (λ bodies. Contains bodies body) (sym (bodies_are tables 0 0 decls))
+    (made_by_one (decl_bodies tables) 0 0 decls n g decl body stands has)
+
+-- and the members
+members_are : (number index : ℕ) (decls : List Decl)
+    → members_from number decls ≡ made_from (λ n g decl. members_of n decl) number index decls
+members_are number index [] = refl
+members_are number index (decl ∷ decls) =
+    ap (λ more. members_of number decl ++ more)
+    (members_are (number + shapes_made decl) (index + globals_made decl) decls)
+
+-- the declaration that makes a member
+pub member_made : (decls : List Decl) (owned : Owned) → Contains (members_from 0 decls) owned
+    → MadeBy (λ n g decl. members_of n decl) 0 0 decls owned
+member_made decls owned has =
+    maker_of (λ n g decl. members_of n decl) 0 0 decls owned
+    (subst (λ members. Contains members owned) (members_are 0 0 decls) has)
+
+-- and the shapes
+pub shapes_are : (known : Meanings) (number index : ℕ) (decls : List Decl)
+    → shapes_from known number decls
+    ≡ made_from (λ n g decl. shape_of known n decl) number index decls
+shapes_are known number index [] = refl
+shapes_are known number index (decl ∷ decls) =
+    ap (λ more. shape_of known number decl ++ more)
+    (shapes_are known (number + shapes_made decl) (index + globals_made decl) decls)
+
+-- each declaration makes as many shapes as are counted, and one at most
+pub shapes_counted : (known : Meanings) (n : ℕ) (decl : Decl)
+    → length (shape_of known n decl) ≡ shapes_made decl
+unfolding shape_of
+shapes_counted known n (Entry word written at is_async body) = refl
+shapes_counted known n (Struct word conforms fields funcs) = refl
+shapes_counted known n (Enum word conforms cases funcs) = refl
+shapes_counted known n (Class written word conforms props inits funcs) = refl
+shapes_counted known n (Actor word props inits funcs) = refl
+shapes_counted known n (GlobalActor word made) = refl
+shapes_counted known n (Func func) = refl
+shapes_counted known n (Global global) = refl
+
+-- A declaration makes one shape at most.
+pub one_shape : (decl : Decl) → shapes_made decl ≤ 1
+one_shape (Entry word written at is_async body) = omega arith
+one_shape (Struct word conforms fields funcs) = omega arith
+one_shape (Enum word conforms cases funcs) = omega arith
+one_shape (Class written word conforms props inits funcs) = omega arith
+one_shape (Actor word props inits funcs) = omega arith
+one_shape (GlobalActor word made) = omega arith
+one_shape (Func func) = omega arith
+one_shape (Global global) = omega arith
+
+-- The shape of a declaration has the number of shapes before it.
+pub shape_stands : (known : Meanings) (decls : List Decl) (n g : ℕ) (decl : Decl)
+    → Stands decls n g decl → shapes_made decl ≡ 1
+    → (shape : Shape) × (slice_get (shapes_from known 0 decls) n ≡ Some shape)
+shape_stands known decls n g decl stands makes =
+    let (shape, first) = some_at (shape_of known n decl) 0
+    (omega (arith, shapes_counted known n decl, makes)) in (
+      shape,
+      ap (λ shapes. slice_get shapes n) (shapes_are known 0 0 decls)
+          ∙ at_place (λ n g decl. shape_of known n decl) (λ n g. n) shapes_made (λ n g decl. refl)
+          (λ n g decl. shapes_counted known n decl) one_shape 0 0 decls n g decl shape n stands
+          first (omega arith),
+    )
+
+-- the declaration that makes a body
+pub body_made : (tables : Tables) (decls : List Decl) (body : Body)
+    → Contains (program_bodies tables decls) body → MadeBy (decl_bodies tables) 0 0 decls body
+body_made tables decls body has =
+    maker_of (decl_bodies tables) 0 0 decls body
+    (subst (λ bodies. Contains bodies body) (bodies_are tables 0 0 decls) has)

@@ -1,0 +1,8 @@
+-- What is said of the nodes of a program: each key once, and what it means that no node is ill.
+pub mod Answers
+pub mod Counts
+pub mod Once
+pub mod OneAnswer
+pub mod Rows
+pub mod RowsOf
+pub mod TreeRows

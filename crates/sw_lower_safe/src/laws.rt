@@ -1,0 +1,27 @@
+//! Laws, without code: what the functions of programs are.
+ghost use Rattle.std.specs.Prelude.{◌≡◌, ℕ, List, None, Some, map};
+ghost use Rattle.sw_tree.specs.Contents.{AreKeyed};
+ghost use Rattle.sw_tree.specs.declared.decl.Decl.{Decl};
+ghost use Rattle.sw_graph.specs.WellFormed.{IsWellFormed};
+ghost use Rattle.sw_decls.specs.Declaring.{IsFirstBreach};
+ghost use Rattle.sw_decls.specs.declared.signature.AsyncDefault.{AsyncDefault};
+ghost use Rattle.sw_typing_rules.specs.Programs.{IsFirstIll};
+ghost use Rattle.sw_typing_rules.specs.Worlds.{IsWorldOf, World};
+ghost use Rattle.sw_lower_code.specs.Whole.{Body};
+ghost use Rattle.sw_lower_table.specs.Bodies.{AreMade, AreNumbered, AreOrdered};
+ghost use Rattle.sw_lower_table.specs.Bodies.{functions_of, global_kind};
+ghost use Rattle.sw_lower_table.specs.Tables.{Isolation};
+ghost use Rattle.sw_lower_safe.specs.Programs.{AreStarts, CasesApart, IsEntry, tables_in};
+
+/// The functions of a program that keeps the rules on declarations and on types are those of a
+/// well-formed graph, where each is found by its name and its code asks for nothing that isn't
+/// known.
+pub fn programs_have_well_formed_graphs()
+    ensures { (decls : List Decl) (rule : AsyncDefault) (world : World) (isolation : Isolation)
+        (ordered : List Body) (entry : ℕ) (starts : List ℕ) → AreKeyed decls → CasesApart decls
+        → IsFirstBreach decls None → IsWorldOf decls rule world → IsFirstIll world decls None
+        → AreOrdered (tables_in world isolation decls) decls ordered → AreNumbered ordered
+        → AreMade ordered → IsEntry decls ordered entry → AreStarts world ordered starts
+        → IsWellFormed world.shapes (map global_kind world.globals) (functions_of ordered) entry
+        starts }
+{}
