@@ -14,7 +14,8 @@ ghost use Rattle.sw_typing_rules.specs.Worlds.{world_of};
 ghost use Rattle.sw_capture.specs.Known.{answers_of};
 ghost use Rattle.sw_isolation.specs.Isolated.{IsIsolated};
 ghost use Rattle.sw_lower_known.specs.Knowledge.{isolation_of};
-ghost use Rattle.sw_lower_table.specs.Bodies.{HasFunctions, tables_of};
+ghost use Rattle.sw_lower.specs.Lowered.{IsLowering};
+ghost use Rattle.sw_lower_table.specs.Bodies.{tables_of};
 ghost use Rattle.sw_verdict.specs.Phases.{Encoding, Lexis, Syntax, Declarations, Types};
 ghost use Rattle.sw_verdict.specs.Phases.{Isolation, Size, Sharing, breach_of};
 ghost use Rattle.sw_verdict.specs.Phases.{SmallForm, SmallSize, Finds};
@@ -25,10 +26,10 @@ ghost use Rattle.sw_verdict.specs.Found.{Found};
 use std::alloc::{AllocError, Global};
 use sw_breach::Breach;
 use sw_decls::{AsyncDefault, DeclFault, Decls, declare};
-use sw_graph::{Excess, FunctionList, Graph};
+use sw_graph::{Excess, Graph};
 use sw_isolation::{IsoFault, Isolated, isolate, race_forms};
 use sw_list::ListOf;
-use sw_lower::{LowerFault, lower};
+use sw_lower::{LowerFault, Lowering, lower};
 use sw_parse_body::program;
 use sw_parse_decl::ParseFault;
 use sw_resolve::Placed;
@@ -246,15 +247,15 @@ pub fn isolation(
     }
 }
 
-/// The functions of a program none of whose functions is too large. It declares these, its nodes have
-/// these types, and it is isolated so.
+/// The functions of a program none of whose functions is too large, with the numbers of those that a
+/// graph names. It declares these, its nodes have these types, and it is isolated so.
 pub fn size(
     alloc: Global,
     program: &Program,
     declared: &Decls,
     typed: &Typed,
     isolated: &Isolated,
-) -> Result<FunctionList, Refusal>
+) -> Result<Lowering, Refusal>
     requires small { length program.now.decls < 2 ^ 31 }
     requires declared { IsDeclared program.now.decls Concurrent declared.now }
     requires typed { IsTyped (world_of declared.now) program.now.decls typed.now }
@@ -263,12 +264,12 @@ pub fn size(
     ensures found { (text : List ℕ) (tokens : List Token) → IsTokens text tokens
         → IsProgramOf program.now.decls (spelling_of text tokens)
         → Found (Finds Size text) result }
-    ensures functions { IfOk result (HasFunctions (tables_of (world_of declared.now)
+    ensures functions { IfOk result (IsLowering (tables_of (world_of declared.now)
         (answers_of typed.now) (isolation_of isolated.now) program.now.decls)
         program.now.decls) }
 {
     match lower(alloc, program, declared, typed, isolated) {
-        Ok(functions) => Ok(functions),
+        Ok(lowering) => Ok(lowering),
         Err(LowerFault::Breach { code, at }) => Err(refused(alloc, code, at)),
         Err(LowerFault::Memory) => Err(Refusal::Memory),
     }
