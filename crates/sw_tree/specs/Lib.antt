@@ -1,7 +1,9 @@
+pub mod CasePlaces
 pub mod Contents
 pub mod Folds
 pub mod Keys
 pub mod Names
 pub mod NamesIn
 pub mod NodeKey
+pub mod Order
 pub mod Place
