@@ -1,0 +1,6 @@
+pub mod UnwrittenEquations
+pub mod EmptyLists
+pub mod PartsWritten
+pub mod LackingParts
+pub mod WrittenTrees
+pub mod WrittenDecls

@@ -1,0 +1,3 @@
+pub mod Unwritten
+pub mod Values
+pub mod Parts

@@ -1,0 +1,8 @@
+-- A global variable has a first value.
+use Rattle.std.specs.Prelude.{List, IsSome, Contains}
+use Rattle.sw_tree.specs.declared.decl.Decl.{Decl}
+use Rattle.sw_tree.specs.declared.decl.Decl.TheVariants.{Global}
+use Rattle.sw_tree.specs.declared.decl.PropTree.{PropTree}
+
+abbrev pub AreValued : List Decl → Type 0
+AreValued decls = (prop : PropTree) → Contains decls (Global prop) → IsSome prop.value
