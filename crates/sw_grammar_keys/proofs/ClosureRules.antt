@@ -12,7 +12,7 @@ use Rattle.sw_grammar.specs.Closures.{captured, captured_words, captures, captur
 use Rattle.sw_grammar.specs.Closures.{closure_params, result_if, signature, signature_if, header}
 use Rattle.sw_grammar.specs.Closures.{task_signature, task_signature_if, task_header}
 use Rattle.sw_grammar_keys.proofs.Weighing.{Weighing}
-use Rattle.sw_grammar_keys.proofs.NestWeights.{weight, signed, headed}
+use Rattle.sw_grammar_keys.proofs.NestWeights.{weight, signed, headed, task_signed, task_headed}
 use Rattle.sw_grammar_keys.proofs.TypeRules.{Keeps, own_list_of, own_some_of, own_name, own_mark}
 use Rattle.sw_grammar_keys.proofs.TypeRules.{own_opened, own_type}
 
@@ -79,17 +79,17 @@ module _ {id_of : List ℕ → ℕ} (w : Weighing id_of) (table : (n : Nest) →
       own_past _ (λ _. own_done _ (λ k. omega arith))))
       (own_done _ (λ k. omega arith))))
 
-  own_task_signature : Keeps w table (task_signature id_of) none (signed w)
+  own_task_signature : Keeps w table (task_signature id_of) none (task_signed w)
   unfolding task_signature in_all
   own_task_signature =
       own_past _ (λ _. own_past _ (λ _. own_then _ _ own_result_if (λ result.
       own_done _ (λ k. omega arith))))
 
-  own_task_signature_if : Keeps w table (task_signature_if id_of) none (signed w)
+  own_task_signature_if : Keeps w table (task_signature_if id_of) none (task_signed w)
   unfolding task_signature_if in_all in_option
   own_task_signature_if = own_either _ own_task_signature (own_done _ (λ k. omega arith))
 
-  pub own_task_header : Keeps w table (task_header id_of) none (headed w)
+  pub own_task_header : Keeps w table (task_header id_of) none (task_headed w)
   unfolding task_header in_all in_option
   own_task_header =
       own_either _ (own_then _ _ (own_mark w table at_word (codes "@Sendable") refl) (λ mark.

@@ -342,7 +342,7 @@ module _ {id_of : List ℕ → ℕ} (w : Weighing id_of) where
           ty = ty;
           value = Some given;
         } in
-        omega (arith, w.decl-Global it k, w.prop-is it k)))))
+        omega (arith, w.decl-Global it refl k, w.prop-is it k)))))
 
     own_global_after : (isolation : Written)
         → Keeps w table (global_after id_of isolation) (w.written isolation) w.decl

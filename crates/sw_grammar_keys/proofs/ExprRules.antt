@@ -52,7 +52,7 @@ module _ {id_of : List ℕ → ℕ} (w : Weighing id_of) where
   chained_weighs : (first : Expr) (links : List Operand) (k : ℕ)
       → w.expr (chained first links) k ≤ w.expr first k + in_all w.link links k
   chained_weighs first [] k = omega arith
-  chained_weighs first (link ∷ links) k = w.expr-Chain first (link ∷ links) k
+  chained_weighs first (link ∷ links) k = w.expr-Chain first link links k
 
   -- a word, or a call of it
   called : Name → Option (List Arg) → Expr
@@ -150,7 +150,7 @@ module _ {id_of : List ℕ → ℕ} (w : Weighing id_of) where
           own_then _ _ (own_opened w table nests (codes "{") in_task) (λ body. own_done _ (λ k.
           omega (
             arith,
-            w.expr-Spawn at true (closure_at body.0 body.1) k,
+            w.expr-Spawn at true body.0 body.1 k,
             closure_weighs body.0 body.1 k,
           )))))
           (own_past _ (λ _. own_past _ (λ _. own_done _ (λ k. omega (arith, w.expr-Yield at k)))))
@@ -163,7 +163,7 @@ module _ {id_of : List ℕ → ℕ} (w : Weighing id_of) where
           own_then _ _ (own_opened w table nests (codes "{") in_task) (λ body. own_done _ (λ k.
           omega (
             arith,
-            w.expr-Spawn at false (closure_at body.0 body.1) k,
+            w.expr-Spawn at false body.0 body.1 k,
             closure_weighs body.0 body.1 k,
           ))))
           (own_past _ (λ _. own_after_task_dot closures at))

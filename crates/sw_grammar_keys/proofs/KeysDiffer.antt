@@ -1,7 +1,8 @@
 -- The keys of a program's nodes are counted in its tokens, so they differ.
-use Rattle.std.proofs.Common.{ℕ, suc, ◌≤◌, List, [], ◌∷◌, arith}
+use Rattle.std.proofs.Common.{ℕ, suc, ◌≤◌, List, [], ◌∷◌, nat_eq, arith}
 use Rattle.std.proofs.lemmas.Grind.{common_steps}
-use Rattle.sw_token.specs.Spelling.{Spelled}
+use Rattle.std.specs.List.{IsDistinct}
+use Rattle.sw_token.specs.Spelling.{Spelled, IsSpelling}
 use Rattle.sw_reader.proofs.Rising.{Rises, rises}
 use Rattle.sw_tree.proofs.Counting.{Weight, hits, in_all, InOrder, IsDistinct-covers}
 use Rattle.sw_tree.proofs.Counting as counting
@@ -10,6 +11,7 @@ use Rattle.sw_tree.specs.Contents.{AreKeyed}
 use Rattle.sw_tree.specs.Keys.{keys_of}
 use Rattle.sw_tree.specs.declared.decl.Decl.{Decl}
 use Rattle.sw_weights.proofs.Owning.{none}
+use Rattle.sw_grammar.specs.Exprs.{closure_at}
 use Rattle.sw_grammar.specs.Program.{Spells}
 use Rattle.sw_grammar_keys.proofs.Weighing.{Weighing}
 use Rattle.sw_grammar_keys.proofs.ProgramRules.{owned}
@@ -21,14 +23,17 @@ start token = token.at
 abbrev end_of : Spelled → ℕ
 end_of token = suc token.at
 
-hits_start : (token : Spelled) (k : ℕ) → hits token.at k ≤ counting.here start end_of token k
+abbrev pub beginning : Spelled → Weight
+beginning = counting.here start end_of
+
+pub hits_start : (token : Spelled) (k : ℕ) → hits token.at k ≤ beginning token k
 unfolding hits counting.here
 hits_start token k = grind (arith, common_steps)
 
 module _ (id_of : List ℕ → ℕ) where
   keys : Weighing id_of
   keys = record {
-    of_token = counting.here start end_of;
+    of_token = beginning;
     place = hits;
     node = λ name. hits name.at;
     label = λ name. none;
@@ -36,6 +41,7 @@ module _ (id_of : List ℕ → ℕ) where
     expr = counts.in_expr;
     arg = counts.in_arg;
     closure_param = counts.in_closure_param;
+    task_param = λ param. none;
     closure = counts.in_closure;
     link = counts.in_link;
     block = counts.in_block;
@@ -65,11 +71,13 @@ module _ (id_of : List ℕ → ℕ) where
     expr-Member = λ base name k. omega (arith, counts.in_expr-Member base name k);
     expr-Call = λ name args k. omega (arith, counts.in_expr-Call name args k);
     expr-Method = λ base name args k. omega (arith, counts.in_expr-Method base name args k);
-    expr-Chain = λ first rest k. omega (arith, counts.in_expr-Chain first rest k);
+    expr-Chain = λ first next rest k.
+        omega (arith, counts.in_expr-Chain first (next ∷ rest) k);
     expr-Prefix = λ op at inner k. omega (arith, counts.in_expr-Prefix op at inner k);
     expr-Await = λ at inner k. omega (arith, counts.in_expr-Await at inner k);
     expr-Fun = λ body k. omega (arith, counts.in_expr-Fun body k);
-    expr-Spawn = λ at detached body k. omega (arith, counts.in_expr-Spawn at detached body k);
+    expr-Spawn = λ at detached opened body k.
+        omega (arith, counts.in_expr-Spawn at detached (closure_at opened body) k);
     expr-Yield = λ at k. omega (arith, counts.in_expr-Yield at k);
     arg-roll = λ name value k. omega (arith, counts.in_arg-roll name value k);
     closure_param-is = λ given k. omega arith;
@@ -107,7 +115,7 @@ module _ (id_of : List ℕ → ℕ) where
     decl-Actor = λ word props inits funcs k. omega (arith, counts.in_decl-Actor word props inits funcs k);
     decl-GlobalActor = λ word made k. omega (arith, counts.in_decl-GlobalActor word made k);
     decl-Func = λ given k. omega (arith, counts.in_decl-Func given k);
-    decl-Global = λ given k. omega (arith, counts.in_decl-Global given k);
+    decl-Global = λ given _ k. omega (arith, counts.in_decl-Global given k);
   }
 
 in_order : (from : ℕ) (tokens : List Spelled) → Rises from tokens
@@ -116,10 +124,16 @@ in_order from [] rising = tt
 in_order from (token ∷ tokens) rising =
     (rising.0, omega arith, in_order (suc token.at) tokens rising.1)
 
+-- offsets that are counted in the tokens of a spelling differ
+pub IsDistinct-counted : (ats : List ℕ) (tokens : List Spelled) → IsSpelling tokens
+    → ((k : ℕ) → in_all hits ats k ≤ in_all beginning tokens k) → IsDistinct nat_eq ats
+unfolding counting.covers
+IsDistinct-counted ats tokens is counted =
+    IsDistinct-covers start end_of 0 tokens (in_order 0 tokens (rises tokens is.rising)) ats counted
+
 pub spelled_are_keyed : (id_of : List ℕ → ℕ) (decls : List Decl) (tokens : List Spelled)
     → Spells id_of decls tokens → AreKeyed decls
-unfolding keys counting.covers
+unfolding keys
 spelled_are_keyed id_of decls tokens given =
-    IsDistinct-covers start end_of 0 tokens
-    (in_order 0 tokens (rises tokens given.spelling.rising)) (keys_of decls)
+    IsDistinct-counted (keys_of decls) tokens given.spelling
     (λ k. omega (arith, counts.in_decls decls k, owned (keys id_of) decls tokens given.form k))

@@ -5,7 +5,11 @@ pub mod ExprRules
 pub mod ClosureRules
 pub mod StmtRules
 pub mod DeclRules
+pub mod DeclWeights
 pub mod DeclsFew
 pub mod ProgramRules
 pub mod KeysDiffer
+pub mod CaseWords
+pub mod Order
+pub mod TextForms
 pub mod NamesKnown

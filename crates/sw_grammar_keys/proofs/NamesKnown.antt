@@ -20,6 +20,7 @@ use Rattle.sw_tree.specs.NamesIn.{names_in}
 use Rattle.sw_tree.specs.declared.decl.Decl.{Decl}
 use Rattle.sw_weights.proofs.Owning.{none}
 use Rattle.sw_grammar.specs.Tokens.{name_of, at_name}
+use Rattle.sw_grammar.specs.Exprs.{closure_at}
 use Rattle.sw_grammar.specs.Program.{Spells}
 use Rattle.sw_grammar_keys.specs.Interned.{name_texts, texts_in, AreInterned}
 use Rattle.sw_grammar_keys.proofs.Weighing.{Weighing}
@@ -58,6 +59,7 @@ module _ (id_of : List ℕ → ℕ) where
     expr = counts.unknown_expr;
     arg = counts.unknown_arg;
     closure_param = counts.unknown_closure_param;
+    task_param = λ param. none;
     closure = counts.unknown_closure;
     link = counts.unknown_link;
     block = counts.unknown_block;
@@ -87,11 +89,13 @@ module _ (id_of : List ℕ → ℕ) where
     expr-Member = λ base name k. omega (arith, counts.unknown_expr-Member base name k);
     expr-Call = λ name args k. omega (arith, counts.unknown_expr-Call name args k);
     expr-Method = λ base name args k. omega (arith, counts.unknown_expr-Method base name args k);
-    expr-Chain = λ first rest k. omega (arith, counts.unknown_expr-Chain first rest k);
+    expr-Chain = λ first next rest k.
+        omega (arith, counts.unknown_expr-Chain first (next ∷ rest) k);
     expr-Prefix = λ op at inner k. omega (arith, counts.unknown_expr-Prefix op at inner k);
     expr-Await = λ at inner k. omega (arith, counts.unknown_expr-Await at inner k);
     expr-Fun = λ body k. omega (arith, counts.unknown_expr-Fun body k);
-    expr-Spawn = λ at detached body k. omega (arith, counts.unknown_expr-Spawn at detached body k);
+    expr-Spawn = λ at detached opened body k.
+        omega (arith, counts.unknown_expr-Spawn at detached (closure_at opened body) k);
     expr-Yield = λ at k. omega (arith, counts.unknown_expr-Yield at k);
     arg-roll = λ name value k. omega (arith, counts.unknown_arg-roll name value k);
     closure_param-is = λ given k. omega (arith, counts.unknown_closure_param-is given k);
@@ -129,7 +133,7 @@ module _ (id_of : List ℕ → ℕ) where
     decl-Actor = λ word props inits funcs k. omega (arith, counts.unknown_decl-Actor word props inits funcs k);
     decl-GlobalActor = λ word made k. omega (arith, counts.unknown_decl-GlobalActor word made k);
     decl-Func = λ given k. omega (arith, counts.unknown_decl-Func given k);
-    decl-Global = λ given k. omega (arith, counts.unknown_decl-Global given k);
+    decl-Global = λ given _ k. omega (arith, counts.unknown_decl-Global given k);
   }
 
 -- a name whose id is within the texts misses nothing

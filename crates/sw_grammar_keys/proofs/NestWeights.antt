@@ -33,6 +33,16 @@ module _ {id_of : List ℕ → ℕ} (w : Weighing id_of) where
       in_option w.label it.mark k + in_all w.node it.captures k
       + in_all w.closure_param it.params k + in_option w.type it.result k + in_all w.stmt it.body k
 
+  -- the headers of tasks, and what stands in tasks
+  abbrev pub task_signed : Signature → Weight
+  task_signed signature k = signed signature k + in_all w.task_param signature.0 k
+
+  abbrev pub task_headed : Header → Weight
+  task_headed header k = headed header k + in_all w.task_param header.params k
+
+  abbrev pub tasked : Inside → Weight
+  tasked it k = inside it k + in_all w.task_param it.params k
+
   abbrev pub armed : List IfArm × Option Block → Weight
   armed arms k = in_all w.if_arm arms.0 k + in_option w.block arms.1 k
 
@@ -61,7 +71,7 @@ module _ {id_of : List ℕ → ℕ} (w : Weighing id_of) where
   weight in_captures = in_all w.node
   weight in_closure_params = in_all w.closure_param
   weight in_closure = inside
-  weight in_task = inside
+  weight in_task = tasked
   weight in_block = in_all w.stmt
   weight in_switch = cased
   weight in_patterns = in_all w.pattern

@@ -21,7 +21,7 @@ use Rattle.sw_grammar.specs.Stmts.{statements, closure_inside, task_inside, patt
 use Rattle.sw_grammar.specs.Stmts.{patterns_inside, patterns_if, arm_body, case_part, default_part}
 use Rattle.sw_grammar.specs.Stmts.{switch_inside}
 use Rattle.sw_grammar_keys.proofs.Weighing.{Weighing}
-use Rattle.sw_grammar_keys.proofs.NestWeights.{weight, inside, armed, cased}
+use Rattle.sw_grammar_keys.proofs.NestWeights.{weight, inside, tasked, armed, cased}
 use Rattle.sw_grammar_keys.proofs.TypeRules.{Keeps, own_some_of, own_quote, own_name, own_opened}
 use Rattle.sw_grammar_keys.proofs.TypeRules.{own_type}
 use Rattle.sw_grammar_keys.proofs.ExprRules.{own_after_word, own_after_operand, own_a_literal}
@@ -189,7 +189,7 @@ module _ {id_of : List ℕ → ℕ} (w : Weighing id_of) (table : (n : Nest) →
       own_then _ _ (own_items _ El shape_of table (stmt id_of) w.stmt own_stmt) (λ read.
       own_past _ (λ _. own_done _ (λ k. omega arith))))
 
-  pub own_task_inside : Keeps w table (task_inside id_of) none (inside w)
+  pub own_task_inside : Keeps w table (task_inside id_of) none (tasked w)
   unfolding task_inside
   own_task_inside =
       own_then _ _ (own_task_header w table nests) (λ head.

@@ -1,6 +1,6 @@
 -- A weight of everything that trees hold, by laws that say what each form of node adds to its parts,
 -- and that tokens weigh what they give.
-use Rattle.std.proofs.Common.{ℕ, ℤ, ◌+◌, ◌≤◌, Bool, IsTrue, List, Option}
+use Rattle.std.proofs.Common.{ℕ, ℤ, ◌+◌, ◌≤◌, Bool, IsSome, IsTrue, List, ◌∷◌, Option}
 use Rattle.sw_token.specs.Spelling.{Spelled}
 use Rattle.sw_reader.specs.Sets.{has, word, attribute}
 use Rattle.sw_tree.proofs.Counting.{Weight, in_all, in_option}
@@ -33,6 +33,8 @@ use Rattle.sw_tree.specs.declared.decl.PropTree.{PropTree}
 use Rattle.sw_tree.specs.declared.decl.Written.{Written}
 use Rattle.sw_tree.specs.declared.decl.Written.TheVariants as writtens
 use Rattle.sw_grammar.specs.Tokens.{name_of, at_name}
+use Rattle.sw_grammar.specs.Nests.{Inside}
+use Rattle.sw_grammar.specs.Exprs.{closure_at}
 
 pub record Weighing (id_of : List ℕ → ℕ) : Type 0 where
   pub of_token : Spelled → Weight
@@ -44,6 +46,8 @@ pub record Weighing (id_of : List ℕ → ℕ) : Type 0 where
   pub expr : Expr → Weight
   pub arg : Arg → Weight
   pub closure_param : ClosureParam → Weight
+  -- a parameter of a task, which no text can write
+  pub task_param : ClosureParam → Weight
   pub closure : Closure → Weight
   pub link : Link → Weight
   pub block : Block → Weight
@@ -85,15 +89,17 @@ pub record Weighing (id_of : List ℕ → ℕ) : Type 0 where
       → expr (exprs.Call name args) k ≤ node name k + in_all arg args k
   pub expr-Method : (base : Expr) (name : Name) (args : List Arg) (k : ℕ)
       → expr (exprs.Method base name args) k ≤ node name k + expr base k + in_all arg args k
-  pub expr-Chain : (first : Expr) (rest : List Link) (k : ℕ)
-      → expr (exprs.Chain first rest) k ≤ expr first k + in_all link rest k
+  -- a chain has an operator
+  pub expr-Chain : (first : Expr) (next : Link) (rest : List Link) (k : ℕ)
+      → expr (exprs.Chain first (next ∷ rest)) k ≤ expr first k + in_all link (next ∷ rest) k
   pub expr-Prefix : (op : PrefixOp) (at : ℕ) (inner : Expr) (k : ℕ)
       → expr (exprs.Prefix op at inner) k ≤ place at k + expr inner k
   pub expr-Await : (at : ℕ) (inner : Expr) (k : ℕ)
       → expr (exprs.Await at inner) k ≤ place at k + expr inner k
   pub expr-Fun : (body : Closure) (k : ℕ) → expr (exprs.Fun body) k ≤ closure body k
-  pub expr-Spawn : (at : ℕ) (detached : Bool) (body : Closure) (k : ℕ)
-      → expr (exprs.Spawn at detached body) k ≤ place at k + closure body k
+  pub expr-Spawn : (at : ℕ) (detached : Bool) (opened : ℕ) (body : Inside) (k : ℕ)
+      → expr (exprs.Spawn at detached (closure_at opened body)) k
+      ≤ place at k + closure (closure_at opened body) k + in_all task_param body.params k
   pub expr-Yield : (at k : ℕ) → expr (exprs.Yield at) k ≤ place at k
   pub arg-roll : (name : Option Name) (value : Expr) (k : ℕ)
       → arg (roll-Arg (record { label = name; value = value })) k
@@ -189,4 +195,6 @@ pub record Weighing (id_of : List ℕ → ℕ) : Type 0 where
   pub decl-GlobalActor : (word made : Name) (k : ℕ)
       → decl (decls.GlobalActor word made) k ≤ node word k + label made k
   pub decl-Func : (given : FuncTree) (k : ℕ) → decl (decls.Func given) k ≤ func given k
-  pub decl-Global : (given : PropTree) (k : ℕ) → decl (decls.Global given) k ≤ prop given k
+  -- a global variable has a value
+  pub decl-Global : (given : PropTree) → IsSome given.value → (k : ℕ)
+      → decl (decls.Global given) k ≤ prop given k
