@@ -8,7 +8,7 @@ ghost use Rattle.sw_graph.specs.WellFormed.{IsWellFormed};
 ghost use Rattle.sw_lower.specs.Lowered.{IsLowering};
 ghost use Rattle.sw_lower.specs.declared.lowering.Lowering.{Lowering};
 ghost use Rattle.sw_lower_known.specs.Knowledge.{isolation_of};
-ghost use Rattle.sw_lower_safe.specs.Programs.{CasesApart};
+ghost use Rattle.sw_tree.specs.CasePlaces.{CasesApart};
 ghost use Rattle.sw_lower_table.specs.Bodies.{Lowered, global_kind, tables_of};
 ghost use Rattle.sw_lower_table.specs.Tables.{Isolation};
 ghost use Rattle.sw_tree.specs.Contents.{AreKeyed};

@@ -5,6 +5,7 @@ pub mod Captures
 pub mod ClosureKinds
 pub mod ClosureRows
 pub mod Closures
+pub mod EachForm
 pub mod FuncBodies
 pub mod FuncTakes
 pub mod FuncTrees

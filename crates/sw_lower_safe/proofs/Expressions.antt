@@ -11,6 +11,7 @@ pub mod Methods
 pub mod Operators
 pub mod Parts
 pub mod Senses
+pub mod Typed
 pub mod Values
 pub mod Variables
 pub mod Words

@@ -23,7 +23,8 @@ use Rattle.sw_lower_table.specs.Bodies.{AreMade, AreNumbered, AreOrdered, functi
 use Rattle.sw_lower_table.specs.Bodies.{numbers_of, program_bodies}
 use Rattle.sw_lower_table.specs.Tables.{Isolation}
 use Rattle.sw_lower_safe.specs.Trees.{IsHere}
-use Rattle.sw_lower_safe.specs.Programs.{AreStarts, CasesApart, IsEntry, tables_in}
+use Rattle.sw_lower_safe.specs.Programs.{AreStarts, IsEntry, tables_in}
+use Rattle.sw_tree.specs.CasePlaces.{CasesApart}
 use Rattle.sw_lower_safe.proofs.Bodies.ProgramBodies.{bodies_fit}
 use Rattle.sw_lower_safe.proofs.Graphs.{graph_fits}
 use Rattle.sw_lower_safe.proofs.Grounded.{ground_of}

@@ -10,7 +10,6 @@ use Rattle.sw_tree.specs.declared.expr.Arg.{Arg}
 use Rattle.sw_tree.specs.declared.expr.Expr.{Expr}
 use Rattle.sw_tree.specs.declared.expr.Expr.TheOpen as layer
 use Rattle.sw_tree.specs.declared.expr.Link.{Link}
-use Rattle.sw_tree.specs.declared.name.Name.{Name}
 use Rattle.sw_tree.specs.declared.stmt.Block.{Block}
 use Rattle.sw_tree.specs.declared.stmt.CaseArm.{CaseArm}
 use Rattle.sw_tree.specs.declared.stmt.IfArm.{IfArm}
@@ -20,19 +19,15 @@ use Rattle.sw_types.specs.declared.shape.Shape.{Shape}
 use Rattle.sw_types.specs.declared.ty.Ty.{Ty}
 use Rattle.sw_graph.specs.declared.function.Function.{Function}
 use Rattle.sw_typing_rules.specs.Calls.{Slot}
-use Rattle.sw_typing_rules.specs.Expressions.{Judged, Passed, base_rows, infix_judged, member_by}
-use Rattle.sw_typing_rules.specs.Expressions.{member_judged, rows_by, value_member}
+use Rattle.sw_typing_rules.specs.Expressions.{Judged, Passed, base_rows, infix_judged}
 use Rattle.sw_typing_rules.specs.Judges as is
-use Rattle.sw_typing_rules.specs.Statements.{Armed, Head, Left, State, arm_left, arm_payload}
-use Rattle.sw_typing_rules.specs.Statements.{arm_vars, beside, cases_of, closure_state}
-use Rattle.sw_typing_rules.specs.Statements.{condition_rows, fixed, in_body, in_loop, in_switch}
-use Rattle.sw_typing_rules.specs.Statements.{is_one, part_of, patterns_fit, setting_of, switch_left}
-use Rattle.sw_typing_rules.specs.Statements.{vars_rows, with_only, written}
+use Rattle.sw_typing_rules.specs.Statements.{Armed, Left, State, arm_left, arm_payload, arm_vars}
+use Rattle.sw_typing_rules.specs.Statements.{beside, cases_of, closure_state, condition_rows, fixed}
+use Rattle.sw_typing_rules.specs.Statements.{in_body, in_loop, in_switch, is_one, part_of}
+use Rattle.sw_typing_rules.specs.Statements.{setting_of, switch_left, vars_rows, with_only, written}
 use Rattle.sw_typing_rules.specs.Verdicts.{ill_if}
 use Rattle.sw_typing_rules.specs.Words.{Setting}
-use Rattle.sw_typing_rules.specs.declared.row.Row.{Row}
 use Rattle.sw_typing_rules.specs.declared.scope.Inside.{Inside}
-use Rattle.sw_typing_rules.proofs.Welltyped.{typed_expr}
 use Rattle.sw_lower_run.specs.Plan.{Numbers}
 use Rattle.sw_lower_code.specs.Whole.{Body}
 use Rattle.sw_lower_table.specs.Carriers.{ArgCode, BlockCode, CaseCode, ExprCode, IfCode, LinkCode}
@@ -44,7 +39,6 @@ use Rattle.sw_lower_table.specs.Tables.{Tables}
 use Rattle.sw_lower_safe.specs.Forms.{ArgsOk, BlockOk, ExprOk, RowsHold, StmtOk, VarHolds, VarsHold}
 use Rattle.sw_lower_safe.specs.Ground.{Ground}
 use Rattle.sw_lower_safe.specs.Trees.{BlocksHold, ExprsHold, IsHere}
-use Rattle.sw_lower_safe.proofs.Bodies.ClosureRows.{vars_are_typed}
 use Rattle.sw_lower_safe.proofs.Bodies.Closures.{fun_ok, spawn_ok}
 use Rattle.sw_lower_safe.proofs.Expressions.Arguments.{HaveTypes, arg_ok, no_arg_ok}
 use Rattle.sw_lower_safe.proofs.Expressions.Calls.{call_ok}
@@ -53,17 +47,20 @@ use Rattle.sw_lower_safe.proofs.Expressions.Literals.{bool_ok, int_ok, yield_ok}
 use Rattle.sw_lower_safe.proofs.Expressions.Members.{member_ok}
 use Rattle.sw_lower_safe.proofs.Expressions.Methods.{method_ok}
 use Rattle.sw_lower_safe.proofs.Expressions.Operators.{await_ok, prefix_ok}
+use Rattle.sw_lower_safe.proofs.Expressions.Typed.{has_type, member_rows, rows_before, type_of_expr}
+use Rattle.sw_lower_safe.proofs.Expressions.Typed.{valued_rows}
 use Rattle.sw_lower_safe.proofs.Expressions.Words.{me_ok, word_ok}
 use Rattle.sw_lower_safe.proofs.Lists.Joined.{all_left, all_right}
 use Rattle.sw_lower_safe.proofs.Programs.Enums.{OnlyEnums}
 use Rattle.sw_lower_safe.proofs.Programs.WordKinds.{WordKinds}
-use Rattle.sw_lower_safe.proofs.Said.Rows.{rows_left, rows_right, rows_well}
+use Rattle.sw_lower_safe.proofs.Said.EnumNames.{links_enum, member_no_enum}
+use Rattle.sw_lower_safe.proofs.Said.Rows.{rows_left, rows_right}
 use Rattle.sw_lower_safe.proofs.Statements.Assigning.{assign_ok}
 use Rattle.sw_lower_safe.proofs.Statements.Blocks.{StmtsOk, block_ok, more_stmts_ok, no_stmts_ok}
 use Rattle.sw_lower_safe.proofs.Statements.Branches.{ArmsOk, OtherwiseOk, if_ok, more_arms_ok}
 use Rattle.sw_lower_safe.proofs.Statements.Branches.{no_arms_ok, no_default_ok, no_else_ok}
 use Rattle.sw_lower_safe.proofs.Statements.Branches.{some_block_ok}
-use Rattle.sw_lower_safe.proofs.Statements.Cases.{CasesDiffer}
+use Rattle.sw_lower_safe.proofs.Statements.Cases.{CasesDiffer, HeadFits, switch_well}
 use Rattle.sw_lower_safe.proofs.Statements.Declaring.{bind_ok}
 use Rattle.sw_lower_safe.proofs.Statements.Ignoring.{discard_ok, plain_ok}
 use Rattle.sw_lower_safe.proofs.Statements.Leaving.{break_ok, continue_ok, return_nothing_ok}
@@ -73,7 +70,6 @@ use Rattle.sw_lower_safe.proofs.Statements.Sequences.{arm_vars_hold, arms_vars, 
 use Rattle.sw_lower_safe.proofs.Statements.Sequences.{cases_vars, one_still, plain_rows}
 use Rattle.sw_lower_safe.proofs.Statements.Sequences.{return_rows, some_still, vars_after}
 use Rattle.sw_lower_safe.proofs.Statements.Switches.{CasesOk, more_cases_ok, no_cases_ok, switch_ok}
-use Rattle.sw_lower_safe.proofs.Statements.Switches.{switch_well}
 
 module _ (tables : Tables) (number : Numbers) (functions : List Function)
     (ground : Ground tables number functions) (kinds : WordKinds tables.world)
@@ -99,57 +95,6 @@ module _ (tables : Tables) (number : Numbers) (functions : List Function)
       subst (λ one. StmtOk tables number functions owner only state one left) (sym is)
       (ok (subst (λ (one : StmtCode). Here one.inside) is here))
 
-  -- A well-typed expression has a type.
-  has_type : (setting : Setting) (expected : Bool) (expr : Expr) (judged : Judged)
-      → is.Judges tables.world setting expected expr judged → VarsHold tables.answers setting.vars
-      → RowsHold tables.answers judged.rows → is_some judged.ty ≡ true
-  has_type setting expected expr judged judges vars rows =
-      typed_expr tables.world setting expected expr judged judges
-      (vars_are_typed tables.answers setting.vars vars) (rows_well tables.answers judged.rows rows)
-
-  some_type : (found : Option Ty) → is_some found ≡ true → (ty : Ty) × (found ≡ Some ty)
-  some_type None is = cc
-  some_type (Some ty) is = (ty, refl)
-
-  -- the type of an expression
-  type_of_expr : (setting : Setting) (expected : Bool) (expr : Expr) (judged : Judged)
-      → is.Judges tables.world setting expected expr judged → VarsHold tables.answers setting.vars
-      → RowsHold tables.answers judged.rows → (ty : Ty) × (judged.ty ≡ Some ty)
-  type_of_expr setting expected expr judged judges vars rows =
-      some_type judged.ty (has_type setting expected expr judged judges vars rows)
-
-  -- What stands before the operators of a chain is among what is noted of the chain.
-  rows_before : (setting : Setting) (left judged : Judged) (links : List Link)
-      → is.Links tables.world setting left links judged → RowsHold tables.answers judged.rows
-      → RowsHold tables.answers left.rows
-  rows_before setting left judged links (is.no_link _ _) rows = rows
-  rows_before setting left judged links (is.one_link _ _ op at operand more right _ of_right rest)
-      rows =
-      rows_left tables.answers left.rows right.rows
-      (rows_left tables.answers (left.rows ++ right.rows) _
-      (rows_before setting (infix_judged op at left right) judged more rest rows))
-
-  -- A member is no word that names an enum.
-  member_no_enum : (base : Judged) (name : Name) (k : ℕ)
-      → (member_judged tables.world base name).enum ≡ Some k → ⊥
-  member_no_enum base name k is = by base.enum is where
-    value : (found : Option Ty) → (value_member tables.world base found name).enum ≡ Some k → ⊥
-    value None is = cc
-    value (Some ty) is = cc
-
-    by : (named : Option ℕ) → (member_by tables.world base named name).enum ≡ Some k → ⊥
-    by None is = value base.ty is
-    by (Some shape) is = cc
-
-  -- Only a chain without operators may be such a word.
-  links_enum : (setting : Setting) (left judged : Judged) (links : List Link)
-      → is.Links tables.world setting left links judged → (k : ℕ) → judged.enum ≡ Some k
-      → (links ≡ []) × (left.enum ≡ Some k)
-  links_enum setting left judged links (is.no_link _ _) k is = (refl, is)
-  links_enum setting left judged links (is.one_link _ _ op at operand more right _ of_right rest)
-      k is =
-      let later = links_enum setting (infix_judged op at left right) judged more rest k is in cc
-
   -- A word that names an enum has no bodies in it.
   enum_alone : (setting : Setting) (expected : Bool) (expr : Expr) (judged : Judged)
       → is.Judges tables.world setting expected expr judged → (k : ℕ) → judged.enum ≡ Some k
@@ -162,13 +107,13 @@ module _ (tables : Tables) (number : Numbers) (functions : List Function)
       (eq.fold_expr-Use (code_steps tables setting.owner) name)
   enum_alone setting expected expr judged (is.me _ _ at) k is = cc
   enum_alone setting expected expr judged (is.member _ _ base name one of_base) k is =
-      absurd (member_no_enum one name k is)
+      absurd (member_no_enum tables.world one name k is)
   enum_alone setting expected expr judged (is.call _ _ name args passed of_args) k is = cc
   enum_alone setting expected expr judged (is.method _ _ base name args one passed of_base of_args)
       k is = cc
   enum_alone setting expected expr judged (is.chain _ _ first rest left _ of_first of_rest)
       k is =
-      let alone = links_enum setting left judged rest of_rest k is in
+      let alone = links_enum tables.world setting left judged rest of_rest k is in
       ap (λ (code : ExprCode). code.inside)
       (eq.fold_expr-Chain (code_steps tables setting.owner) first rest)
       ∙ ap (λ more. (expr_code tables setting.owner first).inside
@@ -180,30 +125,6 @@ module _ (tables : Tables) (number : Numbers) (functions : List Function)
   enum_alone setting expected expr judged (is.fun _ _ closure closed of_closure) k is = cc
   enum_alone setting expected expr judged (is.spawn _ _ at detached body closed of_body) k is = cc
   enum_alone setting expected expr judged (is.yield _ _ at) k is = cc
-
-  -- what is noted of a member's base
-  member_rows : (base : Judged) (name : Name) → base.enum ≡ None
-      → RowsHold tables.answers (member_judged tables.world base name).rows
-      → RowsHold tables.answers base.rows
-  member_rows base name none rows =
-      by base.ty (subst (λ named. RowsHold tables.answers
-      (member_by tables.world base named name).rows) none rows) where
-        by : (found : Option Ty)
-            → RowsHold tables.answers (value_member tables.world base found name).rows
-            → RowsHold tables.answers base.rows
-        by None rows = rows_left tables.answers base.rows [] rows
-        by (Some ty) rows = rows_left tables.answers base.rows _ rows
-
-  -- what is noted of the base of a method and of its arguments
-  method_base : (base : Judged) (more : List Row) → base.enum ≡ None
-      → RowsHold tables.answers (base_rows base ++ more) → RowsHold tables.answers base.rows
-  method_base base more none rows =
-      subst (λ named. RowsHold tables.answers (rows_by named base.rows)) none
-      (rows_left tables.answers (base_rows base) more rows)
-
-  -- the patterns of an arm fit
-  abbrev IsFit : Option (List CaseShape) → Head → Type 0
-  IsFit cases head = patterns_fit head.patterns (arm_payload cases head.name) ≡ true
 
   mutual
     unfolding expr_code stmt_code block_code closure_body
@@ -227,7 +148,9 @@ module _ (tables : Tables) (number : Numbers) (functions : List Function)
         (eq.fold_expr-Member (code_steps tables setting.owner) base name) here
         (λ form. member_ok tables number functions ground setting.owner enums
         (expr_code tables setting.owner base) one name
-        (λ none. expr_ok setting false base one of_base vars (member_rows one name none rows) form)
+        (λ none. expr_ok setting false base one of_base vars
+        (valued_rows tables.world tables.answers one none
+        (member_rows tables.world tables.answers one name rows)) form)
         (enum_alone setting false base one of_base) rows)
     expr_ok setting expected expr judged (is.call _ _ name args passed of_args) vars rows here =
         expr_by setting.owner _ _ _ (eq.fold_expr-Call (code_steps tables setting.owner) name args)
@@ -249,7 +172,9 @@ module _ (tables : Tables) (number : Numbers) (functions : List Function)
         method_ok tables number functions ground setting.owner enums
         (expr_code tables setting.owner base) one name
         (map (fold_arg (code_steps tables setting.owner)) args) passed ok.0 ok.1 ok.2
-        (λ none. expr_ok setting false base one of_base vars (method_base one _ none noted)
+        (λ none. expr_ok setting false base one of_base vars
+        (valued_rows tables.world tables.answers one none
+        (rows_left tables.answers (base_rows one) _ noted))
         (all_left (IsHere tables number functions) (expr_code tables setting.owner base).inside _
         form))
         (enum_alone setting false base one of_base) rows)
@@ -258,7 +183,7 @@ module _ (tables : Tables) (number : Numbers) (functions : List Function)
         expr_by setting.owner _ _ _
         (eq.fold_expr-Chain (code_steps tables setting.owner) first rest) here
         (λ form. let ok = expr_ok setting false first left of_first vars
-        (rows_before setting left judged rest of_rest rows)
+        (rows_before tables setting left judged rest of_rest rows)
         (all_left (IsHere tables number functions) (expr_code tables setting.owner first).inside _
         form) in
         chain_ok tables number functions ground setting.owner (expr_code tables setting.owner first)
@@ -291,8 +216,8 @@ module _ (tables : Tables) (number : Numbers) (functions : List Function)
         (λ form. fun_ok tables number functions ground setting.owner
         (record { at = at; params = params; body = block_code tables setting.owner body }) setting
         mark captures result left expected
-        (has_type setting expected expr judged (is.fun _ _ closure closed (is.closes _ at mark
-        captures params result body left of_body)) vars rows)
+        (has_type tables setting expected expr judged (is.fun _ _ closure closed
+        (is.closes _ at mark captures params result body left of_body)) vars rows)
         (All-head (IsHere tables number functions) _ _ form).made
         (All-head (IsHere tables number functions) _ _ form).found vars rows
         (λ inner inner_rows. block_ok_of (in_body setting.owner false)
@@ -308,8 +233,8 @@ module _ (tables : Tables) (number : Numbers) (functions : List Function)
         (λ form. spawn_ok tables number functions ground setting.owner
         (record { at = key; params = params; body = block_code tables setting.owner body }) setting
         mark captures result left at
-        (has_type setting expected expr judged (is.spawn _ _ at detached task closed (is.closes _
-        key mark captures params result body left of_body)) vars rows)
+        (has_type tables setting expected expr judged (is.spawn _ _ at detached task closed
+        (is.closes _ key mark captures params result body left of_body)) vars rows)
         (All-head (IsHere tables number functions) _ _ form).made
         (All-head (IsHere tables number functions) _ _ form).found vars rows
         (λ inner inner_rows. block_ok_of (in_body setting.owner false)
@@ -369,7 +294,8 @@ module _ (tables : Tables) (number : Numbers) (functions : List Function)
         let now = subst (λ (link : LinkCode). Here (link.inside
         ++ flat_map (λ (one : LinkCode). one.inside)
         (map (fold_link (code_steps tables setting.owner)) more))) head_is here in
-        let noted = rows_before setting (infix_judged op at left right) judged more rest rows in
+        let noted =
+        rows_before tables setting (infix_judged op at left right) judged more rest rows in
         let ok = expr_ok setting false operand right of_right vars
         (rows_right tables.answers left.rows right.rows
         (rows_left tables.answers (left.rows ++ right.rows) _ noted))
@@ -419,8 +345,8 @@ module _ (tables : Tables) (number : Numbers) (functions : List Function)
         here))
         (stmts_ok inside one.state more last of_more init
         (vars_after tables.world tables.answers inside state stmt one of_stmt
-        (λ judged expected value judges value_rows. type_of_expr (setting_of inside state) expected
-        value judged judges vars value_rows) vars first)
+        (λ judged expected value judges value_rows. type_of_expr tables (setting_of inside state)
+        expected value judged judges vars value_rows) vars first)
         (rows_right tables.answers one.rows last.rows rows)
         (all_right (IsHere tables number functions) (stmt_code tables inside.owner stmt).inside _
         here))
@@ -534,12 +460,11 @@ module _ (tables : Tables) (number : Numbers) (functions : List Function)
         vars (rows_left tables.answers armed.left.rows last.rows inner)
         (all_right (IsHere tables number functions) (expr_code tables inside.owner subject).inside
         in_arms front)
-        (switch_well tables number functions ground inside.owner
-        (cases_of tables.world judged.ty) at
-        judged armed.heads (is_some other) (beside armed.left last)
-        (type_of_expr (setting_of inside state) false subject judged of_subject vars
+        (switch_well tables.answers (cases_of tables.world judged.ty) at judged armed.heads
+        (is_some other) (beside armed.left last)
+        (type_of_expr tables (setting_of inside state) false subject judged of_subject vars
         (rows_left tables.answers judged.rows _ rows)).0
-        (type_of_expr (setting_of inside state) false subject judged of_subject vars
+        (type_of_expr tables (setting_of inside state) false subject judged of_subject vars
         (rows_left tables.answers judged.rows _ rows)).1 rows).each)
         (other_ok true (in_switch inside) armed.left.state other last of_other init
         (subst (VarsHold tables.answers)
@@ -636,7 +561,7 @@ module _ (tables : Tables) (number : Numbers) (functions : List Function)
         → VarsHold tables.answers state.vars → RowsHold tables.answers armed.left.rows
         → Here (flat_map (λ (arm : CaseCode). arm.body.inside)
         (map (fold_case_arm (code_steps tables inside.owner)) arms))
-        → All (IsFit cases) armed.heads
+        → All (HeadFits cases) armed.heads
         → CasesOk tables number functions inside.owner cases state
         (map (fold_case_arm (code_steps tables inside.owner)) arms) armed
     cases_ok inside cases state arms armed (is.no_case _ _ _) init vars rows here fit =
@@ -661,7 +586,7 @@ module _ (tables : Tables) (number : Numbers) (functions : List Function)
         of_body init
         (All-append (VarHolds tables.answers) state.vars new vars
         (arm_vars_hold tables.answers (is.head_of name patterns) (arm_payload cases name.id)
-        (All-head (IsFit cases) (is.head_of name patterns) rest.heads fit)
+        (All-head (HeadFits cases) (is.head_of name patterns) rest.heads fit)
         (rows_left tables.answers (vars_rows new) one.rows noted)))
         (rows_right tables.answers (vars_rows new) one.rows noted)
         (all_left (IsHere tables number functions) (block_code tables inside.owner body).inside _
@@ -669,4 +594,4 @@ module _ (tables : Tables) (number : Numbers) (functions : List Function)
         (cases_ok inside cases left.state more rest of_more init vars
         (rows_right tables.answers left.rows rest.left.rows rows)
         (all_right (IsHere tables number functions) (block_code tables inside.owner body).inside _
-        now) (All-tail (IsFit cases) (is.head_of name patterns) rest.heads fit)))
+        now) (All-tail (HeadFits cases) (is.head_of name patterns) rest.heads fit)))

@@ -1,7 +1,9 @@
 -- What is known of the declarations of a program: their numbers, keys, names, members and shapes.
 pub mod CasesDiffer
+pub mod DeclParts
 pub mod DeclStands
 pub mod Enums
+pub mod GlobalDecls
 pub mod Keyed
 pub mod MadeOf
 pub mod MemberTrees

@@ -1,11 +1,7 @@
 -- What is said of a whole program: its tables, its entry, and the functions that give its global
 -- variables their first values.
-use Rattle.std.specs.Prelude.{◌≡◌, ℕ, List, [], Some, flat_map, map, nat_eq}
-use Rattle.std.specs.List.{IsDistinct}
-use Rattle.sw_tree.specs.declared.decl.CaseTree.{CaseTree}
+use Rattle.std.specs.Prelude.{◌≡◌, ℕ, List, Some, map}
 use Rattle.sw_tree.specs.declared.decl.Decl.{Decl}
-use Rattle.sw_tree.specs.declared.decl.Decl.TheVariants.{Entry, Struct, Enum, Class, Actor}
-use Rattle.sw_tree.specs.declared.decl.Decl.TheVariants.{GlobalActor, Func, Global}
 use Rattle.sw_decls.specs.declared.signature.GlobalVar.{GlobalVar}
 use Rattle.sw_typing_rules.specs.Programs.{said}
 use Rattle.sw_typing_rules.specs.Worlds.{World, and_then}
@@ -13,25 +9,6 @@ use Rattle.sw_isolation_rules.specs.Answers.{answers_in}
 use Rattle.sw_lower_code.specs.Whole.{Body}
 use Rattle.sw_lower_table.specs.Bodies.{entry_key, numbers_of, tables_of}
 use Rattle.sw_lower_table.specs.Tables.{Isolation, Tables, plain}
-
--- where the word of a case stands
-abbrev pub case_place : CaseTree → ℕ
-case_place one = one.word.at
-
--- where the words of the cases of a declaration stand
-abbrev pub case_places : Decl → List ℕ
-case_places (Entry word written at is_async body) = []
-case_places (Struct word conforms fields funcs) = []
-case_places (Enum word conforms cases funcs) = map case_place cases
-case_places (Class written word conforms props inits funcs) = []
-case_places (Actor word props inits funcs) = []
-case_places (GlobalActor word made) = []
-case_places (Func func) = []
-case_places (Global global) = []
-
--- The words of different cases stand at different places, as those of a text do.
-abbrev pub CasesApart : List Decl → Type 0
-CasesApart decls = IsDistinct nat_eq (flat_map case_places decls)
 
 -- the tables of a program: what the rules on types say of its nodes, and its isolation
 abbrev pub tables_in : World → Isolation → List Decl → Tables

@@ -1,5 +1,6 @@
 //! Laws, without code: what the functions of programs are.
 ghost use Rattle.std.specs.Prelude.{◌≡◌, ℕ, List, None, Some, map};
+ghost use Rattle.sw_tree.specs.CasePlaces.{CasesApart};
 ghost use Rattle.sw_tree.specs.Contents.{AreKeyed};
 ghost use Rattle.sw_tree.specs.declared.decl.Decl.{Decl};
 ghost use Rattle.sw_graph.specs.WellFormed.{IsWellFormed};
@@ -11,7 +12,7 @@ ghost use Rattle.sw_lower_code.specs.Whole.{Body};
 ghost use Rattle.sw_lower_table.specs.Bodies.{AreMade, AreNumbered, AreOrdered};
 ghost use Rattle.sw_lower_table.specs.Bodies.{functions_of, global_kind};
 ghost use Rattle.sw_lower_table.specs.Tables.{Isolation};
-ghost use Rattle.sw_lower_safe.specs.Programs.{AreStarts, CasesApart, IsEntry, tables_in};
+ghost use Rattle.sw_lower_safe.specs.Programs.{AreStarts, IsEntry, tables_in};
 
 /// The functions of a program that keeps the rules on declarations and on types are those of a
 /// well-formed graph, where each is found by its name and its code asks for nothing that isn't

@@ -17,7 +17,7 @@ use Rattle.sw_decls.specs.Signatures.{func_of, funcs_from, funcs_of}
 use Rattle.sw_decls.specs.declared.signature.AsyncDefault.{AsyncDefault}
 use Rattle.sw_decls.specs.declared.signature.Signature.{Signature}
 use Rattle.sw_typing_rules.specs.Programs.{bodies_from, bodies_of, func_body}
-use Rattle.sw_typing_rules.specs.Worlds.{World}
+use Rattle.sw_typing_rules.specs.Worlds.{IsWorldOf, World}
 use Rattle.sw_isolation_rules.specs.Answers.{for_some}
 use Rattle.sw_isolation_rules.specs.Programs.{func_at}
 use Rattle.sw_lower_run.specs.Plan.{Numbers}
@@ -29,6 +29,24 @@ use Rattle.sw_lower_safe.proofs.Headers.FoundFuncs.{found_func, func_is}
 use Rattle.sw_lower_safe.proofs.Headers.ParamTypes.{top_is}
 use Rattle.sw_lower_safe.proofs.Programs.MadeOf.{func_stands, typed_stands}
 use Rattle.sw_lower_safe.proofs.Programs.Standing.{Stands}
+
+-- the body with types of a function or a method
+pub tree_typed : (decls : List Decl) (rule : AsyncDefault) (world : World)
+    → IsWorldOf decls rule world → (n g : ℕ) (decl : Decl) (owner : Option ℕ) (actor : Iso)
+    (tree : FuncTree) → Stands decls n g decl
+    → Contains (bodies_of world n decl) (func_body world owner tree)
+    → Contains (bodies_from world 0 decls) (body_by tree.word.at tree.params tree.body
+    (func_of (top_meaning decls) rule owner actor tree))
+tree_typed decls rule world declared n g decl owner actor tree stands typed =
+    subst (λ (known : ℕ → Option Meaning). Contains (bodies_from world 0 decls) (record {
+      at = tree.word.at;
+      owner = owner;
+      init = false;
+      params = tree.params;
+      wanted = stated_type known tree.result types.Unit;
+      block = tree.body;
+    })) (top_is decls rule world declared)
+    (typed_stands world decls n g decl (func_body world owner tree) stands typed)
 
 module _ (world : World) (isolation : Isolation) (decls : List Decl) (rule : AsyncDefault)
     (number : Numbers) (functions : List Function)
@@ -72,12 +90,4 @@ module _ (world : World) (isolation : Isolation) (decls : List Decl) (rule : Asy
       let one = func_of (top_meaning decls) rule owner actor tree in
       keyed_fits tree.word.at tree.word.at tree.params tree.body one
       (func_stands (top_meaning decls) rule decls n g decl one stands declared) refl
-      (subst (λ (known : ℕ → Option Meaning). Contains (bodies_from world 0 decls) (record {
-        at = tree.word.at;
-        owner = owner;
-        init = false;
-        params = tree.params;
-        wanted = stated_type known tree.result types.Unit;
-        block = tree.body;
-      })) (top_is decls rule world program.declared)
-      (typed_stands world decls n g decl (func_body world owner tree) stands typed)) here
+      (tree_typed decls rule world program.declared n g decl owner actor tree stands typed) here

@@ -80,6 +80,37 @@ block_all world inside state block left (is.block _ _ stmts _ d) =
     subst (λ (xs : List Stmt). LeavesAll world (with_only inside (is_one xs)) state xs left)
     (sym (ap (λ b. b.stmts) (out-roll-Block (record { stmts = stmts })))) d
 
+-- the first value of a property, among those of its type
+abbrev pub first_of : World → ℕ → PropTree → Expr → ValueOf
+first_of world n prop value = record {
+  at = prop.word.at;
+  owner = Some n;
+  wanted = prop_type world.known (Some n) prop;
+  value = value;
+}
+
+pub first_in : (world : World) (n : ℕ) (props : List PropTree) (prop : PropTree) (value : Expr)
+    → Contains props prop → prop.value ≡ Some value
+    → Contains (flat_map (prop_value world (Some n)) props) (first_of world n prop value)
+first_in world n props prop value has value_is =
+    let made = first_of world n prop value in
+    in_flat_map (prop_value world (Some n)) props prop made has
+    (subst (λ found. Contains (first_value world (Some n) prop found) made) (sym value_is)
+    (in_first made []))
+
+-- each statement of an initialiser gives a property its value
+pub all_own : (known : Meanings) (n : ℕ) (props : List PropTree) (inits : List InitTree)
+    → ObjectOk known n props inits → (init : InitTree) (more : List InitTree)
+    → inits ≡ init ∷ more → (x : Stmt) → Contains init.body.stmts x
+    → OwnAssign known n (first_place (param_names init.params)) x
+all_own known n props inits object init more inits_are x has =
+    let params = first_place (param_names init.params) in
+    let wanted = first_place (wanted_names known n props) in
+    let given = times_in (set_in init.body.stmts) in
+    own_assign known n params wanted given x
+    (none_of (in_stmt known n params wanted given) init.body.stmts x
+    (object.stmts init more inits_are) has)
+
 module _ (world : World) (isolation : Isolation) (decls : List Decl) (rule : AsyncDefault)
     (number : Numbers) (functions : List Function)
     (program : IsProgram world isolation decls rule number functions) where
@@ -133,18 +164,10 @@ module _ (world : World) (isolation : Isolation) (decls : List Decl) (rule : Asy
           (object.firsts prop value has value_is)
 
       made : ValueOf
-      made = record {
-        at = prop.word.at;
-        owner = Some n;
-        wanted = prop_type world.known (Some n) prop;
-        value = value;
-      }
+      made = first_of world n prop value
 
       stands : Contains (values_from world 0 decls) made
-      stands = valued made
-          (in_flat_map (prop_value world (Some n)) props prop made has
-          (subst (λ found. Contains (first_value world (Some n) prop found) made) (sym value_is)
-          (in_first made [])))
+      stands = valued made (first_in world n props prop value has value_is)
 
       judged : Judged
       judged = judge world value (value_setting made) (is_marked made.wanted)
@@ -300,13 +323,7 @@ module _ (world : World) (isolation : Isolation) (decls : List Decl) (rule : Asy
           leaves = leaves_block world inside state init.body
 
           own : (x : Stmt) → Contains init.body.stmts x → OwnAssign (meanings_of decls) n params x
-          own x has =
-              own_assign (meanings_of decls) n params (first_place (wanted_names
-              (meanings_of decls) n props)) (times_in (set_in init.body.stmts)) x
-              (none_of (in_stmt (meanings_of decls) n params
-              (first_place (wanted_names (meanings_of decls) n props))
-              (times_in (set_in init.body.stmts))) init.body.stmts x
-              (object.stmts init more inits_are) has)
+          own = all_own (meanings_of decls) n props inits object init more inits_are
 
           gave : AllGave world isolation decls rule number functions program n shape there
               (are_apart (meanings_of decls) n props inits object shape parts) params

@@ -21,7 +21,7 @@ use Rattle.sw_types.specs.declared.shape.Shape.{Shape}
 use Rattle.sw_types.specs.declared.ty.Ty.{Ty}
 use Rattle.sw_types.specs.declared.ty.Ty.TheVariants as types
 use Rattle.sw_graph.specs.declared.function.Function.{Function}
-use Rattle.sw_resolve.specs.Evident.{meanings_of}
+use Rattle.sw_resolve.specs.Evident.{meanings_of, Meanings}
 use Rattle.sw_decls.specs.declared.signature.AsyncDefault.{AsyncDefault}
 use Rattle.sw_typing_rules.proofs.Sound.{judges}
 use Rattle.sw_typing_rules.proofs.Unique.{one_left}
@@ -81,6 +81,40 @@ set_accepted answers at place value from to place_is value_is hold =
     (subst (λ one. RowsHold answers (misassigned assigns.Set at (Some to) one)) value_is
     (subst (λ one. RowsHold answers (misassigned assigns.Set at one value)) place_is hold))
 
+module _ (tables : Tables) (n : ℕ) where
+  -- the code of `self.p = e` in the type with a number
+  own_code : (at me : ℕ) (name : Name) (value : Expr)
+      → fold_stmt (code_steps tables (Some n))
+      (stmts.Assign at assigns.Set (exprs.Member (exprs.Me me) name) value)
+      ≡ (code_steps tables (Some n)).stmt (layer.Assign at assigns.Set
+      (member_code tables (Some n) (self_code tables (Some n) me) name.at name.id)
+      (expr_code tables (Some n) value))
+  unfolding expr_code
+  own_code at me name value =
+      eq.fold_stmt-Assign steps at assigns.Set (exprs.Member (exprs.Me me) name) value
+      ∙ ap (λ place. steps.stmt (layer.Assign at assigns.Set place (fold_expr steps value)))
+      (eq.fold_expr-Member steps (exprs.Me me) name
+      ∙ ap (λ base. steps.expr (layer.Member base name)) (eq.fold_expr-Me steps me)) where
+        steps : Steps
+        steps = code_steps tables (Some n)
+
+  -- Such an assignment gives the property its value, and there are no bodies in it.
+  pub own_gives : (known : Meanings) (params : ℕ → Option ℕ) (stmt : Stmt)
+      (own : OwnAssign known n params stmt)
+      → (fold_stmt (code_steps tables (Some n)) stmt).gives
+      ≡ record { name = own.name.id; read = (expr_code tables (Some n) own.sets.value).read } ∷ []
+  own_gives known params stmt own =
+      ap (λ x. (fold_stmt (code_steps tables (Some n)) x).gives) own.sets.is
+      ∙ ap (λ (c : StmtCode). c.gives) (own_code own.sets.at own.sets.me own.name own.sets.value)
+
+  pub own_inside : (known : Meanings) (params : ℕ → Option ℕ) (stmt : Stmt)
+      → OwnAssign known n params stmt
+      → (fold_stmt (code_steps tables (Some n)) stmt).inside ≡ []
+  own_inside known params stmt own =
+      ap (λ x. (fold_stmt (code_steps tables (Some n)) x).inside) own.sets.is
+      ∙ ap (λ (c : StmtCode). c.inside) (own_code own.sets.at own.sets.me own.name own.sets.value)
+      ∙ simple_inside tables (Some n) known (Some n) params own.sets.value own.simple
+
 module _ (world : World) (isolation : Isolation) (decls : List Decl) (rule : AsyncDefault)
     (number : Numbers) (functions : List Function)
     (program : IsProgram world isolation decls rule number functions) (n : ℕ) (shape : Shape)
@@ -109,18 +143,6 @@ module _ (world : World) (isolation : Isolation) (decls : List Decl) (rule : Asy
       (accepts_as shape apart own.i one.part from one.at
       (subst (λ (p : Part). Accepts from p.ty) (sym same) accepted))
 
-  -- the code of `self.p = e`
-  code_is : (at me : ℕ) (name : Name) (value : Expr)
-      → fold_stmt steps (stmts.Assign at assigns.Set (exprs.Member (exprs.Me me) name) value)
-      ≡ steps.stmt (layer.Assign at assigns.Set
-      (member_code tables (Some n) (self_code tables (Some n) me) name.at name.id)
-      (fold_expr steps value))
-  code_is at me name value =
-      eq.fold_stmt-Assign steps at assigns.Set (exprs.Member (exprs.Me me) name) value
-      ∙ ap (λ place. steps.stmt (layer.Assign at assigns.Set place (fold_expr steps value)))
-      (eq.fold_expr-Member steps (exprs.Me me) name
-      ∙ ap (λ base. steps.expr (layer.Member base name)) (eq.fold_expr-Me steps me))
-
   -- what a statement gives
   pub record Gave (stmt : Stmt) (state : State) (left : Left) : Type 0 where
     pub one : One
@@ -144,11 +166,8 @@ module _ (world : World) (isolation : Isolation) (decls : List Decl) (rule : Asy
             ok.read;
       };
     };
-    gives = ap (λ x. (fold_stmt steps x).gives) own.sets.is
-        ∙ ap (λ (c : StmtCode). c.gives) (code_is own.sets.at own.sets.me own.name own.sets.value);
-    inside = ap (λ x. (fold_stmt steps x).inside) own.sets.is
-        ∙ ap (λ (c : StmtCode). c.inside) (code_is own.sets.at own.sets.me own.name own.sets.value)
-        ∙ none;
+    gives = own_gives tables n (meanings_of decls) params stmt own;
+    inside = own_inside tables n (meanings_of decls) params stmt own;
     still = ap (λ (l : Left). l.state) left_is;
   } where
     value : Expr

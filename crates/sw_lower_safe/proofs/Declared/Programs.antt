@@ -47,12 +47,18 @@ use Rattle.sw_typing_rules.specs.Worlds.{IsWorldOf, World}
 use Rattle.sw_typing_rules.specs.declared.row.Row.{Row}
 use Rattle.sw_typing_rules.specs.declared.row.Row.TheVariants.{Typed}
 use Rattle.sw_typing_rules.specs.declared.scope.Inside.{Inside}
-use Rattle.sw_lower_safe.proofs.Declared.Rules as rule
-use Rattle.sw_lower_safe.proofs.Declared.Rules.{CasesWithin, ClosedWithin, JudgedWithin, LeftWithin}
-use Rattle.sw_lower_safe.proofs.Declared.Rules.{OwnerWithin, RowWithin, RowsWithin, StateWithin}
-use Rattle.sw_lower_safe.proofs.Declared.Rules.{VarWithin, VarsWithin, size}
+use Rattle.sw_lower_safe.proofs.Declared.Arms as arm_rule
+use Rattle.sw_lower_safe.proofs.Declared.Calls as call_rule
+use Rattle.sw_lower_safe.proofs.Declared.Closures as closure_rule
+use Rattle.sw_lower_safe.proofs.Declared.Noted as row_rule
+use Rattle.sw_lower_safe.proofs.Declared.Noted.{CasesWithin, ClosedWithin, JudgedWithin, LeftWithin}
+use Rattle.sw_lower_safe.proofs.Declared.Noted.{OwnerWithin, RowWithin, RowsWithin, StateWithin}
+use Rattle.sw_lower_safe.proofs.Declared.Noted.{VarWithin, VarsWithin, size}
+use Rattle.sw_lower_safe.proofs.Declared.Senses as word_rule
+use Rattle.sw_lower_safe.proofs.Declared.Statements as stmt_rule
 use Rattle.sw_lower_safe.proofs.Declared.Tables.{Declared, TablesWithin, shapes_count}
 use Rattle.sw_lower_safe.proofs.Declared.Tables.{tables_within}
+use Rattle.sw_lower_safe.proofs.Declared.Verdicts as verdict_rule
 use Rattle.sw_lower_safe.proofs.Declared.Words.{shapes_of_all, stated_within, written_within}
 use Rattle.sw_lower_safe.proofs.Types.Within.{Within, all_append, all_map, bool_within, int_within}
 use Rattle.sw_lower_safe.proofs.Types.Within.{unit_within}
@@ -61,7 +67,7 @@ module _ (world : World) (tables : TablesWithin world) where
   beside_within : (one next : Left) → LeftWithin (size world) one → LeftWithin (size world) next
       → LeftWithin (size world) (beside one next)
   beside_within one next first second =
-      (second.0, rule.join (size world) one.rows next.rows first.1 second.1)
+      (second.0, row_rule.join (size world) one.rows next.rows first.1 second.1)
 
   mutual
     -- what is known of an expression
@@ -72,41 +78,44 @@ module _ (world : World) (tables : TablesWithin world) where
         (int_within (size world), (int_within (size world), tt))
     expr_within s m e j (is.bool _ _ at value) o v =
         (bool_within (size world), (bool_within (size world), tt))
-    expr_within s m e j (is.word _ _ name) o v = rule.word_of world tables s name v
+    expr_within s m e j (is.word _ _ name) o v = word_rule.word_of world tables s name v
     expr_within s m e j (is.me _ _ at) o v =
-        rule.noted (size world) at (senses.me_types s.owner) [] tt
-        (rule.me_types (size world) s.owner o)
+        verdict_rule.noted (size world) at (senses.me_types s.owner) [] tt
+        (verdict_rule.me_types (size world) s.owner o)
     expr_within s m e j (is.member _ _ base name judged d) o v =
-        rule.member_by world tables judged judged.enum name (expr_within s false base judged d o v)
+        word_rule.member_by world tables judged judged.enum name
+        (expr_within s false base judged d o v)
     expr_within s m e j (is.call _ _ name args passed d) o v =
-        rule.call (size world) (call_callee world s name) name.at [] passed
-        (rule.call_callee world tables s name v) tt
+        call_rule.call (size world) (call_callee world s name) name.at [] passed
+        (call_rule.call_callee world tables s name v) tt
         (args_within s (slots_of (call_callee world s name)) args passed d o v)
     expr_within s m e j (is.method _ _ base name args judged passed of_base d) o v =
-        rule.call (size world) (method_callee world judged name) name.at (base_rows judged) passed
-        (rule.method_by world tables judged.enum judged.ty name.id)
-        (rule.rows_by world tables judged.enum judged.rows
+        call_rule.call (size world) (method_callee world judged name) name.at (base_rows judged)
+        passed
+        (call_rule.method_by world tables judged.enum judged.ty name.id)
+        (call_rule.rows_by world tables judged.enum judged.rows
         (expr_within s false base judged of_base o v).1)
         (args_within s (slots_of (method_callee world judged name)) args passed d o v)
     expr_within s m e j (is.chain _ _ first rest l _ of_first d) o v =
         links_within s l rest j d o v (expr_within s false first l of_first o v)
     expr_within s m e j (is.prefix _ _ op at inner judged d) o v =
-        rule.noted (size world) at (operators.prefix_types op judged.ty) judged.rows
-        (expr_within s false inner judged d o v).1 (rule.prefix_types (size world) op judged.ty)
+        verdict_rule.noted (size world) at (operators.prefix_types op judged.ty) judged.rows
+        (expr_within s false inner judged d o v).1
+        (verdict_rule.prefix_types (size world) op judged.ty)
     expr_within s m e j (is.await _ _ at inner judged d) o v =
         let are = expr_within s false inner judged d o v in
-        rule.noted (size world) at (senses.var_types judged.ty) judged.rows are.1
-        (rule.var_types (size world) judged.ty are.0)
+        verdict_rule.noted (size world) at (senses.var_types judged.ty) judged.rows are.1
+        (verdict_rule.var_types (size world) judged.ty are.0)
     expr_within s m e j (is.fun _ _ closure closed d) o v =
         let are = closure_within s closure closed d o v in
-        rule.noted (size world) closed.at
+        verdict_rule.noted (size world) closed.at
         (fun_types (closed.marked || m) closed.params closed.result) closed.rows are.1
-        (rule.fun_types (size world) (closed.marked || m) closed.params closed.result are.0.0
-        are.0.1)
+        (verdict_rule.fun_types (size world) (closed.marked || m) closed.params closed.result
+        are.0.0 are.0.1)
     expr_within s m e j (is.spawn _ _ at detached body closed d) o v =
         let are = closure_within s body closed d o v in
-        rule.noted (size world) at (task_types closed.result) closed.rows are.1
-        (rule.task_types (size world) closed.result are.0.1)
+        verdict_rule.noted (size world) at (task_types closed.result) closed.rows are.1
+        (verdict_rule.task_types (size world) closed.result are.0.1)
     expr_within s m e j (is.yield _ _ at) o v =
         (unit_within (size world), (unit_within (size world), tt))
 
@@ -115,7 +124,7 @@ module _ (world : World) (tables : TablesWithin world) where
         → VarsWithin (size world) s.vars → RowsWithin (size world) p.rows
     args_within s slots args p (is.passes_none _ _) o v = tt
     args_within s slots args p (is.passes_one _ _ label value more judged passed d rest) o v =
-        rule.join (size world) judged.rows passed.rows
+        row_rule.join (size world) judged.rows passed.rows
         (expr_within s (first_marked slots) value judged d o v).1
         (args_within s (later slots) more passed rest o v)
 
@@ -126,30 +135,30 @@ module _ (world : World) (tables : TablesWithin world) where
     links_within s l links j (is.no_link _ _) o v are = are
     links_within s l links j (is.one_link _ _ op at operand more right _ d rest) o v are =
         links_within s (infix_judged op at l right) more j rest o v
-        (rule.noted (size world) at (operators.infix_types op l.ty right.ty)
+        (verdict_rule.noted (size world) at (operators.infix_types op l.ty right.ty)
         (l.rows ++ right.rows)
-        (rule.join (size world) l.rows right.rows are.1
+        (row_rule.join (size world) l.rows right.rows are.1
         (expr_within s false operand right d o v).1)
-        (rule.infix_types (size world) op l.ty right.ty))
+        (verdict_rule.infix_types (size world) op l.ty right.ty))
 
     closure_within : (s : Setting) (closure : Closure) (c : Closed)
         → is.Closes world s closure c → OwnerWithin (size world) s.owner
         → VarsWithin (size world) s.vars → ClosedWithin (size world) c
     closure_within s closure c (is.closes _ at mark captures params result block l d) o v =
-        rule.closed world tables s at mark captures params l v
+        closure_rule.closed world tables s at mark captures params l v
         (block_within (in_body s.owner false) (closure_state world s captures params result) block
-        l d o (rule.closure_state world tables s captures params result v))
+        l d o (closure_rule.closure_state world tables s captures params result v))
 
     -- what a statement leaves
     pub stmt_within : (i : Inside) (s : State) (x : Stmt) (l : Left) → is.Leaves world i s x l
         → OwnerWithin (size world) i.owner → StateWithin (size world) s
         → LeftWithin (size world) l
     stmt_within i s x l (is.bind _ _ mutable name ty value judged d) o t =
-        rule.bind (size world) s mutable name (written world ty) judged t
-        (rule.written_type world tables ty)
+        stmt_rule.bind (size world) s mutable name (written world ty) judged t
+        (stmt_rule.written_type world tables ty)
         (expr_within (setting_of i s) (marked_type (written world ty)) value judged d o t.0)
     stmt_within i s x l (is.assign _ _ at op place value placed judged of_place d) o t =
-        rule.assign (size world) i s at op placed judged t
+        stmt_rule.assign (size world) i s at op placed judged t
         (expr_within (setting_of i s) false place placed of_place o t.0)
         (expr_within (setting_of i s) (marked_type (place_type i placed)) value judged d o t.0)
     stmt_within i s x l (is.discard _ _ at value judged d) o t =
@@ -160,29 +169,30 @@ module _ (world : World) (tables : TablesWithin world) where
     stmt_within i s x l (is.while_of _ _ at cond block judged inner of_cond d) o t =
         let are = block_within (in_loop i) s block inner d o t in (
           (t.0, are.0.1),
-          rule.join (size world) (left.condition_rows judged) inner.rows
-              (rule.condition (size world) judged
+          row_rule.join (size world) (left.condition_rows judged) inner.rows
+              (stmt_rule.condition (size world) judged
               (expr_within (setting_of i s) false cond judged of_cond o t.0)) are.1,
         )
     stmt_within i s x l
         (is.switch _ _ at subject arms otherwise judged armed last of_subject of_arms d) o t =
         let are = cases_within (in_switch i) (cases_of world judged.ty) s arms armed of_arms o t
-        (rule.cases_of world tables judged.ty) in
-        rule.switch (size world) (cases_of world judged.ty) at judged armed.heads
+        (arm_rule.cases_of world tables judged.ty) in
+        stmt_rule.switch (size world) (cases_of world judged.ty) at judged armed.heads
         (is_some otherwise) (beside armed.left last)
         (expr_within (setting_of i s) false subject judged of_subject o t.0)
         (beside_within armed.left last are
         (otherwise_within true (in_switch i) armed.left.state otherwise last d o are.0))
-    stmt_within i s x l (is.return_nothing _ _ at) o t = rule.void (size world) s.returned s at t
+    stmt_within i s x l (is.return_nothing _ _ at) o t =
+        stmt_rule.void (size world) s.returned s at t
     stmt_within i s x l (is.return_of _ _ at value judged d) o t =
-        rule.value_of (size world) s.returned s at judged t
+        stmt_rule.value_of (size world) s.returned s at judged t
         (expr_within (setting_of i s) (marked_result s.returned) value judged d o t.0)
     stmt_within i s x l (is.break_of _ _ at) o t =
-        (t, rule.ill (size world) (not i.leaves) at 408)
+        (t, row_rule.ill (size world) (not i.leaves) at 408)
     stmt_within i s x l (is.continue_of _ _ at) o t =
-        (t, rule.ill (size world) (not i.loops) at 408)
+        (t, row_rule.ill (size world) (not i.loops) at 408)
     stmt_within i s x l (is.plain _ _ value judged d) o t =
-        rule.plain (size world) i.only s judged t
+        stmt_rule.plain (size world) i.only s judged t
         (expr_within (setting_of i s) (expects i.only s) value judged d o t.0)
 
     all_within : (i : Inside) (s : State) (xs : List Stmt) (l : Left)
@@ -192,7 +202,7 @@ module _ (world : World) (tables : TablesWithin world) where
     all_within i s xs l (is.one_stmt _ _ stmt stmts one last d rest) o t =
         let are = stmt_within i s stmt one d o t in
         let more = all_within i one.state stmts last rest o are.0 in
-        (more.0, rule.join (size world) one.rows last.rows are.1 more.1)
+        (more.0, row_rule.join (size world) one.rows last.rows are.1 more.1)
 
     -- what the statements of a block leave
     pub block_within : (i : Inside) (s : State) (b : Block) (l : Left)
@@ -211,8 +221,8 @@ module _ (world : World) (tables : TablesWithin world) where
         let own = block_within (part_of i) s block inner d o t in
         let are : LeftWithin (size world) one = (
           (t.0, own.0.1),
-          rule.join (size world) (left.condition_rows judged) inner.rows
-              (rule.condition (size world) judged
+          row_rule.join (size world) (left.condition_rows judged) inner.rows
+              (stmt_rule.condition (size world) judged
               (expr_within (setting_of i s) false cond judged of_cond o t.0)) own.1,
         ) in
         beside_within one last are (arms_within i one.state more last rest o are.0)
@@ -235,13 +245,13 @@ module _ (world : World) (tables : TablesWithin world) where
         let head = head_of name patterns in
         let own = arm_vars head (left.arm_payload cases name.id) in
         let one = case_of cases s head inner in
-        let vars = rule.arm_vars (size world) cases head c in
+        let vars = arm_rule.arm_vars (size world) cases head c in
         let inside = block_within (part_of i) (arm_state cases s head) block inner d o
         (all_append (VarWithin (size world)) s.vars own t.0 vars, t.1) in
         let are : LeftWithin (size world) one = (
           (t.0, inside.0.1),
-          rule.join (size world) (left.vars_rows own) inner.rows
-              (rule.vars_rows (size world) own vars) inside.1,
+          row_rule.join (size world) (left.vars_rows own) inner.rows
+              (row_rule.vars_rows (size world) own vars) inside.1,
         ) in
         beside_within one armed.left are
         (cases_within i cases one.state more armed rest o are.0 c)
@@ -351,18 +361,18 @@ module _ (world : World) (tables : TablesWithin world) where
       let is = is_within_one BodyWithin (bodies_from world 0 decls) made
       (all_bodies 0 decls (omega arith)) has_body in
       is_within_one (RowWithin (size world)) (body_noted world made l) row
-      (rule.join (size world) (left.vars_rows (params_of world made)) _
-      (rule.vars_rows (size world) (params_of world made) (params_are made.params))
-      (rule.body (size world) made.at l
+      (row_rule.join (size world) (left.vars_rows (params_of world made)) _
+      (row_rule.vars_rows (size world) (params_of world made) (params_are made.params))
+      (closure_rule.body (size world) made.at l
       (block_within (in_body made.owner made.init) (body_state world made) made.block l d is.0
       (params_are made.params, is.1)).1)) has
   row_within decls row few (of_value value judged _ has_value d has) =
       is_within_one (RowWithin (size world)) (value_noted value judged) row
-      (rule.join (size world) judged.rows _
+      (row_rule.join (size world) judged.rows _
       (expr_within (value_setting value) (is_marked value.wanted) value.value judged d
       (is_within_one ValueWithin (values_from world 0 decls) value
       (all_values 0 decls (omega arith)) has_value) tt).1
-      (rule.refused (size world) value.at judged.ty value.wanted)) has
+      (row_rule.refused (size world) value.at judged.ty value.wanted)) has
 
 -- Each type that is said of a node of a program names declared types alone.
 pub types_declared : (world : World) (decls : List Decl) (rule : AsyncDefault)

@@ -1,8 +1,8 @@
 -- The code of a member is safe: a property or the result of a task, or a case of an enum.
-use Rattle.std.proofs.Common.{◌≡◌, ℕ, Bool, true, false, ◌==◌, ◌&&◌, ◌||◌, List, [], ◌∷◌, ◌++◌}
-use Rattle.std.proofs.Common.{Option, Some, None, ap, sym, ◌∙◌, subst, refl, true≢false, map}
+use Rattle.std.proofs.Common.{◌≡◌, ℕ, Bool, true, false, ◌&&◌, ◌||◌, List, [], ◌∷◌, ◌++◌, Option}
+use Rattle.std.proofs.Common.{Some, None, ap, sym, ◌∙◌, subst, refl, true≢false, map}
 use Rattle.std.proofs.lemmas.List.Elements.{All-cons, All-nil}
-use Rattle.std.specs.Prelude.{if◌then◌else◌, slice_get}
+use Rattle.std.specs.Prelude.{slice_get}
 use Rattle.std.proofs.lemmas.Option.{same_Some}
 use Rattle.sw_typing_rules.proofs.Steps.{and_left}
 use Rattle.sw_tree.specs.declared.name.Name.{Name}
@@ -10,25 +10,21 @@ use Rattle.sw_types.specs.Accepts.{Accepts}
 use Rattle.sw_types.specs.declared.shape.CaseShape.{CaseShape}
 use Rattle.sw_types.specs.declared.shape.Part.{Part}
 use Rattle.sw_types.specs.declared.shape.Shape.{Shape}
-use Rattle.sw_types.specs.declared.ty.Ty.{Ty, out-Ty, roll-Ty, roll-out-Ty}
-use Rattle.sw_types.specs.declared.ty.Ty.TheOpen as layer
+use Rattle.sw_types.specs.declared.ty.Ty.{Ty}
 use Rattle.sw_types.specs.declared.ty.Ty.TheVariants as types
-use Rattle.sw_types.specs.declared.ty.Ty.TheVariants.{outs-Named, rolls-Named, rolls-Task}
+use Rattle.sw_types.specs.declared.ty.Ty.TheVariants.{outs-Named}
 use Rattle.sw_graph.specs.Kinds.{EachOf, Goes, awaited, form_of, is_struct}
 use Rattle.sw_graph.specs.declared.function.Function.{Function}
 use Rattle.sw_graph.specs.declared.function.RegKind.TheVariants.{Plain}
 use Rattle.sw_graph.specs.declared.instr.Instr.TheVariants as instr
 use Rattle.sw_graph.specs.declared.instr.Operand.{Operand}
-use Rattle.sw_resolve.specs.declared.members.Member.{Member}
-use Rattle.sw_resolve.specs.declared.members.Role.{Role}
-use Rattle.sw_resolve.specs.declared.members.Role.TheVariants as role
 use Rattle.sw_typing_rules.specs.Calls.{case_in, case_meaning, case_types, enum_types}
 use Rattle.sw_typing_rules.specs.Calls.{payload_types}
 use Rattle.sw_typing_rules.specs.Expressions.{Judged, case_judged, found_judged, member_by}
 use Rattle.sw_typing_rules.specs.Expressions.{member_judged, noted, value_member}
 use Rattle.sw_typing_rules.specs.Verdicts.{meaning_rows, rows_of, type_in}
-use Rattle.sw_typing_rules.specs.Words.{found_in, found_layer, found_settable, found_types}
-use Rattle.sw_typing_rules.specs.Words.{is_var_part, member_found, part_types, role_found}
+use Rattle.sw_typing_rules.specs.Words.{found_in, found_settable, found_types, is_var_part}
+use Rattle.sw_typing_rules.specs.Words.{part_types}
 use Rattle.sw_typing_rules.specs.Worlds.{case_at, is_object, part_at}
 use Rattle.sw_typing_rules.specs.declared.found.Found.{Found}
 use Rattle.sw_typing_rules.specs.declared.found.Found.TheVariants.{Method, NoMember, Property}
@@ -49,6 +45,7 @@ use Rattle.sw_lower_safe.specs.Ground.{Ground}
 use Rattle.sw_lower_safe.specs.Safe.{IsValue, Keeps, Position, SafeAt, ValueAfter, here}
 use Rattle.sw_lower_safe.specs.Whole.{IsSet}
 use Rattle.sw_lower_safe.proofs.Expressions.Parts.{read_part_in}
+use Rattle.sw_lower_safe.proofs.Expressions.Senses.{FoundIn, found_ok}
 use Rattle.sw_lower_safe.proofs.Expressions.Words.{object_no_struct}
 use Rattle.sw_lower_safe.proofs.Expressions.Writes.{BaseOk, WrittenTo, write_part_in}
 use Rattle.sw_lower_safe.proofs.Lists.Found.{found_in_found}
@@ -61,42 +58,8 @@ use Rattle.sw_lower_safe.proofs.Said.Rows.{rows_right}
 use Rattle.sw_lower_safe.proofs.Types.Going.{accepts_self, awaited_by, case_by, goes_same}
 use Rattle.sw_lower_safe.proofs.Types.Within.{shape_within}
 
--- the type in which a member was found
-abbrev pub FoundIn : Ty → Found → Type 0
-FoundIn ty (Property k i) = ty ≡ types.Named k
-FoundIn ty (Method key) = Unit {0}
-FoundIn ty (Result inner) = ty ≡ types.Task inner
-FoundIn ty NoMember = Unit {0}
-
 module _ (tables : Tables) (number : Numbers) (functions : List Function)
     (ground : Ground tables number functions) (owner : Option ℕ) where
-  -- A member is found in the type where it is looked up.
-  found_ok : (ty : Ty) (id : ℕ) → FoundIn ty (found_in tables.world ty id)
-  found_ok ty id = by (out-Ty ty) (sym (roll-out-Ty ty)) where
-    by_role : (k at : ℕ) → ty ≡ types.Named k → (is : Role) → FoundIn ty (role_found k at is)
-    by_role k at named (role.Part i) = named
-    by_role k at named (role.Case i) = tt
-    by_role k at named role.Method = tt
-
-    by_member : (k : ℕ) → ty ≡ types.Named k → (member : Option Member)
-        → FoundIn ty (member_found k member)
-    by_member k named None = tt
-    by_member k named (Some member) = by_role k member.word.at named member.role
-
-    by_name : (inner : Ty) → ty ≡ types.Task inner → (so : Bool)
-        → FoundIn ty (if so then Result inner else NoMember)
-    by_name inner task true = task
-    by_name inner task false = tt
-
-    by : (l : layer.Ty-F Ty) → ty ≡ roll-Ty l → FoundIn ty (found_layer tables.world l id)
-    by layer.Int is = tt
-    by layer.Bool is = tt
-    by layer.Unit is = tt
-    by (layer.Named k) is =
-        by_member k (is ∙ rolls-Named k) (tables.world.known.members k id)
-    by (layer.Func marked params result) is = tt
-    by (layer.Task inner) is = by_name inner (is ∙ rolls-Task inner) (id == 8)
-
   -- A member that means this has this type, and is safe where the code for the meaning is.
   meant_ok : (base : ExprCode) (at name : ℕ) (judged : Judged) (meaning : Meaning) (ty : Ty)
       → judged.ty ≡ Some ty → tables.answers.meaning_at at ≡ Some meaning
@@ -337,7 +300,7 @@ module _ (tables : Tables) (number : Numbers) (functions : List Function)
   -- a member of a value
   found_member_ok : (base : ExprCode) (judged : Judged) (name : Name)
       → (ok : ExprOk tables number functions owner base judged) → (found : Found)
-      → FoundIn ok.ty found
+      → FoundIn tables.world ok.ty found
       → RowsHold tables.answers (found_judged tables.world judged found name.at).rows
       → ExprOk tables number functions owner (member_code tables owner base name.at name.id)
       (found_judged tables.world judged found name.at)
@@ -382,8 +345,8 @@ module _ (tables : Tables) (number : Numbers) (functions : List Function)
       no same = cc
     typed_member base_ok (Some ty) is hold =
         found_member_ok base judged name base_ok (found_in tables.world ty name.id)
-        (subst (λ one. FoundIn one (found_in tables.world ty name.id))
-        (same_Some ty base_ok.ty (sym is ∙ base_ok.has)) (found_ok ty name.id)) hold
+        (subst (λ one. FoundIn tables.world one (found_in tables.world ty name.id))
+        (same_Some ty base_ok.ty (sym is ∙ base_ok.has)) (found_ok tables.world ty name.id)) hold
 
     by : (named : Option ℕ) → judged.enum ≡ named
         → RowsHold tables.answers (member_by tables.world judged named name).rows

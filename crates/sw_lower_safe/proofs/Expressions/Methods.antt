@@ -1,27 +1,23 @@
 -- The code of a call of a member is safe: a method, a property that holds a closure, or a case of
 -- an enum.
 use Rattle.std.proofs.Common.{◌≡◌, ℕ, List, [], ◌∷◌, ◌++◌, Option, Some, None, refl, sym, ap, ◌∙◌}
-use Rattle.std.proofs.Common.{subst, Bool, true, false, ◌==◌, if◌then◌else◌}
+use Rattle.std.proofs.Common.{subst}
 use Rattle.std.specs.Prelude.{map, slice_get}
 use Rattle.sw_tree.specs.declared.name.Name.{Name}
 use Rattle.sw_types.specs.declared.shape.CaseShape.{CaseShape}
 use Rattle.sw_types.specs.declared.shape.Part.{Part}
 use Rattle.sw_types.specs.declared.shape.Shape.{Shape}
-use Rattle.sw_types.specs.declared.ty.Ty.{Ty, out-Ty, roll-Ty, roll-out-Ty}
-use Rattle.sw_types.specs.declared.ty.Ty.TheOpen as layer
+use Rattle.sw_types.specs.declared.ty.Ty.{Ty}
 use Rattle.sw_types.specs.declared.ty.Ty.TheVariants as types
-use Rattle.sw_types.specs.declared.ty.Ty.TheVariants.{outs-Named, rolls-Named}
+use Rattle.sw_types.specs.declared.ty.Ty.TheVariants.{outs-Named}
 use Rattle.sw_graph.specs.Kinds.{Each, EachOf, Goes, kinds_of}
 use Rattle.sw_graph.specs.declared.function.Function.{Function}
 use Rattle.sw_graph.specs.declared.instr.Operand.{Operand}
-use Rattle.sw_resolve.specs.declared.members.Member.{Member}
-use Rattle.sw_resolve.specs.declared.members.Role.{Role}
-use Rattle.sw_resolve.specs.declared.members.Role.TheVariants as role
 use Rattle.sw_typing_rules.specs.Calls.{Callee, Uncallable, case_callee, case_in, enum_callee}
 use Rattle.sw_typing_rules.specs.Calls.{found_callee, part_callee, payload_callee, unlabelled}
 use Rattle.sw_typing_rules.specs.Expressions.{Judged, Passed, base_rows, call_judged, method_by}
 use Rattle.sw_typing_rules.specs.Expressions.{method_callee, value_method}
-use Rattle.sw_typing_rules.specs.Words.{found_in, found_layer, member_found, role_found}
+use Rattle.sw_typing_rules.specs.Words.{found_in}
 use Rattle.sw_typing_rules.specs.Worlds.{case_at, part_at}
 use Rattle.sw_typing_rules.specs.declared.found.Found.{Found}
 use Rattle.sw_typing_rules.specs.declared.found.Found.TheVariants.{Method, NoMember, Property}
@@ -45,7 +41,7 @@ use Rattle.sw_lower_safe.proofs.Expressions.Callees.{Fitted, func_ok, never_call
 use Rattle.sw_lower_safe.proofs.Expressions.Calling.{after_args, make_value_in, unlabelled_kinds}
 use Rattle.sw_lower_safe.proofs.Expressions.Calls.{method_gives, value_called}
 use Rattle.sw_lower_safe.proofs.Expressions.Members.{read_of_base_in}
-use Rattle.sw_lower_safe.proofs.Expressions.Senses.{IsMethod}
+use Rattle.sw_lower_safe.proofs.Expressions.Senses.{FoundIn, found_ok}
 use Rattle.sw_lower_safe.proofs.Expressions.Values.{CodeGives}
 use Rattle.sw_lower_safe.proofs.Lists.Found.{found_in_found}
 use Rattle.sw_lower_safe.proofs.Programs.Enums.{OnlyEnums}
@@ -54,52 +50,6 @@ use Rattle.sw_lower_safe.proofs.Types.Within.{shape_within}
 
 module _ (tables : Tables) (number : Numbers) (functions : List Function)
     (ground : Ground tables number functions) (owner : Option ℕ) where
-  -- a method of a declared type
-  pub record IsMethodOf (ty : Ty) (key : ℕ) : Type 0 where
-    pub shape : ℕ
-    pub ty_is : ty ≡ types.Named shape
-    pub method : IsMethod tables.world shape key
-
-  -- what is known of what was found in a value of a type
-  abbrev pub CallFound : Ty → Found → Type 0
-  CallFound ty (Property k i) = ty ≡ types.Named k
-  CallFound ty (Method key) = IsMethodOf ty key
-  CallFound ty (Result inner) = Unit {0}
-  CallFound ty NoMember = Unit {0}
-
-  -- What is found in a value is known.
-  call_found : (ty : Ty) (id : ℕ) → CallFound ty (found_in tables.world ty id)
-  call_found ty id = by (out-Ty ty) (sym (roll-out-Ty ty)) where
-    by_role : (k : ℕ) (member : Member) → ty ≡ types.Named k
-        → tables.world.known.members k id ≡ Some member → (is : Role) → member.role ≡ is
-        → CallFound ty (role_found k member.word.at is)
-    by_role k member named at (role.Part i) is = named
-    by_role k member named at (role.Case i) is = tt
-    by_role k member named at role.Method is = record {
-      shape = k;
-      ty_is = named;
-      method = record { id = id; member = member; at = at; role_is = is; key_is = refl };
-    }
-
-    by_member : (k : ℕ) → ty ≡ types.Named k → (found : Option Member)
-        → tables.world.known.members k id ≡ found → CallFound ty (member_found k found)
-    by_member k named None at = tt
-    by_member k named (Some member) at = by_role k member named at member.role refl
-
-    by_name : (inner : Ty) (so : Bool) → CallFound ty (if so then Result inner else NoMember)
-    by_name inner true = tt
-    by_name inner false = tt
-
-    by : (form : layer.Ty-F Ty) → ty ≡ roll-Ty form
-        → CallFound ty (found_layer tables.world form id)
-    by layer.Int is = tt
-    by layer.Bool is = tt
-    by layer.Unit is = tt
-    by (layer.Named k) is =
-        by_member k (is ∙ rolls-Named k) (tables.world.known.members k id) refl
-    by (layer.Func marked params result) is = tt
-    by (layer.Task inner) is = by_name inner (id == 8)
-
   -- A case of an enum is made of values.
   case_gives : OnlyEnums tables.world.shapes → (at k i : ℕ) (shape : Shape) (one : CaseShape)
       (args : List ArgCode) (tys : List Ty) (given : List Given) (meaning : Meaning)
@@ -178,9 +128,10 @@ module _ (tables : Tables) (number : Numbers) (functions : List Function)
       by (Some one) is = by_payload one is one.payload refl
 
     -- what was found in a value
-    found_ok : (judged : Judged) (ok : ExprOk tables number functions owner base judged)
-        (found : Found) → CallFound ok.ty found → CallOk (found_callee tables.world found)
-    found_ok judged ok (Property k i) named = by (part_at tables.world k i) refl where
+    found_method : (judged : Judged) (ok : ExprOk tables number functions owner base judged)
+        (found : Found) → FoundIn tables.world ok.ty found
+        → CallOk (found_callee tables.world found)
+    found_method judged ok (Property k i) named = by (part_at tables.world k i) refl where
       by : (found : Option Part) → part_at tables.world k i ≡ found
           → CallOk (part_callee (means.PartOf i) 407 found)
       by None is = uncallable 407
@@ -196,7 +147,7 @@ module _ (tables : Tables) (number : Numbers) (functions : List Function)
           (subst (λ ty. CodeGives tables number functions owner base.read ty base.inside) named
           ok.read))
           (λ is. ap (method_read tables owner at base args) is)
-    found_ok judged ok (Method key) method = λ hold.
+    found_method judged ok (Method key) method = λ hold.
         func_ok tables number functions owner at before passed tys means.FuncOf 407
         (tables.world.numbers key) code_of (base.inside ++ args_inside args) have hold
         (λ n func n_is func_is fit.
@@ -205,8 +156,8 @@ module _ (tables : Tables) (number : Numbers) (functions : List Function)
         base.inside args tys passed.given (means.FuncOf n) method.method n_is func_is fit have
         (subst (λ ty. CodeGives tables number functions owner base.read ty base.inside)
         method.ty_is ok.read) args_ok))
-    found_ok judged ok (Result inner) is = uncallable 407
-    found_ok judged ok NoMember is = uncallable 407
+    found_method judged ok (Result inner) is = uncallable 407
+    found_method judged ok NoMember is = uncallable 407
 
     -- a member of a value
     value_method_ok : (judged : Judged) (id : ℕ)
@@ -214,7 +165,7 @@ module _ (tables : Tables) (number : Numbers) (functions : List Function)
         → CallOk (value_method tables.world judged.ty id)
     value_method_ok judged id ok =
         subst (λ ty. CallOk (value_method tables.world ty id)) (sym ok.has)
-        (found_ok judged ok (found_in tables.world ok.ty id) (call_found ok.ty id))
+        (found_method judged ok (found_in tables.world ok.ty id) (found_ok tables.world ok.ty id))
 
   -- a call of a member
   pub method_ok : OnlyEnums tables.world.shapes → (base : ExprCode) (judged : Judged)

@@ -1,14 +1,23 @@
--- What is known of what a word means, by the variables and the type around.
-use Rattle.std.proofs.Common.{◌≡◌, ℕ, Option, Some, None, refl, sym, Bool, true, false}
+-- What is known of what a word means, by the variables and the type around, and of what is found in
+-- a value, by its type.
+use Rattle.std.proofs.Common.{◌≡◌, ℕ, Option, Some, None, refl, sym, Bool, true, false, ◌∙◌}
 use Rattle.std.specs.Prelude.{◌==◌, if◌then◌else◌}
+use Rattle.sw_types.specs.declared.ty.Ty.{Ty, out-Ty, roll-Ty, roll-out-Ty}
+use Rattle.sw_types.specs.declared.ty.Ty.TheOpen as layer
+use Rattle.sw_types.specs.declared.ty.Ty.TheVariants as types
+use Rattle.sw_types.specs.declared.ty.Ty.TheVariants.{rolls-Named, rolls-Task}
 use Rattle.sw_resolve.specs.declared.members.Member.{Member}
 use Rattle.sw_resolve.specs.declared.members.Role.{Role}
 use Rattle.sw_resolve.specs.declared.members.Role.TheVariants as role
 use Rattle.sw_resolve.specs.declared.words.Meaning as words
 use Rattle.sw_typing_rules.specs.Words.{Nothing, OwnCase, OwnMethod, OwnProperty, Printing, Sense}
 use Rattle.sw_typing_rules.specs.Words.{Setting, Top, Variable, local, local_sense, member_sense}
-use Rattle.sw_typing_rules.specs.Words.{owned, role_sense, sense, top_sense}
+use Rattle.sw_typing_rules.specs.Words.{owned, role_sense, sense, top_sense, found_in, found_layer}
+use Rattle.sw_typing_rules.specs.Words.{member_found, role_found}
 use Rattle.sw_typing_rules.specs.Worlds.{World}
+use Rattle.sw_typing_rules.specs.declared.found.Found.{Found}
+use Rattle.sw_typing_rules.specs.declared.found.Found.TheVariants.{Method, NoMember, Property}
+use Rattle.sw_typing_rules.specs.declared.found.Found.TheVariants.{Result}
 use Rattle.sw_typing_rules.specs.declared.scope.Var.{Var}
 use Rattle.sw_lower_table.specs.Tables.{Tables}
 use Rattle.sw_lower_safe.specs.Forms.{VarHolds, VarsHold}
@@ -77,3 +86,50 @@ module _ (tables : Tables) (owner : Option ℕ) where
         by (Some one) holds = holds one refl
         by None holds =
             in_type setting.owner same (owned tables.world setting.owner id) refl
+
+module _ (world : World) where
+  -- a method of a declared type
+  pub record IsMethodOf (ty : Ty) (key : ℕ) : Type 0 where
+    pub shape : ℕ
+    pub ty_is : ty ≡ types.Named shape
+    pub method : IsMethod world shape key
+
+  -- the type in which a member was found
+  abbrev pub FoundIn : Ty → Found → Type 0
+  FoundIn ty (Property k i) = ty ≡ types.Named k
+  FoundIn ty (Method key) = IsMethodOf ty key
+  FoundIn ty (Result inner) = ty ≡ types.Task inner
+  FoundIn ty NoMember = Unit {0}
+
+  -- A member is found in the type where it is looked up.
+  pub found_ok : (ty : Ty) (id : ℕ) → FoundIn ty (found_in world ty id)
+  found_ok ty id = by (out-Ty ty) (sym (roll-out-Ty ty)) where
+    by_role : (k : ℕ) (member : Member) → ty ≡ types.Named k
+        → world.known.members k id ≡ Some member → (is : Role) → member.role ≡ is
+        → FoundIn ty (role_found k member.word.at is)
+    by_role k member named at (role.Part i) is = named
+    by_role k member named at (role.Case i) is = tt
+    by_role k member named at role.Method is = record {
+      shape = k;
+      ty_is = named;
+      method = record { id = id; member = member; at = at; role_is = is; key_is = refl };
+    }
+
+    by_member : (k : ℕ) → ty ≡ types.Named k → (found : Option Member)
+        → world.known.members k id ≡ found → FoundIn ty (member_found k found)
+    by_member k named None at = tt
+    by_member k named (Some member) at = by_role k member named at member.role refl
+
+    by_name : (inner : Ty) → ty ≡ types.Task inner → (so : Bool)
+        → FoundIn ty (if so then Result inner else NoMember)
+    by_name inner task true = task
+    by_name inner task false = tt
+
+    by : (form : layer.Ty-F Ty) → ty ≡ roll-Ty form → FoundIn ty (found_layer world form id)
+    by layer.Int is = tt
+    by layer.Bool is = tt
+    by layer.Unit is = tt
+    by (layer.Named k) is =
+        by_member k (is ∙ rolls-Named k) (world.known.members k id) refl
+    by (layer.Func marked params result) is = tt
+    by (layer.Task inner) is = by_name inner (is ∙ rolls-Task inner) (id == 8)

@@ -29,12 +29,12 @@ use Rattle.sw_lower_safe.proofs.Lists.Listed.{in_first}
 use Rattle.sw_lower_safe.proofs.Programs.Standing.{StandsFrom}
 
 -- where a function is declared
-record FuncPlace (number index : ℕ) (decls : List Decl) (key : ℕ) : Type 0 where
-  n : ℕ
-  g : ℕ
-  tree : FuncTree
-  stands : StandsFrom number index decls n g (Func tree)
-  word : tree.word.at ≡ key
+pub record FuncPlace (number index : ℕ) (decls : List Decl) (key : ℕ) : Type 0 where
+  pub n : ℕ
+  pub g : ℕ
+  pub tree : FuncTree
+  pub stands : StandsFrom number index decls n g (Func tree)
+  pub word : tree.word.at ≡ key
 
 -- the function of a declaration whose word means one
 func_here : (number index : ℕ) (decl : Decl) (decls : List Decl) (shapes actors globals key : ℕ)
@@ -89,7 +89,7 @@ func_meant number index (decl ∷ decls) shapes actors globals id key is =
         }
 
 -- the function that a word means at top level
-func_place : (decls : List Decl) (id key : ℕ) → top_meaning decls id ≡ Some (means.Func key)
+pub func_place : (decls : List Decl) (id key : ℕ) → top_meaning decls id ≡ Some (means.Func key)
     → FuncPlace 0 0 decls key
 func_place decls id key is = by (6 == id) is where
   by : (given : Bool)
@@ -110,7 +110,7 @@ func_typed : (world : World) (n : ℕ) (tree : FuncTree)
 unfolding bodies_of
 func_typed world n tree = in_first (func_body world None tree) []
 
-func_made : (tables : Tables) (n g : ℕ) (tree : FuncTree) (body : Body)
+pub func_made : (tables : Tables) (n g : ℕ) (tree : FuncTree) (body : Body)
     → Contains (func_tree_bodies tables tree) body
     → Contains (decl_bodies tables n g (Func tree)) body
 unfolding decl_bodies

@@ -1,6 +1,6 @@
 -- Initialisers are found by the keys of their types.
-use Rattle.std.proofs.Common.{◌≡◌, ℕ, ◌+◌, Option, Some, None, List, [], ◌∷◌, ◌++◌, map, Contains}
-use Rattle.std.proofs.Common.{length, inl, inr, refl, ap, sym, ◌∙◌, subst, arith}
+use Rattle.std.proofs.Common.{◌≡◌, ℕ, Option, Some, None, List, [], ◌∷◌, ◌++◌, map, Contains}
+use Rattle.std.proofs.Common.{length, refl, ap, sym, ◌∙◌, arith}
 use Rattle.std.proofs.lemmas.List.Elements.{Contains-append_left, Contains-append_right}
 use Rattle.std.specs.Prelude.{◌==◌, flat_map, if◌then◌else◌, slice_get}
 use Rattle.sw_tree.proofs.Counting.{hits_same}
@@ -29,30 +29,21 @@ use Rattle.sw_isolation_rules.specs.Programs.{func_at}
 use Rattle.sw_isolation_rules.specs.Uses.{maker_at}
 use Rattle.sw_lower_code.specs.Whole.{Body}
 use Rattle.sw_lower_table.specs.Bodies.{AreNumbered, AreOrdered, decl_bodies, default_bodies}
-use Rattle.sw_lower_table.specs.Bodies.{first_values, func_tree_bodies, functions_of, globals_made}
-use Rattle.sw_lower_table.specs.Bodies.{init_bodies, init_code, init_signed, inits_bodies}
-use Rattle.sw_lower_table.specs.Bodies.{numbers_of, param_taken, prop_getters, signed, tables_of}
+use Rattle.sw_lower_table.specs.Bodies.{first_values, func_tree_bodies, functions_of, init_bodies}
+use Rattle.sw_lower_table.specs.Bodies.{init_code, init_signed, inits_bodies, numbers_of}
+use Rattle.sw_lower_table.specs.Bodies.{param_taken, prop_getters, signed, tables_of}
 use Rattle.sw_lower_table.specs.Carriers.{Given}
 use Rattle.sw_lower_table.specs.Statements.{block_code}
 use Rattle.sw_lower_table.specs.Tables.{Isolation, Tables, plain}
 use Rattle.sw_lower_safe.specs.Ground.{IsHeader, params_of}
 use Rattle.sw_lower_safe.proofs.Headers.ParamTypes.{AreAnswered, are_typed, kinds_are}
 use Rattle.sw_lower_safe.proofs.Headers.Signed.{declared_func, for_found, func_found, signed_header}
-use Rattle.sw_lower_safe.proofs.Lists.Listed.{in_first, in_map, in_place, in_rest}
+use Rattle.sw_lower_safe.proofs.Lists.Listed.{in_first, in_map, in_place}
+use Rattle.sw_lower_safe.proofs.Programs.DeclStands.{made_flat}
 use Rattle.sw_lower_safe.proofs.Programs.MadeOf.{body_stands, func_stands, one_shape, shape_stands}
 use Rattle.sw_lower_safe.proofs.Programs.MadeOf.{typed_stands}
 use Rattle.sw_lower_safe.proofs.Programs.SignatureKeys.{no_signature, numbered_key, value_word}
-use Rattle.sw_lower_safe.proofs.Programs.Standing.{Stands, StandsFrom, made_from, place_of_thing}
-
--- a declaration that stands somewhere is one of the program
-stands_in : (number index : ℕ) (decls : List Decl) (n g : ℕ) (decl : Decl)
-    → StandsFrom number index decls n g decl → Contains decls decl
-stands_in number index [] n g decl stands = absurd stands
-stands_in number index (first ∷ more) n g decl (inl (_, _, same)) =
-    subst (Contains (first ∷ more)) same (in_first first more)
-stands_in number index (first ∷ more) n g decl (inr later) =
-    in_rest first more decl
-    (stands_in (number + shapes_made first) (index + globals_made first) more n g decl later)
+use Rattle.sw_lower_safe.proofs.Programs.Standing.{Stands, place_of_thing, stands_in}
 
 -- what is found of a type's initialiser
 record MakerParts (found : Option ℕ) (numbers : ℕ → Option ℕ) (funcs : List Signature)
@@ -81,15 +72,8 @@ between : {X : Type 0} (before here after : List X) (x : X) → Contains here x
 between before here after x has =
     Contains-append_left (before ++ here) after x (Contains-append_right before here x has)
 
--- the keys of initialisers are made of declarations, one of each at most
-makers_are : (number index : ℕ) (decls : List Decl)
-    → flat_map maker_keys decls ≡ made_from (λ n g decl. maker_keys decl) number index decls
-makers_are number index [] = refl
-makers_are number index (decl ∷ decls) =
-    ap (λ more. maker_keys decl ++ more)
-    (makers_are (number + shapes_made decl) (index + globals_made decl) decls)
-
-makers_counted : (decl : Decl) → length (maker_keys decl) ≡ shapes_made decl
+-- one key of an initialiser of each shape
+pub makers_counted : (decl : Decl) → length (maker_keys decl) ≡ shapes_made decl
 makers_counted (Entry word written at is_async body) = refl
 makers_counted (Struct word conforms fields funcs) = refl
 makers_counted (Enum word conforms cases funcs) = refl
@@ -288,6 +272,7 @@ module _ (world : World) (answers : Answers) (isolation : Isolation) (decls : Li
       let parts = maker_parts (slice_get world.makers k) world.numbers world.funcs func made in
       let one = place_of_thing (λ n g decl. maker_keys decl) (λ n g. n) shapes_made
       (λ n g decl. refl) (λ n g decl. makers_counted decl) one_shape 0 0 decls k parts.key
-      (ap (λ makers. slice_get makers k) (sym (is.makers ∙ makers_are 0 0 decls)) ∙ parts.key_is) in
+      (ap (λ makers. slice_get makers k) (sym (is.makers ∙ made_flat maker_keys 0 0 decls))
+      ∙ parts.key_is) in
       maker_by one.n one.g one.decl one.stands parts.key parts.place f func one.is parts.place_is
       parts.at found

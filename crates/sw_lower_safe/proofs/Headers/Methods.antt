@@ -103,7 +103,7 @@ object_made tables getters inits funcs tree body has is =
     Contains-append_right (getters ++ inits) (flat_map (func_tree_bodies tables) funcs) body
     (in_flat_map (func_tree_bodies tables) funcs tree body has is)
 
-method_made : (tables : Tables) (n g : ℕ) (decl : Decl) (tree : FuncTree)
+pub method_made : (tables : Tables) (n g : ℕ) (decl : Decl) (tree : FuncTree)
     → Contains (trees_of decl) tree → (body : Body) → Contains (func_tree_bodies tables tree) body
     → Contains (decl_bodies tables n g decl) body
 unfolding decl_bodies
@@ -124,7 +124,7 @@ method_made tables n g (Func func) tree has body is = absurd (none_in tree has)
 method_made tables n g (Global global) tree has body is = absurd (none_in tree has)
 
 -- a type with methods makes a shape
-method_shape : (decl : Decl) (tree : FuncTree) → Contains (trees_of decl) tree
+pub method_shape : (decl : Decl) (tree : FuncTree) → Contains (trees_of decl) tree
     → shapes_made decl ≡ 1
 method_shape (Entry word written at is_async body) tree has = absurd (none_in tree has)
 method_shape (Struct word conforms fields funcs) tree has = refl

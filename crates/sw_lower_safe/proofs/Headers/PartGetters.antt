@@ -1,6 +1,6 @@
 -- Getters of properties are found by the keys of these.
-use Rattle.std.proofs.Common.{◌≡◌, ℕ, ◌+◌, Option, Some, None, List, [], ◌∷◌, ◌++◌, length}
-use Rattle.std.proofs.Common.{flat_map, ◌⊎◌, inl, inr, refl, ap, sym, ◌∙◌, subst, arith}
+use Rattle.std.proofs.Common.{◌≡◌, ℕ, ◌+◌, Option, Some, None, List, [], ◌∷◌, length, flat_map, ◌⊎◌}
+use Rattle.std.proofs.Common.{inl, inr, refl, ap, sym, ◌∙◌, subst, arith}
 use Rattle.std.proofs.lemmas.Option.{same_Some, slice_get-map}
 use Rattle.std.specs.Option.{option_map}
 use Rattle.std.specs.Prelude.{slice_get}
@@ -19,8 +19,8 @@ use Rattle.sw_decls.specs.declared.signature.AsyncDefault.{AsyncDefault}
 use Rattle.sw_typing_rules.specs.Worlds.{IsWorldOf, World}
 use Rattle.sw_isolation_rules.specs.Answers.{Answers}
 use Rattle.sw_lower_code.specs.Whole.{Body}
-use Rattle.sw_lower_table.specs.Bodies.{AreNumbered, AreOrdered, functions_of, globals_made}
-use Rattle.sw_lower_table.specs.Bodies.{numbers_of, tables_of}
+use Rattle.sw_lower_table.specs.Bodies.{AreNumbered, AreOrdered, functions_of, numbers_of}
+use Rattle.sw_lower_table.specs.Bodies.{tables_of}
 use Rattle.sw_lower_table.specs.Tables.{Isolation, Tables, getter_of, part_key_in, prop_keys}
 use Rattle.sw_lower_table.specs.Tables.{shape_keys}
 use Rattle.sw_lower_safe.specs.Ground.{IsHeader}
@@ -29,21 +29,15 @@ use Rattle.sw_lower_safe.proofs.Headers.ByName.{header_as}
 use Rattle.sw_lower_safe.proofs.Headers.FoundGetters.{GetterAt, getter_at}
 use Rattle.sw_lower_safe.proofs.Headers.Getters.{GlobalGetter, PartGetter, props_of}
 use Rattle.sw_lower_safe.proofs.Lists.Found.{found_in_found}
+use Rattle.sw_lower_safe.proofs.Programs.DeclStands.{made_flat}
 use Rattle.sw_lower_safe.proofs.Programs.Keyed.{counted_where, key_once, one_index, one_place}
 use Rattle.sw_lower_safe.proofs.Programs.MadeOf.{one_shape}
 use Rattle.sw_lower_safe.proofs.Programs.PropKeys.{global_key_in, no_props, own_key, prop_key_in}
 use Rattle.sw_lower_safe.proofs.Programs.PropKeys.{props_in}
-use Rattle.sw_lower_safe.proofs.Programs.Standing.{Stands, made_from, place_of_thing}
+use Rattle.sw_lower_safe.proofs.Programs.Standing.{Stands, place_of_thing}
 
--- the keys of shapes are made of declarations, one list of each at most
-keys_are : (number index : ℕ) (decls : List Decl)
-    → flat_map shape_keys decls ≡ made_from (λ n g decl. shape_keys decl) number index decls
-keys_are number index [] = refl
-keys_are number index (decl ∷ decls) =
-    ap (λ more. shape_keys decl ++ more)
-    (keys_are (number + shapes_made decl) (index + globals_made decl) decls)
-
-keys_counted : (decl : Decl) → length (shape_keys decl) ≡ shapes_made decl
+-- one list of keys of each shape
+pub keys_counted : (decl : Decl) → length (shape_keys decl) ≡ shapes_made decl
 keys_counted (Entry word written at is_async body) = refl
 keys_counted (Struct word conforms fields funcs) = refl
 keys_counted (Enum word conforms cases funcs) = refl
@@ -154,7 +148,7 @@ module _ (world : World) (answers : Answers) (isolation : Isolation) (decls : Li
       by all first second =
           let place = place_of_thing (λ n g decl. shape_keys decl) (λ n g. n) shapes_made
           (λ n g decl. refl) (λ n g decl. keys_counted decl) one_shape 0 0 decls k all
-          (ap (λ list. slice_get list k) (sym (keys_are 0 0 decls)) ∙ first) in
+          (ap (λ list. slice_get list k) (sym (made_flat shape_keys 0 0 decls)) ∙ first) in
           there place.n place.g place.decl place.stands
           (let same : place.n ≡ k = omega (arith, place.at) in same)
           (key_place place.decl all i key place.is second) one.whose

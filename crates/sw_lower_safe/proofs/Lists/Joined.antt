@@ -1,9 +1,13 @@
 -- What holds of lists that are joined holds of each.
-use Rattle.std.proofs.Common.{List, [], ◌∷◌, ◌++◌, flat_map, Contains}
+use Rattle.std.proofs.Common.{List, [], ◌∷◌, ◌++◌, flat_map, Contains, ◌≡◌, ap, ◌∙◌}
 use Rattle.std.proofs.lemmas.List.Elements.{All-append, All-contains, All-contains_itself, All-nil}
 use Rattle.std.proofs.lemmas.List.Elements.{Contains-append_left, Contains-append_right}
 use Rattle.std.specs.Prelude.{All}
 use Rattle.sw_lower_safe.proofs.Lists.Listed.{in_first, in_rest}
+
+-- two empty lists
+pub both_none : {X : Type 0} (xs ys : List X) → xs ≡ [] → ys ≡ [] → xs ++ ys ≡ []
+both_none xs ys one other = ap (λ all. all ++ ys) one ∙ other
 
 module _ {X : Type 0} (P : X → Type 0) where
   -- what holds of each element of two lists holds of each of the first

@@ -141,10 +141,11 @@ safe_reg w p kind within = safe_by w p (reg kind) (MadeReg w p kind) (λ t stand
       ∙ ap (slice_get (p.making.made.regs ++ kind ∷ all.0)) (omega arith)
       ∙ slice_get_after p.making.made.regs (kind ∷ all.0) 0
 
-abbrev gave : {A : Type 0} → A → Making → Result (A × Making) CodeFault
+abbrev pub gave : {A : Type 0} → A → Making → Result (A × Making) CodeFault
 gave value t = Ok (value, t)
 
-ended : {A : Type 0} (value : A) (making : Making) (given : A) (t : Making)
+-- what a run gave, and the function that it came to, are one each
+pub ended : {A : Type 0} (value : A) (making : Making) (given : A) (t : Making)
     → gave value making ≡ gave given t → (value ≡ given) × (making ≡ t)
 ended {A} value making given t is =
     (ap (λ result. (of result).0) is, ap (λ result. (of result).1) is) where

@@ -1,7 +1,6 @@
 -- Only enums have cases.
-use Rattle.std.proofs.Common.{◌≡◌, ℕ, ◌+◌, true, List, [], ◌∷◌, Some, None, refl, subst, sym, ap}
-use Rattle.std.proofs.Common.{◌∙◌}
-use Rattle.std.proofs.lemmas.List.Elements.{All-append, All-cons, All-nil}
+use Rattle.std.proofs.Common.{◌≡◌, ℕ, true, List, [], ◌∷◌, Some, None, refl, subst, sym, ap, ◌∙◌}
+use Rattle.std.proofs.lemmas.List.Elements.{All-cons, All-nil}
 use Rattle.std.specs.Prelude.{All, slice_get}
 use Rattle.sw_tree.specs.declared.decl.Decl.{Decl}
 use Rattle.sw_tree.specs.declared.decl.Decl.TheVariants.{Entry, Struct, Enum, Class, Actor}
@@ -11,10 +10,10 @@ use Rattle.sw_types.specs.declared.shape.Shape.{Shape}
 use Rattle.sw_graph.specs.Kinds.{is_enum}
 use Rattle.sw_graph.proofs.ListLemmas.{at_index}
 use Rattle.sw_resolve.specs.Evident.{Meanings, meanings_of}
-use Rattle.sw_resolve.specs.Shaped.{shape_of, shapes_from}
-use Rattle.sw_resolve.specs.Words.{shapes_made}
+use Rattle.sw_resolve.specs.Shaped.{shape_of}
 use Rattle.sw_decls.specs.declared.signature.AsyncDefault.{AsyncDefault}
 use Rattle.sw_typing_rules.specs.Worlds.{IsWorldOf, World}
+use Rattle.sw_lower_safe.proofs.Programs.MadeOf.{each_shape}
 
 -- Each of the shapes that has cases is an enum.
 abbrev pub OnlyEnums : List Shape → Type 0
@@ -48,19 +47,11 @@ declared_enums known number (GlobalActor word made) = All-nil CasesOfEnum
 declared_enums known number (Func func) = All-nil CasesOfEnum
 declared_enums known number (Global global) = All-nil CasesOfEnum
 
--- what declarations make
-all_enums : (known : Meanings) (number : ℕ) (decls : List Decl)
-    → All CasesOfEnum (shapes_from known number decls)
-all_enums known number [] = All-nil CasesOfEnum
-all_enums known number (decl ∷ decls) =
-    All-append CasesOfEnum (shape_of known number decl)
-    (shapes_from known (number + shapes_made decl) decls) (declared_enums known number decl)
-    (all_enums known (number + shapes_made decl) decls)
-
 -- In what a program declares, only enums have cases.
 pub only_enums : (decls : List Decl) (rule : AsyncDefault) (world : World)
     → IsWorldOf decls rule world → OnlyEnums world.shapes
 only_enums decls rule world is k i shape one at case_is =
     at_index CasesOfEnum world.shapes k shape
-    (subst (All CasesOfEnum) (sym is.shapes) (all_enums (meanings_of decls) 0 decls)) at i one
+    (subst (All CasesOfEnum) (sym is.shapes) (each_shape CasesOfEnum (meanings_of decls)
+    (declared_enums (meanings_of decls)) 0 decls)) at i one
     case_is

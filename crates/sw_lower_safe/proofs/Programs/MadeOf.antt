@@ -1,7 +1,8 @@
 -- What is made of a declaration is made of its program.
 use Rattle.std.proofs.Common.{◌≡◌, ℕ, ◌+◌, Option, Some, List, [], ◌∷◌, ◌++◌, ◌≤◌, length, Contains}
 use Rattle.std.proofs.Common.{refl, ap, sym, ◌∙◌, subst, arith}
-use Rattle.std.specs.Prelude.{slice_get}
+use Rattle.std.proofs.lemmas.List.Elements.{All-append, All-nil}
+use Rattle.std.specs.Prelude.{slice_get, All}
 use Rattle.sw_tree.specs.declared.decl.Decl.{Decl}
 use Rattle.sw_tree.specs.declared.decl.Decl.TheVariants.{Entry, Struct, Enum, Class, Actor}
 use Rattle.sw_tree.specs.declared.decl.Decl.TheVariants.{GlobalActor, Func, Global}
@@ -15,8 +16,7 @@ use Rattle.sw_resolve.specs.declared.words.Meaning.{Meaning}
 use Rattle.sw_decls.specs.Signatures.{funcs_from, funcs_of}
 use Rattle.sw_decls.specs.declared.signature.AsyncDefault.{AsyncDefault}
 use Rattle.sw_decls.specs.declared.signature.Signature.{Signature}
-use Rattle.sw_typing_rules.specs.Programs.{BodyOf, HasType, bodies_of, body_noted, body_state}
-use Rattle.sw_typing_rules.specs.Programs.{func_body, of_body, param_var, params_of as vars_of}
+use Rattle.sw_typing_rules.specs.Programs.{BodyOf, bodies_of}
 use Rattle.sw_typing_rules.specs.Programs as typing
 use Rattle.sw_typing_rules.specs.Worlds.{World}
 use Rattle.sw_lower_code.specs.Whole.{Body}
@@ -27,7 +27,7 @@ use Rattle.sw_lower_safe.proofs.Programs.Standing.{MadeBy, Stands, at_place, mad
 use Rattle.sw_lower_safe.proofs.Programs.Standing.{maker_of}
 
 -- what functions a program declares is made of its declarations
-funcs_are : (known : ℕ → Option Meaning) (rule : AsyncDefault) (number index : ℕ)
+pub funcs_are : (known : ℕ → Option Meaning) (rule : AsyncDefault) (number index : ℕ)
     (decls : List Decl)
     → funcs_from known rule number decls
     ≡ made_from (λ n g decl. funcs_of known rule n decl) number index decls
@@ -100,6 +100,16 @@ shapes_are known number index [] = refl
 shapes_are known number index (decl ∷ decls) =
     ap (λ more. shape_of known number decl ++ more)
     (shapes_are known (number + shapes_made decl) (index + globals_made decl) decls)
+
+-- what holds of the shapes of each declaration
+pub each_shape : (P : Shape → Type 0) (known : Meanings)
+    → ((number : ℕ) (decl : Decl) → All P (shape_of known number decl)) → (number : ℕ)
+    (decls : List Decl) → All P (shapes_from known number decls)
+each_shape P known each number [] = All-nil P
+each_shape P known each number (decl ∷ decls) =
+    All-append P (shape_of known number decl)
+    (shapes_from known (number + shapes_made decl) decls) (each number decl)
+    (each_shape P known each (number + shapes_made decl) decls)
 
 -- each declaration makes as many shapes as are counted, and one at most
 pub shapes_counted : (known : Meanings) (n : ℕ) (decl : Decl)

@@ -34,7 +34,8 @@ earlier_keeps : (found : Option ℕ) (at bound : ℕ) → AtMost found bound
 earlier_keeps None at bound below = absurd below
 earlier_keeps (Some first) at bound below = grind (arith, below)
 
-abbrev next : ℕ → Option ℕ → Name → Option ℕ
+-- where a name stands first, with one more
+abbrev pub next : ℕ → Option ℕ → Name → Option ℕ
 next id found name = if name.id == id then earlier found name.at else found
 
 next_keeps : (id bound : ℕ) (found : Option ℕ) (name : Name) → AtMost found bound

@@ -140,3 +140,22 @@ module _ (decls : List Decl) (keyed : AreKeyed decls) (sound : IsFirstBreach dec
         (λ k. omega (arith, counts.in_decl-Actor word props inits funcs k))
         (none_right (members.funcs_in_actor funcs) _ (sound_names decls sound n g decl stands))
         (sound_values decls sound n g decl stands)
+
+-- A class or an actor that breaches no rule has a value for each property.
+module _ (decls : List Decl) (sound : IsFirstBreach decls None) (n g : ℕ) where
+  pub class_valued : (written : Written) (word : Name) (conforms : Bool) (props : List PropTree)
+      (inits : List InitTree) (funcs : List FuncTree)
+      → Stands decls n g (Class written word conforms props inits funcs)
+      → without_value props inits ≡ []
+  unfolding profile.values_of profile.in_object
+  class_valued written word conforms props inits funcs stands =
+      none_left (without_value props inits) _ (sound_values decls sound n g
+      (Class written word conforms props inits funcs) stands)
+
+  pub actor_valued : (word : Name) (props : List PropTree) (inits : List InitTree)
+      (funcs : List FuncTree) → Stands decls n g (Actor word props inits funcs)
+      → without_value props inits ≡ []
+  unfolding profile.values_of profile.in_object
+  actor_valued word props inits funcs stands =
+      none_left (without_value props inits) _ (sound_values decls sound n g
+      (Actor word props inits funcs) stands)

@@ -1,6 +1,6 @@
 -- No closure and no task stands in a simple value, so there is no body in it.
-use Rattle.std.proofs.Common.{◌≡◌, ℕ, Bool, true, false, List, [], ◌∷◌, ◌++◌, map, flat_map, Option}
-use Rattle.std.proofs.Common.{Some, None, is_some, refl, sym, ap, ◌∙◌, subst, ◌||◌, true≢false}
+use Rattle.std.proofs.Common.{◌≡◌, ℕ, Bool, true, false, List, [], ◌∷◌, map, flat_map, Option, Some}
+use Rattle.std.proofs.Common.{None, is_some, refl, sym, subst, ◌||◌, true≢false}
 use Rattle.std.specs.List.{AllByRecursion}
 use Rattle.sw_tree.proofs.FoldEquations as eq
 use Rattle.sw_tree.proofs.TreeInduction.{Cases, Claims, every_expr}
@@ -14,6 +14,7 @@ use Rattle.sw_values.specs.Simple.{Worth, all_simple, is_simple, read, worth_ste
 use Rattle.sw_lower_table.specs.Carriers.{ArgCode, ExprCode, LinkCode}
 use Rattle.sw_lower_table.specs.Statements.{code_steps, expr_code}
 use Rattle.sw_lower_table.specs.Tables.{Tables}
+use Rattle.sw_lower_safe.proofs.Lists.Joined.{both_none}
 
 -- a value that is simple, or names an enum, has no body in it
 abbrev ExprNone : Worth → ExprCode → Type 0
@@ -25,31 +26,28 @@ ArgNone simple code = simple ≡ true → code.inside ≡ []
 abbrev LinkNone : Bool → LinkCode → Type 0
 LinkNone simple code = simple ≡ true → code.inside ≡ []
 
-or_false : (a : Bool) → (a || false) ≡ true → a ≡ true
+pub or_false : (a : Bool) → (a || false) ≡ true → a ≡ true
 or_false true is = refl
 or_false false is = is
 
-or_true : (a b : Bool) → a ≡ true → (a || b) ≡ true
+pub or_true : (a b : Bool) → a ≡ true → (a || b) ≡ true
 or_true true b is = refl
 or_true false b is = absurd (true≢false (sym is))
 
 -- a base of a case names its enum
-base_named : (known : Meanings) (enum : Option ℕ) (id : ℕ)
+pub base_named : (known : Meanings) (enum : Option ℕ) (id : ℕ)
     → is_some (case_type known enum id) ≡ true → is_some enum ≡ true
 base_named known None id is = is
 base_named known (Some number) id is = refl
 
-base_worth : (known : Meanings) (simple : Bool) (enum : Option ℕ) (id : ℕ)
+pub base_worth : (known : Meanings) (simple : Bool) (enum : Option ℕ) (id : ℕ)
     → (simple || is_some (case_type known enum id)) ≡ true → (simple || is_some enum) ≡ true
 base_worth known true enum id is = refl
 base_worth known false enum id is = base_named known enum id is
 
-or_some : (a b : Bool) → b ≡ true → (a || b) ≡ true
+pub or_some : (a b : Bool) → b ≡ true → (a || b) ≡ true
 or_some true b is = refl
 or_some false b is = is
-
-both_none : {X : Type 0} (xs ys : List X) → xs ≡ [] → ys ≡ [] → xs ++ ys ≡ []
-both_none xs ys one other = ap (λ all. all ++ ys) one ∙ other
 
 module _ (tables : Tables) (around : Option ℕ) (known : Meanings) (owner : Option ℕ)
     (params : ℕ → Option ℕ) where

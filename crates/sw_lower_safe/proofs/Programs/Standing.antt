@@ -12,6 +12,7 @@ use Rattle.sw_graph.proofs.ListLemmas.{slice_get_front}
 use Rattle.sw_resolve.specs.Words.{shapes_made}
 use Rattle.sw_typing_rules.proofs.Saying.{none_in}
 use Rattle.sw_lower_table.specs.Bodies.{globals_made}
+use Rattle.sw_lower_safe.proofs.Lists.Listed.{in_first, in_rest}
 
 -- A declaration stands among these after n shapes and g global variables, where so many stand
 -- before them all.
@@ -24,6 +25,16 @@ StandsFrom number index (first ∷ more) n g decl =
 -- the same in a whole program
 abbrev pub Stands : List Decl → ℕ → ℕ → Decl → Type 0
 Stands decls n g decl = StandsFrom 0 0 decls n g decl
+
+-- a declaration that stands somewhere is one of the program
+pub stands_in : (number index : ℕ) (decls : List Decl) (n g : ℕ) (decl : Decl)
+    → StandsFrom number index decls n g decl → Contains decls decl
+stands_in number index [] n g decl stands = absurd stands
+stands_in number index (first ∷ more) n g decl (inl (_, _, same)) =
+    subst (Contains (first ∷ more)) same (in_first first more)
+stands_in number index (first ∷ more) n g decl (inr later) =
+    in_rest first more decl
+    (stands_in (number + shapes_made first) (index + globals_made first) more n g decl later)
 
 -- What each declaration makes, by the numbers before it, and what all make together.
 module _ {X : Type 0} (makes : ℕ → ℕ → Decl → List X) where

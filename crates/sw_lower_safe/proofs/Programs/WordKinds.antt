@@ -1,6 +1,6 @@
 -- Words that mean types say of which kind the types are.
 use Rattle.std.proofs.Common.{◌≡◌, ℕ, ◌+◌, ◌==◌, List, [], ◌∷◌, ◌++◌, Option, Some, None, sym, ap}
-use Rattle.std.proofs.Common.{◌∙◌, Bool, true, false, arith}
+use Rattle.std.proofs.Common.{◌∙◌, Bool, true, false, arith, refl}
 use Rattle.std.specs.Prelude.{if◌then◌else◌, slice_get}
 use Rattle.std.proofs.lemmas.Option.{none-some, same_Some}
 use Rattle.sw_tree.specs.declared.decl.Decl.{Decl}
@@ -26,11 +26,13 @@ WordKinds world = (id k : ℕ) (kind : ShapeKind) (shape : Shape)
     → world.known.top id ≡ Some (means.Shape kind k) → slice_get world.shapes k ≡ Some shape
     → shape.kind ≡ kind
 
--- Among shapes that are numbered from here, the one with a number is of a kind, where it is there.
-pub record HasKind (shapes : List Shape) (from k : ℕ) (kind : ShapeKind) : Type 0 where
-  pub place : ℕ
-  pub number : k ≡ from + place
-  pub is : (shape : Shape) → slice_get shapes place ≡ Some shape → shape.kind ≡ kind
+-- Among shapes that are numbered from here, the one with a number is there, and is of a kind.
+record HasKind (shapes : List Shape) (from k : ℕ) (kind : ShapeKind) : Type 0 where
+  place : ℕ
+  number : k ≡ from + place
+  shape : Shape
+  at : slice_get shapes place ≡ Some shape
+  is : shape.kind ≡ kind
 
 -- the number and the kind that a meaning names
 of_shape : Meaning → ℕ
@@ -42,17 +44,18 @@ of_kind (means.Shape kind k) = kind
 of_kind _ = kinds.Struct
 
 -- the first of these is of the kind that its meaning names
-first_kind : (shapes : List Shape) (from k : ℕ) (kind made : ShapeKind)
-    → Some (means.Shape made from) ≡ Some (means.Shape kind k)
-    → ((shape : Shape) → slice_get shapes 0 ≡ Some shape → shape.kind ≡ made)
-    → HasKind shapes from k kind
+first_kind : (shape : Shape) (rest : List Shape) (from k : ℕ) (kind made : ShapeKind)
+    → Some (means.Shape made from) ≡ Some (means.Shape kind k) → shape.kind ≡ made
+    → HasKind (shape ∷ rest) from k kind
 unfolding of_shape of_kind
-first_kind shapes from k kind made is first =
+first_kind shape rest from k kind made is first =
     let same = same_Some (means.Shape made from) (means.Shape kind k) is in
     record {
       place = 0;
       number = omega (arith, ap of_shape same);
-      is = λ shape found. first shape found ∙ ap of_kind same;
+      shape = shape;
+      at = refl;
+      is = first ∙ ap of_kind same;
     }
 
 module _ (known : Meanings) where
@@ -63,18 +66,14 @@ module _ (known : Meanings) where
   unfolding shape_of
   declared_kind (Entry word written at is_async body) rest number actors globals k kind is = cc
   declared_kind (Struct word conforms fields funcs) rest number actors globals k kind is =
-      first_kind _ number k kind kinds.Struct is
-      (λ shape found. ap (λ (s : Shape). s.kind) (sym (same_Some _ shape found)))
+      first_kind _ rest number k kind kinds.Struct is refl
   declared_kind (Enum word conforms cases funcs) rest number actors globals k kind is =
-      first_kind _ number k kind kinds.Enum is
-      (λ shape found. ap (λ (s : Shape). s.kind) (sym (same_Some _ shape found)))
+      first_kind _ rest number k kind kinds.Enum is refl
   declared_kind (Class written word conforms props inits funcs) rest number actors globals k kind
       is =
-      first_kind _ number k kind kinds.Class is
-      (λ shape found. ap (λ (s : Shape). s.kind) (sym (same_Some _ shape found)))
+      first_kind _ rest number k kind kinds.Class is refl
   declared_kind (Actor word props inits funcs) rest number actors globals k kind is =
-      first_kind _ number k kind kinds.Actor is
-      (λ shape found. ap (λ (s : Shape). s.kind) (sym (same_Some _ shape found)))
+      first_kind _ rest number k kind kinds.Actor is refl
   declared_kind (GlobalActor word made) rest number actors globals k kind is = cc
   declared_kind (Func func) rest number actors globals k kind is = cc
   declared_kind (Global global) rest number actors globals k kind is = cc
@@ -86,10 +85,12 @@ module _ (known : Meanings) where
   later_kind decl rest number k kind later = record {
     place = shapes_made decl + later.place;
     number = omega (arith, later.number);
-    is = λ shape found. later.is shape
-        (sym (slice_get_after (shape_of known number decl) rest later.place)
-        ∙ ap (λ n. slice_get (shape_of known number decl ++ rest) (n + later.place))
-        (shapes_counted known number decl) ∙ found);
+    shape = later.shape;
+    at = ap (λ n. slice_get (shape_of known number decl ++ rest) (n + later.place))
+        (sym (shapes_counted known number decl))
+        ∙ slice_get_after (shape_of known number decl) rest later.place
+        ∙ later.at;
+    is = later.is;
   }
 
   -- the types of declarations
@@ -127,13 +128,24 @@ not_given id k kind later = by (6 == id) where
   by true is = cc
   by false is = is
 
+-- In what a program declares, the type that a word means is there, and of the kind that it means.
+pub word_shape : (decls : List Decl) (rule : AsyncDefault) (world : World)
+    → IsWorldOf decls rule world → (id k : ℕ) (kind : ShapeKind)
+    → world.known.top id ≡ Some (means.Shape kind k)
+    → (shape : Shape) × (slice_get world.shapes k ≡ Some shape) × (shape.kind ≡ kind)
+word_shape decls rule world is id k kind top_is =
+    let found = from_kind (meanings_of decls) decls 0 1 0 id k kind
+    (not_given id k kind (meaning_from decls 0 1 0 id) (sym (is.words id) ∙ top_is)) in
+    let same : k ≡ found.place = omega (arith, found.number) in (
+      found.shape,
+      ap (λ shapes. slice_get shapes k) is.shapes
+          ∙ ap (slice_get (shapes_from (meanings_of decls) 0 decls)) same ∙ found.at,
+      found.is,
+    )
+
 -- In what a program declares, words that mean types say of which kind the types are.
 pub word_kinds : (decls : List Decl) (rule : AsyncDefault) (world : World)
     → IsWorldOf decls rule world → WordKinds world
 word_kinds decls rule world is id k kind shape top_is at =
-    let found = from_kind (meanings_of decls) decls 0 1 0 id k kind
-    (not_given id k kind (meaning_from decls 0 1 0 id) (sym (is.words id) ∙ top_is)) in
-    found.is shape (ap (λ shapes. slice_get shapes found.place) (sym is.shapes)
-    ∙ ap (slice_get world.shapes) (sym (zero_plus found.place) ∙ sym found.number) ∙ at) where
-      zero_plus : (n : ℕ) → 0 + n ≡ n
-      zero_plus n = omega arith
+    let (one, there, kind_is) = word_shape decls rule world is id k kind top_is in
+    ap (λ (s : Shape). s.kind) (same_Some shape one (sym at ∙ there)) ∙ kind_is

@@ -12,9 +12,7 @@ use Rattle.sw_typing_rules.specs.declared.row.Row.{Row}
 use Rattle.sw_typing_rules.specs.declared.row.Row.TheVariants.{Ill, Means, Typed}
 use Rattle.sw_typing_rules.proofs.Saying.{is_said}
 use Rattle.sw_isolation_rules.specs.Answers.{answers_in, type_in}
-
-in_one : {X : Type 0} (x : X) → Contains (x ∷ []) x
-in_one x = (0, (omega arith), refl)
+use Rattle.sw_lower_safe.proofs.Lists.Listed.{in_first}
 
 type_is_in : (rows : List Row) (key : ℕ) (ty : Ty) → type_in rows key ≡ Some ty
     → Contains rows (Typed key ty)
@@ -35,7 +33,7 @@ type_is_in (Typed at other ∷ rows) key ty is =
           subst (λ k. Contains (Typed at other ∷ rows) (Typed k ty)) at_is
           (subst (λ t. Contains (Typed at other ∷ rows) (Typed at t)) ty_is
           (Contains-append_left (Typed at other ∷ []) rows (Typed at other)
-          (in_one (Typed at other))))
+          (in_first (Typed at other) [])))
       by false here is later =
           Contains-append_right (Typed at other ∷ []) rows (Typed key ty) (later is)
 

@@ -2,8 +2,11 @@
 use Rattle.std.proofs.Common.{◌≡◌, ℕ, ◌+◌, ◌≤◌, Bool, true, false, List, [], ◌∷◌, ◌++◌, Option}
 use Rattle.std.proofs.Common.{Some, None, arith, map, flat_map, refl, if◌then◌else◌, not, ◌&&◌}
 use Rattle.std.proofs.Common.{is_some}
-use Rattle.sw_tree.proofs.Counting.{Weight, hits, in_all, in_all-append, in_all-cons, in_all-nil}
-use Rattle.sw_tree.proofs.KeyCounts.{in_pattern, in_pattern-Skip, in_pattern-Let}
+use Rattle.sw_tree.proofs.Counting.{Weight, hits, in_all, in_all-append, in_all-cons, in_all-map}
+use Rattle.sw_tree.proofs.Counting.{in_all-nil}
+use Rattle.sw_tree.proofs.KeyCounts.{in_closure_param, in_name, in_pattern, in_pattern-Let}
+use Rattle.sw_tree.proofs.KeyCounts.{in_pattern-Skip}
+use Rattle.sw_tree.specs.declared.expr.ClosureParam.{ClosureParam}
 use Rattle.sw_tree.specs.declared.name.Name.{Name}
 use Rattle.sw_tree.specs.declared.operator.AssignOp.{AssignOp}
 use Rattle.sw_tree.specs.declared.stmt.Pattern.{Pattern}
@@ -22,6 +25,7 @@ use Rattle.sw_typing_rules.specs.Statements.{State, Left, place_type}
 use Rattle.sw_typing_rules.specs.Verdicts.{rows_of, meaning_rows, variable_rows, ill_if, is_unit}
 use Rattle.sw_typing_rules.specs.Verdicts.{all_well}
 use Rattle.sw_typing_rules.specs.Words as senses
+use Rattle.sw_typing_rules.specs.Words.{Setting}
 use Rattle.sw_typing_rules.specs.Worlds.{World}
 use Rattle.sw_typing_rules.specs.declared.row.Meaning.{Meaning}
 use Rattle.sw_typing_rules.specs.declared.row.Meaning.TheVariants as means
@@ -169,15 +173,9 @@ module _ (w : Row → Weight) (counts : Counts w) where
         node at (callee_meaning callee) says k,
       )
 
-  -- A base that names an enum tells of nothing.
-  pub bases : (enum : Option ℕ) (rows : List Row) (k : ℕ)
-      → in_all w (exps.rows_by enum rows) k ≤ in_all w rows k
-  bases None rows k = omega arith
-  bases (Some shape) rows k = omega (arith, in_all-nil w k)
-
   module _ (world : World) where
     -- a member of a value
-    value_member : (base : Judged) (ty : Option Ty) (name : Name) (k : ℕ)
+    pub value_member : (base : Judged) (ty : Option Ty) (name : Name) (k : ℕ)
         → in_all w (exps.value_member world base ty name).rows k
         ≤ in_all w base.rows k + hits name.at k
     value_member base None name k = noted name.at Held base.rows k
@@ -185,12 +183,10 @@ module _ (w : Row → Weight) (counts : Counts w) where
         let found = senses.found_in world ty name.id in
         meant name.at (senses.found_meaning found) (senses.found_types world found) base.rows k
 
-    -- a member, or a case of an enum
-    pub member : (base : Judged) (enum : Option ℕ) (name : Name) (k : ℕ)
-        → in_all w (exps.member_by world base enum name).rows k
-        ≤ in_all w base.rows k + hits name.at k
-    member base None name k = value_member base base.ty name k
-    member base (Some shape) name k =
+    -- a case of an enum
+    pub case_named : (shape : ℕ) (name : Name) (k : ℕ)
+        → in_all w (exps.case_judged world shape name).rows k ≤ hits name.at k
+    case_named shape name k =
         let number = calls.case_in world shape name.id in
         let meaning = calls.case_meaning shape number in
         let says = calls.enum_types world shape number in
@@ -363,4 +359,23 @@ module _ (w : Row → Weight) (counts : Counts w) where
         arith,
         in_all-append w value.rows (left.refused at value.ty wanted) k,
         refused at value.ty wanted k,
+      )
+
+  -- A closure tells of its captures and its parameters, and of what its body holds.
+  pub closed : (world : World) (s : Setting) (at : ℕ) (mark : Option Name) (words : List Name)
+      (params : List ClosureParam) (l : Left) (k : ℕ)
+      → in_all w (left.closed world s at mark words params l).rows k
+      ≤ in_all in_name words k + in_all in_closure_param params k + in_all w l.rows k
+  closed world s at mark words params l k =
+      let own = flat_map (λ (name : Name). left.capture_rows name
+      (senses.local s.vars name.id)) words in
+      let declared = map (left.param_var world) params in
+      omega (
+        arith,
+        in_all-append w own (left.vars_rows declared ++ left.body_rows at l) k,
+        in_all-append w (left.vars_rows declared) (left.body_rows at l) k,
+        captures s.vars words k,
+        vars declared k,
+        in_all-map (λ (one : Var). hits one.at) (left.param_var world) params k,
+        body at l k,
       )

@@ -58,13 +58,21 @@ is_fixed : (found : Option Ty) (ty : Ty) (b : Bool) → found ≡ Some ty
 is_fixed None ty b has holds = absurd (none-some ty has)
 is_fixed (Some other) ty b has holds = holds
 
-settles : (inside : Inside) (place : Judged) (ty : Ty) → inside.init ≡ false
-    → place.ty ≡ Some ty → fixed inside place ≡ false → Settles inside place ty
-settles inside place ty init has holds = record {
+pub settles : (answers : Answers) (inside : Inside) (state : State) (at : ℕ) (op : AssignOp)
+    (place judged : Judged) (ty : Ty) → inside.init ≡ false → place.ty ≡ Some ty
+    → RowsHold answers (assign_left inside state at op place judged).rows
+    → Settles inside place ty
+settles answers inside state at op place judged ty init has rows = record {
   settable = may_set inside.init place.settable init
       (is_fixed place.ty ty (not (inside.init || place.settable)) has holds);
   typed = ap (λ b. if b then None else place.ty) holds ∙ has;
-}
+} where
+  holds : fixed inside place ≡ false
+  holds = not_ill answers (fixed inside place) place.key 404
+      (rows_left answers (ill_if (fixed inside place) place.key 404)
+      (judged.rows ++ misassigned op at (place_type inside place) judged.ty)
+      (rows_right answers place.rows (ill_if (fixed inside place) place.key 404
+      ++ (judged.rows ++ misassigned op at (place_type inside place) judged.ty)) rows))
 
 well_assigned : (answers : Answers) (op : AssignOp) (at : ℕ) (place value : Option Ty)
     (to from : Ty) → place ≡ Some to → value ≡ Some from
@@ -76,6 +84,15 @@ well_assigned answers op at (Some place) (Some value) to from is_to is_from hold
     ap (λ t. assigns op t from) (sym (same_Some place to is_to))
     ∙ ap (assigns op place) (sym (same_Some value from is_from))
     ∙ well_if answers (assigns op place value) at 402 hold
+
+-- the code of an assignment
+abbrev pub assign_code : AssignOp → ℕ → ExprCode → ExprCode → StmtCode
+assign_code op at place given = record {
+  code = λ targets. given.read >>= assign op at place;
+  only = None;
+  gives = given_part place.own_part given.read;
+  inside = place.inside ++ given.inside;
+}
 
 module _ (tables : Tables) (number : Numbers) (functions : List Function)
     (ground : Ground tables number functions) (owner : Option ℕ) where
@@ -161,15 +178,6 @@ module _ (tables : Tables) (number : Numbers) (functions : List Function)
         ints_in p at bin.Rem from x (record { takes = λ a b l r. (l, r); gives = refl }) knows value
         is
 
-  -- the code of an assignment
-  abbrev pub assign_code : AssignOp → ℕ → ExprCode → ExprCode → StmtCode
-  assign_code op at place given = record {
-    code = λ targets. given.read >>= assign op at place;
-    only = None;
-    gives = given_part place.own_part given.read;
-    inside = place.inside ++ given.inside;
-  }
-
   -- an assignment, elsewhere than in an initialiser
   pub assign_ok : (only : Bool) (inside : Inside) (state : State) (at : ℕ) (op : AssignOp)
       (place given : ExprCode) (placed judged : Judged) → inside.init ≡ false
@@ -211,10 +219,7 @@ module _ (tables : Tables) (number : Numbers) (functions : List Function)
         ++ (judged.rows ++ misassigned op at (place_type inside placed) judged.ty)) hold
 
     settled : Settles inside placed ok.ty
-    settled = settles inside placed ok.ty init ok.has
-        (not_ill tables.answers (fixed inside placed) placed.key 404
-        (rows_left tables.answers (ill_if (fixed inside placed) placed.key 404)
-        (judged.rows ++ misassigned op at (place_type inside placed) judged.ty) after_place))
+    settled = settles tables.answers inside state at op placed judged ok.ty init ok.has hold
 
     assigned : assigns op ok.ty given_ok.ty ≡ true
     assigned = well_assigned tables.answers op at (place_type inside placed) judged.ty ok.ty

@@ -70,6 +70,15 @@ ways given one other = block_made
     >> jump merge
     >> resume merge
 
+-- the bodies in arms
+abbrev pub arms_inside : List IfCode → List Body
+arms_inside arms = flat_map (λ (arm : IfCode). arm.inside) arms
+
+-- an arm of an `if`
+abbrev pub if_arm : ExprCode → BlockCode → IfCode
+if_arm cond body =
+    record { cond = cond.read; body = body; inside = cond.inside ++ body.inside }
+
 module _ (tables : Tables) (number : Numbers) (functions : List Function) (owner : Option ℕ) where
   module _ (w : Whole) (of : IsOf tables functions w) (b : Position) (inside : IsIn w b)
       (given : Operand) (value : IsValue w b types.Bool given) (one other : Code (Unit {0}))
@@ -154,10 +163,6 @@ module _ (tables : Tables) (number : Numbers) (functions : List Function) (owner
               >> jump merge
               >> resume merge
 
-  -- the bodies in arms
-  abbrev pub arms_inside : List IfCode → List Body
-  arms_inside arms = flat_map (λ (arm : IfCode). arm.inside) arms
-
   -- code that keeps the variables, and the bodies in it
   abbrev pub KeptOk : Returned → (Targets → Code (Unit {0})) → List Body → Type 0
   KeptOk after code inside = CodeOk tables number functions owner after code
@@ -179,11 +184,6 @@ module _ (tables : Tables) (number : Numbers) (functions : List Function) (owner
     code_ok = λ otherwise inside after back ok. ok;
     back = λ result returns. returns;
   }
-
-  -- an arm of an `if`
-  abbrev pub if_arm : ExprCode → BlockCode → IfCode
-  if_arm cond body =
-      record { cond = cond.read; body = body; inside = cond.inside ++ body.inside }
 
   -- an arm before others
   pub more_arms_ok : (state : State) (cond : ExprCode) (judged : Judged) (body : BlockCode)

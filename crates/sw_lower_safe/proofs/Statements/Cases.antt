@@ -1,7 +1,7 @@
 -- The cases of an enum by their names and numbers, and the types of patterns.
 use Rattle.std.proofs.Common.{◌≡◌, ℕ, suc, ◌+◌, ◌≤◌, List, [], ◌∷◌, ap, sym, ◌∙◌, refl, arith, Bool}
 use Rattle.std.proofs.Common.{true, false, true≢false, Option, Some, None, length, map, ◌||◌, ◌==◌}
-use Rattle.std.proofs.Common.{if◌then◌else◌, cond, inl, inr, ◌⊎◌}
+use Rattle.std.proofs.Common.{if◌then◌else◌, cond, inl, inr, ◌⊎◌, not, ◌&&◌, ◌++◌, is_some}
 use Rattle.std.proofs.lemmas.Bool.{eqb-true}
 use Rattle.std.proofs.lemmas.List.Elements.{All-cons, All-head, All-nil, All-tail}
 use Rattle.std.proofs.lemmas.Option.{none-some, same_Some, slice_get-map}
@@ -19,12 +19,18 @@ use Rattle.sw_graph.specs.Kinds.{is_enum, number_of, payload, shape_at, shape_of
 use Rattle.sw_graph.specs.Payloads.{payload_at}
 use Rattle.sw_graph.specs.declared.function.RegKind.{RegKind}
 use Rattle.sw_graph.specs.declared.function.RegKind.TheVariants.{Plain}
+use Rattle.sw_typing_rules.specs.Expressions.{Judged}
 use Rattle.sw_typing_rules.specs.Statements.{Head, arm_payload, case_named, cases_layer, cases_of}
 use Rattle.sw_typing_rules.specs.Statements.{cases_of_shape, has_arm, heads_fit, pattern_types}
-use Rattle.sw_typing_rules.specs.Statements.{patterns_fit, switch_fits}
+use Rattle.sw_typing_rules.specs.Statements.{Left, patterns_fit, switch_fits, switch_left}
+use Rattle.sw_typing_rules.specs.Verdicts.{all_well, ill_if}
 use Rattle.sw_typing_rules.specs.Worlds.{World}
-use Rattle.sw_typing_rules.proofs.Steps.{and_left, and_right}
+use Rattle.sw_typing_rules.specs.declared.row.Row.{Row}
+use Rattle.sw_typing_rules.proofs.Steps.{and_left, and_right, switch_ok, well_both}
+use Rattle.sw_isolation_rules.specs.Answers.{Answers}
 use Rattle.sw_lower_table.specs.Statements.{Arm, block_of, case_from, switch_to}
+use Rattle.sw_lower_safe.specs.Forms.{RowsHold}
+use Rattle.sw_lower_safe.proofs.Said.Rows.{not_ill, rows_left, rows_right, rows_well}
 
 -- No two cases have one name.
 abbrev pub CasesDiffer : List CaseShape → Type 0
@@ -156,20 +162,21 @@ patterns_typed (pattern ∷ patterns) tys fit =
             types_are = inr (ap (λ b. if b then tys else []) fits);
           }
 
+-- the patterns of an arm fit
+abbrev pub HeadFits : Option (List CaseShape) → Head → Type 0
+HeadFits cases head = patterns_fit head.patterns (arm_payload cases head.name) ≡ true
+
 -- what a `switch` says that fits
 pub record SwitchFits (cases : Option (List CaseShape)) (heads : List Head) : Type 0 where
   pub list : List CaseShape
   pub has : cases ≡ Some list
-  pub each : All (λ (head : Head). patterns_fit head.patterns (arm_payload cases head.name) ≡ true)
-      heads
+  pub each : All (HeadFits cases) heads
 
 heads_each : (cases : Option (List CaseShape)) (heads : List Head) → heads_fit cases heads ≡ true
-    → All (λ (head : Head). patterns_fit head.patterns (arm_payload cases head.name) ≡ true) heads
-heads_each cases [] fit =
-    All-nil (λ (head : Head). patterns_fit head.patterns (arm_payload cases head.name) ≡ true)
+    → All (HeadFits cases) heads
+heads_each cases [] fit = All-nil (HeadFits cases)
 heads_each cases (head ∷ heads) fit =
-    All-cons (λ (one : Head). patterns_fit one.patterns (arm_payload cases one.name) ≡ true) head
-    heads
+    All-cons (HeadFits cases) head heads
     (and_left (patterns_fit head.patterns (arm_payload cases head.name)) (heads_fit cases heads)
     fit)
     (heads_each cases heads
@@ -187,6 +194,37 @@ switch_fit (Some cases) heads otherwise fit = record {
       (and_left (heads_fit (Some cases) heads)
       (otherwise || list_all (has_arm heads) cases) fit);
 }
+
+-- A `switch` whose node isn't ill fits the cases of its enum.
+pub fits_cases : (answers : Answers) (cases : Option (List CaseShape)) (at : ℕ) (judged : Judged)
+    (heads : List Head) (otherwise : Bool) (inner : Left) → is_some judged.ty ≡ true
+    → RowsHold answers (switch_left cases at judged heads otherwise inner).rows
+    → switch_fits cases heads otherwise ≡ true
+fits_cases answers cases at judged heads otherwise inner typed hold =
+    switch_ok (is_some judged.ty) (all_well (judged.rows ++ inner.rows))
+    (switch_fits cases heads otherwise) typed
+    (well_both judged.rows inner.rows
+    (rows_well answers judged.rows (rows_left answers judged.rows (inner.rows ++ ill) hold))
+    (rows_well answers inner.rows (rows_left answers inner.rows ill rest)))
+    (not_ill answers fails at 405 (rows_right answers inner.rows ill rest)) where
+      fails : Bool
+      fails = is_some judged.ty && (all_well (judged.rows ++ inner.rows)
+          && not (switch_fits cases heads otherwise))
+
+      ill : List Row
+      ill = ill_if fails at 405
+
+      rest : RowsHold answers (inner.rows ++ ill)
+      rest = rows_right answers judged.rows (inner.rows ++ ill) hold
+
+-- So do its arms.
+pub switch_well : (answers : Answers) (cases : Option (List CaseShape)) (at : ℕ) (judged : Judged)
+    (heads : List Head) (otherwise : Bool) (inner : Left) (ty : Ty) → judged.ty ≡ Some ty
+    → RowsHold answers (switch_left cases at judged heads otherwise inner).rows
+    → SwitchFits cases heads
+switch_well answers cases at judged heads otherwise inner ty has hold =
+    switch_fit cases heads otherwise
+    (fits_cases answers cases at judged heads otherwise inner (ap is_some has) hold)
 
 -- where a `switch` goes for the case with a number
 pub record Goes (cases : List CaseShape) (blocks : List Arm) (otherwise index to : ℕ)

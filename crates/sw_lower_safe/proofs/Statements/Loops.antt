@@ -30,7 +30,7 @@ use Rattle.sw_lower_safe.proofs.Statements.Branches.{condition_typed}
 use Rattle.sw_lower_safe.proofs.Statements.Stating.{Kept, stmt_keeps}
 
 -- the targets in a loop
-abbrev loop_targets : ℕ → ℕ → Targets
+abbrev pub loop_targets : ℕ → ℕ → Targets
 loop_targets head after = record { breaks = Some after; continues = Some head }
 
 module _ (tables : Tables) (number : Numbers) (functions : List Function) (owner : Option ℕ) where

@@ -39,20 +39,21 @@ one_still f (x ∷ []) = refl
 one_still f (x ∷ y ∷ more) = refl
 
 -- A `return` leaves the variables as they are.
-void_vars : (found : Returned) (state : State) (at : ℕ)
+pub void_vars : (found : Returned) (state : State) (at : ℕ)
     → (return_void found state at).state.vars ≡ state.vars
 void_vars (Wants ty) state at = refl
 void_vars (Open places) state at = refl
 void_vars (Gives None) state at = refl
 void_vars (Gives (Some ty)) state at = refl
 
-value_vars : (found : Returned) (state : State) (at : ℕ) (value : Judged)
+pub value_vars : (found : Returned) (state : State) (at : ℕ) (value : Judged)
     → (return_value found state at value).state.vars ≡ state.vars
 value_vars (Wants ty) state at value = refl
 value_vars (Open places) state at value = refl
 value_vars (Gives None) state at value = refl
 value_vars (Gives (Some ty)) state at value = refl
 
+-- So does an expression.
 result_vars : (found : Returned) (state : State) (value : Judged)
     → (result_left found state value).state.vars ≡ state.vars
 result_vars (Wants ty) state value = by (is_unit ty) where
@@ -63,7 +64,7 @@ result_vars (Wants ty) state value = by (is_unit ty) where
 result_vars (Open places) state value = refl
 result_vars (Gives ty) state value = refl
 
-plain_vars : (only : Bool) (state : State) (value : Judged)
+pub plain_vars : (only : Bool) (state : State) (value : Judged)
     → (plain_left only state value).state.vars ≡ state.vars
 plain_vars false state value = refl
 plain_vars true state value = result_vars state.returned state value
@@ -76,7 +77,8 @@ arms_vars world inside state arms left (is.one_arm _ _ at cond body more judged 
     of_body rest) =
     arms_vars world inside _ more last rest
 
-otherwise_vars : (world : World) (ends : Bool) (inside : Inside) (state : State)
+-- the last block of an `if` or a `switch`
+pub otherwise_vars : (world : World) (ends : Bool) (inside : Inside) (state : State)
     (other : Option Block) (left : Left) → is.LeavesOtherwise world ends inside state other left
     → left.state.vars ≡ state.vars
 otherwise_vars world ends inside state other left (is.absent _ _) = refl

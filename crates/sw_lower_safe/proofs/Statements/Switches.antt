@@ -1,13 +1,12 @@
 -- A `switch` is safe where its subject, its arms and its `default` are.
 use Rattle.std.proofs.Common.{◌≡◌, ℕ, ◌+◌, List, [], ◌∷◌, ◌++◌, ap, sym, ◌∙◌, subst, refl, arith}
-use Rattle.std.proofs.Common.{Bool, true, false, Option, Some, None, length, inl, inr, ◌⊎◌, map}
-use Rattle.std.proofs.Common.{flat_map, ◌&&◌, not, is_some, true≢false, append_assoc}
+use Rattle.std.proofs.Common.{Bool, false, Option, Some, None, length, inl, inr, ◌⊎◌, map, flat_map}
+use Rattle.std.proofs.Common.{is_some, append_assoc}
 use Rattle.std.proofs.lemmas.List.{length-map}
 use Rattle.std.proofs.lemmas.List.Elements.{All-append, All-cons, All-head, All-nil, All-tail}
-use Rattle.std.proofs.lemmas.Option.{none-some, same_Some}
+use Rattle.std.proofs.lemmas.Option.{same_Some}
 use Rattle.std.specs.Option.{option_map, unwrap_or}
 use Rattle.std.specs.Prelude.{All, slice_get}
-use Rattle.std.proofs.lemmas.Bool.{not-false}
 use Rattle.sw_types.specs.declared.shape.CaseShape.{CaseShape}
 use Rattle.sw_types.specs.declared.shape.Shape.{Shape}
 use Rattle.sw_types.specs.declared.ty.Ty.{Ty}
@@ -21,12 +20,9 @@ use Rattle.sw_typing_rules.specs.Expressions.{Judged}
 use Rattle.sw_typing_rules.specs.Judges.{arm_state, case_of, head_of}
 use Rattle.sw_typing_rules.specs.Statements.{Armed, Head, Left, State, arm_payload, arm_vars}
 use Rattle.sw_typing_rules.specs.Statements.{beside, cases_of, more_arms, no_arms, pattern_types}
-use Rattle.sw_typing_rules.specs.Statements.{pattern_vars, patterns_fit, payload_of, switch_fits}
-use Rattle.sw_typing_rules.specs.Statements.{switch_left, vars_rows}
-use Rattle.sw_typing_rules.specs.Verdicts.{all_well, ill_if}
-use Rattle.sw_typing_rules.specs.declared.row.Row.{Row}
+use Rattle.sw_typing_rules.specs.Statements.{pattern_vars, patterns_fit, payload_of, switch_left}
+use Rattle.sw_typing_rules.specs.Statements.{vars_rows}
 use Rattle.sw_typing_rules.specs.declared.scope.Returned.{Returned}
-use Rattle.sw_typing_rules.proofs.Steps.{well_both}
 use Rattle.sw_isolation_rules.specs.Uses.{named_shape}
 use Rattle.sw_lower_run.specs.Plan.{Anywhere, Numbers, OfCase}
 use Rattle.sw_lower_code.specs.Code.{Code, all, block_for, close, done, each, known, resume, scope}
@@ -57,11 +53,11 @@ use Rattle.sw_lower_safe.proofs.Positions.Following.{knows_still, value_stays}
 use Rattle.sw_lower_safe.proofs.Positions.Steps.{safe_done, safe_scope}
 use Rattle.sw_lower_safe.proofs.Positions.Then.{safe_then, safe_weaker}
 use Rattle.sw_lower_safe.proofs.Positions.Using.{close_in, reads_one}
-use Rattle.sw_lower_safe.proofs.Said.Rows.{not_ill, rows_left, rows_right, rows_well}
+use Rattle.sw_lower_safe.proofs.Said.Rows.{rows_left}
 use Rattle.sw_lower_safe.proofs.Statements.Branches.{KeptOk, OtherwiseOk}
 use Rattle.sw_lower_safe.proofs.Statements.Cases.{CasesDiffer, FoundCase, HaveTypes, SwitchFits}
 use Rattle.sw_lower_safe.proofs.Statements.Cases.{block_of_arm, enum_cases, enum_shape, found_case}
-use Rattle.sw_lower_safe.proofs.Statements.Cases.{patterns_typed, switch_fit, switch_way}
+use Rattle.sw_lower_safe.proofs.Statements.Cases.{patterns_typed, switch_way, HeadFits, switch_well}
 use Rattle.sw_lower_safe.proofs.Statements.Declaring.{Declares}
 use Rattle.sw_lower_safe.proofs.Statements.Patterns.{CaseBlock, patterns_in}
 use Rattle.sw_lower_safe.proofs.Statements.Stating.{Kept, keeps_seeing, stmt_keeps}
@@ -84,10 +80,6 @@ arm_of one = one.arm
 
 abbrev arms_of : List Arm → List CaseCode
 arms_of blocks = map arm_of blocks
-
--- the patterns of an arm fit
-abbrev HeadFits : Option (List CaseShape) → Head → Type 0
-HeadFits cases head = patterns_fit head.patterns (arm_payload cases head.name) ≡ true
 
 module _ (tables : Tables) (number : Numbers) (functions : List Function) (owner : Option ℕ) where
   -- an arm, by what a body gives after it
@@ -527,37 +519,6 @@ module _ (tables : Tables) (number : Numbers) (functions : List Function)
           last_parts_in blocks default merge armed.0 armed.1.0 is_default.0 made_merge u
           (keeps_then w b t u keeps closed.keeps)))))
 
-  -- A `switch` that isn't ill fits where nothing in it is ill.
-  fits_of : (found : Option Ty) (ty : Ty) (well fit : Bool) → found ≡ Some ty → well ≡ true
-      → (is_some found && (well && not fit)) ≡ false → fit ≡ true
-  fits_of None ty well fit has is_well holds = absurd (none-some ty has)
-  fits_of (Some other) ty true fit has is_well holds = not-false fit holds
-  fits_of (Some other) ty false fit has is_well holds = absurd (true≢false (sym is_well))
-
-  -- The arms of a `switch` whose node isn't ill fit the cases of its enum.
-  pub switch_well : (cases : Option (List CaseShape)) (at : ℕ) (judged : Judged) (heads : List Head)
-      (otherwise : Bool) (inner : Left) (ty : Ty) → judged.ty ≡ Some ty
-      → RowsHold tables.answers (switch_left cases at judged heads otherwise inner).rows
-      → SwitchFits cases heads
-  switch_well cases at judged heads otherwise inner ty has hold =
-      switch_fit cases heads otherwise
-      (fits_of judged.ty ty (all_well (judged.rows ++ inner.rows))
-      (switch_fits cases heads otherwise) has
-      (well_both judged.rows inner.rows
-      (rows_well tables.answers judged.rows
-      (rows_left tables.answers judged.rows (inner.rows ++ ill) hold))
-      (rows_well tables.answers inner.rows (rows_left tables.answers inner.rows ill rest)))
-      (not_ill tables.answers fails at 405 (rows_right tables.answers inner.rows ill rest))) where
-        fails : Bool
-        fails = is_some judged.ty && (all_well (judged.rows ++ inner.rows)
-            && not (switch_fits cases heads otherwise))
-
-        ill : List Row
-        ill = ill_if fails at 405
-
-        rest : RowsHold tables.answers (inner.rows ++ ill)
-        rest = rows_right tables.answers judged.rows (inner.rows ++ ill) hold
-
   -- `switch`, where no two cases of an enum have one name
   pub switch_ok : ((k : ℕ) (shape : Shape) → slice_get tables.world.shapes k ≡ Some shape
       → CasesDiffer shape.cases) → (only : Bool) (state : State) (at : ℕ) (subject : ExprCode)
@@ -618,7 +579,8 @@ module _ (tables : Tables) (number : Numbers) (functions : List Function)
         cases = cases_of tables.world judged.ty
 
         fit : SwitchFits cases armed.heads
-        fit = switch_well cases at judged armed.heads (is_some otherwise) (beside armed.left last)
+        fit = switch_well tables.answers cases at judged armed.heads (is_some otherwise)
+            (beside armed.left last)
             ok.ty
             ok.has hold
 
