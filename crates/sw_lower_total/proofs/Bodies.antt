@@ -1,0 +1,20 @@
+-- The bodies of a program proceed, each by its own trees.
+pub mod AllStand
+pub mod BodyCode
+pub mod DeclTasks
+pub mod FuncBodies
+pub mod FuncTrees
+pub mod Getters
+pub mod Given
+pub mod GivenNames
+pub mod GivenValues
+pub mod GlobalBodies
+pub mod InitBodies
+pub mod InitValues
+pub mod Initialisers
+pub mod ProgramBodies
+pub mod ProgramStands
+pub mod SimpleHeld
+pub mod SimpleMentions
+pub mod Taking
+pub mod UseNotes

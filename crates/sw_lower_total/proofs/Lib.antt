@@ -1,0 +1,14 @@
+pub mod Binding
+pub mod Bodies
+pub mod Closures
+pub mod EnumWords
+pub mod Expressions
+pub mod Frames
+pub mod Induction
+pub mod Lowering
+pub mod Mentions
+pub mod Proceeding
+pub mod Programs
+pub mod Standing
+pub mod Statements
+pub mod Trees

@@ -1,0 +1,9 @@
+pub mod Binding
+pub mod Bound
+pub mod Forms
+pub mod Frames
+pub mod Known
+pub mod Noted
+pub mod Proceeding
+pub mod Programs
+pub mod Trees

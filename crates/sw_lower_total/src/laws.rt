@@ -1,0 +1,39 @@
+//! Laws, without code: each program that keeps the rules can be lowered.
+ghost use Rattle.std.specs.Prelude.{ℕ, All, List, None};
+ghost use Rattle.sw_tree.specs.declared.decl.Decl.{Decl};
+ghost use Rattle.sw_resolve.specs.Placed.{IsFirst};
+ghost use Rattle.sw_decls.specs.declared.signature.AsyncDefault.{AsyncDefault};
+ghost use Rattle.sw_typing_rules.specs.Worlds.{World};
+ghost use Rattle.sw_lower_code.specs.Whole.{Body};
+ghost use Rattle.sw_lower_table.specs.Bodies.{AreMade, AreNumbered, AreOrdered};
+ghost use Rattle.sw_lower_table.specs.Bodies.{functions_of, numbers_of, too_large_in};
+ghost use Rattle.sw_lower_safe.specs.Programs.{AreStarts, IsEntry};
+ghost use Rattle.sw_lower_total.specs.Proceeding.{BodyProceeds};
+ghost use Rattle.sw_lower_total.specs.Programs.{IsWelltyped, noted_tables};
+
+/// The bodies of a program that keeps the rules on declarations and on types ask for nothing that
+/// isn't known: each variable that they read is bound, each value has a type, each member, function
+/// and getter that they use is there. Each body is found by its name, so have the entry and what
+/// gives each global variable its first value a number. So a body is made unless its function is
+/// too large.
+pub fn programs_can_be_lowered()
+    ensures proceed { (decls : List Decl) (rule : AsyncDefault) (world : World)
+        (ordered : List Body) → IsWelltyped decls rule world
+        → AreOrdered (noted_tables world decls) decls ordered
+        → All (BodyProceeds (numbers_of ordered)) ordered }
+    ensures found { (decls : List Decl) (rule : AsyncDefault) (world : World)
+        (ordered : List Body) → IsWelltyped decls rule world
+        → AreOrdered (noted_tables world decls) decls ordered → AreNumbered ordered }
+    ensures made { (decls : List Decl) (rule : AsyncDefault) (world : World)
+        (ordered : List Body) → IsWelltyped decls rule world
+        → AreOrdered (noted_tables world decls) decls ordered
+        → IsFirst (too_large_in (functions_of ordered)) None → AreMade ordered }
+    ensures entry { (decls : List Decl) (rule : AsyncDefault) (world : World)
+        (ordered : List Body) → IsWelltyped decls rule world
+        → AreOrdered (noted_tables world decls) decls ordered
+        → (entry : ℕ) × IsEntry decls ordered entry }
+    ensures starts { (decls : List Decl) (rule : AsyncDefault) (world : World)
+        (ordered : List Body) → IsWelltyped decls rule world
+        → AreOrdered (noted_tables world decls) decls ordered
+        → (starts : List ℕ) × AreStarts world ordered starts }
+{}
