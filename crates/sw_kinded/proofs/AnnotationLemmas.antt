@@ -6,11 +6,13 @@ use Rattle.sw_graph.specs.Ways.{Way, begin, further}
 use Rattle.sw_kinded.specs.Annotations.{ReachesReturns, StoresBefore}
 use Rattle.sw_kinded.specs.FirstValues.{has_stored, point_stores, StoresFirst}
 use Rattle.sw_kinded.specs.Supplied.{ReturnsResult}
+use Rattle.sw_kinded.specs.Sure as sure
+use Rattle.sw_kinded.specs.Sure.{SureWay}
 
 reached_by : (function : Function) (reached : ℕ → Bool) → ReachesReturns function reached
-    → (p : ℕ) (passed : List ℕ) → Way function p passed → IsTrue (reached p)
-reached_by function reached is p passed begin = is.starts
-reached_by function reached is p passed (further before q earlier way leads) =
+    → (p : ℕ) (passed : List ℕ) → SureWay function p passed → IsTrue (reached p)
+reached_by function reached is p passed sure.begin = is.starts
+reached_by function reached is p passed (sure.further before q earlier way leads) =
     is.leads before p leads (reached_by function reached is before earlier way)
 
 pub returns_result : (function : Function) (reached : ℕ → Bool) → ReachesReturns function reached

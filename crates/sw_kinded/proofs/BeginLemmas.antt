@@ -19,7 +19,6 @@ use Rattle.sw_graph.specs.declared.instr.Instr.TheVariants.{Payload}
 use Rattle.sw_graph.specs.Kinds.{taken, shape_of, is_actor}
 use Rattle.sw_graph.specs.Payloads.{PayloadFits}
 use Rattle.sw_graph.specs.Points.{points_of, block_start}
-use Rattle.sw_graph.specs.Ways.{begin}
 use Rattle.sw_graph.specs.WellFormed.{FunctionFits}
 use Rattle.sw_graph.proofs.ListLemmas.{at_index}
 use Rattle.sw_value.specs.declared.executor.Executor.{Executor}
@@ -34,6 +33,7 @@ use Rattle.sw_value.specs.Value.{registers, value_at, reference_of, layer_refere
 use Rattle.sw_kinded.specs.Kinds.{HaveKinds}
 use Rattle.sw_kinded.specs.Standing.{Stands, FrameFits}
 use Rattle.sw_kinded.specs.Supplied.{TakesActor}
+use Rattle.sw_kinded.specs.Sure.{begin}
 use Rattle.sw_kinded.proofs.ItemLemmas.{found_within}
 use Rattle.sw_kinded.proofs.KindLemmas.{reference_is, sort_actor}
 use Rattle.sw_kinded.proofs.OperandLemmas.{function_fits}
@@ -89,6 +89,7 @@ stands_first graph cells function fits awaits vs have =
       front = λ block is at r s i next. let payloads = fits.payloads 0 block is in
           let fit = at_index (PayloadFits graph.shapes function 0) block.instrs 0 (Payload at r s i)
           payloads.each next in absurd (let none = fit.0 in omega (arith, none));
+      constant = tt;
       passed = [];
       way = begin;
       slots = record {

@@ -1,6 +1,6 @@
 -- Instructions that make, read and write cells and globals are never stuck.
 use Rattle.std.proofs.Common.{◌≡◌, ℕ, ◌+◌, Option, Some, None, List, [], ◌∷◌, ◌++◌, length}
-use Rattle.std.proofs.Common.{refl, ap, sym, ◌∙◌, subst, arith, Bool, true, false}
+use Rattle.std.proofs.Common.{refl, ap, sym, ◌∙◌, subst, arith, Bool, true}
 use Rattle.std.specs.Prelude.{option_and_then}
 use Rattle.std.specs.Option.{option_map}
 use Rattle.std.specs.List.{slice_get, slice_set}
@@ -24,7 +24,6 @@ use Rattle.sw_graph.specs.Kinds.{Goes, IsCaptured, value, form_of, held, part, p
 use Rattle.sw_graph.specs.Kinds.{shape_at}
 use Rattle.sw_graph.specs.Kinds.{number_of, is_class, is_actor, is_cell}
 use Rattle.sw_graph.specs.Mentions.{set_by}
-use Rattle.sw_graph.specs.Payloads.{is_payload}
 use Rattle.sw_value.specs.declared.cell.HeapCell.{HeapCell}
 use Rattle.sw_value.specs.declared.cell.HeapCell.TheVariants as cell
 use Rattle.sw_value.specs.declared.cell.Slot.{Slot}
@@ -56,18 +55,19 @@ use Rattle.sw_kinded.proofs.OperandLemmas.{gathered_in}
 use Rattle.sw_kinded.proofs.PartLemmas.{parts_shape, goes_there, part_among, part_shape, have_at}
 use Rattle.sw_kinded.proofs.PartLemmas.{have_set}
 use Rattle.sw_kinded.proofs.PartLemmas.{IsBox, box_is, HasParts, parts_are}
+use Rattle.sw_kinded.proofs.SureLemmas.{is_ordinary, no_payload, no_const}
 use Rattle.sw_kinded.proofs.TopLemmas.{Executes, TopFits, IsAt, kinds_at, operand_at, puts, goes_on}
 use Rattle.sw_kinded.proofs.TopLemmas.{set_there, NewFits, WriteFits, StandsAt}
 use Rattle.sw_value.proofs.ListLemmas.{slice_get_end}
 
 -- a register refers to the cell that is made next
 pub stands_new : (graph : Graph) (world : World) (state : State) (frame : Frame) (instr : Instr)
-    → (x : IsAt graph world state frame instr) → is_payload instr ≡ false → (r : ℕ)
+    → (x : IsAt graph world state frame instr) → is_ordinary instr ≡ true → (r : ℕ)
     → set_by instr ≡ Some r → (kind : RegKind)
     → slice_get x.run.function.regs r ≡ Some kind → sort_of graph.shapes kind ≡ Reference
     → StandsAt graph (world.cells ++ kind ∷ []) x.run.function None (frame.point + 1)
     (slice_set frame.regs r (Some (value.Cell (length state.cells))))
-stands_new graph world state frame instr x plain r sets kind at sort =
+stands_new graph world state frame instr x ordinary r sets kind at sort =
     let run = x.run in
     let count = run.fits.cell_count in
     let number : slice_get (world.cells ++ kind ∷ []) (length state.cells) ≡ Some kind =
@@ -77,22 +77,22 @@ stands_new graph world state frame instr x plain r sets kind at sort =
     (front_plain graph.shapes run.function None frame.point
     (slice_set frame.regs r (Some (value.Cell (length state.cells)))) instr run.stands.place
     (run.well.payloads run.stands.place.number run.stands.place.block run.stands.place.is) x.here
-    plain) (one_more world.cells kind) at
+    (no_payload instr ordinary)) (no_const None _ instr ordinary) (one_more world.cells kind) at
     (refers (value.Cell (length state.cells)) kind (length state.cells) kind
     (value.outs-Cell (length state.cells)) sort number (captured-refl kind))
 
 -- a cell with the next number is made, and its register refers to it
 pub makes : (graph : Graph) (world : World) (state : State) (frame : Frame) (instr : Instr)
-    → (x : IsAt graph world state frame instr) → is_payload instr ≡ false → (r : ℕ)
+    → (x : IsAt graph world state frame instr) → is_ordinary instr ≡ true → (r : ℕ)
     → set_by instr ≡ Some r → (cell : HeapCell) (kind : RegKind)
     → slice_get x.run.function.regs r ≡ Some kind → sort_of graph.shapes kind ≡ Reference
     → CellFits graph world cell kind
     → NewFits graph world state x.run.function frame r cell (length state.cells) (frame.point + 1)
-makes graph world state frame instr x plain r sets cell kind at sort fits = record {
+makes graph world state frame instr x ordinary r sets cell kind at sort fits = record {
   kind = kind;
   number_is = refl;
   fits = fits;
-  stands = stands_new graph world state frame instr x plain r sets kind at sort;
+  stands = stands_new graph world state frame instr x ordinary r sets kind at sort;
 }
 
 -- the register gets a type that accepts a declared one, which is that type
@@ -126,7 +126,7 @@ parts_refer shapes is_kind k kinds kind are refer form =
 
 -- an object or an actor is made of its parts
 declared_made : (graph : Graph) (world : World) (state : State) (frame : Frame) (instr : Instr)
-    → (x : IsAt graph world state frame instr) → is_payload instr ≡ false → (r : ℕ)
+    → (x : IsAt graph world state frame instr) → is_ordinary instr ≡ true → (r : ℕ)
     → set_by instr ≡ Some r → (k : ℕ) (ss : List Operand) (is_kind : ShapeKind → Bool)
     (make : List Value → HeapCell)
     → ((s : ShapeKind) → is_kind s ≡ true → declared_sort s ≡ Reference)
@@ -140,7 +140,7 @@ declared_made : (graph : Graph) (world : World) (state : State) (frame : Frame) 
     → TopFits graph world state x.run.function frame
     (needs (values_at frame.regs ss) (λ parts. new_of state (frame.point + 1) r (make parts)))
 unfolding TopFits
-declared_made graph world state frame instr x plain r sets k ss is_kind make refer fits has each
+declared_made graph world state frame instr x ordinary r sets k ss is_kind make refer fits has each
     goes =
     let regs = x.run.function.regs in
     let all = gathered_in graph.shapes world.cells regs frame.regs Goes goes_captured ss
@@ -149,7 +149,7 @@ declared_made graph world state frame instr x plain r sets k ss is_kind make ref
     let values = all.gathers.values in
     subst (λ o. TopFits graph world state x.run.function frame
     (needs o (λ parts. new_of state (frame.point + 1) r (make parts)))) (sym all.gathers.are)
-    (makes graph world state frame instr x plain r sets (make values) place.0 place.1
+    (makes graph world state frame instr x ordinary r sets (make values) place.0 place.1
     (parts_refer graph.shapes is_kind k all.kinds place.0 all.are refer place.2)
     (fits values place.0 place.2
     (record { kinds = all.kinds; are = all.are; have = all.gathers.have })))

@@ -1,12 +1,12 @@
 -- Literals, operators and prints are never stuck.
 use Rattle.std.proofs.Common.{◌≡◌, ℕ, ℤ, suc, ◌+◌, Bool, true, false, not, cond, IsTrue}
-use Rattle.std.proofs.Common.{Option, Some, None, List, [], ◌∷◌, refl, ap, sym, ◌∙◌, subst}
+use Rattle.std.proofs.Common.{Option, Some, None, List, [], ◌∷◌, refl, ap, sym, ◌∙◌, subst, arith}
 use Rattle.std.specs.Prelude.{option_and_then, Result, Ok, Err}
 use Rattle.std.specs.Prelude.{pos, ◌+ℤ◌, ◌-ℤ◌, ◌*ℤ◌, neg_ℤ, int_lt, int_le, int_div, int_rem}
 use Rattle.std.specs.Ordering.{int_eq}
 use Rattle.std.specs.Option.{option_map}
 use Rattle.std.specs.List.{slice_get, slice_set}
-use Rattle.std.proofs.lemmas.Option.{slice_get-map}
+use Rattle.std.proofs.lemmas.Option.{slice_get-map, slice_get_within}
 use Rattle.sw_types.specs.declared.shape.Shape.{Shape}
 use Rattle.sw_types.specs.declared.ty.Ty.{Ty, out-Ty}
 use Rattle.sw_types.specs.declared.ty.Ty.TheOpen as type
@@ -46,8 +46,9 @@ use Rattle.sw_value.proofs.ListLemmas.{some_injective}
 use Rattle.sw_kinded.specs.Kinds.{HasKind, integer, truth, void, Integer, Truth, sort_of}
 use Rattle.sw_kinded.specs.Kinds.{layer_sort}
 use Rattle.sw_kinded.specs.Kinds.{World}
+use Rattle.sw_kinded.proofs.ItemLemmas.{set_here}
 use Rattle.sw_kinded.proofs.KindLemmas.{goes_to, goes_captured, integer_is, truth_is}
-use Rattle.sw_kinded.proofs.TopLemmas.{TopFits, IsAt, kinds_at, operand_at, puts, StandsAt}
+use Rattle.sw_kinded.proofs.TopLemmas.{TopFits, IsAt, kinds_at, operand_at, gives, puts, StandsAt}
 
 int_has : (shapes : List Shape) (cells : List RegKind) (n : ℤ)
     → HasKind shapes cells (value.Int n) (Plain Int)
@@ -75,11 +76,16 @@ pub const_fits : (graph : Graph) (world : World) (state : State) (frame : Frame)
     (instr_effect graph state depth frame (frame.point + 1) (instr.Const at r v))
 unfolding TopFits
 const_fits graph world state frame depth at r v x =
-    puts graph world state frame (instr.Const at r v) x refl r refl (value_of v)
-    (goes_to graph.shapes world.cells (value_of v) (Plain (literal_type v)) (value (literal_type v))
-    (slice_get x.run.function.regs r) (literal_has graph.shapes world.cells v) refl
-    (goes_captured (value (literal_type v)) (slice_get x.run.function.regs r)
-    (kinds_at graph world state frame (instr.Const at r v) x)))
+    let run = x.run in
+    let went = goes_to graph.shapes world.cells (value_of v) (Plain (literal_type v))
+    (value (literal_type v)) (slice_get run.function.regs r)
+    (literal_has graph.shapes world.cells v) refl
+    (goes_captured (value (literal_type v)) (slice_get run.function.regs r)
+    (kinds_at graph world state frame (instr.Const at r v) x)) in
+    let inside = slice_get_within run.function.regs r went.kind went.is in
+    let count = run.stands.slots.count in
+    gives graph world state frame (instr.Const at r v) x refl r refl (value_of v)
+    (refl, set_here frame.regs r (value_of v) (omega (arith, inside, count))) went
 
 -- what an operator gives has its type, or it is a trap
 abbrev ResultHas : List Shape → List RegKind → Ty → Result Value TrapKind → Type 0

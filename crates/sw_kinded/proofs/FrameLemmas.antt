@@ -21,17 +21,19 @@ use Rattle.sw_graph.specs.Mentions.{set_by, blocks_of}
 use Rattle.sw_graph.specs.Payloads.{is_payload, has_payload, in_front, payload_at, Unpacks}
 use Rattle.sw_graph.specs.Payloads.{PayloadFits, PayloadsFit}
 use Rattle.sw_graph.specs.Points.{Middle, End, point_in, block_start}
-use Rattle.sw_graph.specs.Ways.{on, to, further, is_number, point_sets, is_set}
+use Rattle.sw_graph.specs.Ways.{is_number, point_sets, is_set}
 use Rattle.sw_graph.proofs.ListLemmas.{at_index}
 use Rattle.sw_value.specs.declared.value.Value.{Value}
 use Rattle.sw_value.specs.Value.{value_at}
 use Rattle.sw_value.proofs.ListLemmas.{some_injective}
 use Rattle.sw_kinded.specs.Kinds.{HasKind, SlotsFit}
-use Rattle.sw_kinded.specs.Standing.{Place, Unpacked, Front, Stands}
+use Rattle.sw_kinded.specs.Standing.{Place, Unpacked, Front, HasConst, Stands}
+use Rattle.sw_kinded.specs.Sure.{on, to, further, MayTake, point_before}
 use Rattle.sw_kinded.proofs.GrowthLemmas.{slots_grow}
 use Rattle.sw_kinded.specs.Kinds.{IsMore}
 use Rattle.sw_kinded.proofs.ItemLemmas.{set_here, set_elsewhere}
 use Rattle.sw_kinded.proofs.PlaceLemmas.{instr_at_place, next_place, block_place}
+use Rattle.sw_kinded.proofs.SureLemmas.{before_next, no_wait, start_const}
 
 either : (a b : Bool) → IsTrue (a || b) → IsTrue a ⊎ IsTrue b
 either true b holds = inl refl
@@ -56,22 +58,24 @@ pub moves : (shapes : List Shape) (cells more : List RegKind) (function : Functi
     (awaits : Option ℕ) (p : ℕ) (regs after : List (Option Value)) (instr : Instr)
     → (s : Stands shapes cells function None p regs) → point_in function p ≡ Some (Middle instr)
     → Front function awaits after s.place.number (s.place.index + 1)
-    → SlotsFit shapes more after function.regs
+    → HasConst awaits after (Some (Middle instr)) → SlotsFit shapes more after function.regs
     → ((r : ℕ) (v : Value) → value_at regs r ≡ Some v → (w : Value) × (value_at after r ≡ Some w))
     → ((r : ℕ) → r < length function.regs → set_by instr ≡ Some r → (awaits ≡ Some r → ⊥)
     → (w : Value) × (value_at after r ≡ Some w))
     → Stands shapes more function awaits (p + 1) after
-moves shapes cells more function awaits p regs after instr s here front slots old new = record {
-  place = next_place function p s.place instr here;
-  front = front;
-  passed = p ∷ s.passed;
-  way = further p (p + 1) s.passed s.way (on p instr here);
-  slots = slots;
-  has = λ r inside set apart. elim (set_after function p s.passed instr r here set) [
-    | inl sets ↦ new r inside sets apart
-    | inr before ↦ let was = s.has r inside before (λ e. cc) in old r was.0 was.1
-  ];
-}
+moves shapes cells more function awaits p regs after instr s here front constant slots old new =
+    record {
+      place = next_place function p s.place instr here;
+      front = front;
+      constant = subst (HasConst awaits after) (sym (before_next function p instr here)) constant;
+      passed = p ∷ s.passed;
+      way = further p (p + 1) s.passed s.way (on p instr here);
+      slots = slots;
+      has = λ r inside set apart. elim (set_after function p s.passed instr r here set) [
+        | inl sets ↦ new r inside sets apart
+        | inr before ↦ let was = s.has r inside before (λ e. cc) in old r was.0 was.1
+      ];
+    }
 
 -- Behind an instruction that takes no payload none is taken.
 payload_there : (instrs : List Instr) (k at r : ℕ) (s : Operand) (i : ℕ)
@@ -247,12 +251,14 @@ pub stands_set : (shapes : List Shape) (cells more : List RegKind) (function : F
     → (s : Stands shapes cells function None p regs) → point_in function p ≡ Some (Middle instr)
     → set_by instr ≡ Some r
     → Front function None (slice_set regs r (Some v)) s.place.number (s.place.index + 1)
-    → IsMore cells more → slice_get function.regs r ≡ Some kind → HasKind shapes more v kind
+    → HasConst None (slice_set regs r (Some v)) (Some (Middle instr)) → IsMore cells more
+    → slice_get function.regs r ≡ Some kind → HasKind shapes more v kind
     → Stands shapes more function None (p + 1) (slice_set regs r (Some v))
-stands_set shapes cells more function p regs instr r v kind s here sets front grows at has =
+stands_set shapes cells more function p regs instr r v kind s here sets front constant grows at has
+    =
     let slots = s.slots in
     moves shapes cells more function None p regs (slice_set regs r (Some v)) instr s here front
-    (slots_set shapes more regs function.regs r v kind
+    constant (slots_set shapes more regs function.regs r v kind
     (slots_grow shapes cells more grows regs function.regs s.slots) at has)
     (still_set regs r v)
     (λ k inside is apart. let same : k ≡ r = some_injective (sym is ∙ sets) in (
@@ -269,9 +275,10 @@ pub stands_on : (shapes : List Shape) (cells : List RegKind) (function : Functio
     → (s : Stands shapes cells function None p regs) → point_in function p ≡ Some (Middle instr)
     → set_by instr ≡ awaits
     → Front function awaits regs s.place.number (s.place.index + 1)
+    → HasConst awaits regs (Some (Middle instr))
     → Stands shapes cells function awaits (p + 1) regs
-stands_on shapes cells function awaits p regs instr s here sets front =
-    moves shapes cells cells function awaits p regs regs instr s here front s.slots
+stands_on shapes cells function awaits p regs instr s here sets front constant =
+    moves shapes cells cells function awaits p regs regs instr s here front constant s.slots
     (λ r v e. (v, e)) (λ r inside is apart. absurd (apart (sym sets ∙ is)))
 
 -- the frame goes on at a block
@@ -280,13 +287,14 @@ pub stands_jumps : (shapes : List Shape) (cells : List RegKind) (function : Func
     → (s : Stands shapes cells function None p regs) → point_in function p ≡ Some (End last)
     → slice_get (blocks_of last) k ≡ Some number → block_start function number ≡ Some q
     → slice_get function.blocks number ≡ Some block → Front function None regs number 0
-    → Stands shapes cells function None q regs
-stands_jumps shapes cells function p regs last k number q block s here leads starts is front =
+    → MayTake last (point_before function p) k → Stands shapes cells function None q regs
+stands_jumps shapes cells function p regs last k number q block s here leads starts is front may =
     record {
       place = block_place function number q block is starts;
       front = front;
+      constant = start_const function None regs number q block is starts;
       passed = p ∷ s.passed;
-      way = further p q s.passed s.way (to p last k number q here leads starts);
+      way = further p q s.passed s.way (to p last k number q here leads starts may);
       slots = s.slots;
       has = λ r inside set apart. s.has r inside
           (subst (λ o. IsTrue (point_sets r o || is_set function s.passed r)) here set) apart;
@@ -301,6 +309,7 @@ stands_gets shapes cells function p regs r v kind s at has = record {
   place = s.place;
   front = λ block is at' q o i next. let u = s.front block is at' q o i next in
       let ready = u.ready in absurd (let c : ⊥ = cc in c);
+  constant = no_wait r None regs (slice_set regs r (Some v)) (point_before function p) s.constant;
   passed = s.passed;
   way = s.way;
   slots = slots_set shapes cells regs function.regs r v kind s.slots at has;
@@ -325,6 +334,7 @@ stands_free shapes cells function r p regs s past = record {
   place = s.place;
   front = λ block is at' q o i next. let u = s.front block is at' q o i next in
       let ready = u.ready in absurd (let c : ⊥ = cc in c);
+  constant = no_wait r None regs regs (point_before function p) s.constant;
   passed = s.passed;
   way = s.way;
   slots = s.slots;

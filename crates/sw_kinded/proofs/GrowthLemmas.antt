@@ -70,6 +70,7 @@ pub stands_grow : (shapes : List Shape) (cells more : List RegKind) → IsMore c
 stands_grow shapes cells more grows function awaits point regs stands = record {
   place = stands.place;
   front = stands.front;
+  constant = stands.constant;
   passed = stands.passed;
   way = stands.way;
   slots = slots_grow shapes cells more grows regs function.regs stands.slots;

@@ -35,6 +35,7 @@ use Rattle.sw_value.proofs.ListLemmas.{some_injective}
 use Rattle.sw_kinded.specs.FirstValues.{HasValue}
 use Rattle.sw_kinded.specs.Kinds.{HasKind, World, sort_of, layer_sort}
 use Rattle.sw_kinded.specs.Standing.{Front}
+use Rattle.sw_kinded.specs.Sure.{MayTake, point_before, side}
 use Rattle.sw_kinded.proofs.CallLemmas.{new_closure_fits, call_fits, call_closure_fits}
 use Rattle.sw_kinded.proofs.CallLemmas.{new_task_fits}
 use Rattle.sw_kinded.proofs.CallLemmas.{await_fits, yield_fits}
@@ -48,6 +49,7 @@ use Rattle.sw_kinded.proofs.ItemLemmas.{found_within}
 use Rattle.sw_kinded.proofs.KindLemmas.{truth_is, choice_is, sort_enum, goes_to, goes_captured}
 use Rattle.sw_kinded.proofs.OperandLemmas.{last_fits, last_has}
 use Rattle.sw_kinded.proofs.PlaceLemmas.{last_at_place, point_there, start_is}
+use Rattle.sw_kinded.proofs.SureLemmas.{may_branch}
 use Rattle.sw_kinded.proofs.TopLemmas.{Executes, TopFits, IsAt}
 use Rattle.sw_kinded.proofs.ValueLemmas.{copy_fits, field_fits, payload_fits, set_field_fits}
 use Rattle.sw_kinded.proofs.ValueLemmas.{make_fits}
@@ -95,9 +97,10 @@ front_after graph world state frame l x k number leads switched block is at r s 
 goes_to_block : (graph : Graph) (world : World) (state : State) (frame : Frame) (l : Last)
     → (x : IsAtEnd graph world state frame l) → (k number : ℕ)
     → slice_get (blocks_of l) k ≡ Some number → SwitchedBy frame.regs k l
+    → MayTake l (point_before x.run.function frame.point) k
     → TopFits graph world state x.run.function frame (goto_of graph frame number)
 unfolding TopFits start_at
-goes_to_block graph world state frame l x k number leads switched =
+goes_to_block graph world state frame l x k number leads switched may =
     let run = x.run in
     let fits = last_fits graph run.function run.well frame.point run.stands.place l x.here in
     let inside = at_index (λ n. n < length run.function.blocks) (blocks_of l) k number
@@ -110,7 +113,7 @@ goes_to_block graph world state frame l x k number leads switched =
     starts))
     (stands_jumps graph.shapes world.cells run.function frame.point frame.regs l k number _ block.0
     run.stands x.here leads starts block.1
-    (front_after graph world state frame l x k number leads switched))
+    (front_after graph world state frame l x k number leads switched) may)
 
 kinds_at_end : (graph : Graph) (world : World) (state : State) (frame : Frame) (l : Last)
     → (x : IsAtEnd graph world state frame l)
@@ -153,21 +156,22 @@ switch_by regs tag s to v has tagged subject blocks e =
 
 branch_goes : (graph : Graph) (world : World) (state : State) (frame : Frame) (s : Operand)
     (holds fails : ℕ) → (x : IsAtEnd graph world state frame (last.Branch s holds fails))
-    → (b : Bool)
+    → (b : Bool) → MayTake (last.Branch s holds fails) (point_before x.run.function frame.point)
+    (side b)
     → TopFits graph world state x.run.function frame (goto_of graph frame (cond b holds fails))
-branch_goes graph world state frame s holds fails x true =
+branch_goes graph world state frame s holds fails x true may =
     goes_to_block graph world state frame (last.Branch s holds fails) x 0 holds refl
-    (branch_plain frame.regs 0 s holds fails)
-branch_goes graph world state frame s holds fails x false =
+    (branch_plain frame.regs 0 s holds fails) may
+branch_goes graph world state frame s holds fails x false may =
     goes_to_block graph world state frame (last.Branch s holds fails) x 1 fails refl
-    (branch_plain frame.regs 1 s holds fails)
+    (branch_plain frame.regs 1 s holds fails) may
 
 pub last_effect_fits : (graph : Graph) (world : World) (state : State) (frame : Frame) (l : Last)
     → (x : IsAtEnd graph world state frame l)
     → TopFits graph world state x.run.function frame (last_effect graph frame l)
 unfolding TopFits
 last_effect_fits graph world state frame (last.Jump to) x =
-    goes_to_block graph world state frame (last.Jump to) x 0 to refl (jump_plain frame.regs to)
+    goes_to_block graph world state frame (last.Jump to) x 0 to refl (jump_plain frame.regs to) tt
 last_effect_fits graph world state frame (last.Branch s holds fails) x =
     let run = x.run in
     let kinds = kinds_at_end graph world state frame (last.Branch s holds fails) x in
@@ -180,7 +184,9 @@ last_effect_fits graph world state frame (last.Branch s holds fails) x =
     subst (λ o. TopFits graph world state run.function frame
     (needs o (λ truth. goto_of graph frame (cond truth holds fails))))
     (sym (ap (option_and_then truth_of) operand.has ∙ ap layer_truth truth.1))
-    (branch_goes graph world state frame s holds fails x truth.0)
+    (branch_goes graph world state frame s holds fails x truth.0
+    (may_branch frame.regs s holds fails operand.value truth.0 operand.has truth.1
+    (point_before run.function frame.point) run.stands.constant))
 last_effect_fits graph world state frame (last.Switch s blocks) x =
     let run = x.run in
     let kinds = kinds_at_end graph world state frame (last.Switch s blocks) x in
@@ -202,7 +208,7 @@ last_effect_fits graph world state frame (last.Switch s blocks) x =
     (subst (λ o. TopFits graph world state run.function frame (needs o (goto_of graph frame)))
     (sym block.1)
     (goes_to_block graph world state frame (last.Switch s blocks) x choice.tag block.0 block.1
-    (switch_by frame.regs choice.tag s blocks operand.value operand.has tagged)))
+    (switch_by frame.regs choice.tag s blocks operand.value operand.has tagged) tt))
 last_effect_fits graph world state frame (last.Return None) x =
     let run = x.run in
     let nothing = run.supplied.returns frame.function run.function run.is frame.point

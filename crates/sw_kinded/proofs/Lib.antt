@@ -5,6 +5,7 @@ pub mod CallLemmas
 pub mod CellLemmas
 pub mod ComputeLemmas
 pub mod EffectLemmas
+pub mod EndlessExample
 pub mod Examples
 pub mod FirstLemmas
 pub mod FrameLemmas
@@ -22,5 +23,6 @@ pub mod PlainLemmas
 pub mod StackLemmas
 pub mod StartLemmas
 pub mod StateLemmas
+pub mod SureLemmas
 pub mod TopLemmas
 pub mod ValueLemmas

@@ -28,6 +28,7 @@ use Rattle.sw_kinded.specs.Standing.{Place, Stands}
 use Rattle.sw_kinded.proofs.ItemLemmas.{found_within}
 use Rattle.sw_kinded.proofs.KindLemmas.{goes_to}
 use Rattle.sw_kinded.proofs.PlaceLemmas.{instr_at_place, last_at_place}
+use Rattle.sw_kinded.proofs.SureLemmas.{way_of}
 
 pub function_fits : (graph : Graph) (n : ℕ) (function : Function)
     → slice_get graph.functions n ≡ Some function
@@ -99,7 +100,7 @@ operand_has graph cells function fits p regs s instr here k o is =
     (at_index (λ r. r < length function.regs) (registers_of instr) mentioned.0 o.reg
     instr_fit.registers mentioned.1)
     (at_index (λ r. IsTrue (is_set function s.passed r)) (reads instr) k o.reg
-    (fits.sets p s.passed s.way (Middle instr) here) read)
+    (fits.sets p s.passed (way_of function p s.passed s.way) (Middle instr) here) read)
 
 pub last_has : (graph : Graph) (cells : List RegKind) (function : Function)
     → FunctionFits graph.shapes graph.globals graph.functions function → (p : ℕ)
@@ -112,7 +113,7 @@ last_has graph cells function fits p regs s last here k r is =
     has_register graph.shapes cells function p regs s r
     (at_index (λ r. r < length function.regs) (last_registers last) k r last_fit.registers is)
     (at_index (λ r. IsTrue (is_set function s.passed r)) (last_registers last) k r
-    (fits.sets p s.passed s.way (End last) here) is)
+    (fits.sets p s.passed (way_of function p s.passed s.way) (End last) here) is)
 
 -- the register that an instruction sets is there
 pub set_within : (graph : Graph) (function : Function)

@@ -18,7 +18,7 @@ use Rattle.sw_kinded.specs.Standing.{Place}
 use Rattle.sw_kinded.proofs.ItemLemmas.{at_end, found_within}
 
 -- a point of block n
-point_of_block : (blocks : List Block) (n : ℕ) (block : Block) (index : ℕ)
+pub point_of_block : (blocks : List Block) (n : ℕ) (block : Block) (index : ℕ)
     → slice_get blocks n ≡ Some block → index ≤ length block.instrs
     → slice_get (points_of blocks) (length (points_of (take n blocks)) + index)
     ≡ slice_get (points_of_block block) index

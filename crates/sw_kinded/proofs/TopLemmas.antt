@@ -1,6 +1,6 @@
 -- What an effect leaves of the top frame, and what it needs: each fits.
-use Rattle.std.proofs.Common.{◌≡◌, ℕ, ◌+◌, false, Option, Some, None, List, [], ◌∷◌, ◌++◌, length}
-use Rattle.std.proofs.Common.{subst}
+use Rattle.std.proofs.Common.{◌≡◌, ℕ, ◌+◌, true, false, Option, Some, None, List, [], ◌∷◌, ◌++◌}
+use Rattle.std.proofs.Common.{length, subst}
 use Rattle.std.specs.Option.{option_map}
 use Rattle.std.specs.List.{slice_get, slice_set}
 use Rattle.sw_types.specs.declared.ty.Ty.{Ty}
@@ -32,12 +32,13 @@ use Rattle.sw_value.specs.Value.{with_field}
 use Rattle.sw_kinded.specs.Kinded.{global_kinds, StateFits}
 use Rattle.sw_kinded.specs.Kinds.{HasKind, World, CellFits}
 use Rattle.sw_kinded.specs.Operands.{HasOperand}
-use Rattle.sw_kinded.specs.Standing.{Stands, FrameFits, Links}
+use Rattle.sw_kinded.specs.Standing.{HasConst, Stands, FrameFits, Links}
 use Rattle.sw_kinded.specs.Supplied.{IsSupplied}
 use Rattle.sw_kinded.proofs.FrameLemmas.{front_plain, stands_set, stands_on}
 use Rattle.sw_kinded.proofs.GrowthLemmas.{no_more}
 use Rattle.sw_kinded.proofs.KindLemmas.{WentTo}
 use Rattle.sw_kinded.proofs.OperandLemmas.{instr_fits, operand_has}
+use Rattle.sw_kinded.proofs.SureLemmas.{is_ordinary, no_payload, no_const}
 
 -- The top frame of a running job, in a state that fits.
 pub record Executes (graph : Graph) (world : World) (state : State) (frame : Frame) : Type 0 where
@@ -156,32 +157,45 @@ operand_at graph world state frame instr at k o is =
     instr at.here k o is
 
 -- an instruction that takes no payload gives a register a value
-pub puts : (graph : Graph) (world : World) (state : State) (frame : Frame) (instr : Instr)
+pub gives : (graph : Graph) (world : World) (state : State) (frame : Frame) (instr : Instr)
     → (at : IsAt graph world state frame instr) → is_payload instr ≡ false → (r : ℕ)
     → set_by instr ≡ Some r → (v : Value)
+    → HasConst None (slice_set frame.regs r (Some v)) (Some (Middle instr))
     → WentTo graph.shapes world.cells v (slice_get at.run.function.regs r)
     → StandsAt graph world.cells at.run.function None (frame.point + 1)
     (slice_set frame.regs r (Some v))
-puts graph world state frame instr at plain r sets v went =
+gives graph world state frame instr at plain r sets v constant went =
     let run = at.run in
     stands_set graph.shapes world.cells world.cells run.function frame.point frame.regs instr r v
     went.kind run.stands at.here sets
     (front_plain graph.shapes run.function None frame.point (slice_set frame.regs r (Some v)) instr
     run.stands.place (run.well.payloads run.stands.place.number run.stands.place.block
-    run.stands.place.is) at.here plain) (no_more world.cells) went.is went.has
+    run.stands.place.is) at.here plain) constant (no_more world.cells) went.is went.has
 
--- one that gives none yet
+-- one that gives no constant either
+pub puts : (graph : Graph) (world : World) (state : State) (frame : Frame) (instr : Instr)
+    → (at : IsAt graph world state frame instr) → is_ordinary instr ≡ true → (r : ℕ)
+    → set_by instr ≡ Some r → (v : Value)
+    → WentTo graph.shapes world.cells v (slice_get at.run.function.regs r)
+    → StandsAt graph world.cells at.run.function None (frame.point + 1)
+    (slice_set frame.regs r (Some v))
+puts graph world state frame instr at ordinary r sets v went =
+    gives graph world state frame instr at (no_payload instr ordinary) r sets v
+    (no_const None (slice_set frame.regs r (Some v)) instr ordinary) went
+
+-- one that gives no value yet
 pub goes_on : (graph : Graph) (world : World) (state : State) (frame : Frame) (instr : Instr)
-    → (at : IsAt graph world state frame instr) → is_payload instr ≡ false → (awaits : Option ℕ)
+    → (at : IsAt graph world state frame instr) → is_ordinary instr ≡ true → (awaits : Option ℕ)
     → set_by instr ≡ awaits
     → StandsAt graph world.cells at.run.function awaits (frame.point + 1) frame.regs
-goes_on graph world state frame instr at plain awaits sets =
+goes_on graph world state frame instr at ordinary awaits sets =
     let run = at.run in
     stands_on graph.shapes world.cells run.function awaits frame.point frame.regs instr run.stands
     at.here sets
     (front_plain graph.shapes run.function awaits frame.point frame.regs instr
     run.stands.place (run.well.payloads run.stands.place.number run.stands.place.block
-    run.stands.place.is) at.here plain)
+    run.stands.place.is) at.here (no_payload instr ordinary))
+    (no_const awaits frame.regs instr ordinary)
 
 -- the value is there
 pub set_there : (graph : Graph) (world : World) (state : State) (function : Function)

@@ -101,7 +101,7 @@ payload_fits graph world state frame depth at r s i x =
     (stands_set graph.shapes world.cells world.cells run.function frame.point frame.regs
     (instr.Payload at r s i) r found.0 went.kind run.stands x.here refl
     (front_payload graph.shapes run.function frame.point frame.regs found.0 at r s i place payloads
-    x.here unpacked) (no_more world.cells) went.is went.has)
+    x.here unpacked) tt (no_more world.cells) went.is went.has)
 
 -- a register with a value is there
 slot_there : (regs : List (Option Value)) (r : ℕ) (v : Value) → value_at regs r ≡ Some v
@@ -155,7 +155,7 @@ set_field_fits graph world state frame depth at r i s x =
     (front_plain graph.shapes run.function None frame.point
     (slice_set frame.regs r.reg (Some (with_field i operand.value owner.value)))
     (instr.SetField at r i s) place (run.well.payloads place.number place.block place.is) x.here
-    refl)
+    refl) tt
     (slots_set graph.shapes world.cells frame.regs regs r.reg
     (with_field i operand.value owner.value) owner.kind run.stands.slots owner.is put)
     (still_set frame.regs r.reg (with_field i operand.value owner.value))

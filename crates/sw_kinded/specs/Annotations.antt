@@ -7,12 +7,14 @@ use Rattle.sw_graph.specs.declared.instr.Operand.{Operand}
 use Rattle.sw_graph.specs.Points.{End, point_in}
 use Rattle.sw_graph.specs.Ways.{Leads}
 use Rattle.sw_kinded.specs.FirstValues.{point_stores}
+use Rattle.sw_kinded.specs.Sure.{SureLeads}
 
--- The points that are reached: the first one, and with a point those that it leads to. A return of
--- nothing that is reached stands in a function that gives nothing.
+-- The points that are reached: the first one, and with a point those that it leads to, but by no
+-- side of a branch that a constant rules out. A return of nothing that is reached stands in a
+-- function that gives nothing.
 pub record ReachesReturns (function : Function) (reached : ℕ → Bool) : Type 0 where
   pub starts : IsTrue (reached 0)
-  pub leads : (p q : ℕ) → Leads function p q → IsTrue (reached p) → IsTrue (reached q)
+  pub leads : (p q : ℕ) → SureLeads function p q → IsTrue (reached p) → IsTrue (reached q)
   pub returns : (p : ℕ) → IsTrue (reached p)
       → point_in function p ≡ Some (End (Return None)) → function.result ≡ Void
 

@@ -6,3 +6,4 @@ pub mod Operands
 pub mod Standing
 pub mod Stuck
 pub mod Supplied
+pub mod Sure

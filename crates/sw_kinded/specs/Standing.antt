@@ -8,20 +8,21 @@ use Rattle.sw_graph.specs.declared.function.RegKind.{RegKind}
 use Rattle.sw_graph.specs.declared.function.RegKind.TheVariants.{Plain}
 use Rattle.sw_graph.specs.declared.graph.Graph.{Graph}
 use Rattle.sw_graph.specs.declared.instr.Block.{Block}
-use Rattle.sw_graph.specs.declared.instr.Instr.TheVariants.{Payload}
+use Rattle.sw_graph.specs.declared.instr.Instr.TheVariants.{Const, Payload}
 use Rattle.sw_graph.specs.declared.instr.Operand.{Operand}
 use Rattle.sw_graph.specs.Kinds.{Goes, value}
 use Rattle.sw_graph.specs.Mentions.{blocks_of}
-use Rattle.sw_graph.specs.Points.{block_start}
-use Rattle.sw_graph.specs.Ways.{Way, is_set}
+use Rattle.sw_graph.specs.Points.{Point, Middle, block_start}
+use Rattle.sw_graph.specs.Ways.{is_set}
 use Rattle.sw_value.specs.declared.frame.TheConstants.{NO_REGISTER}
 use Rattle.sw_value.specs.declared.value.Value.{Value}
 use Rattle.sw_value.specs.declared.frame.Frame.{Frame}
 use Rattle.sw_value.specs.declared.job.Job.{Job}
 use Rattle.sw_value.specs.declared.job.Status.{Status}
 use Rattle.sw_value.specs.declared.job.Status.TheVariants.{Ready, Running, Waiting, Ended}
-use Rattle.sw_value.specs.Value.{value_at, tag_of}
+use Rattle.sw_value.specs.Value.{value_at, value_of, tag_of}
 use Rattle.sw_kinded.specs.Kinds.{HasKind, SlotsFit, World}
+use Rattle.sw_kinded.specs.Sure.{SureWay, point_before}
 
 -- where a point is: which of the instructions of a block, or after them
 pub record Place (function : Function) (point : ℕ) : Type 0 where
@@ -55,14 +56,23 @@ Front function awaits regs number index = (block : Block)
     → slice_get block.instrs index ≡ Some (Payload at r s i)
     → Unpacked function awaits number s.reg regs
 
--- A frame has come to its point by a way through its function. Its registers fit, and those that
--- the way sets have values, but for the one that awaits the result of a call or a task.
+-- Where the instruction before gave a register a constant, the register has it, and the frame
+-- awaits nothing.
+abbrev pub HasConst : Option ℕ → List (Option Value) → Option Point → Type 0
+HasConst awaits regs (Some (Middle (Const at r v))) = (awaits ≡ None)
+    × (value_at regs r ≡ Some (value_of v))
+HasConst awaits regs _ = Unit {0}
+
+-- A frame has come to its point by a way through its function, and at each branch that a constant
+-- decides it went to the side of the constant. Its registers fit, and those that the way sets have
+-- values, but for the one that awaits the result of a call or a task.
 pub record Stands (shapes : List Shape) (cells : List RegKind) (function : Function)
     (awaits : Option ℕ) (point : ℕ) (regs : List (Option Value)) : Type 0 where
   pub place : Place function point
   pub front : Front function awaits regs place.number place.index
+  pub constant : HasConst awaits regs (point_before function point)
   pub passed : List ℕ
-  pub way : Way function point passed
+  pub way : SureWay function point passed
   pub slots : SlotsFit shapes cells regs function.regs
   pub has : (r : ℕ) → r < length function.regs → IsTrue (is_set function passed r)
       → (awaits ≡ Some r → ⊥) → (v : Value) × (value_at regs r ≡ Some v)

@@ -14,12 +14,13 @@ use Rattle.sw_graph.specs.declared.instr.Last.TheVariants.{Return}
 use Rattle.sw_graph.specs.Kinds.{shape_of, is_actor}
 use Rattle.sw_graph.specs.Placed.{EachFunction, EachInstr, FunctionAt, GivesFirst, IsAlone, IsFirst}
 use Rattle.sw_graph.specs.Points.{Middle, End, point_in}
-use Rattle.sw_graph.specs.Ways.{Way}
 use Rattle.sw_kinded.specs.FirstValues.{StoresFirst}
+use Rattle.sw_kinded.specs.Sure.{SureWay}
 
--- A return of nothing that a way leads to stands in a function that gives nothing.
+-- A return of nothing stands in a function that gives nothing, if a way leads to it that no
+-- constant rules out.
 abbrev pub ReturnsResult : Function → Type 0
-ReturnsResult function = (p : ℕ) (passed : List ℕ) → Way function p passed
+ReturnsResult function = (p : ℕ) (passed : List ℕ) → SureWay function p passed
     → point_in function p ≡ Some (End (Return None)) → function.result ≡ Void
 
 -- A function that is isolated to `self` takes that actor first.

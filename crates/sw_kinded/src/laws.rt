@@ -5,6 +5,7 @@ ghost use Rattle.sw_graph.specs.declared.function.Function.{Function};
 ghost use Rattle.sw_graph.specs.declared.function.RegKind.{RegKind};
 ghost use Rattle.sw_graph.specs.Kinds.{IsCaptured};
 ghost use Rattle.sw_graph.specs.Placed.{EachFunction, FunctionAt, IsPlaced};
+ghost use Rattle.sw_graph.specs.Ways.{Way};
 ghost use Rattle.sw_value.specs.declared.cell.HeapCell.{HeapCell};
 ghost use Rattle.sw_value.specs.declared.frame.Frame.{Frame};
 ghost use Rattle.sw_value.specs.declared.job.Job.{Job};
@@ -25,6 +26,7 @@ ghost use Rattle.sw_kinded.specs.Standing.{FrameFits, awaited_at};
 ghost use Rattle.sw_kinded.specs.Stuck.{GetsStuck};
 ghost use Rattle.sw_kinded.specs.Supplied.{IsSupplied, BeginsWell, SetsGlobals};
 ghost use Rattle.sw_kinded.specs.Supplied.{IsPlain, ReturnsResult};
+ghost use Rattle.sw_kinded.specs.Sure.{SureWay, MayLackResult};
 
 /// However long the items are that lead a supplied graph to a state, no running job of it is stuck:
 /// its next instruction finds its operands, of the kinds that it asks for. So an item that names a
@@ -74,6 +76,14 @@ pub fn graphs_are_supplied()
         → IsSupplied graph }
     ensures plain { (graph : Graph) → IsPlain graph → EachFunction graph ReturnsResult
         → IsSupplied graph }
+{}
+
+/// A way that constants leave is a way. A graph may be supplied though a way leads to a return of
+/// nothing in a function that gives something: constants rule that way out.
+pub fn constants_rule_out_ways()
+    ensures ways { (function : Function) (p : ℕ) (passed : List ℕ) → SureWay function p passed
+        → Way function p passed }
+    ensures fewer { (graph : Graph) × IsSupplied graph × MayLackResult graph }
 {}
 
 /// How it is shown of a function that it returns its result, and that it gives a global a first

@@ -6,6 +6,6 @@
 mod laws;
 
 pub use laws::{
-    annotations_show_supplies, graphs_are_supplied, kinded_states_fit, machine_is_never_stuck,
-    steps_keep_kinds, supplies_are_needed,
+    annotations_show_supplies, constants_rule_out_ways, graphs_are_supplied, kinded_states_fit,
+    machine_is_never_stuck, steps_keep_kinds, supplies_are_needed,
 };
