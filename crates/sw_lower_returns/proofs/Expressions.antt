@@ -1,0 +1,4 @@
+pub mod Forms
+pub mod Induction
+pub mod Logic
+pub mod Uses

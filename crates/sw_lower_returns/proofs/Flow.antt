@@ -1,0 +1,5 @@
+pub mod Going
+pub mod Marks
+pub mod Quiet
+pub mod Steps
+pub mod Then

@@ -1,0 +1,10 @@
+pub mod Bodies
+pub mod Expressions
+pub mod Flow
+pub mod Forms
+pub mod Functions
+pub mod Induction
+pub mod Programs
+pub mod Returning
+pub mod Statements
+pub mod Typing

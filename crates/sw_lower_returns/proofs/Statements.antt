@@ -1,0 +1,9 @@
+pub mod Arms
+pub mod Branches
+pub mod Declaring
+pub mod Leaving
+pub mod Loops
+pub mod Passing
+pub mod Sequences
+pub mod Switches
+pub mod Truth
