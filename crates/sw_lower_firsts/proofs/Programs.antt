@@ -1,0 +1,4 @@
+-- The functions of a program by their numbers.
+pub mod Entries
+pub mod Places
+pub mod Starts
