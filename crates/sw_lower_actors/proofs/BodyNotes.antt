@@ -1,0 +1,4 @@
+pub mod Members
+pub mod Noted
+pub mod Programs
+pub mod Trees

@@ -1,0 +1,4 @@
+pub mod Makers
+pub mod Methods
+pub mod Owners
+pub mod Taking

@@ -1,0 +1,4 @@
+pub mod Firsts
+pub mod Noted
+pub mod Ordered
+pub mod Trees

@@ -1,0 +1,9 @@
+pub mod BodyNotes
+pub mod Calls
+pub mod Every
+pub mod Functions
+pub mod Giving
+pub mod Holding
+pub mod KindNotes
+pub mod Meant
+pub mod Writing

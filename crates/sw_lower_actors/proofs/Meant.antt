@@ -1,0 +1,4 @@
+pub mod Answers
+pub mod Callees
+pub mod Noted
+pub mod Rules
