@@ -136,7 +136,7 @@ size_at : (facts : List ℕ) (o : Option Regions) (x : Regions) → o ≡ Some x
 size_at facts o x e sized = subst (λ v. IfSome v (λ r. size_of r ≡ facts)) e sized
 
 -- the flow of the points, and its laws
-abbrev point_flow : Setting → List ℕ → Problem Regions
+abbrev pub point_flow : Setting → List ℕ → Problem Regions
 point_flow setting sites = record {
   le = IsWithin;
   size = size_of;
@@ -147,7 +147,7 @@ point_flow setting sites = record {
   successors = followers setting.body.blocks;
 }
 
-point_laws : (setting : Setting) (sites : List ℕ) → IsLawful (point_flow setting sites)
+pub point_laws : (setting : Setting) (sites : List ℕ) → IsLawful (point_flow setting sites)
 point_laws setting sites = record {
   reflexive = within_refl;
   transitive = within_trans;

@@ -18,7 +18,8 @@ use Rattle.sw_breach.specs.Order.{breach_cmp}
 use Rattle.sw_breach.specs.declared.Breach.{Breach}
 use Rattle.sw_region_flow.proofs.OneSites.{member_cases, member_first, member_later, no_member}
 use Rattle.sw_graph.specs.declared.graph.Graph.{Graph}
-use Rattle.sw_region_flow.specs.Breaches.{IsBefore, IsNoteAtMost, StandsFor, IsBreachOf, AreBreaches}
+use Rattle.sw_region_flow.specs.Breaches.{AreAll, AreBreaches, IsBefore, IsBreachOf}
+use Rattle.sw_region_flow.specs.Breaches.{IsNoteAtMost, StandsFor}
 use Rattle.sw_region_flow.specs.Listing.{is_alike}
 
 -- what two orders, one after the other, answer
@@ -98,21 +99,21 @@ note_trans (Some x) None c first second = absurd first
 note_trans (Some x) (Some y) None first second = absurd second
 note_trans (Some x) (Some y) (Some z) first second = omega arith
 
-stands_itself : (b : Breach) → StandsFor b b
+pub stands_itself : (b : Breach) → StandsFor b b
 stands_itself b = record { at = refl; code = refl; note = itself b.note }
   where
     itself : (o : Option ℕ) → IsNoteAtMost o o
     itself None = tt
     itself (Some x) = omega arith
 
-stands_trans : (a b c : Breach) → StandsFor a b → StandsFor b c → StandsFor a c
+pub stands_trans : (a b c : Breach) → StandsFor a b → StandsFor b c → StandsFor a c
 stands_trans a b c first second = record {
   at = first.at ∙ second.at;
   code = first.code ∙ second.code;
   note = note_trans a.note b.note c.note first.note second.note;
 }
 
-before_later : (a b c : Breach) → IsBefore a b → IsBeforeOrAlike b c → IsBefore a c
+pub before_later : (a b c : Breach) → IsBefore a b → IsBeforeOrAlike b c → IsBefore a c
 before_later a b c (inl at) (inl (inl at_too)) = inl (omega arith)
 before_later a b c (inl at) (inl (inr code)) = inl (omega (arith, code.0))
 before_later a b c (inl at) (inr alike) = inl (omega (arith, alike.at))
@@ -299,18 +300,12 @@ pub rises : (bs : List Breach) → IsOrdered bs → AllPairs IsBefore (dedup is_
 rises [] up = pairs [] tt
 rises (k ∷ bs) up = pairs (dedup_from is_alike k bs) (rises_from k bs up)
 
--- what is kept of a list in order
-pub record IsListed (list kept : List Breach) : Type 0 where
-  pub sound : (b : Breach) → Contains kept b → Contains list b
-  pub complete : (b : Breach) → Contains list b → Stood kept b
-  pub rising : AllPairs IsBefore kept
-
 pub in_order_facts : IsStrictWeakOrder (λ x y. is_lt (breach_cmp x y))
     → (list sorted kept : List Breach) → IsSorted breach_cmp sorted
     → ((b : Breach) → Contains sorted b ↔ Contains list b) → kept ≡ dedup is_alike sorted
-    → IsListed list kept
-in_order_facts order list sorted kept is_sorted same e = subst (λ bs. IsListed list bs) (sym e)
-    (record {
+    → AreAll (Contains list) kept
+in_order_facts order list sorted kept is_sorted same e =
+    subst (λ bs. AreAll (Contains list) bs) (sym e) (record {
       sound = λ b has. (same b).0 (only_kept sorted b has);
       complete = λ b has. each_kept sorted b (ordered order sorted is_sorted) ((same b).1 has);
       rising = rises sorted (ordered order sorted is_sorted);
@@ -319,11 +314,9 @@ in_order_facts order list sorted kept is_sorted same e = subst (λ bs. IsListed 
 -- the list in order is that of a graph's breaches
 pub are_breaches : (graph : Graph) (found list kept : List Breach) → list ≡ found
     → ((b : Breach) → Contains found b ↔ IsBreachOf graph b)
-    → ((b : Breach) → Contains kept b → Contains list b)
-    → ((b : Breach) → Contains list b → Stood kept b) → AllPairs IsBefore kept
-    → AreBreaches graph kept
-are_breaches graph found list kept same are sound complete rising = record {
-  sound = λ b has. (are b).0 (subst (λ l. Contains l b) same (sound b has));
-  complete = λ b breaks. complete b (subst (λ l. Contains l b) (sym same) ((are b).1 breaks));
-  rising = rising;
+    → AreAll (Contains list) kept → AreBreaches graph kept
+are_breaches graph found list kept same are is = record {
+  sound = λ b has. (are b).0 (subst (λ l. Contains l b) same (is.sound b has));
+  complete = λ b breaks. is.complete b (subst (λ l. Contains l b) (sym same) ((are b).1 breaks));
+  rising = is.rising;
 }

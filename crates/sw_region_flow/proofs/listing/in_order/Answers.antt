@@ -4,6 +4,5 @@ use Rattle.sw_region_flow.proofs.listing.in_order.Goals as goal
 
 pub returns : goal.returns
 returns c =
-    let h = in_order_facts (ranks_by c.breaches_are_in_order.ensures.total (λ x. x)) _ _ _
-    c.sorted.ensures.sorted c.sorted.ensures.same c.without_repeats.ensures in
-    record { sound = h.sound; complete = h.complete; rising = h.rising }
+    in_order_facts (ranks_by c.breaches_are_in_order.ensures.total (λ x. x)) _ _ _
+    c.sorted.ensures.sorted c.sorted.ensures.same c.without_repeats.ensures
