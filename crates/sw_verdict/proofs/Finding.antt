@@ -1,5 +1,5 @@
 -- What the functions of the phases find.
-use Rattle.std.proofs.Common.{◌≡◌, ◌≢◌, ℕ, List, [], length, map, refl, sym, subst}
+use Rattle.std.proofs.Common.{◌≡◌, ◌≢◌, ℕ, List, [], length, refl, sym, subst}
 use Rattle.sw_token.specs.declared.Token.{Token}
 use Rattle.sw_token.specs.declared.LexFault.{LexFault}
 use Rattle.sw_token.specs.declared.LexFault.TheVariants as faults
@@ -16,20 +16,12 @@ use Rattle.sw_tree.specs.declared.decl.Decl.{Decl}
 use Rattle.sw_decls.specs.Declaring.{IsRefusal}
 use Rattle.sw_decls.specs.declared.declaring.DeclFault.TheVariants as decl_faults
 use Rattle.sw_decls.specs.declared.signature.AsyncDefault.TheVariants.{Concurrent}
-use Rattle.sw_decls.specs.Declaring.{IsDeclared}
-use Rattle.sw_decls.specs.declared.declaring.Decls.{Decls}
-use Rattle.sw_typing_rules.specs.Worlds.{IsWorldOf, World, world_of}
-use Rattle.sw_typing_rules.proofs.OneWorld.{declared_world}
-use Rattle.sw_capture.specs.Known.{answers_of}
-use Rattle.sw_isolation.proofs.Answering.{answers_are_said}
-use Rattle.sw_resolve.specs.declared.placed.Placed.{Placed}
-use Rattle.sw_isolation_rules.specs.Races.{AreRaces}
+use Rattle.sw_typing_rules.specs.Worlds.{IsWorldOf, World}
 use Rattle.sw_isolation.specs.Isolated.{IsRefused}
 use Rattle.sw_isolation.specs.declared.isolating.IsoFault.TheVariants as isolation_faults
 use Rattle.sw_lower.specs.Lowered.{IsTooLarge}
 use Rattle.sw_lower.specs.declared.lowering.LowerFault.TheVariants as lower_faults
-use Rattle.sw_typing.specs.Typed.{IsIllProgram, IsTyped}
-use Rattle.sw_typing.specs.declared.answers.Typed.{Typed}
+use Rattle.sw_typing.specs.Typed.{IsIllProgram}
 use Rattle.sw_typing.specs.declared.typing.TypeFault.TheVariants as type_faults
 use Rattle.sw_breach.specs.declared.Breach.{Breach}
 use Rattle.sw_verdict.specs.declared.phases.Refusal.{Refusal}
@@ -37,8 +29,8 @@ use Rattle.sw_verdict.specs.declared.phases.Refusal.TheVariants.{Breached, Memor
 use Rattle.sw_verdict.specs.Phases.{breach_at, lexical_code, LexisFinds, has_fault}
 use Rattle.sw_verdict.specs.Phases.{SyntaxFinds, has_syntax_fault, syntax_code, token_of}
 use Rattle.sw_verdict.specs.Phases.{token_position, DeclarationsFinds, breaks_one, TypesFinds}
-use Rattle.sw_verdict.specs.Phases.{ill_typed, answers_of_program, breach_of, IsolationFinds}
-use Rattle.sw_verdict.specs.Phases.{reaches_out, SharingFinds, shares, SizeFinds, too_large}
+use Rattle.sw_verdict.specs.Phases.{ill_typed, answers_of_program, IsolationFinds}
+use Rattle.sw_verdict.specs.Phases.{reaches_out, SizeFinds, too_large}
 use Rattle.sw_verdict.specs.Phases.{tables_of_program}
 use Rattle.sw_verdict.specs.Found.{FoundBy}
 
@@ -136,16 +128,3 @@ pub found_too_large : (text : List ℕ) (tokens : List Token) (decls : List Decl
 found_too_large text tokens decls world code at refusal are spelled is_world first is =
     found_breach (SizeFinds text) code at refusal is
     (too_large tokens decls world (record { at = at; code = code }) are spelled is_world first)
-
--- what the values that may not be shared are found as
-pub found_races : (text : List ℕ) (tokens : List Token) (decls : List Decl) (made : Decls)
-    (typed : Typed) (races : List Placed) (breaches : List Breach)
-    → IsDeclared decls Concurrent made → IsTyped (world_of made) decls typed
-    → AreRaces (world_of made) (answers_of typed) decls races → breaches ≡ map breach_of races
-    → IsTokens text tokens → IsProgramOf decls (spelling_of text tokens)
-    → SharingFinds text breaches
-found_races text tokens decls made typed races breaches declared is_typed all same are spelled =
-    subst (SharingFinds text) (sym same) (shares tokens decls (world_of made) races are spelled
-    (declared_world decls Concurrent made declared)
-    (subst (λ answers. AreRaces (world_of made) answers decls races)
-    (answers_are_said (world_of made) decls typed is_typed) all))

@@ -1,5 +1,12 @@
 pub mod Finding
+pub mod GraphsExist
 pub mod InOrder
+pub mod LoweredTexts
+pub mod OneLowered
 pub mod Ordered
+pub mod Passing
+pub mod Programs
+pub mod Races
+pub mod SameProgram
 pub mod Tables
 pub mod Verdicts

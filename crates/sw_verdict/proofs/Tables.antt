@@ -19,7 +19,7 @@ use Rattle.sw_tree.specs.declared.decl.Decl.{Decl}
 use Rattle.sw_typing.specs.Typed.{IsTyped}
 use Rattle.sw_typing.specs.declared.answers.Typed.{Typed}
 use Rattle.sw_typing_rules.specs.Worlds.{World}
-use Rattle.sw_verdict.specs.Phases.{tables_of_program}
+use Rattle.sw_verdict.specs.Phases.{isolation_of_program, tables_of_program}
 
 -- what is among a list is in it, and the other way round
 
@@ -65,12 +65,20 @@ isolation_is_noted notes isolated is =
       is_boxed = λ key. boxes key i;
     })
 
+pub isolation_is_said : (world : World) (decls : List Decl) (typed : Typed) (isolated : Isolated)
+    → IsTyped world decls typed → IsIsolated world (answers_of typed) decls isolated
+    → isolation_of isolated ≡ isolation_of_program world decls
+isolation_is_said world decls typed isolated is_typed is_isolated =
+    isolation_is_noted (noted world (answers_of typed) decls) isolated is_isolated
+    ∙ ap (λ (answers : Answers). isolation_in (noted world answers decls))
+    (answers_are_said world decls typed is_typed)
+
 pub tables_are_said : (world : World) (decls : List Decl) (typed : Typed) (isolated : Isolated)
     → IsTyped world decls typed → IsIsolated world (answers_of typed) decls isolated
     → tables_of world (answers_of typed) (isolation_of isolated) decls
     ≡ tables_of_program world decls
 tables_are_said world decls typed isolated is_typed is_isolated =
     ap (λ isolation. tables_of world (answers_of typed) isolation decls)
-    (isolation_is_noted (noted world (answers_of typed) decls) isolated is_isolated)
-    ∙ ap (λ (answers : Answers). tables_of world answers (isolation_in (noted world answers decls))
-    decls) (answers_are_said world decls typed is_typed)
+    (isolation_is_said world decls typed isolated is_typed is_isolated)
+    ∙ ap (λ (answers : Answers). tables_of world answers (isolation_of_program world decls) decls)
+    (answers_are_said world decls typed is_typed)

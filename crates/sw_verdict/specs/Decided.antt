@@ -1,5 +1,17 @@
 -- What a function answers that goes through phases.
-use Rattle.std.specs.Prelude.{◌≢◌, ◌<◌, ◌^◌, ◌≡◌, ℕ, List, [], Result, Ok, Err, length}
+use Rattle.std.specs.Prelude.{◌≢◌, ◌<◌, ◌^◌, ◌≡◌, ℕ, List, [], None, Result, Ok, Err, length}
+use Rattle.sw_tree.specs.declared.decl.Decl.{Decl}
+use Rattle.sw_decls.specs.Declaring.{IsDeclared, IsFirstBreach}
+use Rattle.sw_decls.specs.declared.signature.AsyncDefault.TheVariants.{Concurrent}
+use Rattle.sw_typing_rules.specs.Programs.{IsFirstIll}
+use Rattle.sw_typing_rules.specs.Worlds.{world_of}
+use Rattle.sw_typing.specs.Typed.{IsTyped}
+use Rattle.sw_capture.specs.Known.{answers_of}
+use Rattle.sw_isolation.specs.Isolated.{IsIsolated}
+use Rattle.sw_lower_known.specs.Knowledge.{isolation_of}
+use Rattle.sw_lower_table.specs.Bodies.{tables_of}
+use Rattle.sw_lower.specs.Lowered.{IsLowering}
+use Rattle.sw_verdict.specs.declared.judging.Analysed.{Analysed}
 use Rattle.sw_parse_decl.specs.Programs.{IsProgramOf}
 use Rattle.sw_token.specs.Spelling.{spelling_of}
 use Rattle.sw_token.specs.Tokens.{IsTokens}
@@ -26,3 +38,14 @@ pub record IsSpelled (text : List ℕ) (read : Spelled) : Type 0 where
   pub are_tokens : IsTokens text read.tokens.items
   pub is_program : IsProgramOf read.program.decls (spelling_of text read.tokens.items)
   pub few : length read.program.decls < 2 ^ 31
+
+-- What was found of a program: it keeps the rules on declarations and declares these, its nodes have
+-- types, which are these, and it has this isolation and these functions.
+pub record IsAnalysed (decls : List Decl) (found : Analysed) : Type 0 where
+  pub sound : IsFirstBreach decls None
+  pub declared : IsDeclared decls Concurrent found.declared
+  pub well : IsFirstIll (world_of found.declared) decls None
+  pub typed : IsTyped (world_of found.declared) decls found.typed
+  pub isolated : IsIsolated (world_of found.declared) (answers_of found.typed) decls found.isolated
+  pub functions : IsLowering (tables_of (world_of found.declared) (answers_of found.typed)
+      (isolation_of found.isolated) decls) decls found.lowering

@@ -1,6 +1,7 @@
 -- The phases of the verdict. Each says which breaches it finds in a text in which the phases before
 -- it find none.
-use Rattle.std.specs.Prelude.{◌≡◌, ℕ, List, [], ◌∷◌, length, map, slice_get, Some, None}
+use Rattle.std.specs.Prelude.{ℕ, List, [], ◌∷◌, ◌++◌, ◌⊎◌, Contains, length, map, slice_get}
+use Rattle.std.specs.Prelude.{Some, None}
 use Rattle.std.specs.Option.{option_map_or}
 use Rattle.std.specs.Str.{IsUtf8}
 use Rattle.std.specs.Str.Lossy.{utf8_valid_len}
@@ -9,18 +10,12 @@ use Rattle.sw_token.specs.declared.LexFault.{LexFault}
 use Rattle.sw_token.specs.declared.LexFault.TheVariants.{Unclosed, TooBig, BadChar, TooMany, Memory}
 use Rattle.sw_token.specs.Tokens.{IsTokens, IsLexicalFault, position_of}
 use Rattle.sw_breach.specs.declared.Breach.{Breach}
-use Rattle.sw_graph.specs.declared.function.Excess.{Excess}
-use Rattle.sw_graph.specs.declared.function.Excess.TheVariants.{Registers, Points}
-use Rattle.sw_graph.specs.declared.function.TooLarge.{TooLarge}
-use Rattle.sw_graph.specs.Limits.{first_too_large}
-use Rattle.sw_small.specs.declared.tree.Small.{Small}
-use Rattle.sw_small.specs.Lower.{functions_of}
+use Rattle.sw_graph.specs.declared.graph.Graph.{Graph}
 use Rattle.sw_token.specs.Spelling.{spelling_of}
 use Rattle.sw_tree.specs.declared.decl.Decl.{Decl}
 use Rattle.sw_parse_decl.specs.declared.fault.ParseFault.{ParseFault}
 use Rattle.sw_parse_decl.specs.declared.fault.ParseFault.TheVariants as faults
 use Rattle.sw_parse_decl.specs.Programs.{IsProgramOf, IsSyntaxFault}
-use Rattle.sw_small.specs.Small.{Spells, IsUnexpected}
 use Rattle.sw_resolve.specs.declared.placed.Placed.{Placed}
 use Rattle.sw_decls.specs.Declaring.{IsFirstBreach}
 use Rattle.sw_decls.specs.declared.signature.AsyncDefault.TheVariants.{Concurrent}
@@ -29,8 +24,9 @@ use Rattle.sw_typing_rules.specs.Worlds.{IsWorldOf, World}
 use Rattle.sw_isolation_rules.specs.Answers.{Answers, answers_in}
 use Rattle.sw_isolation_rules.specs.Programs.{IsFirstRefusal, noted}
 use Rattle.sw_isolation_rules.specs.Races.{AreRaces}
-use Rattle.sw_lower_table.specs.Bodies.{IsFirstTooLarge, tables_of}
-use Rattle.sw_lower_table.specs.Tables.{Tables, isolation_in}
+use Rattle.sw_lower_table.specs.Bodies.{AreNumbered, IsFirstTooLarge, Lowered, tables_of}
+use Rattle.sw_lower_table.specs.Tables.{Isolation as Noted, Tables, isolation_in}
+use Rattle.sw_region_flow.specs.Breaches.{AreAll, IsBreachOf}
 
 pub data Phase : Type 0 where
   -- the text is UTF-8
@@ -47,18 +43,17 @@ pub data Phase : Type 0 where
   Isolation : Phase
   -- the program's functions are no larger than those of a graph
   Size : Phase
-  -- no value is shared that may not be
-  Sharing : Phase
-  -- the program has only forms that can be run so far: those of the small language
-  SmallForm : Phase
-  -- the functions of the small program's graph, which is made apart, are no larger either
-  SmallSize : Phase
+  -- no value is shared that may not be, and the program's graph has no region breach
+  Races : Phase
 
--- the phases that are built, in order
+-- The phases up to the size of functions, in order. Where they find no breach, a text has a program
+-- whose functions are those of a graph, whatever races it has.
+abbrev pub phases_to_size : List Phase
+phases_to_size = Encoding ∷ Lexis ∷ Syntax ∷ Declarations ∷ Types ∷ Isolation ∷ Size ∷ []
+
+-- all phases, in order
 abbrev pub all_phases : List Phase
-all_phases =
-    Encoding ∷ Lexis ∷ Syntax ∷ Declarations ∷ Types ∷ Isolation ∷ Size ∷ Sharing ∷ SmallForm
-    ∷ SmallSize ∷ []
+all_phases = phases_to_size ++ (Races ∷ [])
 
 -- the code of a text that isn't UTF-8
 abbrev pub not_utf8_code : ℕ
@@ -75,15 +70,6 @@ abbrev pub token_of : ParseFault → ℕ
 token_of (faults.Unexpected token) = token
 token_of (faults.TooDeep token) = token
 token_of faults.Memory = 0
-
--- the code of a form that can't be run yet
-abbrev pub not_built : ℕ
-not_built = 299
-
--- the code of a function with too many registers, or points
-abbrev pub size_code : Excess → ℕ
-size_code Registers = 510
-size_code Points = 511
 
 -- a breach without a note
 abbrev pub breach_of : Placed → Breach
@@ -161,11 +147,15 @@ pub data IsolationFinds (text : List ℕ) : List Breach → Type 0 where
       → IsFirstRefusal world (answers_of_program world decls) decls (Some placed)
       → IsolationFinds text (breach_at placed.code placed.at)
 
+-- what is noted of a program's isolation
+abbrev pub isolation_of_program : World → List Decl → Noted
+isolation_of_program world decls =
+    isolation_in (noted world (answers_of_program world decls) decls)
+
 -- what lowering looks up in a program
 abbrev pub tables_of_program : World → List Decl → Tables
 tables_of_program world decls =
-    let answers = answers_of_program world decls in
-    tables_of world answers (isolation_in (noted world answers decls)) decls
+    tables_of world (answers_of_program world decls) (isolation_of_program world decls) decls
 
 -- The breach is at the key of the first function that is too large.
 pub data SizeFinds (text : List ℕ) : List Breach → Type 0 where
@@ -178,47 +168,30 @@ pub data SizeFinds (text : List ℕ) : List Breach → Type 0 where
       → IsFirstTooLarge (tables_of_program world decls) decls (Some placed)
       → SizeFinds text (breach_at placed.code placed.at)
 
--- The breaches are all values that may not be shared, by position and then by code, each once
--- (SE-0302, SE-0414, SE-0430).
-pub data SharingFinds (text : List ℕ) : List Breach → Type 0 where
-  shares : (tokens : List Token) (decls : List Decl) (world : World) (races : List Placed)
-      → IsTokens text tokens → IsProgramOf decls (spelling_of text tokens)
-      → IsWorldOf decls Concurrent world
-      → AreRaces world (answers_of_program world decls) decls races
-      → SharingFinds text (map breach_of races)
-
--- The breach is at the first token with which no program of the small language goes on.
-pub data SmallFormFinds (text : List ℕ) : List Breach → Type 0 where
-  spelled : (tokens : List Token) (program : Small) → IsTokens text tokens
-      → Spells program (spelling_of text tokens)
-      → SmallFormFinds text []
-  unexpected : (tokens : List Token) (n : ℕ) → IsTokens text tokens
-      → IsUnexpected (spelling_of text tokens) n
-      → SmallFormFinds text (breach_at not_built (token_position text tokens n))
-
--- the text is that of the program: it is UTF-8, and its tokens spell the program, which has no
--- breach of the syntax or of the rules on declarations, of types and on isolation, has no function
--- that is too large, and shares no value that may not be shared
-pub record IsProgram (text : List ℕ) (program : Small) : Type 0 where
-  pub utf8 : IsUtf8 text
+-- The graph is that of the text's program. Each of its bodies is found by its name.
+pub record IsGraphOf (text : List ℕ) (graph : Graph) : Type 0 where
   pub tokens : List Token
   pub are_tokens : IsTokens text tokens
-  pub syntax : SyntaxFinds text []
-  pub declarations : DeclarationsFinds text []
-  pub types : TypesFinds text []
-  pub isolation : IsolationFinds text []
-  pub size : SizeFinds text []
-  pub sharing : SharingFinds text []
-  pub spells : Spells program (spelling_of text tokens)
+  pub decls : List Decl
+  pub is_program : IsProgramOf decls (spelling_of text tokens)
+  pub world : World
+  pub is_world : IsWorldOf decls Concurrent world
+  pub lowered : Lowered world (answers_of_program world decls) (isolation_of_program world decls)
+      decls graph
+  pub numbered : AreNumbered lowered.ordered
 
--- The breach is at the key of the first function that is too large. The phase Size measures the
--- functions of the program before; those of the small program's graph are made apart.
-pub data SmallSizeFinds (text : List ℕ) : List Breach → Type 0 where
-  small_within : (program : Small) → IsProgram text program
-      → first_too_large (functions_of program) ≡ None → SmallSizeFinds text []
-  small_too_large : (program : Small) (function : TooLarge) → IsProgram text program
-      → first_too_large (functions_of program) ≡ Some function
-      → SmallSizeFinds text (breach_at (size_code function.of) function.key)
+-- a breach of a value that may not be shared, or of the regions of a graph
+abbrev pub IsRace : List Placed → Graph → Breach → Type 0
+IsRace shared graph breach = Contains (map breach_of shared) breach ⊎ IsBreachOf graph breach
+
+-- The breaches are all values that may not be shared, and all region breaches of the text's graph,
+-- by position and then by code, each once, with the least note (SE-0302, SE-0414, SE-0430).
+pub data RacesFinds (text : List ℕ) : List Breach → Type 0 where
+  races : (tokens : List Token) (decls : List Decl) (world : World) (shared : List Placed)
+      (graph : Graph) (list : List Breach) → IsTokens text tokens
+      → IsProgramOf decls (spelling_of text tokens) → IsWorldOf decls Concurrent world
+      → AreRaces world (answers_of_program world decls) decls shared → IsGraphOf text graph
+      → AreAll (IsRace shared graph) list → RacesFinds text list
 
 -- `Finds phase text list`: where the phases before it find no breach in the text, this one finds
 -- these.
@@ -230,6 +203,4 @@ Finds Declarations text list = DeclarationsFinds text list
 Finds Types text list = TypesFinds text list
 Finds Isolation text list = IsolationFinds text list
 Finds Size text list = SizeFinds text list
-Finds Sharing text list = SharingFinds text list
-Finds SmallForm text list = SmallFormFinds text list
-Finds SmallSize text list = SmallSizeFinds text list
+Finds Races text list = RacesFinds text list

@@ -2,9 +2,7 @@
 use Rattle.std.specs.Prelude.{◌≢◌, ℕ, List, [], ◌∷◌, Result, Ok, Err}
 use Rattle.sw_graph.specs.declared.graph.Graph.{Graph}
 use Rattle.sw_breach.specs.declared.Breach.{Breach}
-use Rattle.sw_small.specs.declared.tree.Small.{Small}
-use Rattle.sw_small.specs.Lower.{IsLowered}
-use Rattle.sw_verdict.specs.Phases.{Phase, all_phases, Finds, IsProgram}
+use Rattle.sw_verdict.specs.Phases.{Phase, all_phases, Finds, IsGraphOf}
 
 -- `Breaches phases text list`: the first of these phases that finds breaches in the text decides,
 -- and these are what it finds. The list is empty where none of them finds any.
@@ -23,12 +21,6 @@ Accepts text = Breaches all_phases text []
 -- one of these phases finds a breach in the text
 abbrev pub Refuses : List Phase → List ℕ → Type 0
 Refuses phases text = (list : List Breach) × (list ≢ []) × Breaches phases text list
-
--- the graph is that of the text's program
-pub record IsGraphOf (text : List ℕ) (graph : Graph) : Type 0 where
-  pub program : Small
-  pub of_text : IsProgram text program
-  pub lowered : IsLowered program graph
 
 -- The verdict of these phases on a text: its graph, where none of them finds a breach, or else what
 -- the first finds that does.

@@ -1,23 +1,33 @@
-ghost use Rattle.std.specs.Prelude.{◌<◌, ◌≤◌, ◌^◌, ◌∷◌, [], ℕ, List, IfOk, IsErrOf, Ok, Err, length};
+ghost use Rattle.std.specs.Prelude.{◌<◌, ◌≤◌, ◌^◌, ◌∷◌, [], ℕ, List, IfOk, IsErrOf, Ok, Err};
+ghost use Rattle.std.specs.Prelude.{length};
 ghost use Rattle.sw_breach.specs.declared.Breach.{Breach};
+ghost use Rattle.sw_capture.specs.Known.{answers_of};
+ghost use Rattle.sw_lower_known.specs.Knowledge.{isolation_of};
+ghost use Rattle.sw_lower_table.specs.Bodies.{Lowered};
 ghost use Rattle.sw_parse_decl.specs.Programs.{IsProgramOf};
 ghost use Rattle.sw_token.specs.Spelling.{spelling_of};
 ghost use Rattle.sw_token.specs.Tokens.{IsTokens};
 ghost use Rattle.sw_token.specs.declared.Token.{Token};
-ghost use Rattle.sw_verdict.specs.Decided.{Decided, IsSpelled};
-ghost use Rattle.sw_verdict.specs.Phases.{Declarations, Encoding, Isolation, Lexis, Sharing, Size};
-ghost use Rattle.sw_verdict.specs.Phases.{Syntax, Types, all_phases};
+ghost use Rattle.sw_tree.specs.CasePlaces.{CasesApart};
+ghost use Rattle.sw_typing_rules.specs.Worlds.{world_of};
+ghost use Rattle.sw_verdict.specs.Decided.{Decided, IsAnalysed, IsSpelled};
+ghost use Rattle.sw_verdict.specs.Phases.{Declarations, Encoding, Isolation, Lexis, Size};
+ghost use Rattle.sw_verdict.specs.Phases.{Syntax, Types, all_phases, phases_to_size};
 ghost use Rattle.sw_verdict.specs.Verdict.{IsVerdict};
 
 use crate::phases::{
-    Refusal, declarations, encoding, isolation, lexis, sharing, size, small_form, small_size,
-    syntax, types,
+    Refusal, declarations, encoding, isolation, lexis, races, size, syntax, types,
 };
-use std::alloc::Global;
+use std::alloc::{AllocError, Global};
+use sw_decls::Decls;
 use sw_graph::Graph;
+use sw_isolation::{Isolated, race_forms};
+use sw_lower::Lowering;
+use sw_lower_graph::graph_of;
 use sw_text::{MAX_LENGTH, Source};
 use sw_token::Token;
 use sw_tree::Program;
+use sw_typing::Typed;
 
 /// A text with its tokens and the program that they spell.
 #[derive(Drop)]
@@ -43,18 +53,49 @@ fn read(alloc: Global, text: &[u8]) -> Result<Spelled, Refusal>
     })
 }
 
-/// Goes through the phases that judge what a program means.
-fn judge_program(alloc: Global, program: &Program) -> Result<(), Refusal>
+/// What is found of a program by the phases up to the size of its functions.
+#[derive(Drop)]
+pub struct Analysed {
+    declared: Decls,
+    typed: Typed,
+    isolated: Isolated,
+    lowering: Lowering,
+}
+
+/// Goes through the phases that judge what a program means, up to the size of its functions.
+fn analyse(alloc: Global, program: &Program) -> Result<Analysed, Refusal>
     requires { length program.now.decls < 2 ^ 31 }
-    ensures { (text : List ℕ) (tokens : List Token) → IsTokens text tokens
+    ensures decided { (text : List ℕ) (tokens : List Token) → IsTokens text tokens
         → IsProgramOf program.now.decls (spelling_of text tokens)
-        → Decided (Declarations ∷ Types ∷ Isolation ∷ Size ∷ Sharing ∷ []) text result }
+        → Decided (Declarations ∷ Types ∷ Isolation ∷ Size ∷ []) text result }
+    ensures analysed { IfOk result (IsAnalysed program.now.decls) }
 {
     let declared = declarations(alloc, program)?;
     let typed = types(alloc, program, &declared)?;
     let isolated = isolation(alloc, program, &declared, &typed)?;
-    size(alloc, program, &declared, &typed, &isolated)?;
-    sharing(alloc, program, &declared, &typed, &isolated)
+    let lowering = size(alloc, program, &declared, &typed, &isolated)?;
+    Ok(Analysed {
+        declared,
+        typed,
+        isolated,
+        lowering,
+    })
+}
+
+/// The graph of a program of which this was found.
+fn graph(alloc: Global, program: &Program, found: Analysed) -> Result<Graph, AllocError>
+    requires apart { CasesApart program.now.decls }
+    requires analysed { IsAnalysed program.now.decls found }
+    ensures { IfOk result (Lowered (world_of found.declared) (answers_of found.typed)
+        (isolation_of found.isolated) program.now.decls) }
+{
+    let Analysed {
+        declared,
+        typed,
+        isolated,
+        lowering,
+    } = found;
+    graph_of(alloc, program, declared, &typed, &isolated, lowering)
 }
 
 /// The verdict on a text: its graph, or what the first phase finds that finds a breach.
@@ -65,7 +106,23 @@ pub fn judge(alloc: Global, text: &[u8]) -> Result<Graph, Refusal>
         → IsVerdict all_phases text.now (Err list) }
 {
     let spelled = read(alloc, text)?;
-    judge_program(alloc, &spelled.program)?;
-    let small = small_form(alloc, &spelled.source, &spelled.tokens)?;
-    small_size(alloc, &small)
+    let found = analyse(alloc, &spelled.program)?;
+    let shared = race_forms(alloc, &found.declared, &found.typed, &found.isolated)?;
+    let graph = graph(alloc, &spelled.program, found)?;
+    races(alloc, shared.as_slice(), &graph)?;
+    Ok(graph)
+}
+
+/// The verdict on a text by the phases up to the size of its functions: the graph of its program,
+/// whatever races that has, or what the first of these phases finds that finds a breach.
+pub fn lower_text(alloc: Global, text: &[u8]) -> Result<Graph, Refusal>
+    requires { length text.now ≤ MAX_LENGTH }
+    ensures graph { IfOk result (λ graph. IsVerdict phases_to_size text.now (Ok graph)) }
+    ensures breaches { (list : List Breach) → IsErrOf result (Refusal.Breached list)
+        → IsVerdict phases_to_size text.now (Err list) }
+{
+    let spelled = read(alloc, text)?;
+    let found = analyse(alloc, &spelled.program)?;
+    let made = graph(alloc, &spelled.program, found)?;
+    Ok(made)
 }

@@ -1,41 +1,51 @@
-ghost use Rattle.std.specs.Prelude.{◌≡◌, ◌≢◌, ◌≤◌, ◌⊎◌, ℕ, List, length};
+ghost use Rattle.std.specs.Prelude.{◌≡◌, ◌≢◌, ◌≤◌, ◌⊎◌, ℕ, List, [], length};
 ghost use Rattle.std.specs.List.{AllByRecursion};
 ghost use Rattle.std.specs.List.Sorted.{IsStrictlySortedBy};
 ghost use Rattle.sw_graph.specs.declared.graph.Graph.{Graph};
-ghost use Rattle.sw_value.specs.Runnable.{IsRunnable};
-ghost use Rattle.sw_small.specs.declared.tree.Small.{Small};
 ghost use Rattle.sw_breach.specs.declared.Breach.{Breach};
 ghost use Rattle.sw_breach.specs.Codes.{IsCode};
 ghost use Rattle.sw_breach.specs.Order.{breach_cmp};
-ghost use Rattle.sw_verdict.specs.Phases.{Finds, Phase, Sharing, all_phases, IsProgram};
-ghost use Rattle.sw_verdict.specs.Verdict.{Accepts, Breaches, IsGraphOf, Refuses};
-
-use sw_text::MAX_LENGTH;
+ghost use Rattle.sw_region_flow.specs.Passing.{IsPassed};
+ghost use Rattle.sw_verdict.specs.Phases.{Finds, IsGraphOf, Phase, Races, all_phases};
+ghost use Rattle.sw_verdict.specs.Phases.{phases_to_size};
+ghost use Rattle.sw_verdict.specs.Verdict.{Accepts, Breaches, Refuses};
 
 /// Every text is accepted or refused, and never both. A text has one list of breaches, by position
-/// and then by code, each with the code of a text, one program and one graph; it has a graph exactly
-/// where it is accepted. A phase finds one breach at most, but for that of what is shared, which
-/// finds all.
+/// and then by code, each with the code of a text. A phase finds one breach at most, but for that
+/// of races, which finds all.
 pub fn texts_have_one_verdict()
     ensures decided { (text : List ℕ) → Accepts text ⊎ Refuses all_phases text }
     ensures never_both { (text : List ℕ) → Accepts text → ¬ (Refuses all_phases text) }
     ensures one_list { (phases : List Phase) (text : List ℕ) (a b : List Breach)
         → Breaches phases text a
         → Breaches phases text b → a ≡ b }
-    ensures one_breach { (phase : Phase) (text : List ℕ) (list : List Breach) → phase ≢ Sharing
+    ensures one_breach { (phase : Phase) (text : List ℕ) (list : List Breach) → phase ≢ Races
         → Finds phase text list → length list ≤ 1 }
     ensures in_order { (phases : List Phase) (text : List ℕ) (list : List Breach)
         → Breaches phases text list → IsStrictlySortedBy breach_cmp list }
     ensures codes { (phases : List Phase) (text : List ℕ) (list : List Breach)
         → Breaches phases text list
         → AllByRecursion (λ breach. IsCode breach.code) list }
-    ensures some_graph { (text : List ℕ) → Accepts text → (graph : Graph) × IsGraphOf text graph }
-    ensures graph_accepted { (text : List ℕ) (graph : Graph) → IsGraphOf text graph → Accepts text }
-    ensures one_program { (text : List ℕ) (a b : Small) → IsProgram text a → IsProgram text b
-        → a ≡ b }
+{}
+
+/// The phases up to the size of functions find no breach in a text, or one of them does, and never
+/// both. They find none in an accepted text. A text in which they find none has one graph.
+pub fn texts_have_one_graph()
+    ensures decided { (text : List ℕ) → Breaches phases_to_size text []
+        ⊎ Refuses phases_to_size text }
+    ensures never_both { (text : List ℕ) → Breaches phases_to_size text []
+        → ¬ (Refuses phases_to_size text) }
+    ensures accepted { (text : List ℕ) → Accepts text → Breaches phases_to_size text [] }
+    ensures some_graph { (text : List ℕ) → Breaches phases_to_size text []
+        → (graph : Graph) × IsGraphOf text graph }
     ensures one_graph { (text : List ℕ) (a b : Graph) → IsGraphOf text a → IsGraphOf text b
         → a ≡ b }
-    // The machine runs the graph of a text within the limit.
-    ensures runs { (text : List ℕ) (graph : Graph) → length text ≤ MAX_LENGTH → IsGraphOf text graph
-        → IsRunnable graph }
+{}
+
+/// In the graph of an accepted text each test of the regions passes, at each point of each function:
+/// what is used was given away on no way there, and what is given away is nothing that others may
+/// hold (SE-0414).
+pub fn accepted_graphs_pass()
+    ensures { (text : List ℕ) (graph : Graph) → Accepts text → IsGraphOf text graph
+        → IsPassed graph }
 {}

@@ -1,41 +1,41 @@
 //! One function for each phase.
 
-ghost use Rattle.std.specs.Prelude.{◌≡◌, ◌≢◌, ◌≤◌, ◌<◌, ◌^◌, ℕ, List, IfOk, OnOk, length, map};
+ghost use Rattle.std.specs.Prelude.{◌≡◌, ◌≢◌, ◌≤◌, ◌<◌, ◌^◌, ℕ, List, IfOk, OnOk, None, length, map};
 ghost use Rattle.sw_token.specs.declared.Token.{Token};
 ghost use Rattle.sw_token.specs.Tokens.{IsTokens, position_of};
 ghost use Rattle.sw_token.specs.Spelling.{spelling_of};
-ghost use Rattle.sw_small.specs.Small.{Spells};
-ghost use Rattle.sw_small.specs.Lower.{size_of, IsLowered};
 ghost use Rattle.sw_parse_decl.specs.Programs.{IsProgramOf};
-ghost use Rattle.sw_decls.specs.Declaring.{IsDeclared};
+ghost use Rattle.sw_decls.specs.Declaring.{IsDeclared, IsFirstBreach};
 ghost use Rattle.sw_decls.specs.declared.signature.AsyncDefault.TheVariants.{Concurrent};
 ghost use Rattle.sw_typing.specs.Typed.{IsTyped};
+ghost use Rattle.sw_typing_rules.specs.Programs.{IsFirstIll};
 ghost use Rattle.sw_typing_rules.specs.Worlds.{world_of};
 ghost use Rattle.sw_capture.specs.Known.{answers_of};
 ghost use Rattle.sw_isolation.specs.Isolated.{IsIsolated};
 ghost use Rattle.sw_lower_known.specs.Knowledge.{isolation_of};
 ghost use Rattle.sw_lower.specs.Lowered.{IsLowering};
 ghost use Rattle.sw_lower_table.specs.Bodies.{tables_of};
+ghost use Rattle.sw_region_flow.specs.Breaches.{AreAll};
 ghost use Rattle.sw_verdict.specs.Phases.{Encoding, Lexis, Syntax, Declarations, Types};
-ghost use Rattle.sw_verdict.specs.Phases.{Isolation, Size, Sharing, breach_of};
-ghost use Rattle.sw_verdict.specs.Phases.{SmallForm, SmallSize, Finds};
-ghost use Rattle.sw_verdict.specs.Phases.{IsProgram, breach_at, lexical_code, syntax_code};
-ghost use Rattle.sw_verdict.specs.Phases.{token_of, size_code, token_position};
+ghost use Rattle.sw_verdict.specs.Phases.{Isolation, Size, Finds, IsRace, breach_of};
+ghost use Rattle.sw_verdict.specs.Phases.{breach_at, lexical_code, syntax_code};
+ghost use Rattle.sw_verdict.specs.Phases.{token_of, token_position};
 ghost use Rattle.sw_verdict.specs.Found.{Found};
 
 use std::alloc::{AllocError, Global};
+use std::marker::Brand;
+use std::sync::ledger::{Blank, Ledger};
 use sw_breach::Breach;
 use sw_decls::{AsyncDefault, DeclFault, Decls, declare};
-use sw_graph::{Excess, Graph};
-use sw_isolation::{IsoFault, Isolated, isolate, race_forms};
+use sw_graph::Graph;
+use sw_isolation::{IsoFault, Isolated, isolate};
 use sw_list::ListOf;
 use sw_lower::{LowerFault, Lowering, lower};
 use sw_parse_body::program;
 use sw_parse_decl::ParseFault;
+use sw_region_flow::{breaches, in_order};
 use sw_resolve::Placed;
-use sw_small::{
-    LowerFault as SmallLowerFault, ParseFault as SmallFault, Small, lower as lower_small, parse,
-};
+use sw_solve::Steps;
 use sw_text::{MAX_LENGTH, Source, TextFault};
 use sw_token::{LexFault, Token, tokens};
 use sw_tree::Program;
@@ -61,15 +61,6 @@ const UNEXPECTED_TOKEN: u16 = 201;
 
 /// A token that opens a nest too many.
 const NESTED_TOO_DEEPLY: u16 = 202;
-
-/// A form that can't be run yet.
-const NOT_BUILT: u16 = 299;
-
-/// A function with too many registers.
-const TOO_MANY_REGISTERS: u16 = 510;
-
-/// A function with too many points.
-const TOO_MANY_POINTS: u16 = 511;
 
 /// Why a text has no graph.
 #[derive(Drop)]
@@ -200,6 +191,7 @@ pub fn declarations(alloc: Global, program: &Program) -> Result<Decls, Refusal>
         → IsProgramOf program.now.decls (spelling_of text tokens)
         → Found (Finds Declarations text) result }
     ensures declared { IfOk result (IsDeclared program.now.decls Concurrent) }
+    ensures sound { OnOk result (IsFirstBreach program.now.decls None) }
 {
     match declare(alloc, program, AsyncDefault::Concurrent) {
         Ok(decls) => Ok(decls),
@@ -216,6 +208,7 @@ pub fn types(alloc: Global, program: &Program, declared: &Decls) -> Result<Typed
         → IsProgramOf program.now.decls (spelling_of text tokens)
         → Found (Finds Types text) result }
     ensures typed { IfOk result (IsTyped (world_of declared.now) program.now.decls) }
+    ensures well { OnOk result (IsFirstIll (world_of declared.now) program.now.decls None) }
 {
     match type_program(alloc, program, declared) {
         Ok(typed) => Ok(typed),
@@ -276,81 +269,45 @@ pub fn size(
 }
 
 /// Breaches without notes.
-fn breaches_of(alloc: Global, races: &[Placed]) -> Result<ListOf<Breach>, AllocError>
-    ensures { IfOk result (λ breaches. breaches ≡ map breach_of races.now) }
+fn breaches_of(alloc: Global, shared: &[Placed]) -> Result<Vec<Breach>, AllocError>
+    ensures { IfOk result (λ list. list.items ≡ map breach_of shared.now) }
 {
-    let mut breaches = ListOf::new(alloc);
-    for race in races {
-        breaches.push(breach_of(*race))?;
+    let mut list = ListOf::new(alloc);
+    for placed in shared {
+        list.push(breach_of(*placed))?;
     }
-    Ok(breaches)
+    Ok(list.into_vec())
 }
 
-/// Refuses a program that shares values that may not be shared. It declares these, its nodes have
-/// these types, and it is isolated so.
-pub fn sharing(
+/// All values that are shared, and all region breaches of a graph. The blank is that of a counter
+/// of steps.
+fn all_races<L: Ledger>(
     alloc: Global,
-    program: &Program,
-    declared: &Decls,
-    typed: &Typed,
-    isolated: &Isolated,
-) -> Result<(), Refusal>
-    requires small { length program.now.decls < 2 ^ 31 }
-    requires declared { IsDeclared program.now.decls Concurrent declared.now }
-    requires typed { IsTyped (world_of declared.now) program.now.decls typed.now }
-    requires isolated { IsIsolated (world_of declared.now) (answers_of typed.now)
-        program.now.decls isolated.now }
-    ensures { (text : List ℕ) (tokens : List Token) → IsTokens text tokens
-        → IsProgramOf program.now.decls (spelling_of text tokens)
-        → Found (Finds Sharing text) result }
+    shared: &[Placed],
+    graph: &Graph,
+    blank: Blank,
+) -> Result<Vec<Breach>, AllocError>
+    requires name { blank.name ≡ L.name }
+    requires parts { blank.parts ≡ L.parts }
+    requires part { 0 < blank.parts }
+    ensures { IfOk result (λ list. AreAll (IsRace shared.now graph.now) list.items) }
 {
-    let races = race_forms(alloc, declared, typed, isolated)?;
-    let breaches = breaches_of(alloc, races.as_slice())?;
+    let mut steps = Steps::<L>::new(blank);
+    let regions = breaches(alloc, graph, &mut steps)?;
+    let mut list = breaches_of(alloc, shared)?;
+    list.extend_from_slice(regions.as_slice())?;
+    Ok(in_order(list))
+}
+
+/// Refuses a program that shares these values, or whose graph has a region breach.
+pub fn races(alloc: Global, shared: &[Placed], graph: &Graph) -> Result<(), Refusal>
+    ensures { Found (AreAll (IsRace shared.now graph.now)) result }
+{
+    let list = all_races::<Brand>(alloc, shared, graph, Blank::new(1))?;
+    let breaches = ListOf::from_vec(list);
     if breaches.is_empty() {
         Ok(())
     } else {
         Err(Refusal::Breached { breaches })
-    }
-}
-
-/// The small program that the tokens of a text spell.
-pub fn small_form(alloc: Global, source: &Source, tokens: &[Token]) -> Result<Small, Refusal>
-    requires { IsTokens source.now tokens.now }
-    ensures found { Found (Finds SmallForm source.now) result }
-    ensures spells { IfOk result (λ program. Spells program (spelling_of source.now tokens.now)) }
-{
-    match parse(alloc, source, tokens) {
-        Ok(program) => Ok(program),
-        Err(SmallFault::Unexpected { token }) => {
-            let at = token_position(source, tokens, token);
-            Err(refused(alloc, NOT_BUILT, at))
-        }
-        Err(SmallFault::Memory) => Err(Refusal::Memory),
-    }
-}
-
-/// The graph of a small program none of whose functions is too large.
-pub fn small_size(alloc: Global, program: &Small) -> Result<Graph, Refusal>
-    requires { size_of program.now < 2 ^ 31 }
-    ensures found { (text : List ℕ) → IsProgram text program.now
-        → Found (Finds SmallSize text) result }
-    ensures lowered { IfOk result (IsLowered program.now) }
-{
-    match lower_small(alloc, program) {
-        Ok(graph) => Ok(graph),
-        Err(SmallLowerFault::TooLarge { function }) => {
-            Err(refused(alloc, size_code(function.of), function.key))
-        }
-        Err(SmallLowerFault::Memory) => Err(Refusal::Memory),
-    }
-}
-
-/// The code of a function that has too many of these.
-fn size_code(excess: Excess) -> u16
-    ensures { result ≡ size_code excess }
-{
-    match excess {
-        Excess::Registers => TOO_MANY_REGISTERS,
-        Excess::Points => TOO_MANY_POINTS,
     }
 }

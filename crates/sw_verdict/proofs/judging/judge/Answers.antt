@@ -1,97 +1,91 @@
-use Rattle.std.proofs.Common.{[], ◌∷◌, subst}
-use Rattle.sw_verdict.specs.Phases.{Declarations, Encoding, Isolation, Lexis, Sharing, SmallForm}
-use Rattle.sw_verdict.specs.Phases.{Size, SmallSize, Syntax, Types, all_phases, Finds}
-use Rattle.sw_verdict.specs.Found.{FoundBy}
-use Rattle.sw_verdict.proofs.InOrder.{breaches_decided, decided_by, last_found, passed, stopped}
-use Rattle.sw_verdict.proofs.Verdicts.{program_read, size_of-program, verdict_graph}
+use Rattle.std.proofs.Common.{[], ◌∷◌, ap, arith, length, subst, sym}
+use Rattle.sw_capture.specs.Known.{answers_of}
+use Rattle.sw_isolation_rules.specs.Races.{AreRaces}
+use Rattle.sw_typing_rules.specs.Worlds.{world_of}
+use Rattle.sw_resolve.proofs.WithinLemmas.{shapes_few}
+use Rattle.sw_resolve.specs.Evident.{meanings_of}
+use Rattle.sw_token.specs.Spelling.{spelling_of}
+use Rattle.sw_region_flow.specs.Breaches.{AreAll}
+use Rattle.sw_verdict.specs.Phases.{Declarations, Encoding, Finds, IsRace, Isolation, Lexis, Races}
+use Rattle.sw_verdict.specs.Phases.{Size, Syntax, Types, all_phases, phases_to_size}
+use Rattle.sw_verdict.proofs.Programs.{program_apart}
+use Rattle.sw_verdict.proofs.InOrder.{all_pass, breaches_decided, decided_by, passed, stopped}
+use Rattle.sw_verdict.proofs.LoweredTexts.{made_graph}
+use Rattle.sw_verdict.proofs.Races.{found_by_as, found_races}
 use Rattle.sw_verdict.proofs.judging.judge.Goals as goal
 
 pub returns-in_err-spelled-clause-breaches : goal.returns-in_err-spelled-clause-breaches
 returns-in_err-spelled-clause-breaches c =
     breaches_decided all_phases c.args.text.now _ (stopped [] (Encoding ∷ Lexis ∷ Syntax ∷ [])
-    (Declarations ∷ Types ∷ Isolation ∷ Size ∷ Sharing ∷ SmallForm ∷ SmallSize ∷ []) c.args.text.now
+    (Declarations ∷ Types ∷ Isolation ∷ Size ∷ Races ∷ []) c.args.text.now
     c.in_err-spelled.field-0.0 _ tt c.in_err-spelled.ensures.decided c.from_residual.ensures.1)
 
-pub returns-in_err-judge_program-clause-breaches : goal.returns-in_err-judge_program-clause-breaches
-returns-in_err-judge_program-clause-breaches c =
+pub returns-in_err-found-clause-breaches : goal.returns-in_err-found-clause-breaches
+returns-in_err-found-clause-breaches c =
     let text = c.args.text.now in
     let is = c.in_ok-spelled.ensures.spelled in
     let read = passed (Encoding ∷ Lexis ∷ Syntax ∷ []) text c.in_ok-spelled.ensures.decided in
     breaches_decided all_phases text _ (stopped (Encoding ∷ Lexis ∷ Syntax ∷ [])
-    (Declarations ∷ Types ∷ Isolation ∷ Size ∷ Sharing ∷ []) (SmallForm ∷ SmallSize ∷ []) text
-    c.in_err-judge_program.field-0.0 _ read
-    (c.in_err-judge_program.ensures text c.in_ok-spelled.spelled.tokens.items is.are_tokens
-    is.is_program) c.from_residual-in_err-judge_program.ensures.1)
+    (Declarations ∷ Types ∷ Isolation ∷ Size ∷ []) (Races ∷ []) text c.in_err-found.field-0.0 _ read
+    (c.in_err-found.ensures.decided text c.in_ok-spelled.spelled.tokens.items is.are_tokens
+    is.is_program) c.from_residual-in_err-found.ensures.1)
 
-pub returns-in_err-small-clause-breaches : goal.returns-in_err-small-clause-breaches
-returns-in_err-small-clause-breaches c =
-    let text = c.args.text.now in
+pub race_forms-requires : goal.race_forms-requires
+race_forms-requires c =
+    let decls = c.in_ok-spelled.spelled.program.decls in
+    let few = shapes_few (meanings_of decls) decls in
+    let same = ap length c.in_ok-found.ensures.analysed.declared.shapes in
+    let small = c.in_ok-spelled.ensures.spelled.few in
+    omega (arith, few, same, small)
+
+pub graph-requires-clause-apart : goal.graph-requires-clause-apart
+graph-requires-clause-apart c =
     let is = c.in_ok-spelled.ensures.spelled in
+    program_apart (spelling_of c.args.text.now c.in_ok-spelled.spelled.tokens.items)
+    c.in_ok-spelled.spelled.program.decls is.is_program
+
+pub returns-in_err-races-clause-breaches : goal.returns-in_err-races-clause-breaches
+returns-in_err-races-clause-breaches c =
+    let text = c.args.text.now in
+    let read = c.in_ok-spelled.spelled in
+    let found = c.in_ok-found.found in
+    let graph = c.in_ok-graph.graph in
+    let is = c.in_ok-spelled.ensures.spelled in
+    let known = c.in_ok-found.ensures.analysed in
     let (utf8, (lexis, (syntax, _))) =
     passed (Encoding ∷ Lexis ∷ Syntax ∷ []) text c.in_ok-spelled.ensures.decided in
-    let (declarations, (types, (isolation, (size, (sharing, _))))) =
-    passed (Declarations ∷ Types ∷ Isolation ∷ Size ∷ Sharing ∷ []) text (c.in_ok-judge_program.ensures
-    text c.in_ok-spelled.spelled.tokens.items is.are_tokens is.is_program) in
-    let found = subst (λ source. FoundBy (Finds SmallForm source) c.in_err-small.field-0.0)
-    is.source c.in_err-small.ensures.found in
-    breaches_decided all_phases text _ (stopped
-    (Encoding ∷ Lexis ∷ Syntax ∷ Declarations ∷ Types ∷ Isolation ∷ Size ∷ Sharing ∷ [])
-    (SmallForm ∷ []) (SmallSize ∷ []) text c.in_err-small.field-0.0 _
-    (utf8, (lexis, (syntax, (declarations, (types, (isolation, (size, (sharing, tt))))))))
-    (decided_by SmallForm [] text c.in_err-small.field-0.0 found)
-    c.from_residual-in_err-small.ensures.1)
-
-pub small_size-requires : goal.small_size-requires
-small_size-requires c =
-    let text = c.args.text.now in
-    let is = c.in_ok-spelled.ensures.spelled in
-    let read = passed (Encoding ∷ Lexis ∷ Syntax ∷ []) text c.in_ok-spelled.ensures.decided in
-    let meant = passed (Declarations ∷ Types ∷ Isolation ∷ Size ∷ Sharing ∷ []) text
-    (c.in_ok-judge_program.ensures text c.in_ok-spelled.spelled.tokens.items is.are_tokens
-    is.is_program) in
-    size_of-program text c.in_ok-small.small
-    (program_read text c.in_ok-spelled.spelled c.deref.result.now c.in_ok-small.small is
-    c.deref.ensures.value read meant c.in_ok-small.ensures.spells) c.requires
+    let rest = passed (Declarations ∷ Types ∷ Isolation ∷ Size ∷ []) text
+    (c.in_ok-found.ensures.decided text read.tokens.items is.are_tokens is.is_program) in
+    let holds = found_races text read found c.as_slice.result.now graph is known
+    (subst (AreRaces (world_of found.declared) (answers_of found.typed) read.program.decls)
+    (sym c.as_slice.ensures) (c.in_ok-shared.ensures read.program.decls known.isolated))
+    (made_graph text read found graph is known c.in_ok-graph.ensures) in
+    let finds = found_by_as (AreAll (IsRace c.as_slice.result.now graph)) (Finds Races text)
+    c.in_err-races.field-0.0 holds c.in_err-races.ensures in
+    breaches_decided all_phases text _ (stopped phases_to_size (Races ∷ []) [] text
+    c.in_err-races.field-0.0 _ (utf8, (lexis, (syntax, rest)))
+    (decided_by Races [] text c.in_err-races.field-0.0 finds)
+    c.from_residual-in_err-races.ensures.1)
 
 pub returns-clause-graph : goal.returns-clause-graph
 returns-clause-graph c =
     let text = c.args.text.now in
+    let read = c.in_ok-spelled.spelled in
+    let found = c.in_ok-found.found in
+    let graph = c.in_ok-graph.graph in
     let is = c.in_ok-spelled.ensures.spelled in
-    let read = passed (Encoding ∷ Lexis ∷ Syntax ∷ []) text c.in_ok-spelled.ensures.decided in
-    let meant = passed (Declarations ∷ Types ∷ Isolation ∷ Size ∷ Sharing ∷ []) text
-    (c.in_ok-judge_program.ensures text c.in_ok-spelled.spelled.tokens.items is.are_tokens
-    is.is_program) in
-    verdict_graph text c.in_ok-small.small c.small_size.result
-    (program_read text c.in_ok-spelled.spelled c.deref.result.now c.in_ok-small.small is
-    c.deref.ensures.value read meant c.in_ok-small.ensures.spells) c.small_size.ensures.lowered
-
-pub returns-clause-breaches : goal.returns-clause-breaches
-returns-clause-breaches c =
-    let text = c.args.text.now in
-    let is = c.in_ok-spelled.ensures.spelled in
-    let read = passed (Encoding ∷ Lexis ∷ Syntax ∷ []) text c.in_ok-spelled.ensures.decided in
-    let meant = passed (Declarations ∷ Types ∷ Isolation ∷ Size ∷ Sharing ∷ []) text
-    (c.in_ok-judge_program.ensures text c.in_ok-spelled.spelled.tokens.items is.are_tokens
-    is.is_program) in
-    let form = subst (λ source. Finds SmallForm source []) is.source c.in_ok-small.ensures.found in
-    let program = program_read text c.in_ok-spelled.spelled c.deref.result.now c.in_ok-small.small
-    is c.deref.ensures.value read meant c.in_ok-small.ensures.spells in
-    breaches_decided all_phases text c.small_size.result (last_found
-    (Encoding ∷ Lexis ∷ Syntax ∷ Declarations ∷ Types ∷ Isolation ∷ Size ∷ Sharing ∷ SmallForm ∷ [])
-    SmallSize text c.small_size.result (
-      read.0,
-      (
-        read.1.0,
-        (
-          read.1.1.0,
-          (
-            meant.0,
-            (
-              meant.1.0,
-              (meant.1.1.0, (meant.1.1.1.0, (meant.1.1.1.1.0, (form, tt)))),
-            ),
-          ),
-        ),
-      ),
+    let known = c.in_ok-found.ensures.analysed in
+    let (utf8, (lexis, (syntax, _))) =
+    passed (Encoding ∷ Lexis ∷ Syntax ∷ []) text c.in_ok-spelled.ensures.decided in
+    let (declarations, (types, (isolation, (size, _)))) =
+    passed (Declarations ∷ Types ∷ Isolation ∷ Size ∷ []) text
+    (c.in_ok-found.ensures.decided text read.tokens.items is.are_tokens is.is_program) in
+    let made = made_graph text read found graph is known c.in_ok-graph.ensures in
+    let races = found_races text read found c.as_slice.result.now graph is known
+    (subst (AreRaces (world_of found.declared) (answers_of found.typed) read.program.decls)
+    (sym c.as_slice.ensures) (c.in_ok-shared.ensures read.program.decls known.isolated)) made []
+    c.in_ok-races.ensures in (
+      all_pass all_phases text
+          (utf8, (lexis, (syntax, (declarations, (types, (isolation, (size, (races, tt)))))))),
+      made,
     )
-    (c.small_size.ensures.found text program))

@@ -1,4 +1,0 @@
-pub mod Grammar
-pub mod Lower
-pub mod Reading
-pub mod Small

@@ -1,0 +1,109 @@
+-- Each text in which the phases up to the size of functions find no breach has a graph.
+use Rattle.std.proofs.Common.{ℕ, List, [], None, map, refl, subst}
+use Rattle.sw_tree.specs.declared.decl.Decl.{Decl}
+use Rattle.sw_token.specs.Spelling.{spelling_of}
+use Rattle.sw_token.specs.Tokens.{IsTokens}
+use Rattle.sw_token.specs.declared.Token.{Token}
+use Rattle.sw_graph.specs.declared.graph.Graph.{Graph}
+use Rattle.sw_resolve.specs.Placed.{IsFirst}
+use Rattle.sw_parse_decl.specs.Programs.{IsProgramOf}
+use Rattle.sw_decls.specs.Declaring.{IsFirstBreach}
+use Rattle.sw_decls.specs.declared.signature.AsyncDefault.TheVariants.{Concurrent}
+use Rattle.sw_typing_rules.specs.Programs.{IsFirstIll}
+use Rattle.sw_typing_rules.specs.Worlds.{IsWorldOf, World}
+use Rattle.sw_lower_code.specs.Whole.{Body}
+use Rattle.sw_lower_table.specs.Bodies.{AreOrdered, functions_of, global_kind, too_large_in}
+use Rattle.sw_lower_safe.proofs.GraphsFit.{graphs_fit}
+use Rattle.sw_lower_total.proofs.Lowering.{bodies_are_found, bodies_are_made, has_entry_number}
+use Rattle.sw_lower_total.proofs.Lowering.{has_starts}
+use Rattle.sw_lower_total.specs.Programs.{IsWelltyped}
+use Rattle.sw_verdict.specs.Phases.{DeclarationsFinds, IsGraphOf, SizeFinds, TypesFinds, keeps_all}
+use Rattle.sw_verdict.specs.Phases.{isolation_of_program, phases_to_size, tables_of_program}
+use Rattle.sw_verdict.specs.Phases.{well_typed, within}
+use Rattle.sw_verdict.specs.Verdict.{Breaches, later, none}
+use Rattle.sw_verdict.proofs.Programs.{program_apart, program_welltyped}
+use Rattle.sw_verdict.proofs.SameProgram.{of_same, same_decls, same_world}
+
+-- The program of a text keeps the rules on declarations and on types, and none of its functions, in
+-- the order of their keys, is too large.
+pub record Keeps (text : List ℕ) : Type 0 where
+  pub tokens : List Token
+  pub are_tokens : IsTokens text tokens
+  pub decls : List Decl
+  pub is_program : IsProgramOf decls (spelling_of text tokens)
+  pub world : World
+  pub is_world : IsWorldOf decls Concurrent world
+  pub welltyped : IsWelltyped decls Concurrent world
+  pub ordered : List Body
+  pub are_ordered : AreOrdered (tables_of_program world decls) decls ordered
+  pub none_large : IsFirst (too_large_in (functions_of ordered)) None
+
+kept : (text : List ℕ) → DeclarationsFinds text [] → TypesFinds text [] → SizeFinds text []
+    → Keeps text
+kept text (keeps_all a ds are_a is_a sound) (well_typed b es v are_b is_b world_b well)
+    (within c decls world are is_program is_world (ordered, are_ordered, none_large)) = record {
+      tokens = c;
+      are_tokens = are;
+      decls = decls;
+      is_program = is_program;
+      world = world;
+      is_world = is_world;
+      welltyped = program_welltyped (spelling_of text c) decls Concurrent world is_program
+          (subst (λ (list : List Decl). IsFirstBreach list None)
+          (same_decls text a c ds decls are_a is_a are is_program) sound) is_world
+          (of_same (λ one list. IsFirstIll one list None) v world es decls
+          (same_world text b c es decls v world are_b is_b world_b are is_program is_world) well);
+      ordered = ordered;
+      are_ordered = are_ordered;
+      none_large = none_large;
+    }
+
+pub passed : (text : List ℕ) → Breaches phases_to_size text [] → Keeps text
+passed text (later _ _ _ _ encoding (later _ _ _ _ lexis (later _ _ _ _ syntax
+    (later _ _ _ _ declarations (later _ _ _ _ types (later _ _ _ _ isolation
+    (later _ _ _ _ size (none _)))))))) =
+    kept text declarations types size
+
+pub some_graph : (text : List ℕ) → Breaches phases_to_size text []
+    → (graph : Graph) × IsGraphOf text graph
+some_graph text accepts =
+    let keeps = passed text accepts in
+    let (entry, entry_is) = has_entry_number keeps.decls Concurrent keeps.world keeps.welltyped
+    keeps.ordered keeps.are_ordered in
+    let (starts, starts_are) = has_starts keeps.decls Concurrent keeps.world keeps.welltyped
+    keeps.ordered keeps.are_ordered in
+    let found = bodies_are_found keeps.decls Concurrent keeps.world keeps.welltyped keeps.ordered
+    keeps.are_ordered in (
+      record {
+        shapes = keeps.world.shapes;
+        globals = map global_kind keeps.world.globals;
+        functions = functions_of keeps.ordered;
+        entry = entry;
+        starts = starts;
+        well_formed = graphs_fit keeps.decls Concurrent keeps.world
+            (isolation_of_program keeps.world keeps.decls) keeps.ordered entry starts
+            keeps.welltyped.keyed
+            (program_apart (spelling_of text keeps.tokens) keeps.decls keeps.is_program)
+            keeps.welltyped.sound keeps.is_world keeps.welltyped.well keeps.are_ordered found
+            (bodies_are_made keeps.decls Concurrent keeps.world keeps.welltyped keeps.ordered
+            keeps.are_ordered keeps.none_large) entry_is starts_are;
+      },
+      record {
+        tokens = keeps.tokens;
+        are_tokens = keeps.are_tokens;
+        decls = keeps.decls;
+        is_program = keeps.is_program;
+        world = keeps.world;
+        is_world = keeps.is_world;
+        lowered = record {
+          ordered = keeps.ordered;
+          are_ordered = keeps.are_ordered;
+          shapes = refl;
+          globals = refl;
+          functions = refl;
+          entry = entry_is;
+          starts = starts_are;
+        };
+        numbered = found;
+      },
+    )

@@ -1,0 +1,67 @@
+-- What the phases up to the size of functions find in a text, and the graph of its program.
+use Rattle.std.proofs.Common.{ℕ, ◌++◌, ◌⊎◌, inl, inr, List, [], ◌∷◌, subst}
+use Rattle.sw_breach.specs.declared.Breach.{Breach}
+use Rattle.sw_graph.specs.declared.graph.Graph.{Graph}
+use Rattle.sw_capture.specs.Known.{answers_of}
+use Rattle.sw_decls.specs.declared.signature.AsyncDefault.TheVariants.{Concurrent}
+use Rattle.sw_isolation.proofs.Answering.{answers_are_said}
+use Rattle.sw_typing_rules.proofs.OneWorld.{declared_world}
+use Rattle.sw_typing_rules.specs.Worlds.{world_of}
+use Rattle.sw_lower_known.specs.Knowledge.{isolation_of}
+use Rattle.sw_lower_table.specs.Bodies.{Lowered}
+use Rattle.sw_verdict.specs.Decided.{IsAnalysed, IsSpelled}
+use Rattle.sw_verdict.specs.Phases.{IsGraphOf, Phase, answers_of_program, phases_to_size}
+use Rattle.sw_verdict.specs.Verdict.{Accepts, Breaches, Refuses, later, none}
+use Rattle.sw_verdict.specs.declared.judging.Analysed.{Analysed}
+use Rattle.sw_verdict.specs.declared.judging.Spelled.{Spelled as Read}
+use Rattle.sw_verdict.proofs.GraphsExist.{some_graph}
+use Rattle.sw_verdict.proofs.OneLowered.{HasGraph, numbered_bodies}
+use Rattle.sw_verdict.proofs.Tables.{isolation_is_said}
+use Rattle.sw_verdict.proofs.Verdicts.{some_to_size}
+
+-- where all phases find none, so do the first of them
+first_pass : (phases more : List Phase) (text : List ℕ) → Breaches (phases ++ more) text []
+    → Breaches phases text []
+first_pass [] more text found = none text
+first_pass (phase ∷ phases) more text (later _ _ _ _ passes rest) =
+    later phase phases text [] passes (first_pass phases more text rest)
+
+pub accepted_to_size : (text : List ℕ) → Accepts text → Breaches phases_to_size text []
+accepted_to_size text accepts = first_pass phases_to_size _ text accepts
+
+pub decided_to_size : (text : List ℕ)
+    → Breaches phases_to_size text [] ⊎ Refuses phases_to_size text
+decided_to_size text = let (list, found) = some_to_size text in by list found where
+  by : (list : List Breach) → Breaches phases_to_size text list
+      → Breaches phases_to_size text [] ⊎ Refuses phases_to_size text
+  by [] found = inl found
+  by (breach ∷ others) found = inr (breach ∷ others, (λ e. cc), found)
+
+pub some_graph_of : (text : List ℕ) → Accepts text → (graph : Graph) × IsGraphOf text graph
+some_graph_of text accepts = some_graph text (accepted_to_size text accepts)
+
+-- the graph that was made of a text's program, which was read and analysed
+pub made_graph : (text : List ℕ) (read : Read) (found : Analysed) (graph : Graph)
+    → IsSpelled text read → IsAnalysed read.program.decls found
+    → Lowered (world_of found.declared) (answers_of found.typed) (isolation_of found.isolated)
+    read.program.decls graph
+    → IsGraphOf text graph
+made_graph text read found graph is known lowered =
+    let decls = read.program.decls in
+    let world = world_of found.declared in
+    let numbered = numbered_bodies world (answers_of found.typed) (isolation_of found.isolated)
+    decls found.lowering graph known.functions lowered in
+    let (whole, names) = subst (HasGraph graph world decls (answers_of_program world decls))
+    (isolation_is_said world decls found.typed found.isolated known.typed known.isolated)
+    (subst (λ answers. HasGraph graph world decls answers (isolation_of found.isolated))
+    (answers_are_said world decls found.typed known.typed) (lowered, numbered)) in
+    record {
+      tokens = read.tokens.items;
+      are_tokens = is.are_tokens;
+      decls = decls;
+      is_program = is.is_program;
+      world = world;
+      is_world = declared_world decls Concurrent found.declared known.declared;
+      lowered = whole;
+      numbered = names;
+    }

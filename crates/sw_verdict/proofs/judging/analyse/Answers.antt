@@ -1,0 +1,52 @@
+use Rattle.std.proofs.Common.{[], ◌∷◌}
+use Rattle.sw_verdict.specs.Phases.{Declarations, Types, Isolation, Size}
+use Rattle.sw_verdict.proofs.InOrder.{all_pass, decided_by, stopped}
+use Rattle.sw_verdict.proofs.judging.analyse.Goals as goal
+
+pub returns-in_err-declared-clause-decided : goal.returns-in_err-declared-clause-decided
+returns-in_err-declared-clause-decided c text tokens are is =
+    stopped [] (Declarations ∷ []) (Types ∷ Isolation ∷ Size ∷ []) text
+    c.in_err-declared.field-0.0 _ tt
+    (decided_by Declarations [] text c.in_err-declared.field-0.0
+    (c.in_err-declared.ensures.found text tokens are is)) c.from_residual.ensures.1
+
+pub returns-in_err-typed-clause-decided : goal.returns-in_err-typed-clause-decided
+returns-in_err-typed-clause-decided c text tokens are is =
+    stopped (Declarations ∷ []) (Types ∷ []) (Isolation ∷ Size ∷ []) text
+    c.in_err-typed.field-0.0 _ (c.in_ok-declared.ensures.found text tokens are is, tt)
+    (decided_by Types [] text c.in_err-typed.field-0.0
+    (c.in_err-typed.ensures.found text tokens are is)) c.from_residual-in_err-typed.ensures.1
+
+pub returns-in_err-isolated-clause-decided : goal.returns-in_err-isolated-clause-decided
+returns-in_err-isolated-clause-decided c text tokens are is =
+    stopped (Declarations ∷ Types ∷ []) (Isolation ∷ []) (Size ∷ []) text
+    c.in_err-isolated.field-0.0 _ (
+      c.in_ok-declared.ensures.found text tokens are is,
+      (c.in_ok-typed.ensures.found text tokens are is, tt),
+    ) (decided_by Isolation [] text c.in_err-isolated.field-0.0
+    (c.in_err-isolated.ensures.found text tokens are is)) c.from_residual-in_err-isolated.ensures.1
+
+pub returns-in_err-lowering-clause-decided : goal.returns-in_err-lowering-clause-decided
+returns-in_err-lowering-clause-decided c text tokens are is =
+    stopped (Declarations ∷ Types ∷ Isolation ∷ []) (Size ∷ []) [] text
+    c.in_err-lowering.field-0.0 _ (
+      c.in_ok-declared.ensures.found text tokens are is,
+      (
+        c.in_ok-typed.ensures.found text tokens are is,
+        (c.in_ok-isolated.ensures.found text tokens are is, tt),
+      ),
+    ) (decided_by Size [] text c.in_err-lowering.field-0.0
+    (c.in_err-lowering.ensures.found text tokens are is)) c.from_residual-in_err-lowering.ensures.1
+
+pub returns-clause-decided : goal.returns-clause-decided
+returns-clause-decided c text tokens are is =
+    all_pass (Declarations ∷ Types ∷ Isolation ∷ Size ∷ []) text (
+      c.in_ok-declared.ensures.found text tokens are is,
+      (
+        c.in_ok-typed.ensures.found text tokens are is,
+        (
+          c.in_ok-isolated.ensures.found text tokens are is,
+          (c.in_ok-lowering.ensures.found text tokens are is, tt),
+        ),
+      ),
+    )
