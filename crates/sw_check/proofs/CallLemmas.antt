@@ -2,18 +2,21 @@
 use Rattle.std.proofs.Common.{◌≡◌, ◌≢◌, ℕ, ◌≤◌, List, length, Option, Some, None, IfSome, ap, subst}
 use Rattle.std.specs.Prelude.{String, string_bytes, map}
 use Rattle.std.specs.declared.alloc.Global.{Global}
+use Rattle.sw_graph.specs.declared.graph.Graph.{Graph}
 use Rattle.sw_outside.specs.Shelf.{Known, file_of}
+use Rattle.sw_value.specs.Runnable.{IsRunnable}
 use Rattle.sw_course.specs.declared.TheConstants.{PROGRAM_LIMIT}
-use Rattle.sw_course.specs.declared.exit.Exit.TheVariants.{Done, Breached, TooLong}
+use Rattle.sw_course.specs.declared.exit.Exit.TheVariants.{Done, Breached, Raced, TooLong}
 use Rattle.sw_course.specs.declared.outcome.Outcome.{Outcome}
 use Rattle.sw_course.specs.Course.{Read, AreOf}
-use Rattle.sw_verdict.specs.Phases.{all_phases}
+use Rattle.sw_verdict.specs.Phases.{all_phases, IsGraphOf}
 use Rattle.sw_verdict.specs.Verdict.{Accepts, Refuses}
 use Rattle.sw_check.specs.Call.{Answered}
 use Rattle.sw_check.specs.Claims.{NeverRaces, Says, phases_of, program_of}
 use Rattle.sw_check.specs.Reply.{Reply}
 use Rattle.sw_check.specs.Words.{Command, Check, command_of, command_in}
-use Rattle.sw_check.proofs.ClaimLemmas.{reply_says, says_no_race, says_breached, says_accepted}
+use Rattle.sw_check.proofs.ClaimLemmas.{reply_says, says_no_race, says_not_raced}
+use Rattle.sw_check.proofs.ClaimLemmas.{says_breached, says_accepted}
 use Rattle.sw_check.proofs.Courses.{one_reply}
 
 -- the words as the call has them
@@ -56,10 +59,20 @@ pub answer_no_race : {command : Option Command} {before after : Option Known} {o
     → Answered command before outcome after → (known : Known) (given : Command)
     → before ≡ Some known → command ≡ Some given → phases_of given ≡ all_phases
     → outcome.exit ≢ Breached → outcome.exit ≢ TooLong
-    → NeverRaces (program_of (file_of known.files) given)
+    → (graph : Graph) × IsGraphOf (program_of (file_of known.files) given) graph
+    × (IsRunnable graph → NeverRaces graph)
 answer_no_race {outcome = outcome} answered known given is same all =
     says_no_race (file_of known.files) given outcome.exit
     (answer_says_of answered known given is same) all
+
+pub answer_not_raced : {command : Option Command} {before after : Option Known} {outcome : Outcome}
+    → Answered command before outcome after → (known : Known) (given : Command) (graph : Graph)
+    → before ≡ Some known → command ≡ Some given
+    → IsGraphOf (program_of (file_of known.files) given) graph → IsRunnable graph
+    → outcome.exit ≢ Raced
+answer_not_raced {outcome = outcome} answered known given graph is same of_text runs =
+    says_not_raced (file_of known.files) given graph outcome.exit of_text runs
+    (answer_says_of answered known given is same)
 
 pub answer_exact : {command : Option Command} {before after : Option Known} {outcome : Outcome}
     → Answered command before outcome after → (known : Known) (reads : List Read) (other : Outcome)

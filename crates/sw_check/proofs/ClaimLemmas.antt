@@ -3,7 +3,10 @@ use Rattle.std.proofs.Common.{◌≡◌, ◌≢◌, ℕ, ◌<◌, ◌≤◌, inl
 use Rattle.std.proofs.Common.{Result, Ok, Err, refl, sym, ap, ◌∙◌, subst, arith}
 use Rattle.sw_graph.specs.declared.graph.Graph.{Graph}
 use Rattle.sw_value.proofs.NeverRaces.{never_races}
+use Rattle.sw_value.specs.declared.race.Race.{Race}
+use Rattle.sw_value.specs.declared.state.TrapKind.{TrapKind}
 use Rattle.sw_value.specs.Reach.{reach}
+use Rattle.sw_value.specs.Runnable.{IsRunnable}
 use Rattle.sw_replay.specs.declared.text.TheConstants.{SCHEDULE_LIMIT}
 use Rattle.sw_replay.specs.declared.output.End.{End}
 use Rattle.sw_replay.specs.declared.output.End.TheVariants as ends
@@ -19,18 +22,22 @@ use Rattle.sw_course.specs.declared.outcome.Outcome.{Outcome}
 use Rattle.sw_course.specs.Course.{Read, AreOf, Ended, Part, Alone, ◌>>=◌}
 use Rattle.sw_course.proofs.Inversions.{EndsAfterFetch, too_long, fetched, after_fetch}
 use Rattle.sw_course.proofs.Inversions.{EndsAfterRule, refuses, gives, after_rule, by_rule}
-use Rattle.sw_verdict.specs.Phases.{all_phases}
-use Rattle.sw_verdict.specs.Verdict.{Breaches, Accepts, Refuses, IsGraphOf}
-use Rattle.sw_verdict.proofs.Verdicts.{never_both, some_graph_of, one_graph_of, graph_runs}
-use Rattle.sw_check.specs.Claims.{NeverRaces, EndsSo, Ends, Passes, Says, SaysOf, phases_of}
-use Rattle.sw_check.specs.Claims.{program_of, ScheduleIsBad, SecondIsLong}
-use Rattle.sw_check.proofs.Pieces.{program_then, replay_by}
-use Rattle.sw_replay.specs.Replay.{IsReplay}
+use Rattle.sw_verdict.specs.Phases.{all_phases, IsGraphOf}
+use Rattle.sw_verdict.specs.Verdict.{Breaches, Accepts, Refuses}
+use Rattle.sw_verdict.proofs.LoweredTexts.{some_graph_of}
+use Rattle.sw_verdict.proofs.OneLowered.{one_graph_of}
+use Rattle.sw_verdict.proofs.Verdicts.{never_both}
+use Rattle.sw_check.specs.Claims.{NeverRaces, EndsSo, Ends, Passes, Says, SaysOf}
+use Rattle.sw_check.specs.Claims.{phases_of, program_of, ScheduleIsBad, SecondIsLong}
+use Rattle.sw_check.proofs.Pieces.{program_then}
+use Rattle.sw_replay.specs.declared.output.Replay.{Replay}
+use Rattle.sw_replay.specs.Output.{end_by, end_of}
+use Rattle.sw_replay.specs.Replay.{IsReplay, whole_replay}
 use Rattle.sw_check.specs.Reply.{usage, accepted, end_outcome, Answers, Judged, passes, breached}
 use Rattle.sw_check.specs.Reply.{Scheduled, has_items, has_fault, Replayed, ends, course_of, Reply}
-use Rattle.sw_check.specs.Reply.{at_end, before_end}
-use Rattle.sw_check.specs.Words.{Command, Check, Run}
-use Rattle.sw_replay.proofs.ReplayLemmas.{one_replay}
+use Rattle.sw_check.specs.Reply.{at_end, before_end, replay_by, replay_course}
+use Rattle.sw_check.specs.Words.{Command, Check, Run, Trace}
+use Rattle.sw_replay.proofs.ReplayLemmas.{one_replay, runnable_whole}
 
 -- the reply with which a command ends
 abbrev outcome_of : Result Outcome Outcome → Outcome
@@ -42,6 +49,10 @@ module _ (files : List ℕ → List ℕ) (command : Command) where
   abbrev SaysSo : Result Outcome Outcome → Type 0
   SaysSo result = SaysOf files command (outcome_of result).exit
 
+  -- how a program is judged for the command
+  abbrev JudgedSo : List ℕ → Result Graph Outcome → Type 0
+  JudgedSo = Judged (phases_of command)
+
   -- A command that begins with its program: it is too long, or refused, or the rest ended.
   module _ (file : List ℕ) (is : program_of files command ≡ files file)
       (rest : List ℕ → Graph → Part Outcome)
@@ -50,8 +61,7 @@ module _ (files : List ℕ → List ℕ) (command : Command) where
       → rest (files file) graph reads (Ended result) → SaysSo result) where
     says_judged : (reads : List Read) (result : Result Outcome Outcome) → AreOf files reads
         → length (files file) ≤ PROGRAM_LIMIT
-        → EndsAfterRule (Judged (phases_of command) (files file)) (rest (files file)) reads result
-        → SaysSo result
+        → EndsAfterRule (JudgedSo (files file)) (rest (files file)) reads result → SaysSo result
     says_judged reads _ of_files short (refuses _ (breached list judges)) =
         (list, judges.0, subst (λ text. Breaches (phases_of command) text list) (sym is) judges.1)
     says_judged reads _ of_files short (gives _ result (passes graph judges) ended) =
@@ -64,20 +74,20 @@ module _ (files : List ℕ → List ℕ) (command : Command) where
 
     says_fetched : (result : Result Outcome Outcome)
         → EndsAfterFetch files file PROGRAM_LIMIT
-        (λ text. Alone (Judged (phases_of command) text) >>= rest text) result → SaysSo result
+        (λ text. Alone (JudgedSo text) >>= rest text) result → SaysSo result
     says_fetched _ (too_long long) =
         inl (subst (λ text. PROGRAM_LIMIT < length text) (sym is) long)
     says_fetched _ (fetched others result short of_files ended) =
         says_judged others result of_files short
-        (after_rule (Judged (phases_of command) (files file)) (rest (files file)) others result
-        ended)
+        (after_rule (JudgedSo (files file)) (rest (files file)) others result ended)
 
     says_program : (reads : List Read) (result : Result Outcome Outcome) → AreOf files reads
-        → program_then (phases_of command) file rest reads (Ended result) → SaysSo result
+        → program_then (phases_of command) file rest reads (Ended result)
+        → SaysSo result
     says_program reads result of_files ended =
         says_fetched result
-        (after_fetch files file PROGRAM_LIMIT
-        (λ text. Alone (Judged (phases_of command) text) >>= rest text) reads result of_files ended)
+        (after_fetch files file PROGRAM_LIMIT (λ text. Alone (JudgedSo text) >>= rest text) reads
+        result of_files ended)
 
   -- A command that ends with a replay of its program by a schedule.
   module _ (text schedule_file : List ℕ) (graph : Graph) (whole : Passes files command)
@@ -86,7 +96,8 @@ module _ (files : List ℕ → List ℕ) (command : Command) where
       (bad : (fault : SchedFault) → IsFirstFault (files schedule_file) fault
       → ScheduleIsBad files command)
       (long : SCHEDULE_LIMIT < length (files schedule_file) → SecondIsLong files command) where
-    says_end : (lines : List ℕ) (ended jobs : ℕ) (end : End) → EndsSo end text (files schedule_file)
+    says_end : (lines : List ℕ) (ended jobs : ℕ) (end : End)
+        → EndsSo end text (files schedule_file)
         → SaysOf files command (end_outcome text lines ended jobs end).exit
     says_end lines ended jobs ends.Ran so = (whole, replays ends.Ran so)
     says_end lines ended jobs (ends.Trapped kind at) so =
@@ -146,6 +157,22 @@ says_accepted_at files file reads result whole ended =
     subst (λ outcome. SaysOf files (Check file) outcome.exit)
     (sym (answers_exit accepted reads result ended)) (whole, refl)
 
+-- a command that judges its program by its phases and replays it by a schedule
+says_course : (files : List ℕ → List ℕ) (command : Command) (file schedule_file : List ℕ)
+    → program_of files command ≡ files file
+    → ((end : End) → EndsSo end (files file) (files schedule_file) → Ends end files command)
+    → ((fault : SchedFault) → IsFirstFault (files schedule_file) fault
+    → ScheduleIsBad files command)
+    → (SCHEDULE_LIMIT < length (files schedule_file) → SecondIsLong files command)
+    → (reads : List Read) (result : Result Outcome Outcome) → AreOf files reads
+    → replay_course (phases_of command) file schedule_file reads (Ended result)
+    → SaysOf files command (outcome_of result).exit
+says_course files command file schedule_file is replays bad long =
+    says_program files command file is (replay_by schedule_file)
+    (λ graph others result of_files whole of_text.
+    says_replay files command (files file) schedule_file graph whole of_text replays bad long others
+    result of_files)
+
 says : (files : List ℕ → List ℕ) (command : Option Command) (reads : List Read)
     (result : Result Outcome Outcome) → AreOf files reads → course_of command reads (Ended result)
     → Says files command (outcome_of result).exit
@@ -156,11 +183,11 @@ says files (Some (Check file)) reads result of_files ended =
     (λ graph others result _ whole _. says_accepted_at files file others result whole) reads result
     of_files ended
 says files (Some (Run file schedule_file)) reads result of_files ended =
-    says_program files (Run file schedule_file) file refl (replay_by schedule_file)
-    (λ graph others result of_files whole of_text.
-    says_replay files (Run file schedule_file) (files file) schedule_file graph whole of_text
-    (λ end so. so) (λ fault is. (fault, is)) (λ long. long) others result of_files) reads result
-    of_files ended
+    says_course files (Run file schedule_file) file schedule_file refl (λ end so. so)
+    (λ fault is. (fault, is)) (λ long. long) reads result of_files ended
+says files (Some (Trace file schedule_file)) reads result of_files ended =
+    says_course files (Trace file schedule_file) file schedule_file refl (λ end so. so)
+    (λ fault is. (fault, is)) (λ long. long) reads result of_files ended
 
 pub reply_says : (files : List ℕ → List ℕ) (command : Option Command) (reads : List Read)
     (outcome : Outcome) → AreOf files reads → Reply command reads outcome
@@ -185,24 +212,53 @@ passes_at files command NotRead says _ _ = absurd says
 passes_at files command NotWritten says _ _ = absurd says
 passes_at files command Memory says _ _ = absurd says
 
-never_races_text : (text : List ℕ) → length text ≤ PROGRAM_LIMIT → Accepts text → NeverRaces text
-never_races_text text short accepts =
-    let (graph, of_text) = some_graph_of text accepts in
-    record {
-      graph = graph;
-      of_text = of_text;
-      no_race =
-          λ items race. never_races graph (graph_runs text graph short of_text)
-          (reach graph items) race;
-    }
-
 pub says_no_race : (files : List ℕ → List ℕ) (command : Command) (exit : Exit)
     → Says files (Some command) exit → phases_of command ≡ all_phases → exit ≢ Breached
-    → exit ≢ TooLong → NeverRaces (program_of files command)
+    → exit ≢ TooLong → (graph : Graph) × IsGraphOf (program_of files command) graph
+    × (IsRunnable graph → NeverRaces graph)
 says_no_race files command exit says all not_breached not_long =
     let it = passes_at files command exit says not_breached not_long in
-    never_races_text (program_of files command) it.short
-    (subst (λ phases. Breaches phases (program_of files command) []) all it.no_breach)
+    let (graph, of_text) = some_graph_of (program_of files command)
+    (subst (λ phases. Breaches phases (program_of files command) []) all it.no_breach) in
+    (graph, of_text, λ runs items. never_races graph runs (reach graph items))
+
+-- no race stops a replay of a runnable graph
+never_raced : (graph : Graph) (items : List ℕ) (replay : Replay) → IsRunnable graph
+    → IsReplay graph items replay → (race : Race) → replay.end ≡ ends.Raced race → ⊥
+never_raced graph items replay runs is race raced =
+    by (reach graph items).halted (sym same ∙ raced) where
+      same : replay.end ≡ end_of (reach graph items)
+      same = ap (λ replay. replay.end)
+          (one_replay graph items replay (whole_replay graph items) is
+          (runnable_whole graph runs items))
+
+      by : (halted : Option (TrapKind × ℕ)) → end_by halted ≡ ends.Raced race → ⊥
+      by None e = cc
+      by (Some trap) e = cc
+
+never_raced_so : (text schedule : List ℕ) (graph : Graph) → IsGraphOf text graph → IsRunnable graph
+    → (race : Race) → EndsSo (ends.Raced race) text schedule → ⊥
+never_raced_so text schedule graph of_text runs race so =
+    never_raced so.graph so.items so.replay
+    (subst IsRunnable (one_graph_of text graph so.graph of_text so.of_text) runs) so.is_replay race
+    so.ends
+
+never_raced_at : (files : List ℕ → List ℕ) (command : Command) (graph : Graph)
+    → IsGraphOf (program_of files command) graph → IsRunnable graph → (race : Race)
+    → Ends (ends.Raced race) files command → ⊥
+never_raced_at files (Check file) graph of_text runs race raced = cc
+never_raced_at files (Run file schedule_file) graph of_text runs race raced =
+    never_raced_so (files file) (files schedule_file) graph of_text runs race raced
+never_raced_at files (Trace file schedule_file) graph of_text runs race raced =
+    never_raced_so (files file) (files schedule_file) graph of_text runs race raced
+
+-- so no such program has the exit of a race
+pub says_not_raced : (files : List ℕ → List ℕ) (command : Command) (graph : Graph) (exit : Exit)
+    → IsGraphOf (program_of files command) graph → IsRunnable graph
+    → Says files (Some command) exit → exit ≢ Raced
+says_not_raced files command graph exit of_text runs says raced =
+    let (_, race, ends_so) = subst (SaysOf files command) raced says in
+    never_raced_at files command graph of_text runs race ends_so
 
 -- a program that is refused and within the limit has that exit
 pub says_breached : (files : List ℕ → List ℕ) (command : Command) (exit : Exit)
@@ -242,9 +298,9 @@ says_accepted files file NotRead says short accepts = absurd says
 says_accepted files file NotWritten says short accepts = absurd says
 says_accepted files file Memory says short accepts = absurd says
 
--- a replay of a program by a schedule ends in one way
-pub one_end : (text schedule : List ℕ) (a b : End) → EndsSo a text schedule → EndsSo b text schedule
-    → a ≡ b
+-- a replay of a program ends in one way by a schedule
+pub one_end : (text schedule : List ℕ) (a b : End) → EndsSo a text schedule
+    → EndsSo b text schedule → a ≡ b
 one_end text schedule a b is_a is_b =
     let graph : is_a.graph ≡ is_b.graph =
     one_graph_of text is_a.graph is_b.graph is_a.of_text is_b.of_text in

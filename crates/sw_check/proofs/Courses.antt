@@ -1,57 +1,99 @@
--- Commands are lawful.
-use Rattle.std.proofs.Common.{◌≡◌, ℕ, List, [], ◌++◌, Option, Some, None, Result, Ok, Err}
+-- Commands are lawful, and can end.
+use Rattle.std.proofs.Common.{◌≡◌, ◌⊎◌, ℕ, List, [], ◌++◌, Option, Some, None, Result, Ok, Err}
 use Rattle.sw_graph.specs.declared.graph.Graph.{Graph}
 use Rattle.sw_replay.specs.declared.text.TheConstants.{SCHEDULE_LIMIT}
 use Rattle.sw_course.specs.declared.TheConstants.{PROGRAM_LIMIT}
 use Rattle.sw_course.specs.declared.outcome.Outcome.{Outcome}
 use Rattle.sw_course.specs.Course.{Read, AreOf, Underway, Ended, Part, Alone, Fetched, ◌>>=◌}
-use Rattle.sw_course.specs.Lawful.{IsLawful, IsPrefixOf}
+use Rattle.sw_course.specs.Lawful.{CanEnd, IsLawful, IsPrefixOf}
+use Rattle.sw_course.proofs.LawfulParts.{can_end_alone, can_end_fetched, can_end_then}
 use Rattle.sw_course.proofs.LawfulParts.{lawful_alone, lawful_fetched, lawful_then}
-use Rattle.sw_verdict.specs.Phases.{all_phases}
+use Rattle.sw_verdict.specs.Phases.{Phase, all_phases, phases_to_size, IsGraphOf}
+use Rattle.sw_verdict.specs.Verdict.{Breaches, Refuses}
+use Rattle.sw_verdict.proofs.GraphsExist.{some_graph}
+use Rattle.sw_verdict.proofs.LoweredTexts.{decided_to_size, some_graph_of}
+use Rattle.sw_verdict.proofs.Verdicts.{decided}
 use Rattle.sw_check.specs.Reply.{usage, accepted, Answers, Judged, Scheduled, Replayed, course_of}
-use Rattle.sw_check.specs.Reply.{Reply, at_end, before_end}
-use Rattle.sw_check.specs.Words.{Command, Check, Run}
-use Rattle.sw_check.proofs.Pieces.{program_then, replay_by}
-use Rattle.sw_check.proofs.RuleLemmas.{answers_rule, judged_rule, scheduled_rule, replayed_rule}
+use Rattle.sw_check.specs.Reply.{Reply, at_end, before_end, replay_by}
+use Rattle.sw_check.specs.Words.{Command, Check, Run, Trace}
+use Rattle.sw_check.proofs.Pieces.{program_then}
+use Rattle.sw_check.proofs.RuleLemmas.{answers_one, answers_some, judged_one, judged_some}
+use Rattle.sw_check.proofs.RuleLemmas.{replayed_one, replayed_some, scheduled_one, scheduled_some}
 
 -- a program is fetched and judged, and something goes on from its text and its graph
-lawful_program : (file : List ℕ) (next : List ℕ → Graph → Part Outcome)
-    → ((text : List ℕ) (graph : Graph) → IsLawful (next text graph))
-    → IsLawful (program_then all_phases file next)
-lawful_program file next each =
-    lawful_then (Fetched file PROGRAM_LIMIT) (λ text. Alone (Judged all_phases text) >>= next text)
-    (lawful_fetched file PROGRAM_LIMIT)
-    (λ text. lawful_then (Alone (Judged all_phases text)) (next text)
-    (lawful_alone (Judged all_phases text) (judged_rule text)) (each text))
+module _ (phases : List Phase) (file : List ℕ) (next : List ℕ → Graph → Part Outcome) where
+  lawful_program : ((text : List ℕ) (graph : Graph) → IsLawful (next text graph))
+      → IsLawful (program_then phases file next)
+  lawful_program each =
+      lawful_then (Fetched file PROGRAM_LIMIT) (λ text. Alone (Judged phases text) >>= next text)
+      (lawful_fetched file PROGRAM_LIMIT)
+      (λ text. lawful_then (Alone (Judged phases text)) (next text)
+      (lawful_alone (Judged phases text) (judged_one phases text)) (each text))
+
+  can_end_program : ((text : List ℕ) → Breaches phases text []
+      → (graph : Graph) × IsGraphOf text graph)
+      → ((text : List ℕ) → Breaches phases text [] ⊎ Refuses phases text)
+      → ((text : List ℕ) (graph : Graph) → CanEnd (next text graph))
+      → CanEnd (program_then phases file next)
+  can_end_program have either each =
+      can_end_then (Fetched file PROGRAM_LIMIT) (λ text. Alone (Judged phases text) >>= next text)
+      (can_end_fetched file PROGRAM_LIMIT)
+      (λ text. can_end_then (Alone (Judged phases text)) (next text)
+      (can_end_alone (Judged phases text) (judged_some phases text (have text) (either text)))
+      (each text))
 
 -- a schedule is fetched, and its items replay a graph
-lawful_replay : (file text : List ℕ) (graph : Graph)
-    → IsLawful (replay_by file text graph)
-lawful_replay file text graph =
-    lawful_then (Fetched file SCHEDULE_LIMIT)
-    (λ schedule. Alone (Scheduled schedule) >>= (λ items. Alone (Replayed text graph items)))
-    (lawful_fetched file SCHEDULE_LIMIT)
-    (λ schedule. lawful_then (Alone (Scheduled schedule))
-    (λ items. Alone (Replayed text graph items))
-    (lawful_alone (Scheduled schedule) (scheduled_rule schedule))
-    (λ items. lawful_alone (Replayed text graph items) (replayed_rule text graph items)))
+module _ (file text : List ℕ) (graph : Graph) where
+  abbrev by_items : List ℕ → Part Outcome
+  by_items schedule = Alone (Scheduled schedule) >>= (λ items. Alone (Replayed text graph items))
+
+  lawful_replay : IsLawful (replay_by file text graph)
+  lawful_replay =
+      lawful_then (Fetched file SCHEDULE_LIMIT) by_items (lawful_fetched file SCHEDULE_LIMIT)
+      (λ schedule. lawful_then (Alone (Scheduled schedule))
+      (λ items. Alone (Replayed text graph items))
+      (lawful_alone (Scheduled schedule) (scheduled_one schedule))
+      (λ items. lawful_alone (Replayed text graph items) (replayed_one text graph items)))
+
+  can_end_replay : CanEnd (replay_by file text graph)
+  can_end_replay =
+      can_end_then (Fetched file SCHEDULE_LIMIT) by_items (can_end_fetched file SCHEDULE_LIMIT)
+      (λ schedule. can_end_then (Alone (Scheduled schedule))
+      (λ items. Alone (Replayed text graph items))
+      (can_end_alone (Scheduled schedule) (scheduled_some schedule))
+      (λ items. can_end_alone (Replayed text graph items) (replayed_some text graph items)))
 
 pub lawful : (command : Option Command) → IsLawful (course_of command)
-lawful None = lawful_alone (Answers usage) (answers_rule usage)
+lawful None = lawful_alone (Answers usage) (answers_one usage)
 lawful (Some (Check file)) =
-    lawful_program file _ (λ text graph. lawful_alone (Answers accepted) (answers_rule accepted))
+    lawful_program all_phases file _
+    (λ text graph. lawful_alone (Answers accepted) (answers_one accepted))
 lawful (Some (Run file schedule_file)) =
-    lawful_program file _ (λ text graph. lawful_replay schedule_file text graph)
+    lawful_program all_phases file (replay_by schedule_file) (lawful_replay schedule_file)
+lawful (Some (Trace file schedule_file)) =
+    lawful_program phases_to_size file (replay_by schedule_file) (lawful_replay schedule_file)
+
+pub can_end : (command : Option Command) → CanEnd (course_of command)
+can_end None = can_end_alone (Answers usage) (answers_some usage)
+can_end (Some (Check file)) =
+    can_end_program all_phases file _ some_graph_of decided
+    (λ text graph. can_end_alone (Answers accepted) (answers_some accepted))
+can_end (Some (Run file schedule_file)) =
+    can_end_program all_phases file (replay_by schedule_file) some_graph_of decided
+    (can_end_replay schedule_file)
+can_end (Some (Trace file schedule_file)) =
+    can_end_program phases_to_size file (replay_by schedule_file) some_graph decided_to_size
+    (can_end_replay schedule_file)
 
 reply_of : (command : Option Command) (reads : List Read) (result : Result Outcome Outcome)
     → course_of command reads (Ended result) → (outcome : Outcome) × Reply command reads outcome
 reply_of command reads (Ok outcome) ended = (outcome, at_end ended)
 reply_of command reads (Err outcome) ended = (outcome, before_end ended)
 
-pub some_reply : (command : Option Command) (files : List ℕ → List ℕ) → (reads : List Read)
-    × (outcome : Outcome) × AreOf files reads × Reply command reads outcome
+pub some_reply : (command : Option Command) (files : List ℕ → List ℕ)
+    → (reads : List Read) × (outcome : Outcome) × AreOf files reads × Reply command reads outcome
 some_reply command files =
-    let end = (lawful command).completes files [] (lawful command).begins in
+    let end = (can_end command).completes files [] (can_end command).begins in
     let (outcome, reply) = reply_of command end.others end.result end.ended in
     (end.others, outcome, end.of_files, reply)
 
@@ -77,9 +119,10 @@ read_in_order command files reads others outcome h k under (at_end ended) =
 read_in_order command files reads others outcome h k under (before_end ended) =
     (lawful command).read_in_order files reads others (Err outcome) h k under ended
 
-pub goes_on : (command : Option Command) (reads : List Read) → course_of command reads Underway
+pub goes_on : (command : Option Command) (reads : List Read)
+    → course_of command reads Underway
     → (others : List Read) × (outcome : Outcome) × Reply command (reads ++ others) outcome
 goes_on command reads under =
-    let end = (lawful command).completes (λ _. []) reads under in
+    let end = (can_end command).completes (λ _. []) reads under in
     let (outcome, reply) = reply_of command (reads ++ end.others) end.result end.ended in
     (end.others, outcome, reply)

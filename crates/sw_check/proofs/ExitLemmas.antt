@@ -1,18 +1,10 @@
 -- The exits of replies.
-use Rattle.std.proofs.Common.{◌≡◌, ◌≢◌, inl, inr, true, false, ℕ, ◌≤◌, length, List, [], ◌++◌}
-use Rattle.std.proofs.Common.{Option, Some, None, option_map, Ok, Err, refl, sym, ap, ◌∙◌, subst}
+use Rattle.std.proofs.Common.{◌≡◌, ◌≢◌, inl, inr, true, false, ℕ, List, [], ◌++◌}
+use Rattle.std.proofs.Common.{Option, Some, None, option_map, Ok, Err, refl, ap, ◌∙◌, subst}
 use Rattle.std.proofs.Common.{append-nil}
 use Rattle.sw_graph.specs.declared.graph.Graph.{Graph}
 use Rattle.sw_replay.specs.declared.output.End.{End}
 use Rattle.sw_replay.specs.declared.output.End.TheVariants.{Ran, Trapped, Raced}
-use Rattle.sw_replay.specs.declared.output.Replay.{Replay}
-use Rattle.sw_replay.specs.Output.{end_by, end_of}
-use Rattle.sw_replay.specs.Replay.{IsReplay, whole_replay}
-use Rattle.sw_replay.proofs.ReplayLemmas.{one_replay, runnable_whole}
-use Rattle.sw_value.specs.declared.race.Race.{Race}
-use Rattle.sw_value.specs.declared.state.TrapKind.{TrapKind}
-use Rattle.sw_value.specs.Reach.{reach}
-use Rattle.sw_value.specs.Runnable.{IsRunnable}
 use Rattle.sw_replay.specs.declared.text.TheConstants.{SCHEDULE_LIMIT}
 use Rattle.sw_course.specs.declared.TheConstants.{PROGRAM_LIMIT}
 use Rattle.sw_course.specs.declared.exit.Exit.{Exit}
@@ -22,15 +14,14 @@ use Rattle.sw_course.specs.Course.{Read, Ended, Part, Alone, Fetched, too_long_f
 use Rattle.sw_course.specs.Exit.{IsOneOf, is_failure, is_silent}
 use Rattle.sw_course.specs.Lawful.{RefusesBy}
 use Rattle.sw_course.specs.Written.{Appended}
-use Rattle.sw_course.proofs.Inversions.{within_limit, by_rule, EndsBy, refuses_alone}
+use Rattle.sw_course.proofs.Inversions.{EndsBy, refuses_alone}
 use Rattle.sw_course.proofs.Inversions.{refuses_fetched, refuses_then, ends_alone, ends_then}
-use Rattle.sw_verdict.specs.Phases.{Phase, all_phases}
-use Rattle.sw_verdict.proofs.Verdicts.{graph_runs}
-use Rattle.sw_check.specs.Reply.{usage, accepted, end_outcome, Answers, Judged, passes, breached}
+use Rattle.sw_verdict.specs.Phases.{Phase, all_phases, phases_to_size}
+use Rattle.sw_check.specs.Reply.{usage, accepted, end_outcome, Answers, Judged, breached}
 use Rattle.sw_check.specs.Reply.{Scheduled, has_fault, Replayed, ends, course_of, Reply, at_end}
-use Rattle.sw_check.specs.Reply.{before_end, exits_of}
-use Rattle.sw_check.specs.Words.{Command, Check, Run}
-use Rattle.sw_check.proofs.Pieces.{program_then, replay_by}
+use Rattle.sw_check.specs.Reply.{before_end, exits_of, replay_by, replay_exits}
+use Rattle.sw_check.specs.Words.{Command, Check, Run, Trace}
+use Rattle.sw_check.proofs.Pieces.{program_then}
 
 -- a reply that has one of these exits: it reports no failure, and nothing is written where the exit
 -- says so
@@ -102,6 +93,9 @@ refusals (Some (Check file)) =
 refusals (Some (Run file schedule_file)) =
     program_refusals _ all_phases file _ (inl refl) (inr (inl refl))
     (λ text graph. replay_refusals _ schedule_file text graph (inl refl) (inr (inr (inl refl))))
+refusals (Some (Trace file schedule_file)) =
+    program_refusals _ phases_to_size file _ (inl refl) (inr (inl refl))
+    (λ text graph. replay_refusals _ schedule_file text graph (inl refl) (inr (inr (inl refl))))
 
 -- the replies at the end
 answers_end : (among : List Exit) (outcome other : Outcome) → HasEndExit among outcome
@@ -110,55 +104,33 @@ answers_end among outcome other end is =
     let same : outcome ≡ other = cc (is) in
     subst (HasEndExit among) same end
 
--- the machine runs the graph of a program that was fetched and judged
-pub judged_runs : (phases : List Phase) (text : List ℕ) (graph : Graph)
-    → length text ≤ PROGRAM_LIMIT → Judged phases text (Ok graph) → IsRunnable graph
-judged_runs phases text graph short (passes _ judges) = graph_runs text graph short judges.1
-
--- so that no race stops a replay
-never_raced : (graph : Graph) (items : List ℕ) (replay : Replay) → IsRunnable graph
-    → IsReplay graph items replay → (race : Race) → replay.end ≡ Raced race → ⊥
-never_raced graph items replay runs is race raced =
-    by (reach graph items).halted (sym same ∙ raced) where
-      same : replay.end ≡ end_of (reach graph items)
-      same = ap (λ replay. replay.end)
-          (one_replay graph items replay (whole_replay graph items) is
-          (runnable_whole graph runs items))
-
-      by : (halted : Option (TrapKind × ℕ)) → end_by halted ≡ Raced race → ⊥
-      by None e = cc
-      by (Some trap) e = cc
-
-replayed_end : (among : List Exit) (text : List ℕ) (graph : Graph) (items : List ℕ)
-    → IsRunnable graph → IsOneOf among exits.Done → IsOneOf among exits.Trapped
-    → (outcome : Outcome) → Replayed text graph items (Ok outcome) → HasEndExit among outcome
-replayed_end among text graph items runs done trapped _ (ends replay is) = by replay.end refl where
-  by : (end : End) → replay.end ≡ end
-      → HasEndExit among (end_outcome text replay.lines replay.ended replay.jobs end)
-  by Ran e = record { exit = done; plain = refl; speaks = refl }
-  by (Trapped kind at) e = record { exit = trapped; plain = refl; speaks = refl }
-  by (Raced race) e = absurd (never_raced graph items replay runs is race e)
+replayed_end : (text : List ℕ) (graph : Graph) (items : List ℕ) (outcome : Outcome)
+    → Replayed text graph items (Ok outcome) → HasEndExit replay_exits outcome
+replayed_end text graph items _ (ends replay is) = by replay.end where
+  by : (end : End)
+      → HasEndExit replay_exits (end_outcome text replay.lines replay.ended replay.jobs end)
+  by Ran = record { exit = inr (inr (inr (inl refl))); plain = refl; speaks = refl }
+  by (Trapped kind at) =
+      record { exit = inr (inr (inr (inr (inl refl)))); plain = refl; speaks = refl }
+  by (Raced race) =
+      record { exit = inr (inr (inr (inr (inr (inl refl))))); plain = refl; speaks = refl }
 
 program_ends : (among : List Exit) (phases : List Phase) (file : List ℕ)
     (rest : List ℕ → Graph → Part Outcome)
-    → ((text : List ℕ) (graph : Graph) → IsRunnable graph
-    → EndsBy (HasEndExit among) (rest text graph))
+    → ((text : List ℕ) (graph : Graph) → EndsBy (HasEndExit among) (rest text graph))
     → EndsBy (HasEndExit among) (program_then phases file rest)
 program_ends among phases file rest others =
     ends_then (HasEndExit among) (Fetched file PROGRAM_LIMIT) _
-    (λ read text fetched. ends_then (HasEndExit among) (Alone (Judged phases text)) (rest text)
-    (λ none graph judged. others text graph
-    (judged_runs phases text graph (within_limit file PROGRAM_LIMIT read text fetched)
-    (by_rule (Judged phases text) none (Ok graph) judged))))
+    (λ _ text _. ends_then (HasEndExit among) (Alone (Judged phases text)) (rest text)
+    (λ _ graph _. others text graph))
 
-replay_ends : (among : List Exit) (file text : List ℕ) (graph : Graph) → IsRunnable graph
-    → IsOneOf among exits.Done → IsOneOf among exits.Trapped
-    → EndsBy (HasEndExit among) (replay_by file text graph)
-replay_ends among file text graph runs done trapped =
-    ends_then (HasEndExit among) (Fetched file SCHEDULE_LIMIT) _
-    (λ _ schedule _. ends_then (HasEndExit among) (Alone (Scheduled schedule)) _
-    (λ _ items _. ends_alone (HasEndExit among) (Replayed text graph items)
-    (replayed_end among text graph items runs done trapped)))
+replay_ends : (file text : List ℕ) (graph : Graph)
+    → EndsBy (HasEndExit replay_exits) (replay_by file text graph)
+replay_ends file text graph =
+    ends_then (HasEndExit replay_exits) (Fetched file SCHEDULE_LIMIT) _
+    (λ _ schedule _. ends_then (HasEndExit replay_exits) (Alone (Scheduled schedule)) _
+    (λ _ items _. ends_alone (HasEndExit replay_exits) (Replayed text graph items)
+    (replayed_end text graph items)))
 
 at_ends : (command : Option Command) → EndsBy (HasEndExit (exits_of command)) (course_of command)
 at_ends None = ends_alone _ (Answers usage)
@@ -166,13 +138,13 @@ at_ends None = ends_alone _ (Answers usage)
     (record { exit = inl refl; plain = refl; speaks = refl }) is)
 at_ends (Some (Check file)) =
     program_ends _ all_phases file _
-    (λ text graph _. ends_alone _ (Answers accepted)
+    (λ text graph. ends_alone _ (Answers accepted)
     (λ outcome is. answers_end _ accepted outcome
     (record { exit = inr (inr (inl refl)); plain = refl; speaks = refl }) is))
 at_ends (Some (Run file schedule_file)) =
-    program_ends _ all_phases file _
-    (λ text graph runs. replay_ends _ schedule_file text graph runs (inr (inr (inr (inl refl))))
-    (inr (inr (inr (inr (inl refl))))))
+    program_ends _ all_phases file (replay_by schedule_file) (replay_ends schedule_file)
+at_ends (Some (Trace file schedule_file)) =
+    program_ends _ phases_to_size file (replay_by schedule_file) (replay_ends schedule_file)
 
 pub end_exit : (command : Option Command) (reads : List Read) (outcome : Outcome)
     → course_of command reads (Ended (Ok outcome)) → IsOneOf (exits_of command) outcome.exit

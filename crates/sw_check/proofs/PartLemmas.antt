@@ -19,7 +19,7 @@ use Rattle.sw_replay.specs.Replay.{IsReplay}
 use Rattle.sw_check.specs.Words.{Command}
 use Rattle.sw_check.specs.Reply.{usage, course_of, Answers, refusal, bad_schedule_outcome}
 use Rattle.sw_check.specs.Reply.{replay_outcome, Judged, breached, Scheduled, has_fault, Replayed}
-use Rattle.sw_check.specs.Reply.{ends}
+use Rattle.sw_check.specs.Reply.{ends, replay_by}
 
 pub judged_refused : (phases : List Phase) (text : List ℕ) (breaches : List Breach)
     (outcome : Outcome) → outcome ≡ refusal text breaches → IsVerdict phases text (Err breaches)
@@ -42,6 +42,14 @@ pub replay_answered : (text : List ℕ) (graph : Graph) (items : List ℕ) (repl
 replay_answered text graph items replay (Ok outcome) is same =
     subst (λ outcome. Replayed text graph items (Ok outcome)) (sym same) (ends replay is)
 replay_answered text graph items replay (Err error) is same = tt
+
+-- the last parts, for a text that was lent
+pub replays_lent : {text lent : List ℕ} {before after : Seen} {result : Result Outcome Stop}
+    (file : List ℕ) (graph : Graph) → lent ≡ text
+    → Does (replay_by file lent graph) before result after
+    → Does (replay_by file text graph) before result after
+replays_lent {before = before} {after} {result} file graph same does =
+    subst (λ text. Does (replay_by file text graph) before result after) same does
 
 -- words of no form
 pub no_form : {command : Option Command} {shelf : Seen} → None ≡ command

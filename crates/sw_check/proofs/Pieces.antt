@@ -1,12 +1,11 @@
--- Pieces that commands have in common.
+-- A piece that commands have in common.
 use Rattle.std.proofs.Common.{ℕ, List}
 use Rattle.sw_graph.specs.declared.graph.Graph.{Graph}
-use Rattle.sw_replay.specs.declared.text.TheConstants.{SCHEDULE_LIMIT}
 use Rattle.sw_course.specs.declared.TheConstants.{PROGRAM_LIMIT}
 use Rattle.sw_course.specs.declared.outcome.Outcome.{Outcome}
 use Rattle.sw_course.specs.Course.{Part, Alone, Fetched, ◌>>=◌}
 use Rattle.sw_verdict.specs.Phases.{Phase}
-use Rattle.sw_check.specs.Reply.{Judged, Scheduled, Replayed}
+use Rattle.sw_check.specs.Reply.{Judged}
 
 -- a program is fetched and judged by these phases, and the rest goes on from its text and its graph
 abbrev pub program_then : List Phase → List ℕ → (List ℕ → Graph → Part Outcome) → Part Outcome
@@ -14,10 +13,3 @@ program_then phases file rest = do
   text ← Fetched file PROGRAM_LIMIT
   graph ← Alone (Judged phases text)
   rest text graph
-
--- a schedule is fetched, and its items replay the graph of the text
-abbrev pub replay_by : List ℕ → List ℕ → Graph → Part Outcome
-replay_by schedule_file text graph = do
-  schedule ← Fetched schedule_file SCHEDULE_LIMIT
-  items ← Alone (Scheduled schedule)
-  Alone (Replayed text graph items)

@@ -16,33 +16,33 @@ use Rattle.sw_course.specs.declared.exit.Exit.TheVariants.{Done, Breached, Usage
 use Rattle.sw_course.specs.declared.exit.Exit.TheVariants.{NotWritten, Memory, Trapped, BadSchedule}
 use Rattle.sw_course.specs.declared.exit.Exit.TheVariants.{Raced}
 use Rattle.sw_course.specs.declared.TheConstants.{PROGRAM_LIMIT}
-use Rattle.sw_verdict.specs.Phases.{Phase, all_phases}
-use Rattle.sw_verdict.specs.Verdict.{Breaches, Refuses, IsGraphOf}
+use Rattle.sw_verdict.specs.Phases.{Phase, all_phases, phases_to_size, IsGraphOf}
+use Rattle.sw_verdict.specs.Verdict.{Breaches, Refuses}
 use Rattle.sw_replay.specs.Replay.{IsReplay}
-use Rattle.sw_check.specs.Words.{Command, Check, Run}
+use Rattle.sw_check.specs.Words.{Command, Check, Run, Trace}
 
--- The text has a graph, and the machine isn't racing after any list of items, of any length.
-pub record NeverRaces (text : List ℕ) : Type 0 where
-  pub graph : Graph
-  pub of_text : IsGraphOf text graph
-  pub no_race : (items : List ℕ) → ¬ Racing graph (reach graph items)
+-- The machine of the graph isn't racing after any list of items, of any length.
+abbrev pub NeverRaces : Graph → Type 0
+NeverRaces graph = (items : List ℕ) → ¬ Racing graph (reach graph items)
 
 -- the text of the program that a command is about
 abbrev pub program_of : (List ℕ → List ℕ) → Command → List ℕ
 program_of files (Check file) = files file
 program_of files (Run file schedule_file) = files file
+program_of files (Trace file schedule_file) = files file
 
 -- the phases that count for a command: it refuses a program in which one of them finds a breach
 abbrev pub phases_of : Command → List Phase
 phases_of (Check file) = all_phases
 phases_of (Run file schedule_file) = all_phases
+phases_of (Trace file schedule_file) = phases_to_size
 
 -- the program of the command is within the limit, and no phase that counts finds a breach in it
 pub record Passes (files : List ℕ → List ℕ) (command : Command) : Type 0 where
   pub short : length (program_of files command) ≤ PROGRAM_LIMIT
   pub no_breach : Breaches (phases_of command) (program_of files command) []
 
--- the replay of a program by a schedule ends so
+-- the replay of a program's graph by a schedule ends so
 pub record EndsSo (end : End) (text schedule : List ℕ) : Type 0 where
   pub graph : Graph
   pub of_text : IsGraphOf text graph
@@ -56,16 +56,20 @@ pub record EndsSo (end : End) (text schedule : List ℕ) : Type 0 where
 abbrev pub Ends : End → (List ℕ → List ℕ) → Command → Type 0
 Ends end files (Check file) = end ≡ ends.Ran
 Ends end files (Run file schedule_file) = EndsSo end (files file) (files schedule_file)
+Ends end files (Trace file schedule_file) = EndsSo end (files file) (files schedule_file)
 
 -- the second file of a command is longer than it may be
 abbrev pub SecondIsLong : (List ℕ → List ℕ) → Command → Type 0
 SecondIsLong files (Check file) = ⊥
 SecondIsLong files (Run file schedule_file) = SCHEDULE_LIMIT < length (files schedule_file)
+SecondIsLong files (Trace file schedule_file) = SCHEDULE_LIMIT < length (files schedule_file)
 
 -- the schedule of a command has a fault
 abbrev pub ScheduleIsBad : (List ℕ → List ℕ) → Command → Type 0
 ScheduleIsBad files (Check file) = ⊥
 ScheduleIsBad files (Run file schedule_file) = (fault : SchedFault)
+    × IsFirstFault (files schedule_file) fault
+ScheduleIsBad files (Trace file schedule_file) = (fault : SchedFault)
     × IsFirstFault (files schedule_file) fault
 
 -- What an exit says of a command and its files. Those that report a failure say nothing of them;

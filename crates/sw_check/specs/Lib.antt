@@ -1,6 +1,7 @@
 pub mod Call
 pub mod Claims
 pub mod Lines
+pub mod Phases
 pub mod Reply
 pub mod Words
 pub mod WordsRead

@@ -15,11 +15,11 @@ use Rattle.sw_course.specs.declared.exit.Exit.TheVariants as exits
 use Rattle.sw_course.specs.declared.outcome.Outcome.{Outcome}
 use Rattle.sw_course.specs.declared.TheConstants.{PROGRAM_LIMIT}
 use Rattle.sw_course.specs.Course.{Read, Ended, Part, Alone, Fetched, ◌>>=◌}
-use Rattle.sw_verdict.specs.Phases.{Phase, all_phases}
+use Rattle.sw_verdict.specs.Phases.{Phase, all_phases, phases_to_size}
 use Rattle.sw_verdict.specs.Verdict.{IsVerdict}
 use Rattle.sw_replay.specs.Replay.{IsReplay}
 use Rattle.sw_check.specs.Lines.{summary, trap_line, race_lines, schedule_line}
-use Rattle.sw_check.specs.Words.{Command, Check, Run}
+use Rattle.sw_check.specs.Words.{Command, Check, Run, Trace}
 
 -- the one line about words that have no form
 abbrev pub usage : Outcome
@@ -77,6 +77,20 @@ pub data Replayed (text : List ℕ) (graph : Graph) (items : List ℕ) : Result 
   ends : (replay : Replay) → IsReplay graph items replay
       → Replayed text graph items (Ok (replay_outcome text replay))
 
+-- A schedule is fetched, and its items replay the graph of the text.
+abbrev pub replay_by : List ℕ → List ℕ → Graph → Part Outcome
+replay_by schedule_file text graph = do
+  schedule ← Fetched schedule_file SCHEDULE_LIMIT
+  items ← Alone (Scheduled schedule)
+  Alone (Replayed text graph items)
+
+-- A program is fetched and judged by these phases, and then a schedule replays its graph.
+abbrev pub replay_course : List Phase → List ℕ → List ℕ → Part Outcome
+replay_course phases file schedule_file = do
+  text ← Fetched file PROGRAM_LIMIT
+  graph ← Alone (Judged phases text)
+  replay_by schedule_file text graph
+
 -- the parts of each command
 abbrev pub course_of : Option Command → Part Outcome
 course_of None = Alone (Answers usage)
@@ -84,12 +98,8 @@ course_of (Some (Check file)) = do
   text ← Fetched file PROGRAM_LIMIT
   graph ← Alone (Judged all_phases text)
   Alone (Answers accepted)
-course_of (Some (Run file schedule_file)) = do
-  text ← Fetched file PROGRAM_LIMIT
-  graph ← Alone (Judged all_phases text)
-  schedule ← Fetched schedule_file SCHEDULE_LIMIT
-  items ← Alone (Scheduled schedule)
-  Alone (Replayed text graph items)
+course_of (Some (Run file schedule_file)) = replay_course all_phases file schedule_file
+course_of (Some (Trace file schedule_file)) = replay_course phases_to_size file schedule_file
 
 -- `Reply command reads outcome`: this is answered to the words, where exactly these files are read
 -- for it, in this order.
@@ -97,9 +107,15 @@ pub data Reply (command : Option Command) (reads : List Read) (outcome : Outcome
   at_end : course_of command reads (Ended (Ok outcome)) → Reply command reads outcome
   before_end : course_of command reads (Ended (Err outcome)) → Reply command reads outcome
 
+-- the exits of the replies to a command that replays a program
+abbrev pub replay_exits : List Exit
+replay_exits =
+    exits.TooLong ∷ exits.Breached ∷ exits.BadSchedule ∷ exits.Done ∷ exits.Trapped ∷ exits.Raced
+    ∷ []
+
 -- the exits of the replies to a command
 abbrev pub exits_of : Option Command → List Exit
 exits_of None = exits.Usage ∷ []
 exits_of (Some (Check file)) = exits.TooLong ∷ exits.Breached ∷ exits.Done ∷ []
-exits_of (Some (Run file schedule_file)) =
-    exits.TooLong ∷ exits.Breached ∷ exits.BadSchedule ∷ exits.Done ∷ exits.Trapped ∷ []
+exits_of (Some (Run file schedule_file)) = replay_exits
+exits_of (Some (Trace file schedule_file)) = replay_exits

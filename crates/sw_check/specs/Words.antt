@@ -16,14 +16,19 @@ pub data Command : Type 0 where
   Check : (file : List ℕ) → Command
   -- run the program in the file, where it is accepted, by the schedule in the other file
   Run : (file schedule_file : List ℕ) → Command
+  -- run the program in the file by the schedule in the other file, also where jobs of it may race
+  Trace : (file schedule_file : List ℕ) → Command
 
--- `check FILE` and `run FILE SCHEDULE` are the forms; any other list of words has none.
+-- `check FILE`, `run FILE SCHEDULE` and `trace FILE SCHEDULE` are the forms. Any other list of
+-- words has none.
 unfoldable pub command_of : List (List ℕ) → Option Command
 command_of (verb ∷ file ∷ []) =
     if bytes_eq verb (codes "check") && is_file_name file then Some (Check file) else None
 command_of (verb ∷ file ∷ schedule_file ∷ []) =
     if bytes_eq verb (codes "run") && (is_file_name file && is_file_name schedule_file)
-    then Some (Run file schedule_file) else None
+    then Some (Run file schedule_file)
+    else if bytes_eq verb (codes "trace") && (is_file_name file && is_file_name schedule_file)
+    then Some (Trace file schedule_file) else None
 command_of words = None
 
 -- the command of the words as the program has them

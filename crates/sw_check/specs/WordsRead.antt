@@ -1,8 +1,9 @@
 -- The command as the program reads it: its names are lent from the words.
 use Rattle.sw_check.specs.declared.words.Command as code
 use Rattle.sw_check.specs.declared.words.Command.TheVariants as variants
-use Rattle.sw_check.specs.Words.{Command, Check, Run}
+use Rattle.sw_check.specs.Words.{Command, Check, Run, Trace}
 
 abbrev pub command : code.Command → Command
 command (variants.Check file) = Check file.now
 command (variants.Run file schedule_file) = Run file.now schedule_file.now
+command (variants.Trace file schedule_file) = Trace file.now schedule_file.now

@@ -1,14 +1,16 @@
 //! The commands. Each does its parts in order.
 
-ghost use Rattle.std.specs.Prelude.{Some, map, string_bytes};
+ghost use Rattle.std.specs.Prelude.{◌≤◌, Some, length, map, string_bytes};
 ghost use Rattle.sw_course.specs.Leaves.{Does, seen};
-ghost use Rattle.sw_check.specs.Reply.{course_of};
-ghost use Rattle.sw_check.specs.Words.{Check, Run, command_of};
+ghost use Rattle.sw_check.specs.Phases.{list_of};
+ghost use Rattle.sw_check.specs.Reply.{course_of, replay_by, replay_course};
+ghost use Rattle.sw_check.specs.Words.{Check, command_of};
 
-use crate::parts::{judged, replayed, scheduled};
+use crate::parts::{Phases, judged, replayed, scheduled};
 use crate::words::{self, Command};
 use std::alloc::Global;
 use sw_course::{Exit, Outcome, PROGRAM_LIMIT, Stop, fetch, lines};
+use sw_graph::Graph;
 use sw_outside::Shelf;
 use sw_replay::SCHEDULE_LIMIT;
 
@@ -19,26 +21,43 @@ fn check<S: Shelf>(alloc: Global, file: &str, shelf: &mut S) -> Result<Outcome, 
         (seen S.known S.received S.faults shelf.new) }
 {
     let text = fetch(alloc, file, PROGRAM_LIMIT, shelf)?;
-    let _graph = judged(alloc, text.as_slice())?;
+    let _graph = judged(alloc, text.as_slice(), Phases::All)?;
     Ok(lines(alloc, Exit::Done, "accepted\n")?)
 }
 
-/// `run FILE SCHEDULE`.
-fn run<S: Shelf>(
+/// The last parts of commands that replay the graph of a text: they need the schedule.
+fn by_schedule<S: Shelf>(
     alloc: Global,
+    schedule_file: &str,
+    text: &[u8],
+    graph: &Graph,
+    shelf: &mut S,
+) -> Result<Outcome, Stop>
+    requires { length text.now ≤ PROGRAM_LIMIT }
+    ensures { Does (replay_by schedule_file.now text.now graph.now)
+        (seen S.known S.received S.faults shelf.old) result
+        (seen S.known S.received S.faults shelf.new) }
+{
+    let schedule = fetch(alloc, schedule_file, SCHEDULE_LIMIT, shelf)?;
+    let items = scheduled(alloc, schedule.as_slice())?;
+    Ok(replayed(alloc, text, graph, &items)?)
+}
+
+/// `run FILE SCHEDULE` and `trace FILE SCHEDULE`, which judge the program by these phases.
+fn replay<S: Shelf>(
+    alloc: Global,
+    phases: Phases,
     file: &str,
     schedule_file: &str,
     shelf: &mut S,
 ) -> Result<Outcome, Stop>
-    ensures { Does (course_of (Some (Run file.now schedule_file.now)))
+    ensures { Does (replay_course (list_of phases) file.now schedule_file.now)
         (seen S.known S.received S.faults shelf.old) result
         (seen S.known S.received S.faults shelf.new) }
 {
     let text = fetch(alloc, file, PROGRAM_LIMIT, shelf)?;
-    let graph = judged(alloc, text.as_slice())?;
-    let schedule = fetch(alloc, schedule_file, SCHEDULE_LIMIT, shelf)?;
-    let items = scheduled(alloc, schedule.as_slice())?;
-    Ok(replayed(alloc, text.as_slice(), &graph, &items)?)
+    let graph = judged(alloc, text.as_slice(), phases)?;
+    by_schedule(alloc, schedule_file, text.as_slice(), &graph, shelf)
 }
 
 /// The command of the words after the program's name.
@@ -59,6 +78,12 @@ pub fn answer<S: Shelf>(alloc: Global, words: &[String], shelf: &mut S) -> Resul
                 file,
                 schedule_file,
             },
-        ) => run(alloc, file, schedule_file, shelf),
+        ) => replay(alloc, Phases::All, file, schedule_file, shelf),
+        Some(
+            Command::Trace {
+                file,
+                schedule_file,
+            },
+        ) => replay(alloc, Phases::ToSize, file, schedule_file, shelf),
     }
 }

@@ -8,7 +8,9 @@ ghost use Rattle.sw_outside.specs.Shelf.{Known, file_of};
 ghost use Rattle.sw_course.specs.declared.outcome.Outcome.{Outcome};
 ghost use Rattle.sw_course.specs.Course.{AreOf, Read};
 ghost use Rattle.sw_course.specs.Exit.{IsOneOf, is_failure, is_silent};
-ghost use Rattle.sw_verdict.specs.Phases.{all_phases};
+ghost use Rattle.sw_graph.specs.declared.graph.Graph.{Graph};
+ghost use Rattle.sw_value.specs.Runnable.{IsRunnable};
+ghost use Rattle.sw_verdict.specs.Phases.{IsGraphOf, all_phases};
 ghost use Rattle.sw_verdict.specs.Verdict.{Accepts, Refuses};
 ghost use Rattle.sw_check.specs.Call.{Interrupted, Replied, Unanswered};
 ghost use Rattle.sw_check.specs.Claims.{NeverRaces, Says, phases_of, program_of};
@@ -28,7 +30,7 @@ use std::alloc::Global;
 use sw_course::write_all;
 pub use sw_course::{Exit, PROGRAM_LIMIT};
 use sw_outside::{Shelf, Sink, SinkFault};
-pub use sw_verdict::texts_have_one_verdict;
+pub use sw_verdict::{accepted_graphs_pass, texts_have_one_graph, texts_have_one_verdict};
 
 /// Answers the words after the program's name over the shelf's files, and writes the reply into the
 /// sink.
@@ -52,11 +54,18 @@ pub fn run_words<S: Shelf, K: Sink>(
     // What such an exit says of the files, where they are known.
     ensures says { IsFalse (is_failure result) → IfSome (S.known shelf.old) (λ known.
         Says (file_of known.files) (command_in words.now.items) result) }
-    // Where all phases count for a command, no schedule leads a program that they accept to a race.
+    // Where all phases count for a command, a program that they accept has a graph, and if that is
+    // runnable, no schedule leads it to a race.
     ensures no_race { (known : Known) (command : Command) → S.known shelf.old ≡ Some known
         → command_in words.now.items ≡ Some command → phases_of command ≡ all_phases
         → IsFalse (is_failure result) → result ≢ Exit.Breached → result ≢ Exit.TooLong
-        → NeverRaces (program_of (file_of known.files) command) }
+        → (graph : Graph) × IsGraphOf (program_of (file_of known.files) command) graph
+        × (IsRunnable graph → NeverRaces graph) }
+    // Where a program has a runnable graph, a race stops no replay of it.
+    ensures not_raced { (known : Known) (command : Command) (graph : Graph)
+        → S.known shelf.old ≡ Some known → command_in words.now.items ≡ Some command
+        → IsGraphOf (program_of (file_of known.files) command) graph → IsRunnable graph
+        → result ≢ Exit.Raced }
 
     // Where nothing failed, every reply over the known files has this exit.
     ensures exact { (known : Known) (reads : List Read) (outcome : Outcome)

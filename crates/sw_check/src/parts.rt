@@ -1,12 +1,13 @@
 //! The parts of commands that read no file.
 
-ghost use Rattle.std.specs.Prelude.{◌≡◌, ◌≢◌, ◌<◌, ◌≤◌, IfOk, Ok, length};
+ghost use Rattle.std.specs.Prelude.{◌≡◌, ◌≢◌, ◌<◌, ◌≤◌, IfOk, IsErrOf, List, Ok, Err, length};
 ghost use Rattle.std.specs.List.{AllByRecursion};
-ghost use Rattle.sw_value.specs.Runnable.{IsRunnable};
 ghost use Rattle.sw_breach.specs.Codes.{IsCode};
+ghost use Rattle.sw_breach.specs.declared.Breach.{Breach};
 ghost use Rattle.sw_course.specs.Leaves.{Decides};
-ghost use Rattle.sw_verdict.specs.Phases.{all_phases};
+ghost use Rattle.sw_verdict.specs.Verdict.{IsVerdict};
 ghost use Rattle.sw_check.specs.Lines.{schedule_line};
+ghost use Rattle.sw_check.specs.Phases.{list_of};
 ghost use Rattle.sw_check.specs.Reply.{Judged, Replayed, Scheduled, bad_schedule_outcome, refusal};
 ghost use Rattle.sw_check.specs.Reply.{replay_outcome};
 
@@ -17,7 +18,7 @@ use sw_course::{Exit, Outcome, PROGRAM_LIMIT, Stop, lines, with_last_line};
 use sw_graph::Graph;
 use sw_list::ListOf;
 use sw_replay::{End, Replay, SCHEDULE_LIMIT, SchedFault, Schedule, replay, schedule};
-use sw_verdict::{Refusal, judge};
+use sw_verdict::{Refusal, judge, lower_text};
 
 /// The reply about a program that is refused.
 fn refusal(alloc: Global, text: &[u8], breaches: &[Breach]) -> Result<Outcome, AllocError>
@@ -33,12 +34,35 @@ fn refusal(alloc: Global, text: &[u8], breaches: &[Breach]) -> Result<Outcome, A
     })
 }
 
-/// The graph of a program that no phase refuses.
-pub fn judged(alloc: Global, text: &[u8]) -> Result<Graph, Stop>
+/// The phases that judge a program.
+#[derive(Clone, Copy)]
+pub enum Phases {
+    /// All of them: a program in which they find no breach is accepted.
+    All,
+    /// Those up to the size of functions: a program in which they find no breach has a graph,
+    /// whatever races it has.
+    ToSize,
+}
+
+/// The verdict of these phases on a text: its graph, or what the first finds that finds a breach.
+fn verdict(alloc: Global, text: &[u8], phases: Phases) -> Result<Graph, Refusal>
     requires { length text.now ≤ PROGRAM_LIMIT }
-    ensures { Decides (Judged all_phases text.now) result }
+    ensures graph { IfOk result (λ graph. IsVerdict (list_of phases) text.now (Ok graph)) }
+    ensures breaches { (list : List Breach) → IsErrOf result (Refusal.Breached list)
+        → IsVerdict (list_of phases) text.now (Err list) }
 {
-    match judge(alloc, text) {
+    match phases {
+        Phases::All => judge(alloc, text),
+        Phases::ToSize => lower_text(alloc, text),
+    }
+}
+
+/// The graph of a program in which none of these phases finds a breach.
+pub fn judged(alloc: Global, text: &[u8], phases: Phases) -> Result<Graph, Stop>
+    requires { length text.now ≤ PROGRAM_LIMIT }
+    ensures { Decides (Judged (list_of phases) text.now) result }
+{
+    match verdict(alloc, text, phases) {
         Ok(graph) => Ok(graph),
         Err(Refusal::Breached { breaches }) => {
             Err(Stop::Refused(refusal(alloc, text, breaches.as_slice())?))
@@ -105,8 +129,7 @@ pub fn replayed(
     graph: &Graph,
     items: &Schedule,
 ) -> Result<Outcome, AllocError>
-    requires short { length text.now ≤ PROGRAM_LIMIT }
-    requires runs { IsRunnable graph.now }
+    requires { length text.now ≤ PROGRAM_LIMIT }
     ensures { IfOk result (λ outcome. Replayed text.now graph.now items.now (Ok outcome)) }
 {
     let replay = replay(alloc, graph, items)?;

@@ -12,6 +12,10 @@ pub enum Command<'a> {
         file: &'a str,
         schedule_file: &'a str,
     },
+    Trace {
+        file: &'a str,
+        schedule_file: &'a str,
+    },
 }
 
 /// Whether a word names a file: it isn't empty and doesn't begin with `-`.
@@ -46,6 +50,11 @@ pub fn read(words: &[String]) -> Option<Command<'_>>
             );
             if verb == "run" && is_file_name(file) && is_file_name(schedule_file) {
                 Some(Command::Run {
+                    file,
+                    schedule_file,
+                })
+            } else if verb == "trace" && is_file_name(file) && is_file_name(schedule_file) {
+                Some(Command::Trace {
                     file,
                     schedule_file,
                 })

@@ -1,5 +1,5 @@
--- Parts of commands are lawful: those that read no file, those that fetch one, and one part after
--- another.
+-- Parts of commands are lawful and can end: those that read no file, those that fetch one, and one part
+-- after another.
 use Rattle.std.proofs.Common.{◌≡◌, ◌<◌, ◌≤◌, ◌⊎◌, inl, inr, ℕ, List, [], ◌∷◌, ◌++◌, length, Result}
 use Rattle.std.proofs.Common.{Ok, Err, refl, sym, ap, ap₂, ◌∙◌, subst, arith, append_assoc}
 use Rattle.std.proofs.lemmas.Bool.{cases_lt}
@@ -7,34 +7,25 @@ use Rattle.sw_course.specs.declared.outcome.Outcome.{Outcome}
 use Rattle.sw_course.specs.Course.{Read, read, AreOf, Underway, Ended, Part, Alone, deciding}
 use Rattle.sw_course.specs.Course.{decided, Fetched, to_fetch, fetching, within, above}
 use Rattle.sw_course.specs.Course.{too_long_file, Then, in_first, refused, goes_on, ◌>>=◌}
-use Rattle.sw_course.specs.Lawful.{Completes, IsPrefixOf, IsLawful, IsRule}
+use Rattle.sw_course.specs.Lawful.{CanEnd, Completes, IsPrefixOf, IsLawful}
+use Rattle.sw_course.specs.Lawful.{HasOneResult, HasResult}
 use Rattle.sw_course.proofs.ReadLemmas.{AreOf-append, AreOf-prefix, AreOf-suffix}
 
 module _ {A : Type 0} (Rule : Result A Outcome → Type 0) where
-  pub lawful_alone : IsRule Rule → IsLawful (Alone Rule)
-  lawful_alone rule = record {
-    begins = deciding;
-    completes = completes;
-    one_end =
-        one_end;
-    read_in_order = read_in_order;
-  } where
+  pub can_end_alone : HasResult Rule → CanEnd (Alone Rule)
+  can_end_alone (result, is) = record { begins = deciding; completes = completes } where
     completes : (files : List ℕ → List ℕ) (reads : List Read) → Alone Rule reads Underway
         → Completes (Alone Rule) files reads
     completes files _ deciding =
-        record {
-          others = [];
-          of_files = tt;
-          result = rule.some_result.0;
-          ended =
-              decided _ rule.some_result.1;
-        }
+        record { others = []; of_files = tt; result = result; ended = decided result is }
 
+  pub lawful_alone : HasOneResult Rule → IsLawful (Alone Rule)
+  lawful_alone one = record { one_end = one_end; read_in_order = read_in_order } where
     one_end : (files : List ℕ → List ℕ) (reads others : List Read) (a b : Result A Outcome)
         → AreOf files reads → AreOf files others → Alone Rule reads (Ended a)
         → Alone Rule others (Ended b) → (reads ≡ others) × (a ≡ b)
     one_end files _ _ _ _ h k (decided a is_a) (decided b is_b) =
-        (refl, rule.one_result a b is_a is_b)
+        (refl, one a b is_a is_b)
 
     read_in_order : (files : List ℕ → List ℕ) (reads others : List Read) (result : Result A Outcome)
         → AreOf files reads → AreOf files others → Alone Rule reads Underway
@@ -47,14 +38,8 @@ same_text : (files : List ℕ → List ℕ) (name a b : List ℕ) → AreOf file
 same_text files name a b h k = h.0 ∙ sym k.0
 
 module _ (name : List ℕ) (limit : ℕ) where
-  pub lawful_fetched : IsLawful (Fetched name limit)
-  lawful_fetched = record {
-    begins = to_fetch;
-    completes = completes;
-    one_end =
-        one_end;
-    read_in_order = read_in_order;
-  } where
+  pub can_end_fetched : CanEnd (Fetched name limit)
+  can_end_fetched = record { begins = to_fetch; completes = completes } where
     by_length : (files : List ℕ → List ℕ) (text : List ℕ) → (limit < length text)
         ⊎ (length text ≤ limit) → (result : Result (List ℕ) Outcome)
         × Fetched name limit (read name text ∷ []) (Ended result)
@@ -76,6 +61,8 @@ module _ (name : List ℕ) (limit : ℕ) where
         let (result, ended) = by_length files text (cases_lt limit (length text)) in
         record { others = []; of_files = tt; result = result; ended = ended }
 
+  pub lawful_fetched : IsLawful (Fetched name limit)
+  lawful_fetched = record { one_end = one_end; read_in_order = read_in_order } where
     one_end : (files : List ℕ → List ℕ) (reads others : List Read) (a b : Result (List ℕ) Outcome)
         → AreOf files reads → AreOf files others → Fetched name limit reads (Ended a)
         → Fetched name limit others (Ended b) → (reads ≡ others) × (a ≡ b)
@@ -107,8 +94,8 @@ module _ (name : List ℕ) (limit : ℕ) where
               ap (λ text. read name text ∷ []) (same_text files name b a k h);
         }
 
-module _ {A B : Type 0} (first : Part A) (second : A → Part B) (one : IsLawful first)
-    (next : (value : A) → IsLawful (second value)) where
+module _ {A B : Type 0} (first : Part A) (second : A → Part B) (one : CanEnd first)
+    (next : (value : A) → CanEnd (second value)) where
   -- the first part gave the value
   second_completes : (files : List ℕ → List ℕ) (reads others : List Read) (value : A)
       → first reads (Ended (Ok value)) → second value others Underway
@@ -154,6 +141,11 @@ module _ {A B : Type 0} (first : Part A) (second : A → Part B) (one : IsLawful
   completes_then files _ (goes_on reads others value _ gave under) =
       second_completes files reads others value gave under
 
+  pub can_end_then : CanEnd (first >>= second)
+  can_end_then = record { begins = in_first [] one.begins; completes = completes_then }
+
+module _ {A B : Type 0} (first : Part A) (second : A → Part B) (one : IsLawful first)
+    (next : (value : A) → IsLawful (second value)) where
   -- where the first part gave values, they are one, and the second went on from it
   same_value : (files : List ℕ → List ℕ) (reads others : List Read) (a b : A) → AreOf files reads
       → AreOf files others → first reads (Ended (Ok a)) → first others (Ended (Ok b))
@@ -224,9 +216,4 @@ module _ {A B : Type 0} (first : Part A) (second : A → Part B) (one : IsLawful
       }
 
   pub lawful_then : IsLawful (first >>= second)
-  lawful_then = record {
-    begins = in_first [] one.begins;
-    completes = completes_then;
-    one_end = one_end_then;
-    read_in_order = read_in_order_then;
-  }
+  lawful_then = record { one_end = one_end_then; read_in_order = read_in_order_then }

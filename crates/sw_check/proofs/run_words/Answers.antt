@@ -1,7 +1,7 @@
 use Rattle.std.proofs.Common.{subst}
 use Rattle.sw_course.specs.Written.{Appended}
 use Rattle.sw_check.proofs.CallLemmas.{of_words, answer_says, answer_no_race, answer_exact}
-use Rattle.sw_check.proofs.CallLemmas.{answer_breached, answer_accepted}
+use Rattle.sw_check.proofs.CallLemmas.{answer_breached, answer_accepted, answer_not_raced}
 use Rattle.sw_check.proofs.ExitLemmas.{silent_written}
 use Rattle.sw_check.proofs.run_words.Goals as goal
 
@@ -22,6 +22,11 @@ pub returns-in-Ok-write_all-clause-no_race : goal.returns-in-Ok-write_all-clause
 returns-in-Ok-write_all-clause-no_race g c known command is same all _ not_breached not_long =
     answer_no_race (of_words c.args.words.now.items c.deref.result.now c.deref.ensures.value
     c.in-Ok.ensures.answered) known command is same all not_breached not_long
+
+pub returns-in-Ok-write_all-clause-not_raced : goal.returns-in-Ok-write_all-clause-not_raced
+returns-in-Ok-write_all-clause-not_raced g c known command graph is same of_text runs =
+    answer_not_raced (of_words c.args.words.now.items c.deref.result.now c.deref.ensures.value
+    c.in-Ok.ensures.answered) known command graph is same of_text runs
 
 pub returns-in-Ok-write_all-clause-exact : goal.returns-in-Ok-write_all-clause-exact
 returns-in-Ok-write_all-clause-exact g c known reads outcome is of_files reply _ =

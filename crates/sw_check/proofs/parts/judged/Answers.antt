@@ -1,6 +1,6 @@
 use Rattle.std.proofs.Common.{◌<◌, List, length, Err, ap, ◌∙◌, sym, subst}
 use Rattle.std.specs.List.{AllByRecursion}
-use Rattle.sw_verdict.specs.Phases.{all_phases}
+use Rattle.sw_check.specs.Phases.{list_of}
 use Rattle.sw_check.specs.Reply.{passes, refusal}
 use Rattle.sw_breach.specs.declared.Breach.{Breach}
 use Rattle.sw_breach.specs.Codes.{IsCode}
@@ -13,7 +13,7 @@ returns-in-Ok c = passes c.in-Ok.graph c.in-Ok.ensures.graph
 
 pub returns-in_ok-refusal-in-Err-Breached : goal.returns-in_ok-refusal-in-Err-Breached
 returns-in_ok-refusal-in-Err-Breached c =
-    judged_refused all_phases c.args.text.now c.in-Err-Breached.breaches _
+    judged_refused (list_of c.args.phases) c.args.text.now c.in-Err-Breached.breaches _
     (c.in_ok-refusal-in-Err-Breached.ensures ∙ ap (refusal c.args.text.now) c.as_slice.ensures)
     (c.in-Err-Breached.ensures.breaches c.in-Err-Breached.breaches
     (ap Err c.in-Err-Breached.field-0-is))
@@ -31,4 +31,4 @@ refusal-requires-clause-codes c =
     (ap Err c.in-Err-Breached.field-0-is) in
     subst (λ (list : List Breach). AllByRecursion (λ breach. IsCode breach.code) list)
     (sym c.as_slice.ensures)
-    (have_codes all_phases c.args.text.now c.in-Err-Breached.breaches judges.1)
+    (have_codes (list_of c.args.phases) c.args.text.now c.in-Err-Breached.breaches judges.1)
