@@ -11,6 +11,10 @@ use std::marker::Brand;
 use std::rt::Clock;
 use std::sync::ledger::Blank;
 use std::time::Instant;
+use sw_solve::Steps;
+
+/// A counter of joins takes no bytes.
+const _: () = prove!(size_of::<Steps<Brand>>() == 0);
 
 /// How the points of a graph follow one another.
 #[derive(Clone, Copy, Debug)]

@@ -4,12 +4,18 @@
 #![tactic(auto)]
 
 mod file_shelf;
+#[cfg(test)]
+mod file_shelf_tests;
 mod mem_shelf;
 mod mem_sink;
 mod reading;
+#[cfg(test)]
+mod reading_tests;
 mod shelf;
 mod sink;
 mod std_sink;
+#[cfg(test)]
+mod std_sink_tests;
 
 pub use file_shelf::FileShelf;
 pub use mem_shelf::MemShelf;

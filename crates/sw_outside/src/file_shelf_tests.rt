@@ -1,8 +1,8 @@
-use crate::shown::holds;
+//! The shelf of the system's files, over files that are there and files that aren't.
+use crate::{FetchFault, FileShelf, Shelf};
 use std::rt::Files;
 use std::test::Fail;
 use std::{env, fs, process};
-use sw_outside::{FetchFault, FileShelf, Shelf};
 
 /// The bytes of the file, which are more than one read of the system gives.
 const COUNT: usize = 10_000;
@@ -34,10 +34,10 @@ fn written<R: Files + AllocGlobal>(rt: &R, path: &str) -> Result<(bool, bool), F
 fn files_of_the_system(rt: HostRuntime) -> Result<(), Fail> {
     let folder = env::temp_dir(&rt)?;
     let number = process::id(rt.process());
-    let path = format!(in rt.alloc(); "{}/sw_text_tests_{number}", folder.as_str())?;
+    let path = format!(in rt.alloc(); "{}/sw_outside_{number}", folder.as_str())?;
     let (whole, above) = written(&rt, path.as_str())?;
-    holds(&rt, "a file within the limit", whole);
-    holds(&rt, "a file above the limit", above);
+    assert!(rt; whole, "a file within the limit");
+    assert!(rt; above, "a file above the limit");
     Ok(())
 }
 
@@ -45,10 +45,8 @@ fn files_of_the_system(rt: HostRuntime) -> Result<(), Fail> {
 #[test]
 fn files_that_cannot_be_read(rt: HostRuntime) {
     let failed = Err(FetchFault::Failed);
-    holds(
-        &rt,
-        "a missing file",
-        fetches(&rt, "/no/such/file", 10, failed),
-    );
-    holds(&rt, "a folder", fetches(&rt, "/", 10, failed));
+    let missing = fetches(&rt, "/no/such/file", 10, failed);
+    let folder = fetches(&rt, "/", 10, failed);
+    assert!(rt; missing, "a missing file");
+    assert!(rt; folder, "a folder");
 }

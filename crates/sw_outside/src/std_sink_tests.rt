@@ -1,16 +1,12 @@
-use crate::shown::holds;
+//! The sink of standard output, over that output itself and over one that takes little.
+use crate::{Sink, SinkFault, StdSink};
 use std::cell::Cell;
 use std::fmt::Display;
 use std::io::{self, ErrorKind};
-use sw_outside::{Sink, SinkFault, StdSink};
 
 #[test]
 fn standard_output(rt: HostRuntime) {
-    holds(
-        &rt,
-        "all written",
-        StdSink::new(&rt).put(b"written\n") == Ok(8),
-    );
+    assert!(rt; StdSink::new(&rt).put(b"written\n") == Ok(8));
 }
 
 /// An output that accepts one byte a write, and none once it is full.
@@ -60,7 +56,7 @@ fn writes_what_the_output_accepts(rt: HostRuntime) {
     for (piece, outcome, last) in &PUTS {
         assert!(rt; !piece.is_empty());
         let written = sink.put(piece);
-        holds(&rt, "the outcome of a put", written == *outcome);
-        holds(&rt, "the last byte", output.last.get() == *last);
+        assert!(rt; written == *outcome, "the outcome of a put");
+        assert!(rt; output.last.get() == *last, "the last byte");
     }
 }
