@@ -12,7 +12,6 @@ texts =
     ∷ (105, codes "too many tokens")
     ∷ (201, codes "unexpected token")
     ∷ (202, codes "nested too deeply")
-    ∷ (299, codes "form is not built yet")
     ∷ (301, codes "name is declared twice")
     ∷ (302, codes "unknown type")
     ∷ (303, codes "value type holds itself")

@@ -2,7 +2,7 @@ ghost use Rattle.std.specs.Prelude.{◌≡◌, ◌==◌, Some, find, option_map}
 ghost use Rattle.sw_breach.specs.Codes.{IsCode, text_of};
 
 /// All codes with their texts.
-const TEXTS: [(u16, &str); 40] = [
+const TEXTS: [(u16, &str); 39] = [
     (101, "file is not UTF-8"),
     (102, "comment is not closed"),
     (103, "integer literal is too large"),
@@ -10,7 +10,6 @@ const TEXTS: [(u16, &str); 40] = [
     (105, "too many tokens"),
     (201, "unexpected token"),
     (202, "nested too deeply"),
-    (299, "form is not built yet"),
     (301, "name is declared twice"),
     (302, "unknown type"),
     (303, "value type holds itself"),
@@ -51,7 +50,7 @@ pub fn text_of(code: u16) -> &'static str
     requires { IsCode code }
     ensures { text_of code ≡ Some result.now }
 {
-    let texts: [(u16, &str); 40] = TEXTS;
+    let texts: [(u16, &str); 39] = TEXTS;
     text_in(texts.as_slice(), code).unwrap()
 }
 
