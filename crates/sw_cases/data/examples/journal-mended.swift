@@ -1,0 +1,31 @@
+final class Journal {
+  var entries = 0
+  var errors = 0
+}
+struct Snapshot {
+  let entries: Int
+  let errors: Int
+}
+actor Server {
+  let journal = Journal()
+  func serve() {
+    journal.entries += 1
+  }
+  func current() -> Snapshot {
+    return Snapshot(entries: journal.entries, errors: journal.errors)
+  }
+  func save() {
+    let toSave = current()
+    Task.detached { print(toSave.entries) }
+  }
+}
+@main struct App {
+  static func main() async {
+    let server = Server()
+    let serving = Task.detached { await server.serve() }
+    let journal = await server.current()
+    print(journal.entries, journal.errors)
+    await serving.value
+    await server.save()
+  }
+}

@@ -1,0 +1,16 @@
+actor Progress {
+  var done = 0
+  func step() {
+    done += 1
+  }
+}
+@main struct App {
+  static func main() async {
+    let progress = Progress()
+    let first = Task.detached { await progress.step() }
+    let second = Task.detached { await progress.step() }
+    await first.value
+    await second.value
+    print(await progress.done)
+  }
+}
