@@ -1,0 +1,16 @@
+use std::rt::Files;
+use std::{fs, io};
+
+/// The names of what is in a folder, in the order of their bytes.
+pub fn names_in<R: Files + AllocGlobal + Clone + Drop>(
+    rt: &R,
+    folder: &str,
+) -> io::Result<Vec<String>> {
+    let mut names = Vec::new(rt.alloc());
+    for entry in fs::read_dir(rt, folder)? {
+        let entry = entry?;
+        names.push(String::from_str(rt.alloc(), entry.file_name())?)?;
+    }
+    names.sort()?;
+    Ok(names)
+}
