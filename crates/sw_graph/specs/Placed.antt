@@ -6,6 +6,8 @@ use Rattle.std.specs.List.{Contains}
 use Rattle.std.specs.Option.{option_map_or}
 use Rattle.sw_types.specs.declared.isolation.Iso.{Iso}
 use Rattle.sw_types.specs.declared.isolation.Iso.TheVariants.{Free, Own, Global, Caller}
+use Rattle.sw_types.specs.declared.isolation.CallKind.{CallKind}
+use Rattle.sw_types.specs.declared.isolation.CallKind.TheVariants.{Same}
 use Rattle.sw_types.specs.declared.shape.Shape.{Shape}
 use Rattle.sw_graph.specs.declared.graph.Graph.{Graph}
 use Rattle.sw_graph.specs.declared.function.Function.{Function}
@@ -41,18 +43,26 @@ abbrev pub FunctionAt : Graph → ℕ → (Function → Type 0) → Type 0
 FunctionAt graph f P = (function : Function) → slice_get graph.functions f ≡ Some function
     → P function
 
-abbrev pub callee_of : Function → List Operand → Function → Callee
-callee_of body operands callee = record {
+abbrev pub callee_of : Bool → Function → Callee
+callee_of on_self callee = record {
   iso = callee.iso;
   is_async = callee.is_async;
   is_initialiser = is_actor_initialiser callee;
-  on_self = first_is_self body operands;
+  on_self = on_self;
 }
 
--- A call has the kind that its callee and the caller's isolation give.
+-- A call has the kind that its callee and the caller's isolation give, on `self` or on something
+-- else. One within an actor is on the body's own `self`. So may others be: what `await self` gives
+-- is no `self` by the table of kinds, so a call on it is one into another isolation.
+pub record HasKind (body callee : Function) (operands : List Operand) (kind : CallKind)
+    : Type 0 where
+  pub on_self : Bool
+  pub given : kind ≡ call_kind (callee_of on_self callee) body.iso
+  pub within : kind ≡ Same → callee.iso ≡ Own → IsTrue (first_is_self body operands)
+
 abbrev pub CallPlaced : Graph → Function → Instr → Type 0
 CallPlaced graph body (Call at r kind f ss) = FunctionAt graph f
-    (λ callee. kind ≡ call_kind (callee_of body ss callee) body.iso)
+    (λ callee. HasKind body callee ss kind)
 CallPlaced graph body _ = Unit {0}
 
 -- Whether a part of this cell is the body's own: a part of its own `self`, or of an object of a

@@ -1,6 +1,6 @@
 //! Laws, without code: what the definitions of isolation say of all programs.
 ghost use Rattle.std.specs.Prelude.{◌≡◌, ◌≢◌, ℕ, ◌≤◌, ◌<◌, Bool, true, false, List, [], ◌∷◌};
-ghost use Rattle.std.specs.Prelude.{Option, Some, Contains, slice_get, ◌||◌, length};
+ghost use Rattle.std.specs.Prelude.{Option, Some, Contains, IsTrue, slice_get, ◌||◌, length};
 ghost use Rattle.sw_tree.specs.NodeKey.{expr_key};
 ghost use Rattle.sw_tree.specs.declared.decl.Decl.{Decl};
 ghost use Rattle.sw_tree.specs.declared.expr.Arg.{Arg};
@@ -71,17 +71,22 @@ pub fn kinds_are_those_of_the_table()
         → kind_of (plain_callee (Global actor) is_async on_self) body ≡ Strong }
 {}
 
-/// The calls of a placed graph have the kinds of this table.
+/// The calls of a placed graph have the kinds of this table, on `self` or on something else. One
+/// within an actor is on the body's own `self`.
 pub fn kinds_are_those_of_placed_graphs()
-    ensures { (graph : Graph) (body callee : Function) (at r f : ℕ) (kind : CallKind)
+    ensures given { (graph : Graph) (body callee : Function) (at r f : ℕ) (kind : CallKind)
         (operands : List Operand) → CallPlaced graph body (Call at r kind f operands)
         → slice_get graph.functions f ≡ Some callee
-        → kind ≡ kind_of (record {
+        → (on_self : Bool) × (kind ≡ kind_of (record {
           iso = callee.iso;
           is_async = callee.is_async;
           is_initialiser = is_actor_initialiser callee;
-          on_self = first_is_self body operands;
-        }) body.iso }
+          on_self = on_self;
+        }) body.iso) }
+    ensures within { (graph : Graph) (body callee : Function) (at r f : ℕ)
+        (operands : List Operand) → CallPlaced graph body (Call at r Same f operands)
+        → slice_get graph.functions f ≡ Some callee → callee.iso ≡ Own
+        → IsTrue (first_is_self body operands) }
 {}
 
 /// Storage is inside where the body has its isolation, on `self` where that is an actor's own; what

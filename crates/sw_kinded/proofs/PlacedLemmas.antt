@@ -10,9 +10,9 @@ use Rattle.sw_graph.specs.declared.graph.Graph.{Graph}
 use Rattle.sw_graph.specs.declared.instr.Instr.{Instr}
 use Rattle.sw_graph.specs.declared.instr.Instr.TheVariants as instr
 use Rattle.sw_graph.specs.declared.instr.Operand.{Operand}
-use Rattle.sw_graph.specs.Bodies.{is_own, is_actor_initialiser, has_self, first_is_self}
+use Rattle.sw_graph.specs.Bodies.{is_own, is_actor_initialiser, has_self}
 use Rattle.sw_graph.specs.CallKinds.{call_kind, kind_by}
-use Rattle.sw_graph.specs.Placed.{EachFunction, FunctionAt, IsPlaced, callee_of}
+use Rattle.sw_graph.specs.Placed.{EachFunction, FunctionAt, HasKind, IsPlaced}
 use Rattle.sw_graph.specs.Points.{Middle, point_in}
 use Rattle.sw_kinded.specs.FirstValues.{StoresFirst}
 use Rattle.sw_kinded.specs.Supplied.{IsSupplied, TakesActor, GivesActor, ReturnsResult}
@@ -28,16 +28,15 @@ takes_actor graph placed n function is plain own =
     record { takes = has.taken; kind = has.kind }
 
 -- the callee of a strong call is no initialiser of an actor
-strong_plain : (graph : Graph) (body callee : Function) (ss : List Operand)
-    → kind.Strong ≡ call_kind (callee_of body ss callee) body.iso
-    → is_actor_initialiser callee ≡ false
-strong_plain graph body callee ss is = by (is_actor_initialiser callee) refl where
+strong_plain : (body callee : Function) (ss : List Operand)
+    → HasKind body callee ss kind.Strong → is_actor_initialiser callee ≡ false
+strong_plain body callee ss has = by (is_actor_initialiser callee) refl where
   by : (b : Bool) → is_actor_initialiser callee ≡ b → is_actor_initialiser callee ≡ false
   by false plain = plain
   by true made =
-      let wrong : kind.Strong ≡ kind.Make = is
+      let wrong : kind.Strong ≡ kind.Make = has.given
       ∙ ap (λ b. cond b kind.Make
-      (kind_by callee.iso callee.is_async (first_is_self body ss) body.iso)) made in
+      (kind_by callee.iso callee.is_async has.on_self body.iso)) made in
       absurd (let c : ⊥ = cc in c)
 
 call_gives : (graph : Graph) → IsPlaced graph → (n p : ℕ) (body : Function)
@@ -45,7 +44,7 @@ call_gives : (graph : Graph) → IsPlaced graph → (n p : ℕ) (body : Function
     (ss : List Operand) → point_in body p ≡ Some (Middle (instr.Call at r call f ss))
     → GivesActor graph body (instr.Call at r call f ss)
 call_gives graph placed n p body is at r kind.Strong f ss here = λ function found own.
-    takes_actor graph placed f function found (strong_plain graph body function ss
+    takes_actor graph placed f function found (strong_plain body function ss
     (placed.calls n body is p (instr.Call at r kind.Strong f ss) here function found)) own
 call_gives graph placed n p body is at r kind.Plain f ss here = tt
 call_gives graph placed n p body is at r kind.Same f ss here = tt
