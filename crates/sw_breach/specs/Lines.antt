@@ -5,6 +5,7 @@ use Rattle.std.specs.Fmt.{decimal}
 use Rattle.sw_text.specs.Position.{shown_position}
 use Rattle.sw_breach.specs.Codes.{text_of}
 use Rattle.sw_breach.specs.declared.Breach.{Breach}
+use Rattle.sw_breach.specs.declared.codes.TheConstants.{GIVEN_AWAY}
 
 -- the byte that ends a line
 abbrev pub line_feed : List ℕ
@@ -18,7 +19,7 @@ breach_line bytes breach =
 
 -- the position of the note that is shown: only a use of a value that was given away has one
 abbrev pub shown_note : Breach → Option ℕ
-shown_note breach = if breach.code == 701 then breach.note else None
+shown_note breach = if breach.code == GIVEN_AWAY then breach.note else None
 
 -- the line of a note: `LINE:COLUMN: note: given away here`
 unfoldable pub note_line : List ℕ → ℕ → List ℕ

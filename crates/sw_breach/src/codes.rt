@@ -1,6 +1,9 @@
 ghost use Rattle.std.specs.Prelude.{◌≡◌, ◌==◌, Some, find, option_map};
 ghost use Rattle.sw_breach.specs.Codes.{IsCode, text_of};
 
+/// The code where something is used that was given away. Its breaches alone have a note.
+pub const GIVEN_AWAY: u16 = 701;
+
 /// All codes with their texts.
 const TEXTS: [(u16, &str); 39] = [
     (101, "file is not UTF-8"),

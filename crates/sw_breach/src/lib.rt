@@ -7,6 +7,7 @@ mod codes;
 mod order;
 mod rendering;
 
+pub use codes::GIVEN_AWAY;
 pub use order::breaches_are_in_order;
 pub use rendering::render;
 
@@ -17,6 +18,7 @@ pub struct Breach {
     pub code: u16,
     /// The position that the breach names: a byte offset into the text.
     pub at: u32,
-    /// The position of the note: of code 701 where the value was given away, and of no other code.
+    /// The position of the note: of `GIVEN_AWAY` where the value was given away, and of no other
+    /// code.
     pub note: Option<u32>,
 }

@@ -5,7 +5,7 @@ ghost use Rattle.sw_breach.specs.Lines.{breach_line, count_line, note_line, note
 ghost use Rattle.sw_breach.specs.Lines.{verdict_text};
 
 use crate::Breach;
-use crate::codes::text_of;
+use crate::codes::{GIVEN_AWAY, text_of};
 use std::alloc::{AllocError, Global};
 use sw_text::shown_position;
 
@@ -26,7 +26,7 @@ fn breach_line(alloc: Global, bytes: &[u8], breach: &Breach) -> Result<String, A
 fn shown_note(breach: &Breach) -> Option<u32>
     ensures { result ≡ shown_note breach.now }
 {
-    if breach.code == 701 {
+    if breach.code == GIVEN_AWAY {
         breach.note
     } else {
         None

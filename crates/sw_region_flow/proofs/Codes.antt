@@ -6,6 +6,7 @@ use Rattle.std.specs.Option.{option_map_or}
 use Rattle.std.specs.Prelude.{slice_get}
 use Rattle.sw_breach.specs.Codes.{IsCode, text_of, texts}
 use Rattle.sw_breach.specs.declared.Breach.{Breach}
+use Rattle.sw_breach.specs.declared.codes.TheConstants.{GIVEN_AWAY}
 use Rattle.sw_graph.specs.Points.{Point, Middle, End, points_of}
 use Rattle.sw_graph.specs.declared.function.Function.{Function}
 use Rattle.sw_graph.specs.declared.graph.Graph.{Graph}
@@ -33,7 +34,7 @@ use Rattle.sw_types.specs.declared.isolation.CallKind.TheVariants as kind
 use Rattle.sw_types.specs.declared.isolation.Iso.{Iso}
 
 -- the codes of tests have texts
-given_away_is_code : IsCode 701
+given_away_is_code : IsCode GIVEN_AWAY
 unfolding text_of texts
 given_away_is_code = refl
 

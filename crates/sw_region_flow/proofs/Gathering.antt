@@ -26,7 +26,7 @@ use Rattle.sw_region_flow.specs.Breaches.{IsBreachIn, IsBreachOf}
 use Rattle.sw_region_flow.specs.Least.{point_ops_at, IsClosedFor, IsLeast, FailsAt}
 use Rattle.sw_region_flow.specs.Visits.{BreaksBelow}
 use Rattle.sw_region_flow.specs.Walks.{IsCopy, IsGivenAway, IsNotFree, Fails, FailsAmong}
-use Rattle.sw_region_flow.specs.declared.testing.TheConstants.{GIVEN_AWAY}
+use Rattle.sw_breach.specs.declared.codes.TheConstants.{GIVEN_AWAY}
 use Rattle.sw_region_ops.proofs.ContextLemmas.{inside}
 use Rattle.sw_region_ops.proofs.RangeLemmas.{AreInside}
 use Rattle.sw_region_ops.proofs.RunLemmas.{does_size}

@@ -13,7 +13,7 @@ use Rattle.sw_region_flow.specs.Breaches.{AreBreaches, IsBreachIn, IsBreachOf}
 use Rattle.sw_region_flow.specs.Least.{point_ops_at, IsLeast, FailsAt}
 use Rattle.sw_region_flow.specs.Passing.{AllPass, EachPasses, IsLive, IsPassed, Passes}
 use Rattle.sw_region_flow.specs.Walks.{Fails, FailsAmong, IsCopy}
-use Rattle.sw_region_flow.specs.declared.testing.TheConstants.{GIVEN_AWAY}
+use Rattle.sw_breach.specs.declared.codes.TheConstants.{GIVEN_AWAY}
 use Rattle.sw_region_ops.proofs.ContextLemmas.{inside}
 use Rattle.sw_region_ops.specs.Runs.{Does}
 use Rattle.sw_region_ops.specs.Setting.{Setting, setting_of}

@@ -7,7 +7,7 @@ use Rattle.sw_breach.specs.declared.Breach.{Breach}
 use Rattle.sw_partition.specs.Effects.{IsFree, IsLeastSite}
 use Rattle.sw_partition.specs.Regions.{Regions, Together, HasSomePair}
 use Rattle.sw_region_flow.specs.Walks.{IsGivenAway, IsNotFree}
-use Rattle.sw_region_flow.specs.declared.testing.TheConstants.{GIVEN_AWAY}
+use Rattle.sw_breach.specs.declared.codes.TheConstants.{GIVEN_AWAY}
 
 pub given_none : (x at : ℕ) (r : Regions) → (HasSomePair r x → ⊥) → (b : Breach)
     → (None ≡ Some b) ↔ IsGivenAway x at r b

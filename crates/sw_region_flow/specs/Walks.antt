@@ -4,7 +4,7 @@ use Rattle.std.specs.Prelude.{◌≡◌, ℕ, ◌⊎◌, Some, None, List, [], �
 use Rattle.sw_breach.specs.declared.Breach.{Breach}
 use Rattle.sw_partition.specs.Effects.{IsLeastSite}
 use Rattle.sw_partition.specs.Regions.{Regions, size_of, Together, HasSomePair, IsSameState}
-use Rattle.sw_region_flow.specs.declared.testing.TheConstants.{GIVEN_AWAY}
+use Rattle.sw_breach.specs.declared.codes.TheConstants.{GIVEN_AWAY}
 use Rattle.sw_region_ops.specs.Runs.{Does, Runs}
 use Rattle.sw_region_ops.specs.declared.op.Op.{Op}
 use Rattle.sw_region_ops.specs.declared.op.Op.TheVariants.{Need, Free, Fresh, Put, Join, Give}

@@ -6,9 +6,12 @@ ghost use Rattle.std.specs.List.Sorted.{IsStrictlySortedBy};
 ghost use Rattle.sw_breach.specs.Codes.{IsCode};
 ghost use Rattle.sw_breach.specs.Order.{breach_cmp};
 ghost use Rattle.sw_breach.specs.declared.Breach.{Breach};
+ghost use Rattle.sw_breach.specs.declared.codes.TheConstants.{GIVEN_AWAY};
 ghost use Rattle.sw_graph.specs.declared.graph.Graph.{Graph};
 ghost use Rattle.sw_region_flow.specs.Breaches.{AreAll, AreBreaches};
 ghost use Rattle.sw_region_flow.specs.Passing.{IsPassed};
+ghost use Rattle.sw_region_ops.specs.declared.op.TheConstants.{ISOLATED_TO_ACTOR, ISOLATED_TO_TASK};
+ghost use Rattle.sw_region_ops.specs.declared.op.TheConstants.{NOT_DISCONNECTED};
 
 /// The breaches of a list have one list, by position and then by code.
 pub fn lists_have_one_list_of_breaches()
@@ -37,4 +40,12 @@ pub fn graphs_have_one_list_of_breaches()
 pub fn graphs_without_breaches_pass()
     ensures passes { (graph : Graph) → AreBreaches graph [] → IsPassed graph }
     ensures no_breach { (graph : Graph) → IsPassed graph → AreBreaches graph [] }
+{}
+
+/// The codes of region breaches.
+pub fn region_codes()
+    ensures given_away { GIVEN_AWAY ≡ 701 }
+    ensures to_actor { ISOLATED_TO_ACTOR ≡ 702 }
+    ensures to_task { ISOLATED_TO_TASK ≡ 703 }
+    ensures result { NOT_DISCONNECTED ≡ 704 }
 {}

@@ -12,7 +12,7 @@ mod walking;
 
 pub use finding::breaches;
 pub use laws::{
-    graphs_have_one_list_of_breaches, graphs_without_breaches_pass, lists_have_one_list_of_breaches,
+    graphs_have_one_list_of_breaches, graphs_without_breaches_pass,
+    lists_have_one_list_of_breaches, region_codes,
 };
 pub use listing::in_order;
-pub use testing::GIVEN_AWAY;

@@ -5,12 +5,9 @@ ghost use Rattle.sw_partition.specs.Regions.{size_of, HasSomePair};
 ghost use Rattle.sw_region_flow.specs.Walks.{IsGivenAway, IsNotFree, Fails};
 ghost use Rattle.sw_region_ops.specs.Runs.{Fits};
 
-use sw_breach::Breach;
+use sw_breach::{Breach, GIVEN_AWAY};
 use sw_partition::Partition;
 use sw_region_ops::Op;
-
-/// The code where something is used that was given away.
-pub const GIVEN_AWAY: u16 = 701;
 
 /// What is wrong where an element is used at a position, if it was given away.
 fn given_away(state: &Partition, x: u32, at: u32) -> Option<Breach>
