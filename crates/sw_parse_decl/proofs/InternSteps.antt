@@ -1,6 +1,7 @@
 -- The names of tokens, interned token by token.
 use Rattle.std.proofs.Common.{◌≡◌, ℕ, ◌+◌, ◌<◌, ◌≤◌, true, false, List, [], ◌∷◌, ◌++◌, length}
-use Rattle.std.proofs.Common.{drop, refl, sym, ◌∙◌, ap, arith}
+use Rattle.std.proofs.Common.{take, drop, refl, sym, ◌∙◌, ap, append_assoc, append-nil, arith}
+use Rattle.std.proofs.lemmas.List.{length-append, take_at, flat_map_more}
 use Rattle.sw_token.specs.declared.Kind.{Kind}
 use Rattle.sw_token.specs.declared.Kind.TheVariants as kinds
 use Rattle.sw_token.specs.Kinds.{kind_of}
@@ -81,15 +82,53 @@ unfolding with_texts
 with_both texts [] others = refl
 with_both texts (text ∷ more) others = with_both (with_text texts text) more others
 
--- After the next token as before it, all texts are those at the end.
-pub taken : (texts new all : List (List ℕ)) (ts left : List Spelled) (at : ℕ) → Takes ts at left
-    → new ≡ with_texts texts (next_texts ts) → with_texts texts (texts_in ts) ≡ all
-    → with_texts new (texts_in left) ≡ all
-taken texts new all [] left at takes is same = absurd takes
-taken texts new all (token ∷ ts) left at takes is same =
-    ap (λ more. with_texts more (texts_in left)) is
-    ∙ (ap (λ us. with_texts (with_texts texts (next_texts (token ∷ ts))) (texts_in us)) takes.1
-    ∙ (sym (with_both texts (name_texts (kind_of token.text) token.text) (texts_in ts)) ∙ same))
+-- The names of the first of all tokens are interned, and these tokens are left.
+pub record IsInterned (old : List (List ℕ)) (all : List Spelled) (new : List (List ℕ))
+    (left : List Spelled) : Type 0 where
+  pub first : List Spelled
+  pub rest : all ≡ first ++ left
+  pub texts : new ≡ with_texts old (texts_in first)
+
+pub none_yet : (old : List (List ℕ)) (all : List Spelled) → IsInterned old all old all
+unfolding with_texts
+none_yet old all = record { first = []; rest = refl; texts = refl }
+
+more_texts : (ts : List Spelled) (token : Spelled)
+    → texts_in ts ++ name_texts (kind_of token.text) token.text ≡ texts_in (ts ++ token ∷ [])
+more_texts ts token = flat_map_more (λ it. name_texts (kind_of it.text) it.text) [] ts token
+
+pub one_more : (old texts new : List (List ℕ)) (all ts left : List Spelled) (at : ℕ)
+    → Takes ts at left → new ≡ with_texts texts (next_texts ts) → IsInterned old all texts ts
+    → IsInterned old all new left
+one_more old texts new all [] left at takes is so_far = absurd takes
+one_more old texts new all (token ∷ ts) left at takes is so_far = record {
+  first = so_far.first ++ token ∷ [];
+  rest =
+      so_far.rest ∙ sym (append_assoc so_far.first (token ∷ []) ts)
+      ∙ ap (λ us. (so_far.first ++ token ∷ []) ++ us) (sym takes.1);
+  texts =
+      is ∙ ap (λ it. with_texts it (name_texts (kind_of token.text) token.text)) so_far.texts
+      ∙ sym (with_both old (texts_in so_far.first) (name_texts (kind_of token.text) token.text))
+      ∙ ap (with_texts old) (more_texts so_far.first token);
+}
+
+pub all_interned : (old new : List (List ℕ)) (all left : List Spelled) → length left ≤ 0
+    → IsInterned old all new left → new ≡ with_texts old (texts_in all)
+all_interned old new all [] less so_far =
+    so_far.texts ∙ ap (λ ts. with_texts old (texts_in ts))
+    (sym (so_far.rest ∙ append-nil so_far.first))
+all_interned old new all (token ∷ left) less so_far = absurd (omega arith)
+
+pub some_interned : (old texts new : List (List ℕ)) (all left : List Spelled) → 0 < length left
+    → IsInterned old all texts left → new ≡ texts
+    → (n : ℕ) × (n < length all) × (new ≡ with_texts old (texts_in (take n all)))
+some_interned old texts new all left more so_far same = (
+  length so_far.first,
+  omega (arith, ap length so_far.rest, length-append so_far.first left),
+  same ∙ so_far.texts ∙ ap (λ ts. with_texts old (texts_in ts))
+      (sym (take_at so_far.first left (length so_far.first) refl)
+      ∙ ap (take (length so_far.first)) (sym so_far.rest)),
+)
 
 -- A token adds one text at most.
 one_at_most : (kind : Kind) (text : List ℕ) (texts : List (List ℕ))
@@ -118,13 +157,6 @@ room_left texts new (token ∷ ts) left at takes is less =
 pub takes_one : (ts left : List Spelled) (at : ℕ) → Takes ts at left → length left < length ts
 takes_one [] left at takes = absurd takes
 takes_one (token ∷ ts) left at takes = omega (arith, ap length takes.1)
-
--- no token more
-pub none_left : (texts all : List (List ℕ)) (ts : List Spelled) → length ts ≤ 0
-    → with_texts texts (texts_in ts) ≡ all → texts ≡ all
-unfolding with_texts
-none_left texts all [] less same = same
-none_left texts all (token ∷ ts) less same = absurd (omega arith)
 
 pub predeclared_few : length predeclared ≡ 13
 unfolding predeclared

@@ -1,6 +1,7 @@
 //! Whole programs, and the names of their tokens.
 
-ghost use Rattle.std.specs.Prelude.{◌≡◌, ◌+◌, ◌<◌, ◌≤◌, length, OnOk, IfOk, IfErr};
+ghost use Rattle.std.specs.Prelude.{◌≡◌, ◌+◌, ◌<◌, ◌≤◌, ℕ, [], length, take};
+ghost use Rattle.std.specs.Prelude.{OnOk, OnErr, IfOk, IfErr};
 ghost use Rattle.sw_token.specs.Spelling.{spelling_of};
 ghost use Rattle.sw_token.specs.Tokens.{IsTokens};
 ghost use Rattle.sw_reader.specs.Outcome.{Gives};
@@ -39,7 +40,8 @@ fn whole<B: Bodies>(
 /// Interns the name of the next token, where it may name something.
 fn intern_next(names: &mut Names, tokens: &Cursor<'_>) -> Result<(), AllocError>
     requires { length names.old < 4294967295 }
-    ensures { OnOk result (names.new ≡ with_texts names.old (next_texts tokens.now)) }
+    ensures texts { OnOk result (names.new ≡ with_texts names.old (next_texts tokens.now)) }
+    ensures err { OnErr result (names.new ≡ names.old) }
 {
     if tokens.sees_word() {
         names.intern(tokens.text())?;
@@ -49,10 +51,14 @@ fn intern_next(names: &mut Names, tokens: &Cursor<'_>) -> Result<(), AllocError>
     Ok(())
 }
 
-/// Interns the names of all tokens, as they come.
+/// Takes all tokens and interns their names, as they come. Where memory runs out at one of them,
+/// those of the tokens before it are interned.
 pub fn intern_names(names: &mut Names, tokens: &mut Cursor<'_>) -> Result<(), AllocError>
     requires { length names.old + length tokens.old < 4294967295 }
-    ensures { OnOk result (names.new ≡ with_texts names.old (texts_in tokens.old)) }
+    ensures texts { OnOk result (names.new ≡ with_texts names.old (texts_in tokens.old)) }
+    ensures left { OnOk result (tokens.new ≡ []) }
+    ensures err { OnErr result ((n : ℕ) × (n < length tokens.old)
+        × (names.new ≡ with_texts names.old (texts_in (take n tokens.old)))) }
 {
     while tokens.count() > 0 {
         intern_next(names, tokens)?;

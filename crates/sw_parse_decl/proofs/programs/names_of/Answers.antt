@@ -12,5 +12,5 @@ intern_names-requires c =
 pub returns : goal.returns
 unfolding texts_of
 returns c =
-    c.in_ok-intern_names.ensures
+    c.in_ok-intern_names.ensures.texts
     ∙ ap (λ texts. with_texts texts (texts_in c.args.tokens.now)) c.in_ok-names.ensures
