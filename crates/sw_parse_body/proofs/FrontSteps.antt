@@ -1,8 +1,9 @@
 -- The steps of a call that reads a front: what a reading gives, and that the second reading ends
 -- where the first did.
-use Rattle.std.proofs.Common.{◌≡◌, ℕ, ◌-◌, ◌≤◌, List, length, take, drop, sym, ◌∙◌, ap, subst}
-use Rattle.std.proofs.Common.{arith}
+use Rattle.std.proofs.Common.{◌≡◌, inl, inr, ℕ, ◌+◌, ◌-◌, ◌<◌, ◌≤◌, List, length, take, drop, refl}
+use Rattle.std.proofs.Common.{sym, ◌∙◌, ap, subst, arith}
 use Rattle.std.proofs.lemmas.List.{length-map, length-drop, take-map, drop-map, take_all}
+use Rattle.std.proofs.lemmas.List.{length-take-le, take-take}
 use Rattle.std.specs.Prelude.{Result, Ok, Err, IfOk, IfErr}
 use Rattle.sw_token.specs.declared.Token.{Token}
 use Rattle.sw_token.specs.Spelling.{Spelled, IsSpelling, spelled, spelling_of}
@@ -10,7 +11,8 @@ use Rattle.sw_reader.specs.Outcome.{Gives}
 use Rattle.sw_reader.specs.Reader.Fault.{unexpected, too_deep}
 use Rattle.sw_reader.specs.declared.stop.Stop.{Stop}
 use Rattle.sw_reader.specs.declared.stop.Stop.TheVariants as stops
-use Rattle.sw_tree.specs.Names.{id_in}
+use Rattle.sw_tree.specs.Names.{id_in, with_texts}
+use Rattle.sw_grammar_keys.specs.Interned.{texts_in}
 use Rattle.sw_parse_decl.specs.Programs.{most_nests}
 use Rattle.sw_parse_decl.specs.declared.fault.ParseFault.{ParseFault}
 use Rattle.sw_parse_decl.specs.declared.fault.ParseFault.TheVariants as faults
@@ -105,14 +107,28 @@ module _ (phrase : Phrase) (depth : ℕ) (source : List ℕ) (tokens : List Toke
           texts ∙ ap (λ it. texts_after old (spelling_of source tokens) from it.1) same
       by_result (Err fault) front = tt
 
-  pub never_faulty : (new : List (List ℕ))
+  -- Out of memory while the names are interned, those of the first tokens are.
+  pub keeps_part : (new : List (List ℕ))
+      → (end : ℕ) × (end < to) × (new ≡ texts_after old (spelling_of source tokens) from end)
+      → Keeps phrase depth (spelling_of source tokens) from old new faults.Memory
+  keeps_part new some = inr (record {
+    read = (tree, to);
+    front = first;
+    to = some.0;
+    within = omega (arith, some.1);
+    texts = some.2;
+  })
+
+  -- The second reading stops only out of memory, and then all names are interned.
+  pub keeps_all : (new : List (List ℕ))
+      → new ≡ texts_after old (spelling_of source tokens) from to
       → IfErr result (λ fault. ExplainsFront phrase depth (spelling_of source tokens) from fault)
-      → IfErr result (λ fault. Keeps old new fault)
-  never_faulty new second = by_result result second
+      → IfErr result (λ fault. Keeps phrase depth (spelling_of source tokens) from old new fault)
+  keeps_all new texts second = by_result result second
     where
       by_result : (r : Result (TreeOf phrase × ℕ) ParseFault)
           → IfErr r (λ fault. ExplainsFront phrase depth (spelling_of source tokens) from fault)
-          → IfErr r (λ fault. Keeps old new fault)
+          → IfErr r (λ fault. Keeps phrase depth (spelling_of source tokens) from old new fault)
       by_result (Ok read) explains = tt
       by_result (Err (faults.Unexpected token)) explains =
           absurd (never_both phrase depth (spelling_of source tokens) from (id_in old) (tree, to)
@@ -120,7 +136,38 @@ module _ (phrase : Phrase) (depth : ℕ) (source : List ℕ) (tokens : List Toke
       by_result (Err (faults.TooDeep token)) explains =
           absurd (never_both phrase depth (spelling_of source tokens) from (id_in old) (tree, to)
           (faults.TooDeep token) first (explains (id_in old)))
-      by_result (Err faults.Memory) explains = tt
+      by_result (Err faults.Memory) explains = inr (record {
+        read = (tree, to);
+        front = first;
+        to = to;
+        within = omega arith;
+        texts = texts;
+      })
+
+-- The first reading interns no name.
+pub keeps_names : (phrase : Phrase) (depth : ℕ) (tokens : List Spelled) (from : ℕ)
+    (old : List (List ℕ)) (fault : ParseFault) → Keeps phrase depth tokens from old old fault
+keeps_names phrase depth tokens from old (faults.Unexpected token) = refl
+keeps_names phrase depth tokens from old (faults.TooDeep token) = refl
+keeps_names phrase depth tokens from old faults.Memory = inl refl
+
+-- The first tokens of a part of a list are those from the part's index up to one before its end.
+pub some_between : (old new : List (List ℕ)) (all part : List Spelled) (from to : ℕ)
+    → part ≡ take (to - from) (drop from all) → from ≤ to → to ≤ length all
+    → (n : ℕ) × (n < length part) × (new ≡ with_texts old (texts_in (take n part)))
+    → (end : ℕ) × (end < to) × (new ≡ texts_after old all from end)
+some_between old new all part from to same ordered within some =
+    let count : to - from ≤ length (drop from all) = omega (arith, length-drop from all) in
+    let less : some.0 < to - from =
+    omega (arith, ap length same, length-take-le (to - from) (drop from all) count) in
+    let fewer : some.0 ≤ to - from = omega (arith, less) in
+    let index : some.0 ≡ from + some.0 - from = omega arith in (
+      from + some.0,
+      omega (arith, less),
+      some.2 ∙ ap (λ ts. with_texts old (texts_in ts))
+          (ap (take some.0) same ∙ take-take some.0 (to - from) (drop from all) fewer
+          ∙ ap (λ n. take n (drop from all)) index),
+    )
 
 -- The tokens of a part of a list are that part of its tokens.
 pub between_spelled : (source : List ℕ) (tokens : List Token) (from count : ℕ)

@@ -1,6 +1,6 @@
 -- Phrases: blocks, expressions and types. Which one a list of tokens begins with, from an index on,
 -- and the one fault of tokens that begin with none.
-use Rattle.std.specs.Prelude.{◌≡◌, ℕ, ◌+◌, ◌-◌, ◌≤◌, true, List, drop, take}
+use Rattle.std.specs.Prelude.{◌≡◌, ◌⊎◌, ℕ, ◌+◌, ◌-◌, ◌≤◌, true, List, drop, take}
 use Rattle.sw_token.specs.Spelling.{Spelled}
 use Rattle.sw_reader.specs.Form.{Shape}
 use Rattle.sw_reader.specs.Fronts.{IsFrontOf, IsFrontRefused, front}
@@ -17,7 +17,7 @@ use Rattle.std.specs.Prelude.{codes, []}
 use Rattle.sw_tree.specs.declared.expr.Expr.{Expr}
 use Rattle.sw_tree.specs.declared.stmt.Block.{Block}
 use Rattle.sw_tree.specs.declared.type_tree.TypeTree.{TypeTree}
-use Rattle.sw_tree.specs.Names.{with_texts}
+use Rattle.sw_tree.specs.Names.{id_in, with_texts}
 use Rattle.sw_grammar.specs.Nests.{El, shape_of, Form}
 use Rattle.sw_grammar.specs.Grammar.{body}
 use Rattle.sw_grammar.specs.Reading.{read}
@@ -112,16 +112,29 @@ ExplainsFront phrase depth tokens from (faults.TooDeep token) =
     (id_of : List ℕ → ℕ) → IsFrontFault phrase id_of depth tokens from (faults.TooDeep token)
 ExplainsFront phrase depth tokens from faults.Memory = Unit {0}
 
--- A fault of the tokens leaves the names as they were.
-abbrev pub Keeps : List (List ℕ) → List (List ℕ) → ParseFault → Type 0
-Keeps before after (faults.Unexpected token) = after ≡ before
-Keeps before after (faults.TooDeep token) = after ≡ before
-Keeps before after faults.Memory = Unit {0}
-
 -- the texts of names, and those of the tokens from one index up to another
 abbrev pub texts_after : List (List ℕ) → List Spelled → ℕ → ℕ → List (List ℕ)
 texts_after texts tokens from to =
     with_texts texts (texts_in (take (to - from) (drop from tokens)))
+
+-- The tokens from `from` on have a front, and the names of its tokens before the index `to` are
+-- interned.
+pub record IsPartInterned (phrase : Phrase) (depth : ℕ) (tokens : List Spelled) (from : ℕ)
+    (before after : List (List ℕ)) : Type 0 where
+  pub read : TreeOf phrase × ℕ
+  pub front : IsFront phrase (id_in before) depth tokens from read
+  pub to : ℕ
+  pub within : to ≤ read.1
+  pub texts : after ≡ texts_after before tokens from to
+
+-- A fault of the tokens leaves the names as they were. Out of memory, the names of the front's first
+-- tokens may be interned.
+abbrev pub Keeps : Phrase → ℕ → List Spelled → ℕ → List (List ℕ) → List (List ℕ) → ParseFault
+    → Type 0
+Keeps phrase depth tokens from before after (faults.Unexpected token) = after ≡ before
+Keeps phrase depth tokens from before after (faults.TooDeep token) = after ≡ before
+Keeps phrase depth tokens from before after faults.Memory =
+    (after ≡ before) ⊎ IsPartInterned phrase depth tokens from before after
 
 -- reads a phrase where no such spelling goes on after it, from left to right
 abbrev pub read_phrase : (phrase : Phrase) → (List ℕ → ℕ) → ℕ → Reader (TreeOf phrase)

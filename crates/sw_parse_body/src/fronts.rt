@@ -3,7 +3,7 @@
 //! A front is read twice. The first reading finds where it ends, which doesn't hang on the names;
 //! then the names of its tokens are interned, and the second reading gives the tree with their ids.
 
-ghost use Rattle.std.specs.Prelude.{◌≡◌, ◌+◌, ◌<◌, ◌≤◌, length, drop, OnOk, IfOk, IfErr};
+ghost use Rattle.std.specs.Prelude.{◌≡◌, ◌+◌, ◌<◌, ◌≤◌, ℕ, length, drop, OnOk, OnErr, IfOk, IfErr};
 ghost use Rattle.sw_token.specs.Spelling.{spelling_of, IsSpelling};
 ghost use Rattle.sw_token.specs.Tokens.{IsTokens};
 ghost use Rattle.sw_tree.specs.Names.{id_in, with_texts};
@@ -48,8 +48,10 @@ fn intern_between(
     requires ordered { from ≤ to }
     requires within { to ≤ length tokens.now }
     requires few { length names.old < 2147483648 }
-    ensures { OnOk result (names.new ≡ texts_after names.old (spelling_of source.now tokens.now)
-        from to) }
+    ensures texts { OnOk result (names.new ≡ texts_after names.old (spelling_of source.now
+        tokens.now) from to) }
+    ensures err { OnErr result ((end : ℕ) × (end < to) × (names.new ≡ texts_after names.old
+        (spelling_of source.now tokens.now) from end)) }
 {
     let bytes = source.len() as usize;
     prove!(tokens.len() <= bytes);
@@ -94,8 +96,9 @@ fn block_at(
     }
 }
 
-/// The block with which the tokens begin at the index `from`, and the index after it, where `depth`
-/// nests are open before it. The names of its tokens are interned; out of memory, some may be.
+/// The block with which the tokens begin at the index `from`, and the index after it, where
+/// `depth` nests are open before it. The names of its tokens are interned. Out of memory, those of
+/// its first tokens may be.
 pub fn body(
     alloc: Global,
     source: &Source,
@@ -114,7 +117,8 @@ pub fn body(
         (spelling_of source.now tokens.now) from read.1) }
     ensures fault { IfErr result (λ fault. ExplainsFront a_block depth
         (spelling_of source.now tokens.now) from fault) }
-    ensures kept { IfErr result (λ fault. Keeps names.old names.new fault) }
+    ensures kept { IfErr result (λ fault. Keeps a_block depth (spelling_of source.now tokens.now)
+        from names.old names.new fault) }
 {
     let (_, to) = block_at(alloc, source, tokens, from, depth, names)?;
     intern_between(source, tokens, from, to, names)?;
@@ -146,8 +150,9 @@ fn expr_at(
     }
 }
 
-/// The expression with which the tokens begin at the index `from`, and the index after it, where `depth`
-/// nests are open before it. The names of its tokens are interned; out of memory, some may be.
+/// The expression with which the tokens begin at the index `from`, and the index after it, where
+/// `depth` nests are open before it. The names of its tokens are interned. Out of memory, those of
+/// its first tokens may be.
 pub fn value(
     alloc: Global,
     source: &Source,
@@ -166,7 +171,8 @@ pub fn value(
         (spelling_of source.now tokens.now) from read.1) }
     ensures fault { IfErr result (λ fault. ExplainsFront an_expr depth
         (spelling_of source.now tokens.now) from fault) }
-    ensures kept { IfErr result (λ fault. Keeps names.old names.new fault) }
+    ensures kept { IfErr result (λ fault. Keeps an_expr depth (spelling_of source.now tokens.now)
+        from names.old names.new fault) }
 {
     let (_, to) = expr_at(alloc, source, tokens, from, depth, names)?;
     intern_between(source, tokens, from, to, names)?;
@@ -198,8 +204,9 @@ fn type_at(
     }
 }
 
-/// The type with which the tokens begin at the index `from`, and the index after it, where `depth`
-/// nests are open before it. The names of its tokens are interned; out of memory, some may be.
+/// The type with which the tokens begin at the index `from`, and the index after it, where
+/// `depth` nests are open before it. The names of its tokens are interned. Out of memory, those of
+/// its first tokens may be.
 pub fn written_type(
     alloc: Global,
     source: &Source,
@@ -218,7 +225,8 @@ pub fn written_type(
         (spelling_of source.now tokens.now) from read.1) }
     ensures fault { IfErr result (λ fault. ExplainsFront a_type depth
         (spelling_of source.now tokens.now) from fault) }
-    ensures kept { IfErr result (λ fault. Keeps names.old names.new fault) }
+    ensures kept { IfErr result (λ fault. Keeps a_type depth (spelling_of source.now tokens.now)
+        from names.old names.new fault) }
 {
     let (_, to) = type_at(alloc, source, tokens, from, depth, names)?;
     intern_between(source, tokens, from, to, names)?;
