@@ -21,7 +21,7 @@ use Rattle.sw_lower_code.specs.declared.fault.BodyFault.{BodyFault}
 use Rattle.sw_lower_code.proofs.WholeFacts.{lowers_whole}
 use Rattle.sw_lower_table.specs.Bodies.{AreMade, AreNumbered, AreOrdered, functions_of, global_kind}
 use Rattle.sw_lower_table.specs.Bodies.{numbers_of, program_bodies}
-use Rattle.sw_lower_table.specs.Tables.{Isolation}
+use Rattle.sw_lower_table.specs.Tables.{Isolation, Tables}
 use Rattle.sw_lower_safe.specs.Trees.{IsHere}
 use Rattle.sw_lower_safe.specs.Programs.{AreStarts, IsEntry, tables_in}
 use Rattle.sw_tree.specs.CasePlaces.{CasesApart}
@@ -62,11 +62,9 @@ all_limits ordered made =
     (λ k d below. made_within (numbers_of ordered) _ (made k d below))))
 
 -- each body is found by its name
-bodies_here : (world : World) (isolation : Isolation) (decls : List Decl) (ordered : List Body)
-    → AreNumbered ordered → AreMade ordered
-    → All (IsHere (tables_in world isolation decls) (numbers_of ordered) (functions_of ordered))
-    ordered
-bodies_here world isolation decls ordered numbered made k d below =
+pub bodies_here : (tables : Tables) (ordered : List Body) → AreNumbered ordered → AreMade ordered
+    → All (IsHere tables (numbers_of ordered) (functions_of ordered)) ordered
+bodies_here tables ordered numbered made k d below =
     let at : slice_get ordered k ≡ Some (get_or ordered k d) =
     slice_get-get_or ordered k d below in
     record {
@@ -102,5 +100,5 @@ graphs_fit decls rule world isolation ordered entry starts keys apart sound is w
     (block_ok_of tables number functions ground kinds enums differ)
     (All-permutation (IsHere tables number functions) ordered (program_bodies tables decls)
     (IsPermutation-sym (program_bodies tables decls) ordered are.bodies)
-    (bodies_here world isolation decls ordered numbered made)))
+    (bodies_here tables ordered numbered made)))
     (all_limits ordered made) entry_is starts_are

@@ -27,7 +27,7 @@ use Rattle.sw_typing_rules.proofs.Sound.{judges}
 use Rattle.sw_typing_rules.proofs.Unique.{one_left}
 use Rattle.sw_typing_rules.specs.Expressions.{Judged, me_judged, member_judged}
 use Rattle.sw_typing_rules.specs.Judges as is
-use Rattle.sw_typing_rules.specs.Judges.{Leaves, LeavesAll}
+use Rattle.sw_typing_rules.specs.Judges.{Judges, Leaves, LeavesAll}
 use Rattle.sw_typing_rules.specs.Judging.{judge}
 use Rattle.sw_typing_rules.specs.Statements.{Left, State, assign_left, fixed, in_body, marked_type}
 use Rattle.sw_typing_rules.specs.Statements.{misassigned, place_type, setting_of, with_only}
@@ -115,6 +115,67 @@ module _ (tables : Tables) (n : ℕ) where
       ∙ ap (λ (c : StmtCode). c.inside) (own_code own.sets.at own.sets.me own.name own.sets.value)
       ∙ simple_inside tables (Some n) known (Some n) params own.sets.value own.simple
 
+-- What typing says of such an assignment in an initialiser.
+module _ (world : World) (n : ℕ) (known : Meanings) (params : ℕ → Option ℕ) (only : Bool)
+    (state : State) (stmt : Stmt) (own : OwnAssign known n params stmt) where
+  abbrev inside : Inside
+  inside = in_init n only
+
+  abbrev setting : Setting
+  setting = setting_of inside state
+
+  abbrev base : Judged
+  base = me_judged (Some n) own.sets.me
+
+  abbrev own_placed : Judged
+  own_placed = member_judged world base own.name
+
+  abbrev own_marked : Bool
+  own_marked = marked_type (place_type inside own_placed)
+
+  abbrev own_judged : Judged
+  own_judged = judge world own.sets.value setting own_marked
+
+  abbrev own_left : Left
+  own_left = assign_left inside state own.sets.at assigns.Set own_placed own_judged
+
+  own_leaves : (left : Left) → Leaves world inside state stmt left → left ≡ own_left
+  own_leaves left leaves =
+      one_left world inside state stmt left own_left leaves
+      (subst (λ x. Leaves world inside state x own_left) (sym own.sets.is)
+      (is.assign inside state own.sets.at assigns.Set
+      (exprs.Member (exprs.Me own.sets.me) own.name) own.sets.value own_placed own_judged
+      (is.member setting false (exprs.Me own.sets.me) own.name base
+      (is.me setting false own.sets.me))
+      (judges world setting own_marked own.sets.value)))
+
+  -- the rows of its value, and those of whether the property accepts it
+  value_rows : (answers : Answers) → RowsHold answers own_left.rows
+      → RowsHold answers (own_judged.rows
+      ++ misassigned assigns.Set own.sets.at (place_type inside own_placed) own_judged.ty)
+  value_rows answers all =
+      rows_right answers (ill_if (fixed inside own_placed) own_placed.key 404) _
+      (rows_right answers own_placed.rows _ all)
+
+  pub record OwnAssigned (answers : Answers) (left : Left) : Type 0 where
+    pub expected : Bool
+    pub judged : Judged
+    pub judges : Judges world setting expected own.sets.value judged
+    pub rows : RowsHold answers judged.rows
+    pub still : left.state ≡ state
+
+  pub own_assigned : (answers : Answers) (left : Left) → Leaves world inside state stmt left
+      → RowsHold answers left.rows → OwnAssigned answers left
+  own_assigned answers left leaves rows =
+      let is_left = own_leaves left leaves in record {
+        expected = own_marked;
+        judged = own_judged;
+        judges = judges world setting own_marked own.sets.value;
+        rows = rows_left answers own_judged.rows _ (value_rows answers
+            (subst (λ (l : Left). RowsHold answers l.rows) is_left rows));
+        still = ap (λ (l : Left). l.state) is_left;
+      }
+
 module _ (world : World) (isolation : Isolation) (decls : List Decl) (rule : AsyncDefault)
     (number : Numbers) (functions : List Function)
     (program : IsProgram world isolation decls rule number functions) (n : ℕ) (shape : Shape)
@@ -189,28 +250,13 @@ module _ (world : World) (isolation : Isolation) (decls : List Decl) (rule : Asy
     base = me_judged (Some n) own.sets.me
 
     placed : Judged
-    placed = member_judged world base own.name
-
-    marked : Bool
-    marked = marked_type (place_type inside placed)
+    placed = own_placed world n (meanings_of decls) params only state stmt own
 
     judged : Judged
-    judged = judge world value setting marked
-
-    derived : Leaves world inside state
-        (stmts.Assign own.sets.at assigns.Set (exprs.Member (exprs.Me own.sets.me) own.name) value)
-        (assign_left inside state own.sets.at assigns.Set placed judged)
-    derived = is.assign inside state own.sets.at assigns.Set
-        (exprs.Member (exprs.Me own.sets.me) own.name) value placed judged
-        (is.member setting false (exprs.Me own.sets.me) own.name base
-        (is.me setting false own.sets.me))
-        (judges world setting marked value)
+    judged = own_judged world n (meanings_of decls) params only state stmt own
 
     left_is : left ≡ assign_left inside state own.sets.at assigns.Set placed judged
-    left_is = one_left world inside state stmt left
-        (assign_left inside state own.sets.at assigns.Set placed judged) leaves
-        (subst (λ x. Leaves world inside state x
-        (assign_left inside state own.sets.at assigns.Set placed judged)) (sym own.sets.is) derived)
+    left_is = own_leaves world n (meanings_of decls) params only state stmt own left leaves
 
     all : RowsHold tables.answers
         (assign_left inside state own.sets.at assigns.Set placed judged).rows
@@ -229,14 +275,15 @@ module _ (world : World) (isolation : Isolation) (decls : List Decl) (rule : Asy
     part : OwnPart world n own.name.id
     part = own_part world tables.answers n own.name.id own.name.at place_rows
 
-    value_rows : RowsHold tables.answers (judged.rows
+    accepted_rows : RowsHold tables.answers (judged.rows
         ++ misassigned assigns.Set own.sets.at (place_type inside placed) judged.ty)
-    value_rows = rows_right tables.answers (ill_if (fixed inside placed) placed.key 404) _
-        (rows_right tables.answers placed.rows _ all)
+    accepted_rows =
+        value_rows world n (meanings_of decls) params only state stmt own tables.answers all
 
     ok : ExprOk tables number functions (Some n) code judged
-    ok = program.exprs setting marked value judged (judges world setting marked value) vars
-        (rows_left tables.answers judged.rows _ value_rows)
+    ok = program.exprs setting (own_marked world n (meanings_of decls) params only state stmt own)
+        value judged (judges world setting _ value) vars
+        (rows_left tables.answers judged.rows _ accepted_rows)
         (subst (λ bodies. AllHere tables number functions bodies) (sym none)
         (All-nil (IsHere tables number functions)))
 
@@ -244,7 +291,7 @@ module _ (world : World) (isolation : Isolation) (decls : List Decl) (rule : Asy
     accepted = set_accepted tables.answers own.sets.at (place_type inside placed) judged.ty ok.ty
         part.part.ty (place_in_init n only placed ∙ part.typed) ok.has
         (rows_right tables.answers judged.rows
-        (misassigned assigns.Set own.sets.at (place_type inside placed) judged.ty) value_rows)
+        (misassigned assigns.Set own.sets.at (place_type inside placed) judged.ty) accepted_rows)
 
   -- what statements give
   pub record AllGave (xs : List Stmt) : Type 0 where

@@ -1,5 +1,5 @@
 -- A getter that is found is that of a property or of a global variable.
-use Rattle.std.proofs.Common.{◌≡◌, ℕ, Some, List, ◌⊎◌, ap}
+use Rattle.std.proofs.Common.{◌≡◌, ℕ, Some, List, Contains, ◌⊎◌, ap, ◌∙◌}
 use Rattle.sw_tree.specs.Contents.{AreKeyed}
 use Rattle.sw_tree.specs.declared.decl.Decl.{Decl}
 use Rattle.sw_decls.specs.declared.signature.AsyncDefault.{AsyncDefault}
@@ -8,12 +8,13 @@ use Rattle.sw_isolation_rules.specs.Answers.{Answers}
 use Rattle.sw_lower_code.specs.Whole.{Body}
 use Rattle.sw_lower_table.specs.Bodies.{AreNumbered, AreOrdered, functions_of, numbers_of}
 use Rattle.sw_lower_table.specs.Bodies.{program_bodies, tables_of}
-use Rattle.sw_lower_table.specs.Tables.{Isolation, Tables, getter_of}
+use Rattle.sw_lower_table.specs.Tables.{Isolation, Tables, getter_of, name_of}
 use Rattle.sw_lower_run.specs.declared.name.FunctionName.{FunctionName}
 use Rattle.sw_lower_safe.specs.Ground.{IsHeader}
 use Rattle.sw_lower_safe.proofs.Functions.Takes.{kinds_of}
 use Rattle.sw_lower_safe.proofs.Headers.ByName.{body_found}
-use Rattle.sw_lower_safe.proofs.Headers.Getters.{GlobalGetter, PartGetter, getter_in, props_of}
+use Rattle.sw_lower_safe.proofs.Headers.Getters.{GlobalGetter, IsObjectDecl, PartGetter, getter_in}
+use Rattle.sw_lower_safe.proofs.Headers.Getters.{props_of}
 use Rattle.sw_lower_safe.proofs.Programs.MadeOf.{body_made}
 use Rattle.sw_lower_safe.proofs.Programs.Standing.{Stands}
 
@@ -28,11 +29,14 @@ module _ (world : World) (answers : Answers) (isolation : Isolation) (decls : Li
   -- a getter that is found, and whose it is
   pub record GetterAt (key f : ℕ) : Type 0 where
     pub body : Body
+    pub has : Contains (program_bodies tables decls) body
+    pub found : numbers_of ordered (name_of body) ≡ Some f
     pub n : ℕ
     pub g : ℕ
     pub decl : Decl
     pub stands : Stands decls n g decl
-    pub whose : PartGetter tables n 0 (props_of decl) body ⊎ GlobalGetter tables g decl body
+    pub whose : (IsObjectDecl decl × PartGetter tables n 0 (props_of decl) body)
+        ⊎ GlobalGetter tables g decl body
     pub key_is : body.key ≡ key
     pub header : IsHeader (functions_of ordered) (kinds_of body) body.result f
 
@@ -43,6 +47,8 @@ module _ (world : World) (answers : Answers) (isolation : Isolation) (decls : Li
       (getter_of key) f found in
       let made = body_made tables decls one.body one.has in record {
         body = one.body;
+        has = one.has;
+        found = ap (numbers_of ordered) one.named ∙ found;
         n = made.n;
         g = made.g;
         decl = made.decl;

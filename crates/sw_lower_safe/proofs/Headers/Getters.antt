@@ -1,7 +1,8 @@
--- Each getter among the bodies of a program is that of a property or of a global variable.
+-- Each getter among the bodies of a program is that of a `var` of an actor or of a class with a
+-- global actor, or that of a global variable.
 use Rattle.std.proofs.Common.{◌≡◌, ℕ, suc, ◌+◌, Option, Some, None, List, [], ◌∷◌, ◌++◌, flat_map}
 use Rattle.std.proofs.Common.{Bool, true, false, Contains, ◌⊎◌, inl, inr, refl, ap, sym, subst}
-use Rattle.std.proofs.Common.{arith}
+use Rattle.std.proofs.Common.{◌∙◌, arith}
 use Rattle.std.proofs.lemmas.List.Elements.{All-contains, All-from_recursion, Contains-append_cases}
 use Rattle.std.specs.List.{AllByRecursion}
 use Rattle.std.specs.Prelude.{◌&&◌, if◌then◌else◌, slice_get}
@@ -74,6 +75,12 @@ props_of (GlobalActor word made) = []
 props_of (Func func) = []
 props_of (Global global) = []
 
+-- a class or an actor
+abbrev pub IsObjectDecl : Decl → Type 0
+IsObjectDecl (Class written word conforms props inits funcs) = Unit {0}
+IsObjectDecl (Actor word props inits funcs) = Unit {0}
+IsObjectDecl _ = ⊥
+
 module _ (tables : Tables) where
   -- The bodies of functions, of closures and of first values are no getters.
   plain_closure : (owner : Option ℕ) (closure : ClosureCode) (result : Ty)
@@ -142,6 +149,8 @@ module _ (tables : Tables) where
     pub prop_at : slice_get props place ≡ Some prop
     pub shape_at : slice_get tables.world.shapes n ≡ Some shape
     pub part_at : slice_get shape.parts (from + place) ≡ Some part
+    pub isolated : (prop.mutable && is_isolated (shape_iso shape)) ≡ true
+    pub is : body ≡ part_getter tables prop.word.at n (from + place) shape part
     pub key : body.key ≡ prop.word.at
     pub takes : kinds_of body ≡ Plain (types.Named n) ∷ []
     pub gives : body.result ≡ part.ty
@@ -152,6 +161,8 @@ module _ (tables : Tables) where
     pub global : GlobalVar
     pub decl_is : decl ≡ Global prop
     pub global_at : slice_get tables.world.globals g ≡ Some global
+    pub is : body ≡ getter tables prop.word.at [] global.ty
+        (stored_read prop.word.at g global.ty)
     pub key : body.key ≡ prop.word.at
     pub takes : kinds_of body ≡ []
     pub gives : body.result ≡ global.ty
@@ -159,37 +170,42 @@ module _ (tables : Tables) where
   one_part : (n index : ℕ) (prop : PropTree) (props : List PropTree) (shape : Shape) (part : Part)
       (body : Body) → slice_get tables.world.shapes n ≡ Some shape
       → slice_get shape.parts index ≡ Some part
+      → (prop.mutable && is_isolated (shape_iso shape)) ≡ true
       → Contains (part_getter tables prop.word.at n index shape part ∷ []) body
       → PartGetter n index (prop ∷ props) body
-  one_part n index prop props shape part body shape_at part_at has =
-      let is = only_in (part_getter tables prop.word.at n index shape part) body has in record {
+  one_part n index prop props shape part body shape_at part_at isolated has =
+      let is = only_in (part_getter tables prop.word.at n index shape part) body has in
+      let same : index ≡ index + 0 = omega arith in record {
         place = 0;
         prop = prop;
         shape = shape;
         part = part;
         prop_at = refl;
         shape_at = shape_at;
-        part_at = subst (λ k. slice_get shape.parts k ≡ Some part)
-            (let same : index ≡ index + 0 = omega arith in same) part_at;
+        part_at = subst (λ k. slice_get shape.parts k ≡ Some part) same part_at;
+        isolated = isolated;
+        is = sym is ∙ ap (λ k. part_getter tables prop.word.at n k shape part) same;
         key = ap (λ (one : Body). one.key) (sym is);
         takes = ap kinds_of (sym is);
         gives = ap (λ (one : Body). one.result) (sym is);
       }
 
   of_shape : (n index : ℕ) (prop : PropTree) (props : List PropTree) (shape : Shape) (body : Body)
-      (some : Bool) → slice_get tables.world.shapes n ≡ Some shape
+      (some : Bool) → (prop.mutable && is_isolated (shape_iso shape)) ≡ some
+      → slice_get tables.world.shapes n ≡ Some shape
       → Contains (if some then for_some (slice_get shape.parts index) (λ part.
       part_getter tables prop.word.at n index shape part ∷ []) else []) body
       → PartGetter n index (prop ∷ props) body
-  of_shape n index prop props shape body false shape_at has = absurd (none_in body has)
-  of_shape n index prop props shape body true shape_at has =
+  of_shape n index prop props shape body false isolated shape_at has = absurd (none_in body has)
+  of_shape n index prop props shape body true isolated shape_at has =
       by (slice_get shape.parts index) refl has where
         by : (found : Option Part) → slice_get shape.parts index ≡ found
             → Contains (for_some found (λ part.
             part_getter tables prop.word.at n index shape part ∷ [])) body
             → PartGetter n index (prop ∷ props) body
         by None at has = absurd (none_in body has)
-        by (Some part) at has = one_part n index prop props shape part body shape_at at has
+        by (Some part) at has =
+            one_part n index prop props shape part body shape_at at isolated has
 
   first_part : (n index : ℕ) (prop : PropTree) (props : List PropTree) (body : Body)
       → Contains
@@ -201,8 +217,8 @@ module _ (tables : Tables) where
         → PartGetter n index (prop ∷ props) body
     by None at has = absurd (none_in body has)
     by (Some shape) at has =
-        of_shape n index prop props shape body (prop.mutable && is_isolated (shape_iso shape)) at
-        has
+        of_shape n index prop props shape body (prop.mutable && is_isolated (shape_iso shape)) refl
+        at has
 
   part_getters : (n index : ℕ) (props : List PropTree) (body : Body)
       → Contains (prop_getters tables n index props) body → PartGetter n index props body
@@ -212,20 +228,23 @@ module _ (tables : Tables) where
       (for_some (slice_get tables.world.shapes n) (shape_getters tables n index prop))
       (prop_getters tables n (index + 1) props) body has) [
         | inl here ↦ first_part n index prop props body here
-        | inr there ↦ let one = part_getters n (index + 1) props body there in record {
-          place = suc one.place;
-          prop = one.prop;
-          shape = one.shape;
-          part = one.part;
-          prop_at = one.prop_at;
-          shape_at = one.shape_at;
-          part_at = subst (λ k. slice_get one.shape.parts k ≡ Some one.part)
-              (let same : (index + 1) + one.place ≡ index + suc one.place = omega arith in same)
-              one.part_at;
-          key = one.key;
-          takes = one.takes;
-          gives = one.gives;
-        }
+        | inr there ↦
+            let one = part_getters n (index + 1) props body there in
+            let same : (index + 1) + one.place ≡ index + suc one.place = omega arith in record {
+              place = suc one.place;
+              prop = one.prop;
+              shape = one.shape;
+              part = one.part;
+              prop_at = one.prop_at;
+              shape_at = one.shape_at;
+              part_at = subst (λ k. slice_get one.shape.parts k ≡ Some one.part) same one.part_at;
+              isolated = one.isolated;
+              is = one.is
+                  ∙ ap (λ k. part_getter tables one.prop.word.at n k one.shape one.part) same;
+              key = one.key;
+              takes = one.takes;
+              gives = one.gives;
+            }
       ]
 
   of_global : (g : ℕ) (prop : PropTree) (global : GlobalVar) (body : Body)
@@ -245,6 +264,7 @@ module _ (tables : Tables) where
         global = global;
         decl_is = refl;
         global_at = at;
+        is = sym is;
         key = ap (λ (one : Body). one.key) (sym is);
         takes = ap kinds_of (sym is);
         gives = ap (λ (one : Body). one.result) (sym is);
@@ -290,7 +310,7 @@ module _ (tables : Tables) where
   -- A getter among the bodies of a declaration is that of a property or of a global variable.
   pub getter_in : (n g : ℕ) (decl : Decl) (body : Body)
       → Contains (decl_bodies tables n g decl) body → body.getter ≡ true
-      → PartGetter n 0 (props_of decl) body ⊎ GlobalGetter g decl body
+      → (IsObjectDecl decl × PartGetter n 0 (props_of decl) body) ⊎ GlobalGetter g decl body
   unfolding decl_bodies
   getter_in n g (Entry word written at is_async block) body has is =
       absurd (no_getter (func_bodies tables at [] block) body (plain_func at [] block) has is)
@@ -299,9 +319,9 @@ module _ (tables : Tables) where
   getter_in n g (Enum word conforms cases funcs) body has is =
       absurd (no_getter (flat_map (func_tree_bodies tables) funcs) body (plain_funcs funcs) has is)
   getter_in n g (Class written word conforms props inits funcs) body has is =
-      inl (object_getter n word props inits funcs body has is)
+      inl (tt, object_getter n word props inits funcs body has is)
   getter_in n g (Actor word props inits funcs) body has is =
-      inl (object_getter n word props inits funcs body has is)
+      inl (tt, object_getter n word props inits funcs body has is)
   getter_in n g (GlobalActor word made) body has is = absurd (none_in body has)
   getter_in n g (Func func) body has is =
       absurd (no_getter (func_tree_bodies tables func) body

@@ -17,7 +17,7 @@ use Rattle.sw_lower_safe.specs.Ground.{IsHeader}
 use Rattle.sw_lower_safe.proofs.Functions.Takes.{kinds_of}
 use Rattle.sw_lower_safe.proofs.Headers.ByName.{header_as}
 use Rattle.sw_lower_safe.proofs.Headers.FoundGetters.{GetterAt, getter_at}
-use Rattle.sw_lower_safe.proofs.Headers.Getters.{GlobalGetter, PartGetter, props_of}
+use Rattle.sw_lower_safe.proofs.Headers.Getters.{GlobalGetter, IsObjectDecl, PartGetter, props_of}
 use Rattle.sw_lower_safe.proofs.Programs.GlobalDecls.{GlobalAt, global_at}
 use Rattle.sw_lower_safe.proofs.Programs.Keyed.{one_place}
 use Rattle.sw_lower_safe.proofs.Programs.PropKeys.{global_key_in, no_props, prop_key_in}
@@ -30,12 +30,17 @@ module _ (world : World) (answers : Answers) (isolation : Isolation) (decls : Li
   abbrev tables : Tables
   tables = tables_of world answers isolation decls
 
-  -- the getter of a global variable
-  pub global_getter_headers : (g f : ℕ) (global : GlobalVar)
+  -- the getter of a global variable that is found by its key
+  pub record GlobalGetterAt (f : ℕ) (global : GlobalVar) : Type 0 where
+    pub one : GetterAt world answers isolation decls rule keys is ordered are numbered
+        global.key.at f
+    pub of : GlobalGetter tables one.g one.decl one.body
+    pub global_is : of.global ≡ global
+
+  pub global_getter_at : (g f : ℕ) (global : GlobalVar)
       → slice_get world.globals g ≡ Some global
-      → numbers_of ordered (getter_of global.key.at) ≡ Some f
-      → IsHeader (functions_of ordered) [] global.ty f
-  global_getter_headers g f global at found = by one.whose where
+      → numbers_of ordered (getter_of global.key.at) ≡ Some f → GlobalGetterAt f global
+  global_getter_at g f global at found = by one.whose where
     declared : GlobalAt decls g global
     declared = global_at decls rule world is g global at
 
@@ -44,10 +49,10 @@ module _ (world : World) (answers : Answers) (isolation : Isolation) (decls : Li
     one = getter_at world answers isolation decls rule keys is ordered are numbered
         global.key.at f found
 
-    by : PartGetter tables one.n 0 (props_of one.decl) one.body
-        ⊎ GlobalGetter tables one.g one.decl one.body
-        → IsHeader (functions_of ordered) [] global.ty f
-    by (inl part) =
+    by : (IsObjectDecl one.decl × PartGetter tables one.n 0 (props_of one.decl) one.body)
+        ⊎ GlobalGetter tables one.g one.decl one.body → GlobalGetterAt f global
+    by (inl of) =
+        let part = of.1 in
         let key : part.prop.word.at ≡ global.key.at = sym part.key ∙ one.key_is in
         let same = one_place decls one.n one.g one.decl declared.n g (Global declared.prop)
         global.key.at keys one.stands declared.stands
@@ -60,9 +65,19 @@ module _ (world : World) (answers : Answers) (isolation : Isolation) (decls : Li
         global.key.at keys one.stands declared.stands
         (global_key_in one.decl other.prop global.key.at other.decl_is key)
         (global_key_in (Global declared.prop) declared.prop global.key.at refl declared.key) in
-        let index : one.g ≡ g = omega (arith, same.globals) in
-        let global_is : other.global ≡ global =
-        same_Some other.global global
-        (sym other.global_at ∙ ap (slice_get world.globals) index ∙ at) in
-        header_as (functions_of ordered) (kinds_of one.body) [] one.body.result global.ty f
-        other.takes (other.gives ∙ ap (λ (x : GlobalVar). x.ty) global_is) one.header
+        let index : one.g ≡ g = omega (arith, same.globals) in record {
+          one = one;
+          of = other;
+          global_is = same_Some other.global global
+              (sym other.global_at ∙ ap (slice_get world.globals) index ∙ at);
+        }
+
+  -- the getter of a global variable
+  pub global_getter_headers : (g f : ℕ) (global : GlobalVar)
+      → slice_get world.globals g ≡ Some global
+      → numbers_of ordered (getter_of global.key.at) ≡ Some f
+      → IsHeader (functions_of ordered) [] global.ty f
+  global_getter_headers g f global at found =
+      let it = global_getter_at g f global at found in
+      header_as (functions_of ordered) (kinds_of it.one.body) [] it.one.body.result global.ty f
+      it.of.takes (it.of.gives ∙ ap (λ (x : GlobalVar). x.ty) it.global_is) it.one.header

@@ -38,7 +38,7 @@ use Rattle.sw_lower_table.specs.Tables.{Isolation, Tables, plain}
 use Rattle.sw_lower_safe.specs.Ground.{IsHeader, params_of}
 use Rattle.sw_lower_safe.proofs.Headers.ParamTypes.{AreAnswered, are_typed, kinds_are}
 use Rattle.sw_lower_safe.proofs.Headers.Signed.{declared_func, for_found, func_found, signed_header}
-use Rattle.sw_lower_safe.proofs.Lists.Listed.{in_first, in_map, in_place}
+use Rattle.sw_lower_safe.proofs.Lists.Listed.{between, in_first, in_map, in_place}
 use Rattle.sw_lower_safe.proofs.Programs.DeclStands.{made_flat}
 use Rattle.sw_lower_safe.proofs.Programs.MadeOf.{body_stands, func_stands, one_shape, shape_stands}
 use Rattle.sw_lower_safe.proofs.Programs.MadeOf.{typed_stands}
@@ -46,16 +46,16 @@ use Rattle.sw_lower_safe.proofs.Programs.SignatureKeys.{no_signature, numbered_k
 use Rattle.sw_lower_safe.proofs.Programs.Standing.{Stands, place_of_thing, stands_in}
 
 -- what is found of a type's initialiser
-record MakerParts (found : Option ℕ) (numbers : ℕ → Option ℕ) (funcs : List Signature)
+pub record MakerParts (found : Option ℕ) (numbers : ℕ → Option ℕ) (funcs : List Signature)
     (func : Signature) : Type 0 where
-  key : ℕ
-  place : ℕ
-  key_is : found ≡ Some key
-  place_is : numbers key ≡ Some place
-  at : slice_get funcs place ≡ Some func
+  pub key : ℕ
+  pub place : ℕ
+  pub key_is : found ≡ Some key
+  pub place_is : numbers key ≡ Some place
+  pub at : slice_get funcs place ≡ Some func
 
 -- an initialiser that is found is found so
-maker_parts : (found : Option ℕ) (numbers : ℕ → Option ℕ) (funcs : List Signature)
+pub maker_parts : (found : Option ℕ) (numbers : ℕ → Option ℕ) (funcs : List Signature)
     (func : Signature) → item (and_then found numbers) funcs ≡ Some func
     → MakerParts found numbers funcs func
 maker_parts None numbers funcs func is = cc
@@ -65,12 +65,6 @@ maker_parts (Some key) numbers funcs func is = by (numbers key) refl is where
   by None place_is never = cc
   by (Some place) place_is at =
       record { key = key; place = place; key_is = refl; place_is = place_is; at = at }
-
--- what stands between others
-between : {X : Type 0} (before here after : List X) (x : X) → Contains here x
-    → Contains (before ++ here ++ after) x
-between before here after x has =
-    Contains-append_left (before ++ here) after x (Contains-append_right before here x has)
 
 -- one key of an initialiser of each shape
 pub makers_counted : (decl : Decl) → length (maker_keys decl) ≡ shapes_made decl

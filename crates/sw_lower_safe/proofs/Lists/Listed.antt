@@ -1,7 +1,7 @@
 -- Elements of lists by their places.
-use Rattle.std.proofs.Common.{◌≡◌, ℕ, zero, suc, ◌<◌, Some, List, [], ◌∷◌, map, length, Contains}
+use Rattle.std.proofs.Common.{◌≡◌, ℕ, zero, suc, ◌<◌, Some, List, [], ◌∷◌, ◌++◌, map, length, Contains}
 use Rattle.std.proofs.Common.{refl, ap, ◌∙◌, arith}
-use Rattle.std.proofs.lemmas.List.Elements.{Contains-append_right}
+use Rattle.std.proofs.lemmas.List.Elements.{Contains-append_left, Contains-append_right}
 use Rattle.std.proofs.lemmas.Option.{get_or_from_slice_get, slice_get-get_or, slice_get-map}
 use Rattle.std.proofs.lemmas.Option.{slice_get_within}
 use Rattle.std.specs.Option.{option_map}
@@ -52,3 +52,9 @@ in_rest x xs y has = Contains-append_right (x ∷ []) xs y has
 pub only_in : {X : Type 0} (x y : X) → Contains (x ∷ []) y → x ≡ y
 only_in x y (zero, below, is) = is
 only_in x y (suc k, below, is) = absurd (omega (arith, below))
+
+-- what stands between others
+pub between : {X : Type 0} (before here after : List X) (x : X) → Contains here x
+    → Contains (before ++ here ++ after) x
+between before here after x has =
+    Contains-append_left (before ++ here) after x (Contains-append_right before here x has)
