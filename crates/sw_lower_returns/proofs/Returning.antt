@@ -1,9 +1,8 @@
 -- The functions of a program that keeps the rules return their results.
-use Rattle.std.proofs.Common.{◌≡◌, List, Some, None, option_map, sym, ◌∙◌, ap, subst}
+use Rattle.std.proofs.Common.{List, None}
 use Rattle.std.proofs.lemmas.List.Elements.{All-map}
 use Rattle.std.proofs.lemmas.List.Sorted.{All-permutation, IsPermutation-sym}
-use Rattle.std.proofs.lemmas.Option.{slice_get-get_or, slice_get-map, same_Some}
-use Rattle.std.specs.Prelude.{All, get_or, slice_get}
+use Rattle.std.specs.Prelude.{All}
 use Rattle.sw_tree.specs.CasePlaces.{CasesApart}
 use Rattle.sw_tree.specs.Contents.{AreKeyed}
 use Rattle.sw_tree.specs.declared.decl.Decl.{Decl}
@@ -19,6 +18,7 @@ use Rattle.sw_lower_table.specs.Tables.{Isolation}
 use Rattle.sw_lower_safe.specs.Programs.{tables_in}
 use Rattle.sw_lower_safe.specs.Trees.{IsHere}
 use Rattle.sw_lower_safe.proofs.Bodies.Given.{IsProgram}
+use Rattle.sw_lower_safe.proofs.GraphsFit.{bodies_here}
 use Rattle.sw_lower_safe.proofs.Grounded.{ground_of}
 use Rattle.sw_lower_safe.proofs.Induction.{block_ok_of, expr_ok}
 use Rattle.sw_lower_safe.proofs.Programs.CasesDiffer.{cases_differ}
@@ -26,24 +26,6 @@ use Rattle.sw_lower_safe.proofs.Programs.Enums.{only_enums}
 use Rattle.sw_lower_safe.proofs.Programs.WordKinds.{word_kinds}
 use Rattle.sw_lower_returns.specs.Forms.{BodyReturns}
 use Rattle.sw_lower_returns.proofs.Programs.Declarations.{program_returns}
-
--- each body is found by its name
-bodies_here : (world : World) (isolation : Isolation) (decls : List Decl) (ordered : List Body)
-    → AreNumbered ordered → AreMade ordered
-    → All (IsHere (tables_in world isolation decls) (numbers_of ordered) (functions_of ordered))
-    ordered
-bodies_here world isolation decls ordered numbered made k d below =
-    let at : slice_get ordered k ≡ Some (get_or ordered k d) =
-    slice_get-get_or ordered k d below in
-    record {
-      made = made k d below;
-      found = λ f is.
-          let same : k ≡ f = same_Some k f (sym (numbered k (get_or ordered k d) at) ∙ is) in
-          subst (λ n. slice_get (functions_of ordered) n
-          ≡ Some (function_of (numbers_of ordered) (get_or ordered k d))) same
-          (slice_get-map (function_of (numbers_of ordered)) ordered k
-          ∙ ap (option_map (function_of (numbers_of ordered))) at);
-    }
 
 -- what is known of a program that keeps the rules
 is_program : (decls : List Decl) (rule : AsyncDefault) (world : World) (isolation : Isolation)
@@ -81,7 +63,7 @@ all_return decls rule world isolation ordered keys apart sound is well are numbe
     let bodies = program_bodies tables decls in
     let here = All-permutation (IsHere tables number functions) ordered bodies
     (IsPermutation-sym bodies ordered are.bodies)
-    (bodies_here world isolation decls ordered numbered made) in
+    (bodies_here tables ordered numbered made) in
     All-map ReturnsResult (function_of number) ordered
     (All-permutation (BodyReturns number) bodies ordered are.bodies
     (program_returns world isolation decls rule number functions

@@ -1,45 +1,32 @@
 -- The code of an initialiser whose values are simple.
-use Rattle.std.proofs.Common.{◌≡◌, ℕ, Bool, true, false, List, [], ◌∷◌, Option, Some, map}
-use Rattle.std.proofs.Common.{flat_map, Contains, ap, sym, ◌∙◌, subst, is_some}
+use Rattle.std.proofs.Common.{◌≡◌, ℕ, Bool, true, List, [], ◌∷◌, Option, Some, map}
+use Rattle.std.proofs.Common.{flat_map, Contains, ap, sym, subst, is_some}
 use Rattle.std.specs.List.{AllByRecursion}
 use Rattle.sw_tree.proofs.FoldEquations as eq
-use Rattle.sw_tree.specs.Folds.{Steps, fold_expr, fold_stmt}
-use Rattle.sw_tree.specs.declared.expr.Expr.{Expr}
-use Rattle.sw_tree.specs.declared.expr.Expr.TheOpen as layer
-use Rattle.sw_tree.specs.declared.expr.Expr.TheVariants as exprs
-use Rattle.sw_tree.specs.declared.name.Name.{Name}
-use Rattle.sw_tree.specs.declared.operator.AssignOp.TheVariants as assigns
+use Rattle.sw_tree.specs.Folds.{Steps, fold_stmt}
 use Rattle.sw_tree.specs.declared.stmt.Block.{Block, out-roll-Block, roll-Block}
 use Rattle.sw_tree.specs.declared.stmt.Stmt.{Stmt}
-use Rattle.sw_tree.specs.declared.stmt.Stmt.TheVariants as stmts
 use Rattle.sw_types.specs.declared.shape.Part.{Part}
 use Rattle.sw_types.specs.declared.shape.Shape.{Shape}
 use Rattle.sw_types.specs.declared.shape.ShapeKind.{ShapeKind}
 use Rattle.sw_types.specs.declared.shape.ShapeKind.TheVariants as kinds
 use Rattle.sw_graph.specs.declared.instr.Operand.{Operand}
-use Rattle.sw_typing_rules.proofs.Sound.{judges}
-use Rattle.sw_typing_rules.proofs.Unique.{one_left}
-use Rattle.sw_typing_rules.specs.Expressions.{Judged, me_judged, member_judged}
 use Rattle.sw_typing_rules.specs.Judges as is
 use Rattle.sw_typing_rules.specs.Judges.{Leaves, LeavesAll, LeavesBlock}
-use Rattle.sw_typing_rules.specs.Judging.{judge}
-use Rattle.sw_typing_rules.specs.Statements.{Left, State, assign_left, fixed, in_body, marked_type}
-use Rattle.sw_typing_rules.specs.Statements.{place_type, setting_of}
-use Rattle.sw_typing_rules.specs.Verdicts.{ill_if}
-use Rattle.sw_typing_rules.specs.Words.{Setting, local}
+use Rattle.sw_typing_rules.specs.Statements.{Left, State, in_body}
+use Rattle.sw_typing_rules.specs.Statements.{setting_of}
+use Rattle.sw_typing_rules.specs.Words.{local}
 use Rattle.sw_typing_rules.specs.Worlds.{World}
-use Rattle.sw_typing_rules.specs.declared.scope.Inside.{Inside}
 use Rattle.sw_typing_rules.specs.declared.scope.Var.{Var}
 use Rattle.sw_lower_run.specs.Plan.{Numbers}
 use Rattle.sw_lower_code.specs.Code.{each, known}
 use Rattle.sw_lower_table.specs.Bodies.{GivenValue, give_value, init_code, made_instr, value_of}
 use Rattle.sw_lower_table.specs.Carriers.{BlockCode, Given, StmtCode}
-use Rattle.sw_lower_table.specs.Expressions.{member_code, self_code}
 use Rattle.sw_lower_table.specs.Statements.{block_code, code_steps, expr_code}
 use Rattle.sw_lower_table.specs.Tables.{Tables}
 use Rattle.sw_lower_table.specs.Uses.{no_operand}
 use Rattle.sw_lower_safe.specs.Forms.{RowsHold, VarsHold}
-use Rattle.sw_lower_safe.proofs.Bodies.InitStmts.{in_init}
+use Rattle.sw_lower_safe.proofs.Bodies.InitStmts.{in_init, own_assigned, own_gives}
 use Rattle.sw_lower_safe.proofs.Lists.Listed.{in_first, in_rest}
 use Rattle.sw_lower_safe.proofs.Programs.OwnAssigns.{OwnAssign}
 use Rattle.sw_lower_safe.proofs.Said.Rows.{rows_left, rows_right}
@@ -105,18 +92,6 @@ module _ (tables : Tables) (numbers : Numbers) where
     abbrev Agree : List Var → Type 0
     Agree vars = (id : ℕ) → is_some (params id) ≡ is_some (local vars id)
 
-    -- the code of `self.p = e`
-    code_is : (at me : ℕ) (name : Name) (value : Expr)
-        → fold_stmt steps (stmts.Assign at assigns.Set (exprs.Member (exprs.Me me) name) value)
-        ≡ steps.stmt (layer.Assign at assigns.Set
-        (member_code tables (Some n) (self_code tables (Some n) me) name.at name.id)
-        (fold_expr steps value))
-    code_is at me name value =
-        eq.fold_stmt-Assign steps at assigns.Set (exprs.Member (exprs.Me me) name) value
-        ∙ ap (λ place. steps.stmt (layer.Assign at assigns.Set place (fold_expr steps value)))
-        (eq.fold_expr-Member steps (exprs.Me me) name
-        ∙ ap (λ base. steps.expr (layer.Member base name)) (eq.fold_expr-Me steps me))
-
     -- what a statement gives, after which the same is known
     record StmtQuiet (stmt : Stmt) (state : State) (left : Left) : Type 0 where
       gives : GivesQuiet (fold_stmt steps stmt).gives
@@ -127,63 +102,16 @@ module _ (tables : Tables) (numbers : Numbers) where
         → Agree state.vars → RowsHold tables.answers left.rows
         → OwnAssign world.known n params stmt → StmtQuiet stmt state left
     unfolding expr_code
-    assign_quiet only state stmt left leaves vars agree rows own = record {
-      gives = subst GivesQuiet (sym gives_is) (
-        simple_quiet tables numbers setting params agree vars marked value judged
-            (judges world setting marked value) (rows_left tables.answers judged.rows _
-            (rows_right tables.answers (ill_if (fixed inside placed) placed.key 404) _
-            (rows_right tables.answers placed.rows _ all))) own.simple,
-        tt,
-      );
-      still = ap (λ (l : Left). l.state) left_is;
-    } where
-      value : Expr
-      value = own.sets.value
-
-      one : Given
-      one = record { name = own.name.id; read = (expr_code tables (Some n) value).read }
-
-      gives_is : (fold_stmt steps stmt).gives ≡ one ∷ []
-      gives_is = ap (λ x. (fold_stmt steps x).gives) own.sets.is
-          ∙ ap (λ (c : StmtCode). c.gives) (code_is own.sets.at own.sets.me own.name value)
-
-      inside : Inside
-      inside = in_init n only
-
-      setting : Setting
-      setting = setting_of inside state
-
-      base : Judged
-      base = me_judged (Some n) own.sets.me
-
-      placed : Judged
-      placed = member_judged world base own.name
-
-      marked : Bool
-      marked = marked_type (place_type inside placed)
-
-      judged : Judged
-      judged = judge world value setting marked
-
-      derived : Leaves world inside state (stmts.Assign own.sets.at assigns.Set
-          (exprs.Member (exprs.Me own.sets.me) own.name) value)
-          (assign_left inside state own.sets.at assigns.Set placed judged)
-      derived = is.assign inside state own.sets.at assigns.Set
-          (exprs.Member (exprs.Me own.sets.me) own.name) value placed judged
-          (is.member setting false (exprs.Me own.sets.me) own.name base
-          (is.me setting false own.sets.me))
-          (judges world setting marked value)
-
-      left_is : left ≡ assign_left inside state own.sets.at assigns.Set placed judged
-      left_is = one_left world inside state stmt left
-          (assign_left inside state own.sets.at assigns.Set placed judged) leaves
-          (subst (λ x. Leaves world inside state x
-          (assign_left inside state own.sets.at assigns.Set placed judged)) (sym own.sets.is)
-          derived)
-
-      all : RowsHold tables.answers
-          (assign_left inside state own.sets.at assigns.Set placed judged).rows
-      all = subst (λ (l : Left). RowsHold tables.answers l.rows) left_is rows
+    assign_quiet only state stmt left leaves vars agree rows own =
+        let it = own_assigned world n world.known params only state stmt own tables.answers left
+        leaves rows in record {
+          gives = subst GivesQuiet (sym (own_gives tables n world.known params stmt own)) (
+            simple_quiet tables numbers (setting_of (in_init n only) state) params agree vars
+                it.expected own.sets.value it.judged it.judges it.rows own.simple,
+            tt,
+          );
+          still = it.still;
+        }
 
     stmts_quiet : (only : Bool) (state : State) (xs : List Stmt) (left : Left)
         → LeavesAll world (in_init n only) state xs left → VarsHold tables.answers state.vars
