@@ -1,6 +1,6 @@
 -- The initialiser of a class is isolated to no `self`.
-use Rattle.std.proofs.Common.{◌≡◌, ℕ, List, [], ◌∷◌, ◌++◌, map, flat_map, Option, Some}
-use Rattle.std.proofs.Common.{Contains, refl, sym, ap, subst, ◌∙◌, length, false, Bool}
+use Rattle.std.proofs.Common.{◌≡◌, ℕ, List, [], ◌∷◌, map, flat_map, Option, Some}
+use Rattle.std.proofs.Common.{Contains, refl, sym, ap, subst, ◌∙◌, length, Bool}
 use Rattle.std.proofs.lemmas.List.Elements.{Contains-append_left, Contains-append_right}
 use Rattle.std.proofs.lemmas.List.Sorted.{Contains-permutation}
 use Rattle.std.proofs.lemmas.Option.{same_Some}
@@ -10,7 +10,6 @@ use Rattle.sw_tree.specs.declared.decl.Decl.{Decl}
 use Rattle.sw_tree.specs.declared.decl.Decl.TheVariants.{Entry, Struct, Enum, Class, Actor}
 use Rattle.sw_tree.specs.declared.decl.Decl.TheVariants.{GlobalActor, Func, Global}
 use Rattle.sw_tree.specs.declared.decl.InitTree.{InitTree}
-use Rattle.sw_tree.specs.declared.decl.ParamTree.{ParamTree}
 use Rattle.sw_tree.specs.declared.decl.PropTree.{PropTree}
 use Rattle.sw_tree.specs.declared.name.Name.{Name}
 use Rattle.sw_types.specs.declared.isolation.Iso.{Iso}
@@ -30,83 +29,23 @@ use Rattle.sw_decls.specs.Signatures.{actor_iso, func_of, funcs_of, init_of, ini
 use Rattle.sw_decls.specs.declared.signature.AsyncDefault.{AsyncDefault}
 use Rattle.sw_decls.specs.declared.signature.Signature.{Signature}
 use Rattle.sw_typing_rules.specs.Worlds.{IsWorldOf, and_then, item}
-use Rattle.sw_isolation_rules.specs.Answers.{for_some}
 use Rattle.sw_isolation_rules.specs.Programs.{func_at}
 use Rattle.sw_isolation_rules.specs.Uses.{maker_at}
 use Rattle.sw_lower_code.specs.Whole.{Body, function_of}
-use Rattle.sw_lower_table.specs.Bodies.{AreNumbered, AreOrdered, decl_bodies, default_bodies}
-use Rattle.sw_lower_table.specs.Bodies.{first_values, func_tree_bodies, functions_of, init_bodies}
-use Rattle.sw_lower_table.specs.Bodies.{init_code, init_signed, inits_bodies, numbers_of, param_taken}
+use Rattle.sw_lower_table.specs.Bodies.{AreNumbered, AreOrdered, decl_bodies}
+use Rattle.sw_lower_table.specs.Bodies.{func_tree_bodies, functions_of}
+use Rattle.sw_lower_table.specs.Bodies.{inits_bodies, numbers_of}
 use Rattle.sw_lower_table.specs.Bodies.{program_bodies, prop_getters, signed}
-use Rattle.sw_lower_table.specs.Carriers.{Given}
-use Rattle.sw_lower_table.specs.Statements.{block_code}
 use Rattle.sw_lower_table.specs.Tables.{Tables, plain}
-use Rattle.sw_lower_safe.proofs.Headers.Signed.{for_found}
 use Rattle.sw_lower_safe.proofs.Headers.FoundFuncs.{func_is}
-use Rattle.sw_lower_safe.proofs.Lists.Listed.{in_first, in_map}
+use Rattle.sw_lower_safe.proofs.Lists.Listed.{between, in_first, in_map}
 use Rattle.sw_lower_safe.proofs.Programs.DeclStands.{shape_there}
 use Rattle.sw_lower_safe.proofs.Programs.MadeOf.{body_stands, func_stands}
 use Rattle.sw_lower_safe.proofs.Programs.Standing.{Stands}
 use Rattle.sw_lower_total.proofs.Programs.Objects.{object_at}
 use Rattle.sw_lower_actors.proofs.Functions.Methods.{function_is}
 use Rattle.sw_lower_actors.proofs.Functions.Owners.{actor_not_own, init_is}
-
--- a body with a signature, among bodies
-record HasSigned (tables : Tables) (bodies : List Body) (func : Signature) : Type 0 where
-  body : Body
-  has : Contains bodies body
-  key : body.key ≡ func.key.at
-  getter : body.getter ≡ false
-  isolated : body.iso ≡ func.iso
-
-signed_among : (tables : Tables) (bodies more : List Body) (func : Signature)
-    → ((body : Body) → Contains bodies body → Contains more body) → HasSigned tables bodies func
-    → HasSigned tables more func
-signed_among tables bodies more func among one = record {
-  body = one.body;
-  has = among one.body one.has;
-  key = one.key;
-  getter = one.getter;
-  isolated = one.isolated;
-}
-
-module _ (tables : Tables) (n : ℕ) (props : List PropTree) (shape : Shape)
-    (there : slice_get tables.world.shapes n ≡ Some shape) where
-  init_made : (func : Signature) (takes : List ParamTree) (givens : List Given)
-      → HasSigned tables (init_signed tables n props takes givens func) func
-  init_made func params givens =
-      let body = signed tables func (map (param_taken tables) params)
-      (init_code func.key.at n shape (first_values tables n props ++ givens)) in record {
-        body = body;
-        has = for_found (slice_get tables.world.shapes n) shape (λ shape.
-            signed tables func (map (param_taken tables) params)
-            (init_code func.key.at n shape (first_values tables n props ++ givens)) ∷ []) body
-            there (in_first body []);
-        key = refl;
-        getter = refl;
-        isolated = refl;
-      }
-
-  maker_made : (word : Name) (inits : List InitTree) (func : Signature)
-      → func_at tables.world tables.answers (init_key word.at inits) ≡ Some func
-      → HasSigned tables (inits_bodies tables n props word inits) func
-  unfolding default_bodies init_bodies
-  maker_made word [] func at =
-      signed_among tables (init_signed tables n props [] [] func) _ func
-      (λ body has. for_found (func_at tables.world tables.answers word.at) func
-      (init_signed tables n props [] []) body at has)
-      (init_made func [] [])
-  maker_made word (init ∷ inits) func at =
-      let code = block_code tables (Some n) init.body in
-      signed_among tables (init_signed tables n props init.params code.gives func) _ func
-      (λ body has.
-      Contains-append_left (init_bodies tables n props init)
-      (flat_map (init_bodies tables n props) inits) body
-      (Contains-append_left (for_some (func_at tables.world tables.answers init.at)
-      (init_signed tables n props init.params code.gives)) code.inside body
-      (for_found (func_at tables.world tables.answers init.at) func
-      (init_signed tables n props init.params code.gives) body at has)))
-      (init_made func init.params code.gives)
+use Rattle.sw_lower_actors.proofs.Functions.Signed.{IsSigned, maker_body_signed, signed_among}
 
 -- the signature of the initialiser that makes a type
 maker_signed : (known : ℕ → Option Meaning) (word : Name) (n : ℕ) (isolation : Iso)
@@ -126,11 +65,6 @@ maker_signed known word n isolation (init ∷ inits) =
       refl,
     )
 
-between : {X : Type 0} (before here after : List X) (x : X) → Contains here x
-    → Contains (before ++ here ++ after) x
-between before here after x has =
-    Contains-append_left (before ++ here) after x (Contains-append_right before here x has)
-
 module _ (tables : Tables) (decls : List Decl) (rule : AsyncDefault) (keyed : AreKeyed decls)
     (is_world : IsWorldOf decls rule tables.world) (ordered : List Body)
     (are : AreOrdered tables decls ordered) (numbered : AreNumbered ordered) where
@@ -139,18 +73,16 @@ module _ (tables : Tables) (decls : List Decl) (rule : AsyncDefault) (keyed : Ar
 
   -- a function with the number of a signature has its isolation
   signed_iso : (func : Signature) (f : ℕ) (function : Function)
-      → HasSigned tables (program_bodies tables decls) func
+      → IsSigned tables (program_bodies tables decls) func
       → numbers_of ordered (plain func.key.at) ≡ Some f
       → slice_get (functions_of ordered) f ≡ Some function → function.iso ≡ func.iso
   unfolding function_of
   signed_iso func f function one found there =
-      let name = λ (key : ℕ) (getter : Bool). numbers_of ordered
-      (record { key = key; getter = getter }) in
-      let is = function_is (program_bodies tables decls) ordered one.body f function numbered
-      (Contains-permutation (program_bodies tables decls) ordered one.body are.bodies one.has)
-      (ap (λ key. name key one.body.getter) one.key ∙ ap (name func.key.at) one.getter ∙ found)
-      there in
-      ap (λ (f : Function). f.iso) (sym is) ∙ one.isolated
+      let body = signed tables func one.takes one.code in
+      ap (λ (f : Function). f.iso)
+      (sym (function_is (program_bodies tables decls) ordered body f function numbered
+      (Contains-permutation (program_bodies tables decls) ordered body are.bodies one.has) found
+      there))
 
   in_class : (k g : ℕ) (written : Written) (word : Name) (conforms : Bool) (props : List PropTree)
       (inits : List InitTree) (funcs : List FuncTree) (shape : Shape) (func : Signature) (f : ℕ)
@@ -175,7 +107,7 @@ module _ (tables : Tables) (decls : List Decl) (rule : AsyncDefault) (keyed : Ar
       (λ body inside. body_stands tables decls k g decl body stands
       (between (prop_getters tables k 0 props) (inits_bodies tables k props word inits)
       (flat_map (func_tree_bodies tables) funcs) body inside))
-      (maker_made tables k props shape at word inits func made) in
+      (maker_body_signed tables k props shape at word inits func made) in
       actor_not_own actor
       (sym (init_is known word k (actor_iso actor) inits one among).1
       ∙ sym (ap (λ (f : Signature). f.iso) same)

@@ -6,8 +6,6 @@ use Rattle.std.proofs.lemmas.Option.{same_Some, slice_get-map}
 use Rattle.std.specs.Option.{option_map}
 use Rattle.std.specs.Prelude.{slice_get}
 use Rattle.sw_tree.specs.declared.decl.Decl.{Decl}
-use Rattle.sw_tree.specs.declared.decl.Decl.TheVariants.{Func}
-use Rattle.sw_tree.specs.declared.decl.FuncTree.{FuncTree}
 use Rattle.sw_types.specs.declared.isolation.Iso.TheVariants as iso
 use Rattle.sw_types.specs.declared.shape.Shape.{Shape}
 use Rattle.sw_graph.specs.declared.function.Function.{Function}
@@ -26,16 +24,12 @@ use Rattle.sw_lower_table.specs.Bodies.{program_bodies, self_by, self_taken, sig
 use Rattle.sw_lower_table.specs.Expressions.{body_code}
 use Rattle.sw_lower_table.specs.Statements.{block_code}
 use Rattle.sw_lower_table.specs.Tables.{Tables, name_of, plain}
-use Rattle.sw_lower_safe.proofs.Headers.Funcs.{func_made, func_place}
-use Rattle.sw_lower_safe.proofs.Headers.Methods.{method_made}
 use Rattle.sw_lower_safe.proofs.Headers.Signed.{for_found}
 use Rattle.sw_lower_safe.proofs.Lists.Listed.{in_first, in_place, place_in}
-use Rattle.sw_lower_safe.proofs.Programs.MadeOf.{body_stands}
-use Rattle.sw_lower_safe.proofs.Programs.MemberTrees.{method_place}
-use Rattle.sw_lower_actors.specs.Meant.{IsFuncKey, IsFuncNumber}
-use Rattle.sw_lower_actors.specs.Meant.IsFuncKey.{of_top, of_type}
+use Rattle.sw_lower_actors.specs.Meant.{IsFuncNumber}
 use Rattle.sw_lower_actors.specs.Taking.{TakesFirst}
 use Rattle.sw_lower_actors.proofs.Functions.Owners.{owner_is_actor}
+use Rattle.sw_lower_actors.proofs.Functions.Signed.{tree_of}
 use Rattle.sw_lower_actors.proofs.Functions.Taking.{takes_actor}
 
 -- The function with the number of a body is that of the body.
@@ -62,32 +56,6 @@ self_first tables owner k shape rest same at =
 module _ (tables : Tables) (decls : List Decl) (rule : AsyncDefault)
     (is_world : IsWorldOf decls rule tables.world) (ordered : List Body)
     (are : AreOrdered tables decls ordered) (numbered : AreNumbered ordered) where
-  -- the bodies of a function's tree are the program's, and it has a key
-  record TreeOf (key : ℕ) : Type 0 where
-    tree : FuncTree
-    word : tree.word.at ≡ key
-    made : (body : Body) → Contains (func_tree_bodies tables tree) body
-        → Contains (program_bodies tables decls) body
-
-  tree_of : (key : ℕ) → IsFuncKey tables.world key → TreeOf key
-  tree_of key (of_top id meant) =
-      let one = func_place decls id key (sym (is_world.words id) ∙ meant) in record {
-        tree = one.tree;
-        word = one.word;
-        made = λ body has.
-            body_stands tables decls one.n one.g (Func one.tree) body one.stands
-            (func_made tables one.n one.g one.tree body has);
-      }
-  tree_of key (of_type k id member found role same) =
-      let one = method_place decls k id member (sym (is_world.members k id) ∙ found) role in
-      record {
-        tree = one.tree;
-        word = one.word ∙ same;
-        made = λ body has.
-            body_stands tables decls one.n one.g one.decl body one.stands
-            (method_made tables one.n one.g one.decl one.tree one.has body has);
-      }
-
   signed_takes : (func : Signature) (params : List Taken) (code : Code (Unit {0}))
       → Contains tables.world.funcs func → func.iso ≡ iso.Own
       → TakesFirst tables.world.shapes
@@ -111,7 +79,7 @@ module _ (tables : Tables) (decls : List Decl) (rule : AsyncDefault)
       → TakesActor tables.world.shapes function
   unfolding func_bodies func_at function_of
   func_takes n f func function meant at found there own =
-      let one = tree_of meant.key meant.is in
+      let one = tree_of tables decls rule is_world meant.key meant.is in
       let tree = one.tree in
       let code = block_code tables func.owner tree.body in
       let params : List Taken = map (param_taken tables) tree.params in

@@ -114,7 +114,7 @@ module _ (decls : List Decl) (rule : AsyncDefault) (world : World) (ordered : Li
         subst (TakesActor world.shapes) is
         (takes_actor world.shapes (numbers_of ordered) body
         (elim (getter_in tables made.n made.g made.decl body made.has is_getter) [
-          | inl part ↦ of_part made.n made.g made.decl body made.stands in_actor part
+          | inl part ↦ of_part made.n made.g made.decl body made.stands in_actor part.1
           | inr global ↦
               absurd (no_global made.n made.g made.decl body made.stands in_actor global)
         ]))

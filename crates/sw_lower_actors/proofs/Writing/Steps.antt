@@ -24,7 +24,7 @@ use Rattle.sw_lower_safe.proofs.Positions.Steps.{ended, gave}
 use Rattle.sw_lower_actors.specs.Writing.{Holds, InBlocks, Writes}
 
 -- One block is changed to one that has such instructions too.
-in_changed : (P : Instr → Type 0) (change : Block → Block)
+pub in_changed : (P : Instr → Type 0) (change : Block → Block)
     → ((block : Block) → All P block.instrs → All P (change block).instrs) → (here : ℕ)
     → (blocks : List Block) → InBlocks P blocks → InBlocks P (changed_at change here blocks)
 unfolding changed_at
@@ -40,18 +40,18 @@ in_changed P change keeps (suc here) (block ∷ blocks) all =
     (All-tail (λ (b : Block). All P b.instrs) block blocks all))
 
 -- What is known is the value that was found.
-known_is : {A : Type 0} (found : Option A) (s t : Making) (value : A)
-    → run_known found s ≡ Ok (value, t) → found ≡ Some value
+pub known_is : {A : Type 0} (found : Option A) (s t : Making) (value : A)
+    → run_known found s ≡ Ok (value, t) → (found ≡ Some value) × (s ≡ t)
 known_is None s t value ran = cc
-known_is (Some given) s t value ran = ap Some (ended given s value t ran).0
+known_is (Some given) s t value ran =
+    let is = ended given s value t ran in (ap Some is.0, is.1)
 
 module _ {P : Instr → Type 0} {numbers : Numbers} where
   -- a value that is known
   known_keeps : {A : Type 0} (found : Option A) (s t : Making) (value : A) → Holds P numbers s
       → run_known found s ≡ Ok (value, t) → Holds P numbers t
-  known_keeps None s t value holds ran = cc
-  known_keeps (Some given) s t value holds ran =
-      subst (Holds P numbers) (ended given s value t ran).1 holds
+  known_keeps found s t value holds ran =
+      subst (Holds P numbers) (known_is found s t value ran).1 holds
 
   pub writes_known : {A : Type 0} (fallback : A) (found : Option A)
       → Writes P numbers (known fallback found)
@@ -68,7 +68,7 @@ module _ {P : Instr → Type 0} {numbers : Numbers} where
   writes_known_then fallback found next writes = record {
     keeps = λ s t value holds ran.
         let both = ran_both (known fallback found) next s t value ran in
-        (writes both.0 (known_is found s both.1 both.0 both.2)).keeps both.1 t value
+        (writes both.0 (known_is found s both.1 both.0 both.2).0).keeps both.1 t value
         (known_keeps found s both.1 both.0 holds both.2) both.3;
   }
 
@@ -88,7 +88,7 @@ module _ {P : Instr → Type 0} {numbers : Numbers} where
         let both = ran_both (number name) next s t value ran in
         (writes both.0
         (ap (λ (n : Numbers). n name) (sym holds.number)
-        ∙ known_is (s.number name) s both.1 both.0 both.2)).keeps both.1 t value
+        ∙ (known_is (s.number name) s both.1 both.0 both.2).0)).keeps both.1 t value
         (known_keeps (s.number name) s both.1 both.0 holds both.2) both.3;
   }
 
