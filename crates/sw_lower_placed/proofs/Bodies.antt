@@ -1,0 +1,17 @@
+pub mod BodyCode
+pub mod Ends
+pub mod Entering
+pub mod Every
+pub mod FirstValues
+pub mod FuncTrees
+pub mod Funcs
+pub mod Functions
+pub mod Getters
+pub mod Given
+pub mod Globals
+pub mod InitValues
+pub mod Makers
+pub mod Notes
+pub mod Objects
+pub mod Ordinary
+pub mod Programs

@@ -1,0 +1,15 @@
+pub mod Apart
+pub mod Counts
+pub mod Found
+pub mod GetterFunctions
+pub mod Held
+pub mod Makers
+pub mod Members
+pub mod NotedGetters
+pub mod Once
+pub mod Program
+pub mod Settled
+pub mod Signed
+pub mod Trees
+pub mod Unnamed
+pub mod Words

@@ -1,0 +1,10 @@
+pub mod Calls
+pub mod Captures
+pub mod Closures
+pub mod Members
+pub mod Noted
+pub mod Parts
+pub mod Using
+pub mod Variables
+pub mod Words
+pub mod Writes
