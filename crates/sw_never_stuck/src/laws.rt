@@ -7,6 +7,8 @@ ghost use Rattle.sw_value.specs.Act.{act_of};
 ghost use Rattle.sw_value.specs.Effect.{effect_of, is_stuck};
 ghost use Rattle.sw_value.specs.Job.{is_running, top_frame};
 ghost use Rattle.sw_value.specs.Reach.{reach};
+ghost use Rattle.sw_kinded.specs.Kinded.{Kinded};
+ghost use Rattle.sw_kinded.specs.Operands.{HasNext};
 ghost use Rattle.sw_kinded.specs.Supplied.{IsSupplied};
 ghost use Rattle.sw_verdict.specs.Phases.{IsGraphOf, phases_to_size};
 ghost use Rattle.sw_verdict.specs.Verdict.{Breaches};
@@ -27,4 +29,9 @@ pub fn texts_never_get_stuck()
         → IsGraphOf text graph → (items : List ℕ) (j : ℕ) (job : Job)
         → (reach graph items).halted ≡ None → slice_get (reach graph items).jobs j ≡ Some job
         → IsTrue (is_running job) → IsSome (act_of graph (reach graph items) j) }
+    ensures operands { (text : List ℕ) (graph : Graph) → Breaches phases_to_size text []
+        → IsGraphOf text graph → (items : List ℕ) (j : ℕ) (job : Job)
+        → slice_get (reach graph items).jobs j ≡ Some job → IsTrue (is_running job)
+        → (kinded : Kinded graph (reach graph items))
+        × HasNext graph kinded.world.cells (reach graph items) job }
 {}

@@ -1,4 +1,6 @@
+use Rattle.sw_value.specs.Reach.{reach}
 use Rattle.sw_kinded.proofs.LawLemmas as machine
+use Rattle.sw_kinded.proofs.NeverStuck.{reached_kinded}
 use Rattle.sw_never_stuck.proofs.Supplied.{text_supplied}
 use Rattle.sw_never_stuck.proofs.laws.texts_never_get_stuck.Goals as goal
 
@@ -9,4 +11,8 @@ returns c = record {
       machine.never_stuck graph (text_supplied text graph passes of);
   executes = λ text graph passes of.
       machine.executes graph (text_supplied text graph passes of);
+  operands = λ text graph passes of items j job is running.
+      let supplied = text_supplied text graph passes of in
+      let kinded = reached_kinded graph supplied items in
+      (kinded, machine.has_next graph supplied (reach graph items) kinded j job is running);
 }
