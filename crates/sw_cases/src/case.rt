@@ -1,5 +1,8 @@
+ghost use Rattle.std.specs.Prelude.{◌≡◌, ℕ, List, ◌∷◌, map, string_bytes, codes, IfOk, IsTrue};
+
 use crate::head::{Form, Head, head_of};
 use std::alloc::{AllocError, Global};
+use sw_check::Exit;
 
 /// The room for a reply in bytes, where a case says nothing of it.
 const ROOM: usize = 1_048_576;
@@ -109,6 +112,22 @@ pub fn words_of(alloc: Global, text: &str, separator: char) -> Result<Vec<String
     Ok(words)
 }
 
+/// Puts `trace` in the place of the first word where that is `run`, and returns whether it is. The
+/// other words stay.
+fn put_trace(alloc: Global, words: &mut Vec<String>) -> Result<bool, AllocError>
+    ensures { IfOk result (λ is_put. IsTrue is_put → (others : List (List ℕ))
+        × (map string_bytes words.old.items ≡ codes "run" ∷ others)
+        × (map string_bytes words.new.items ≡ codes "trace" ∷ others)) }
+{
+    match words.first_mut() {
+        Some(word) if word.as_str() == "run" => {
+            *word = String::from_str(alloc, "trace")?;
+            Ok(true)
+        }
+        _ => Ok(false),
+    }
+}
+
 impl Case {
     /// The call of these words over no file, with the empty reply.
     pub fn new(alloc: Global, words: Vec<String>) -> Case {
@@ -212,5 +231,17 @@ impl Case {
             have_form &= self.add_section(alloc, section)?;
         }
         Ok(have_form)
+    }
+
+    /// The same call with `trace` in the place of `run`, and the same reply. It is `None` where the
+    /// call is no `run`, and where the reply is a refusal.
+    pub fn traced(self, alloc: Global) -> Result<Option<Case>, AllocError> {
+        let mut case = self;
+        let is_refused = case.exit == Some(Exit::Breached.status());
+        if !is_refused && put_trace(alloc, &mut case.words)? {
+            Ok(Some(case))
+        } else {
+            Ok(None)
+        }
     }
 }

@@ -16,6 +16,16 @@ pub fn names_in<R: Files + AllocGlobal + Clone + Drop>(
     Ok(names)
 }
 
+/// The paths of the case files of all topics.
+pub fn topic_files<R: Files + AllocGlobal + Clone + Drop>(rt: &R) -> io::Result<Vec<String>> {
+    let mut paths = Vec::new(rt.alloc());
+    for topic in &names_in(rt, "cases")? {
+        let mut files = names_in(rt, topic.as_str())?;
+        paths.append(&mut files)?;
+    }
+    Ok(paths)
+}
+
 /// The files of a folder, by their paths.
 pub fn files_in<R: Files + AllocGlobal + Clone + Drop>(
     rt: &R,

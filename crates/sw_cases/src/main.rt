@@ -4,6 +4,11 @@
 //! The program prints each call that is wrong, with what the tool replied, and at the end the
 //! numbers of calls.
 //!
+//! Each call of a case in `data/cases` whose first word is `run` is made once more with `trace` in
+//! the place of that word, unless its reply is a refusal, and should have the very same reply. That
+//! is so of words that have no form and of files that can't be had too, which end both commands
+//! alike. A refusal is left out, since `trace` judges programs by fewer phases and may go on.
+//!
 //! A case file begins with the words, one a line. A line `---- NAME` begins the text of a file, and
 //! `---- exit STATUS` the reply. `---- NAME times N` repeats the text that follows; after `open`
 //! its last line feed isn't part of the text; after `hex` it is bytes in hexadecimal. Texts of one
@@ -20,8 +25,9 @@ mod tally;
 mod transcript;
 
 use case::Case;
-use folder::{files_in, names_in};
+use folder::{files_in, names_in, topic_files};
 use outcome::Outcome;
+use std::alloc::{AllocError, Global};
 use std::process::ExitCode;
 use std::rt::Files;
 use std::{fs, io};
@@ -63,25 +69,48 @@ fn run_file<R: Files + Print + AllocGlobal>(
     }
 }
 
-/// Makes the calls of the case files in a folder.
-fn run_folder<R: Files + Print + AllocGlobal + Clone + Drop>(
+/// Makes the calls of case files.
+fn run_files<R: Files + Print + AllocGlobal>(
     rt: &R,
     tally: &mut Tally,
-    folder: &str,
+    paths: &[String],
 ) -> io::Result<()> {
-    for path in &names_in(rt, folder)? {
+    for path in paths {
         run_file(rt, tally, path.as_str())?;
     }
     Ok(())
 }
 
-/// Makes the calls of the case files of all topics.
-fn run_topics<R: Files + Print + AllocGlobal + Clone + Drop>(
+/// The call of a case file with `trace` in the place of `run`, if it is to be made.
+fn traced_case(alloc: Global, text: &str) -> Result<Option<Case>, AllocError> {
+    match Case::parse(alloc, text)? {
+        Some(case) => case.traced(alloc),
+        None => Ok(None),
+    }
+}
+
+/// Makes the call of a case file with `trace` in the place of `run`, if it is to be made.
+fn trace_file<R: Files + Print + AllocGlobal>(
     rt: &R,
     tally: &mut Tally,
+    path: &str,
 ) -> io::Result<()> {
-    for topic in &names_in(rt, "cases")? {
-        run_folder(rt, tally, topic.as_str())?;
+    let text = fs::read_to_string(rt, path)?;
+    let Some(case) = traced_case(rt.alloc(), text.as_str())? else {
+        return Ok(());
+    };
+    let name = format!(in rt.alloc(); "{path} by trace")?;
+    run_case(rt, tally, name.as_str(), &case)
+}
+
+/// Makes the calls of case files with `trace` in the place of `run`.
+fn trace_files<R: Files + Print + AllocGlobal>(
+    rt: &R,
+    tally: &mut Tally,
+    paths: &[String],
+) -> io::Result<()> {
+    for path in paths {
+        trace_file(rt, tally, path.as_str())?;
     }
     Ok(())
 }
@@ -118,17 +147,41 @@ fn report<R: Print>(rt: &R, tally: &Tally, what: &str) -> io::Result<u64> {
     Ok(tally.wrong)
 }
 
-/// Makes all calls, prints their numbers and returns how many are wrong.
-fn run_all<R: Files + Print + AllocGlobal + Clone + Drop>(rt: &R) -> io::Result<u64> {
+/// Makes the calls of the cases of all topics, and returns how many are wrong.
+fn all_cases<R: Files + Print + AllocGlobal + Clone + Drop>(rt: &R) -> io::Result<u64> {
     let mut cases = Tally::new(true);
-    run_topics(rt, &mut cases)?;
-    let wrong = report(rt, &cases, "cases")?;
+    run_files(rt, &mut cases, topic_files(rt)?.as_slice())?;
+    report(rt, &cases, "cases")
+}
+
+/// Makes the calls of the cases with another reply, and returns how many are wrong.
+fn all_differing<R: Files + Print + AllocGlobal + Clone + Drop>(rt: &R) -> io::Result<u64> {
     let mut differing = Tally::new(false);
-    run_folder(rt, &mut differing, "differing")?;
-    let wrong = wrong.saturating_add(report(rt, &differing, "cases with another reply")?);
+    run_files(rt, &mut differing, names_in(rt, "differing")?.as_slice())?;
+    report(rt, &differing, "cases with another reply")
+}
+
+/// Makes the calls that the documents show, and returns how many are wrong.
+fn all_shown<R: Files + Print + AllocGlobal + Clone + Drop>(rt: &R) -> io::Result<u64> {
     let mut shown = Tally::new(true);
     run_document(rt, &mut shown, "shown.md")?;
-    Ok(wrong.saturating_add(report(rt, &shown, "calls that the documents show")?))
+    report(rt, &shown, "calls that the documents show")
+}
+
+/// Makes the calls of the cases of all topics with `trace` in the place of `run`, and returns how
+/// many are wrong.
+fn all_traced<R: Files + Print + AllocGlobal + Clone + Drop>(rt: &R) -> io::Result<u64> {
+    let mut traced = Tally::new(true);
+    trace_files(rt, &mut traced, topic_files(rt)?.as_slice())?;
+    report(rt, &traced, "cases of run with the same reply by trace")
+}
+
+/// Makes all calls, prints their numbers and returns how many are wrong.
+fn run_all<R: Files + Print + AllocGlobal + Clone + Drop>(rt: &R) -> io::Result<u64> {
+    let wrong = all_cases(rt)?;
+    let wrong = wrong.saturating_add(all_differing(rt)?);
+    let wrong = wrong.saturating_add(all_shown(rt)?);
+    Ok(wrong.saturating_add(all_traced(rt)?))
 }
 
 fn main(rt: HostRuntime) -> io::Result<ExitCode> {
