@@ -14,3 +14,4 @@ pub use captures::{boxes_in, captures_in};
 pub use closing::close;
 pub use listed::Listed;
 pub use mention::{list_words, mention_list, mention_self, mention_word};
+pub use sw_typing as typing;

@@ -2,14 +2,14 @@
 use Rattle.std.proofs.Common.{◌≡◌, ℕ, List, [], ◌∷◌, Bool, true, false, Option, nat_eq, refl, ap}
 use Rattle.std.proofs.Common.{Some, None, ◌∙◌, if◌then◌else◌}
 use Rattle.indexmap.specs.IndexMap.{get}
-use Rattle.sw_capture.specs.Known.{answers_of}
+use Rattle.sw_noting.specs.capture.Known.{answers_of}
 use Rattle.sw_isolation_rules.specs.Answers.{Answers, answers_in, meaning_row, type_row}
 use Rattle.sw_isolation_rules.specs.Answers as rules
 use Rattle.sw_resolve.specs.Words.{or_else}
 use Rattle.sw_tree.specs.declared.decl.Decl.{Decl}
 use Rattle.sw_types.specs.declared.ty.Ty.{Ty}
-use Rattle.sw_typing.specs.Typed as tables
-use Rattle.sw_typing.specs.declared.answers.Typed as typing
+use Rattle.sw_noting.specs.typing.Typed as tables
+use Rattle.sw_noting.specs.typing.declared.answers.Typed as typing
 use Rattle.sw_typing_rules.specs.Programs.{said}
 use Rattle.sw_typing_rules.specs.Worlds.{World}
 use Rattle.sw_typing_rules.specs.declared.row.Meaning.{Meaning}

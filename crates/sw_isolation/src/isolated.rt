@@ -4,9 +4,9 @@ ghost use Rattle.sw_isolation.specs.Isolated.{AreBoxes, HasNotes};
 ghost use Rattle.sw_isolation_rules.specs.Lists.{bodies_in, kinds_in, races_in, refusals_in};
 
 use std::alloc::{AllocError, Global};
-use sw_capture::{boxes_in, captures_in};
 use sw_isolation_rules::{BodyIso, Capture, Kinded, Note};
 use sw_list::ListOf;
+use sw_noting::capture::{boxes_in, captures_in};
 use sw_resolve::Placed;
 
 /// How the bodies of a program are isolated, how its calls cross, what its closures capture, and

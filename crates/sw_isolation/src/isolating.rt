@@ -1,6 +1,6 @@
 //! The isolation of a program.
 ghost use Rattle.std.specs.Prelude.{◌≡◌, ◌++◌, ◌<◌, ◌^◌, None, flat_map, length, IfErr, IfOk, OnOk};
-ghost use Rattle.sw_capture.specs.Known.{answers_of};
+ghost use Rattle.sw_noting.specs.capture.Known.{answers_of};
 ghost use Rattle.sw_isolation.specs.Isolated.{IsIsolated, IsRefused};
 ghost use Rattle.sw_isolation.specs.declared.isolating.IsoFault.{IsoFault};
 ghost use Rattle.sw_isolation_rules.specs.Lists.{refusals_in};
@@ -13,10 +13,10 @@ use std::alloc::{AllocError, Global};
 use sw_decls::{Decls, GlobalVar};
 use sw_isolation_rules::Note;
 use sw_list::ListOf;
+use sw_noting::typing::Typed;
+use sw_noting::uses::may_cross;
 use sw_resolve::{Placed, first_of};
 use sw_tree::Program;
-use sw_typing::Typed;
-use sw_uses::sends;
 use thiserror::Error;
 
 /// A global variable that may be used from everywhere and changes, or isn't Sendable.
@@ -47,7 +47,7 @@ impl From<AllocError> for IsoFault {
 fn is_shared(world: &Decls, global: &GlobalVar) -> bool
     ensures { result ≡ is_shared (world_of world.now) global.now }
 {
-    global.actor.is_none() && (global.mutable || !sends(world, &global.ty))
+    global.actor.is_none() && (global.mutable || !may_cross(world, &global.ty))
 }
 
 /// Adds the breach of a global variable, where it is shared.

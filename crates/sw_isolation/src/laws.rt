@@ -1,10 +1,10 @@
 //! Laws, without code.
 ghost use Rattle.std.specs.Prelude.{◌≡◌, List};
-ghost use Rattle.sw_capture.specs.Known.{answers_of};
+ghost use Rattle.sw_noting.specs.capture.Known.{answers_of};
 ghost use Rattle.sw_isolation_rules.specs.Answers.{answers_in};
 ghost use Rattle.sw_tree.specs.declared.decl.Decl.{Decl};
-ghost use Rattle.sw_typing.specs.Typed.{IsTyped};
-ghost use Rattle.sw_typing.specs.declared.answers.Typed.{Typed};
+ghost use Rattle.sw_noting.specs.typing.Typed.{IsTyped};
+ghost use Rattle.sw_noting.specs.typing.declared.answers.Typed.{Typed};
 ghost use Rattle.sw_typing_rules.specs.Programs.{said};
 ghost use Rattle.sw_typing_rules.specs.Worlds.{World};
 

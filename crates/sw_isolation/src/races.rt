@@ -2,7 +2,7 @@
 ghost use Rattle.std.specs.Prelude.{◌≡◌, ◌==◌, ◌++◌, ◌<◌, ◌^◌, ℕ, List, Some, None, nat_eq};
 ghost use Rattle.std.specs.Prelude.{flat_map, length, map, IfOk, OnOk, if◌then◌else◌};
 ghost use Rattle.indexmap.specs.IndexMap.{get};
-ghost use Rattle.sw_capture.specs.Known.{answers_of};
+ghost use Rattle.sw_noting.specs.capture.Known.{answers_of};
 ghost use Rattle.sw_isolation.specs.Isolated.{IsIsolated};
 ghost use Rattle.sw_isolation.specs.Unsent.{AreNumbers, any_unsent};
 ghost use Rattle.sw_isolation_rules.specs.Races.{AreRaces, breaks_promise, capture_races};
@@ -20,10 +20,10 @@ use std::alloc::{AllocError, Global};
 use sw_decls::Decls;
 use sw_isolation_rules::{Capture, merged};
 use sw_list::ListOf;
+use sw_noting::typing::Typed;
+use sw_noting::uses::{marked_at, may_cross};
 use sw_resolve::Placed;
 use sw_types::{CaseShape, Part, Shape, ShapeKind, Ty};
-use sw_typing::Typed;
-use sw_uses::{marked_at, sends};
 
 /// A type that declares Sendable and isn't.
 const BROKEN_PROMISE: u16 = 601;
@@ -43,7 +43,7 @@ fn any_unsent(world: &Decls, types: &[Ty]) -> bool
 {
     let mut any = false;
     for ty in types {
-        any = any || !sends(world, ty);
+        any = any || !may_cross(world, ty);
     }
     any
 }
@@ -55,7 +55,7 @@ fn parts_unsent(world: &Decls, parts: &[Part]) -> bool
 {
     let mut any = false;
     for part in parts {
-        any = any || !sends(world, &part.ty);
+        any = any || !may_cross(world, &part.ty);
     }
     any
 }
@@ -159,9 +159,9 @@ fn is_unsent(world: &Decls, typed: &Typed, numbers: &ShapeNumbers, variable: u32
         (variable_type (world_of world.now) (answers_of typed.now) variable) }
 {
     match typed.ty_at(variable) {
-        Some(ty) => !sends(world, ty),
+        Some(ty) => !may_cross(world, ty),
         None => match numbers.get(&variable) {
-            Some(number) => !sends(world, &Ty::Named(*number)),
+            Some(number) => !may_cross(world, &Ty::Named(*number)),
             None => false,
         },
     }
@@ -241,8 +241,9 @@ fn add_all(more: &[Placed], found: &mut ListOf<Placed>) -> Result<(), AllocError
     Ok(())
 }
 
-/// All values of a program that may not be shared (E601 to E606), by position and then by code, each
-/// once. `isolated` is what is known of the isolation of the program, `world` its declarations.
+/// All values of a program that may not be shared (E601 to E606), by position and then by code,
+/// each once. `isolated` is what is known of the isolation of the program, `world` its
+/// declarations.
 pub fn race_forms(
     alloc: Global,
     world: &Decls,

@@ -9,7 +9,7 @@ use Rattle.sw_types.specs.declared.isolation.Iso.TheVariants as iso
 use Rattle.sw_types.specs.declared.shape.Shape.{Shape}
 use Rattle.sw_types.specs.declared.shape.ShapeKind.{ShapeKind}
 use Rattle.sw_types.specs.declared.shape.ShapeKind.TheVariants as shapes
-use Rattle.sw_decls.specs.Signatures.{actor_iso}
+use Rattle.sw_typing_rules.specs.decls.Signatures.{actor_iso}
 use Rattle.sw_isolation_rules.specs.declared.uses.Callee.{Callee}
 use Rattle.sw_isolation_rules.specs.declared.uses.Context.{Context}
 use Rattle.sw_isolation_rules.specs.declared.uses.Storage.{Storage}

@@ -18,7 +18,7 @@ use Rattle.sw_types.specs.declared.ty.Ty.{Ty, out-Ty}
 use Rattle.sw_types.specs.declared.ty.Ty.TheOpen as types
 use Rattle.sw_resolve.specs.Shaped.{actor_of}
 use Rattle.sw_resolve.specs.declared.placed.Placed.{Placed}
-use Rattle.sw_decls.specs.Signatures.{actor_iso}
+use Rattle.sw_typing_rules.specs.decls.Signatures.{actor_iso}
 use Rattle.sw_typing_rules.specs.Statements.{marked_type}
 use Rattle.sw_typing_rules.specs.Worlds.{World}
 use Rattle.sw_isolation_rules.specs.Answers.{Answers}
@@ -56,19 +56,19 @@ await_notes context at is_async =
 
 -- a call of this kind, and whether its result may cross (E604)
 abbrev pub call_notes : Context → ℕ → Callee → Bool → List Note
-call_notes context at callee sends =
+call_notes context at callee may_cross =
     let kind = kind_of callee context.iso in
     Kind (record { at = at; kind = kind })
     ∷ (if needs_await kind callee.is_async then await_notes context at callee.is_async else [])
-    ++ race_if (is_strong kind && not sends) at 604
+    ++ race_if (is_strong kind && not may_cross) at 604
 
 -- A `var` of another actor is read by a call of its getter. A `let` is read directly: it never
 -- changes, but its value must be Sendable (E606).
 abbrev pub read_notes : Context → ℕ → Storage → List Note
 read_notes context at storage =
     if is_outside context storage
-    then (if storage.mutable then call_notes context at (accessor storage) storage.sends
-    else race_if (not storage.sends) at 606) else []
+    then (if storage.mutable then call_notes context at (accessor storage) storage.may_cross
+    else race_if (not storage.may_cross) at 606) else []
 
 -- storage is written in a body of its own isolation alone (E504)
 abbrev pub write_notes : Context → ℕ → Storage → List Note
@@ -76,7 +76,7 @@ write_notes context at storage = refused_if (is_outside context storage) at 504
 
 -- what is noted of a use
 abbrev pub use_notes : Context → ℕ → Used → List Note
-use_notes context at (Called callee sends) = call_notes context at callee sends
+use_notes context at (Called callee may_cross) = call_notes context at callee may_cross
 use_notes context at (Stored storage) = read_notes context at storage
 use_notes context at Field = []
 use_notes context at Waited = await_notes context at true
@@ -85,7 +85,7 @@ use_notes context at Nothing = []
 -- What is noted of an assignment to a place: a part of a struct is written as what holds the
 -- struct.
 abbrev pub store_notes : Context → ℕ → Used → List Note → List Note
-store_notes context at (Called callee sends) inside = []
+store_notes context at (Called callee may_cross) inside = []
 store_notes context at (Stored storage) inside = write_notes context at storage
 store_notes context at Field inside = inside
 store_notes context at Waited inside = []

@@ -17,9 +17,9 @@ use Rattle.sw_resolve.specs.Placed.{IsFirst}
 use Rattle.sw_resolve.specs.Shaped.{written_actor}
 use Rattle.sw_resolve.specs.Words.{shapes_made}
 use Rattle.sw_resolve.specs.declared.placed.Placed.{Placed}
-use Rattle.sw_decls.specs.Signatures.{actor_iso}
-use Rattle.sw_decls.specs.declared.signature.GlobalVar.{GlobalVar}
-use Rattle.sw_decls.specs.declared.signature.Signature.{Signature}
+use Rattle.sw_typing_rules.specs.decls.Signatures.{actor_iso}
+use Rattle.sw_typing_rules.specs.decls.declared.signature.GlobalVar.{GlobalVar}
+use Rattle.sw_typing_rules.specs.decls.declared.signature.Signature.{Signature}
 use Rattle.sw_typing_rules.specs.Worlds.{World, item}
 use Rattle.sw_isolation_rules.specs.Answers.{Answers, for_some}
 use Rattle.sw_isolation_rules.specs.Kinds.{shape_iso, is_isolated}

@@ -8,9 +8,9 @@ use Rattle.sw_types.specs.declared.shape.ShapeKind.{ShapeKind}
 use Rattle.sw_types.specs.declared.shape.ShapeKind.TheVariants as shapes
 use Rattle.sw_types.specs.declared.ty.Ty.{Ty, out-Ty}
 use Rattle.sw_types.specs.declared.ty.Ty.TheOpen as layer
-use Rattle.sw_decls.specs.Signatures.{actor_iso}
-use Rattle.sw_decls.specs.declared.signature.GlobalVar.{GlobalVar}
-use Rattle.sw_decls.specs.declared.signature.Signature.{Signature}
+use Rattle.sw_typing_rules.specs.decls.Signatures.{actor_iso}
+use Rattle.sw_typing_rules.specs.decls.declared.signature.GlobalVar.{GlobalVar}
+use Rattle.sw_typing_rules.specs.decls.declared.signature.Signature.{Signature}
 use Rattle.sw_typing_rules.specs.Worlds.{World, item, and_then, is_object_kind}
 use Rattle.sw_typing_rules.specs.declared.row.Meaning.{Meaning}
 use Rattle.sw_typing_rules.specs.declared.row.Meaning.TheVariants as means
@@ -41,8 +41,8 @@ base_of answers key is_self =
     record { shape = named_shape (answers.type_at key); is_self = is_self }
 
 module _ (world : World) where
-  abbrev pub is_sent : Ty → Bool
-  is_sent ty = is_sendable world.shapes ty
+  abbrev pub may_cross : Ty → Bool
+  may_cross ty = is_sendable world.shapes ty
 
   -- the call of a function that was found, on `self` or not
   abbrev pub called : Bool → Bool → Option Signature → Used
@@ -52,7 +52,7 @@ module _ (world : World) where
     is_async = func.is_async;
     is_initialiser = is_initialiser;
     on_self = on_self;
-  }) (func.sends || is_sent func.result)
+  }) (func.sends || may_cross func.result)
 
   -- the call of a function by its number
   unfoldable pub func_used : ℕ → Bool → Used
@@ -81,7 +81,7 @@ module _ (world : World) where
     iso = shape_iso shape;
     on_self = on_self;
     mutable = part.mutable;
-    sends = is_sent part.ty;
+    may_cross = may_cross part.ty;
   }
 
   -- a property: a part of a struct's value, or storage of an object or an actor
@@ -90,13 +90,13 @@ module _ (world : World) where
   part_in shape on_self (Some part) =
       if is_object_kind shape.kind then Stored (part_storage shape on_self part) else Field
 
-  abbrev pub part_of : Option Shape → ℕ → Bool → Used
-  part_of None number on_self = Nothing
-  part_of (Some shape) number on_self = part_in shape on_self (slice_get shape.parts number)
+  abbrev pub part_of_shape : Option Shape → ℕ → Bool → Used
+  part_of_shape None number on_self = Nothing
+  part_of_shape (Some shape) number on_self = part_in shape on_self (slice_get shape.parts number)
 
   -- the property with a number of the type with a number
   unfoldable pub part_used : Option ℕ → ℕ → Bool → Used
-  part_used shape number on_self = part_of (item shape world.shapes) number on_self
+  part_used shape number on_self = part_of_shape (item shape world.shapes) number on_self
 
   abbrev pub global : Option GlobalVar → Used
   global None = Nothing
@@ -104,7 +104,7 @@ module _ (world : World) where
     iso = actor_iso one.actor;
     on_self = false;
     mutable = one.mutable;
-    sends = is_sent one.ty;
+    may_cross = may_cross one.ty;
   })
 
   unfoldable pub global_used : ℕ → Used

@@ -22,18 +22,18 @@ ghost use Rattle.sw_graph.specs.declared.graph.Graph.{Graph};
 ghost use Rattle.sw_graph.specs.declared.instr.Instr.TheVariants.{Call};
 ghost use Rattle.sw_graph.specs.declared.instr.Operand.{Operand};
 ghost use Rattle.sw_resolve.specs.declared.placed.Placed.{Placed};
-ghost use Rattle.sw_decls.specs.declared.signature.Signature.{Signature};
+ghost use Rattle.sw_typing_rules.specs.decls.declared.signature.Signature.{Signature};
 ghost use Rattle.sw_typing_rules.specs.Worlds.{World};
 ghost use Rattle.sw_typing_rules.specs.declared.row.Meaning.TheVariants as means;
 ghost use Rattle.sw_isolation_rules.specs.Answers.{Answers};
-ghost use Rattle.sw_isolation_rules.specs.CallKeys.{HaveKinds, block_calls, expr_calls};
+ghost use Rattle.sw_isolation_rules.specs.CallKeys.{HaveNotedKinds, block_calls, expr_calls};
 ghost use Rattle.sw_isolation_rules.specs.Kinds.{is_outside, kind_of, plain_callee};
 ghost use Rattle.sw_isolation_rules.specs.Lists.{captures_in, kinds_in, refusals_in};
 ghost use Rattle.sw_isolation_rules.specs.Noting.{block_notes, closure_iso, see, task_iso};
 ghost use Rattle.sw_isolation_rules.specs.Noting.{use_notes};
 ghost use Rattle.sw_isolation_rules.specs.Programs.{noted, refusals};
 ghost use Rattle.sw_isolation_rules.specs.Races.{IsMerged, races};
-ghost use Rattle.sw_isolation_rules.specs.Uses.{base_of, is_sent, maker_at, no_base, used};
+ghost use Rattle.sw_isolation_rules.specs.Uses.{base_of, may_cross, maker_at, no_base, used};
 ghost use Rattle.sw_isolation_rules.specs.declared.note.Capture.{Capture};
 ghost use Rattle.sw_isolation_rules.specs.declared.uses.Base.{Base};
 ghost use Rattle.sw_isolation_rules.specs.declared.uses.Callee.{Callee};
@@ -138,13 +138,13 @@ pub fn calls_are_of_what_is_meant()
         → slice_get world.funcs number ≡ Some func
         → used world answers owner base at
         ≡ Called (plain_callee func.iso func.is_async base.is_self)
-        (func.sends || is_sent world func.result) }
+        (func.sends || may_cross world func.result) }
     ensures own { (world : World) (answers : Answers) (owner : Option ℕ) (base : Base)
         (at number : ℕ) (func : Signature) → answers.meaning_at at ≡ Some (means.OwnFunc number)
         → slice_get world.funcs number ≡ Some func
         → used world answers owner base at
         ≡ Called (plain_callee func.iso func.is_async true)
-        (func.sends || is_sent world func.result) }
+        (func.sends || may_cross world func.result) }
     ensures class { (world : World) (answers : Answers) (owner : Option ℕ) (base : Base)
         (at number : ℕ) (shape : Shape) (func : Signature)
         → answers.meaning_at at ≡ Some (means.MakeOf number)
@@ -152,7 +152,7 @@ pub fn calls_are_of_what_is_meant()
         → maker_at world number ≡ Some func
         → used world answers owner base at
         ≡ Called (plain_callee func.iso func.is_async false)
-        (func.sends || is_sent world func.result) }
+        (func.sends || may_cross world func.result) }
     ensures actor { (world : World) (answers : Answers) (owner : Option ℕ) (base : Base)
         (at number : ℕ) (shape : Shape) (func : Signature)
         → answers.meaning_at at ≡ Some (means.MakeOf number)
@@ -164,7 +164,7 @@ pub fn calls_are_of_what_is_meant()
           is_async = func.is_async;
           is_initialiser = true;
           on_self = false;
-        }) (func.sends || is_sent world func.result) }
+        }) (func.sends || may_cross world func.result) }
 {}
 
 /// What is noted of an expression has the key of the expression's own node.
@@ -176,15 +176,15 @@ pub fn expressions_are_noted_by_key()
 /// A call of a function, a method or an initialiser has the kind that the table gives.
 pub fn calls_have_kinds()
     ensures call { (world : World) (answers : Answers) (context : Context) (listed : List ℕ)
-        (name : Name) (args : List Arg) (callee : Callee) (sends : Bool)
-        → used world answers context.owner no_base name.at ≡ Called callee sends
+        (name : Name) (args : List Arg) (callee : Callee) (crosses : Bool)
+        → used world answers context.owner no_base name.at ≡ Called callee crosses
         → Contains (kinds_in ((see world answers (exprs.Call name args)).notes context listed))
         (record { at = name.at; kind = kind_of callee context.iso }) }
     ensures method { (world : World) (answers : Answers) (context : Context) (listed : List ℕ)
-        (base : Expr) (name : Name) (args : List Arg) (callee : Callee) (sends : Bool)
+        (base : Expr) (name : Name) (args : List Arg) (callee : Callee) (crosses : Bool)
         → used world answers context.owner
         (base_of answers (see world answers base).key (see world answers base).is_self) name.at
-        ≡ Called callee sends
+        ≡ Called callee crosses
         → Contains
         (kinds_in ((see world answers (exprs.Method base name args)).notes context listed))
         (record { at = name.at; kind = kind_of callee context.iso }) }
@@ -213,9 +213,9 @@ pub fn merged_breaches_are_one_list()
 /// Each call that stands in an expression or a block, however deep, has a kind.
 pub fn calls_inside_have_kinds()
     ensures exprs { (world : World) (answers : Answers) (context : Context) (listed : List ℕ)
-        (expr : Expr) → HaveKinds ((see world answers expr).notes context listed)
+        (expr : Expr) → HaveNotedKinds ((see world answers expr).notes context listed)
         (expr_calls world answers context.owner expr) }
     ensures blocks { (world : World) (answers : Answers) (context : Context) (listed : List ℕ)
-        (block : Block) → HaveKinds (block_notes world answers block context listed)
+        (block : Block) → HaveNotedKinds (block_notes world answers block context listed)
         (block_calls world answers context.owner block) }
 {}

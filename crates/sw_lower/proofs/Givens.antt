@@ -5,8 +5,8 @@ use Rattle.sw_lower_run.specs.declared.fault.CodeFault.{CodeFault}
 use Rattle.sw_lower_code.specs.Code.{each}
 use Rattle.sw_lower_table.specs.Bodies.{GivenValue, give_value}
 use Rattle.sw_lower_table.specs.Carriers.{Given}
-use Rattle.sw_lower_uses.specs.Gathering.{each_after}
-use Rattle.sw_lower_uses.proofs.Gathered.{each_is}
+use Rattle.sw_lower_stmt.specs.lower_uses.Gathering.{each_after}
+use Rattle.sw_lower_stmt.proofs.Gathered.{each_is}
 use Rattle.sw_lower_stmt.proofs.Loops.{Outcome, each_append}
 
 module _ (first second : List Given) (s : Making) where

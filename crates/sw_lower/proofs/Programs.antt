@@ -16,8 +16,8 @@ use Rattle.sw_lower_run.specs.declared.name.FunctionName.{FunctionName}
 use Rattle.sw_lower_bodies.specs.Trees.{bodies_by, body_by}
 use Rattle.sw_lower_bodies.specs.declared.body_tree.BodyTree.{BodyTree}
 use Rattle.sw_lower_code.specs.Whole.{Body, function_of, lower_body}
-use Rattle.sw_lower_known.specs.Knowledge.{tables_by}
-use Rattle.sw_lower_known.specs.declared.known.Known.{Known}
+use Rattle.sw_lower_bodies.specs.lower_known.Knowledge.{tables_by}
+use Rattle.sw_lower_bodies.specs.lower_known.declared.known.Known.{Known}
 use Rattle.sw_lower_table.specs.Bodies.{AreMade, functions_of, numbers_of, order_of}
 use Rattle.sw_lower_table.specs.Bodies.{placed_excess, too_large_in}
 use Rattle.sw_lower_table.specs.Tables.{Tables, name_of, number_in}
@@ -49,7 +49,8 @@ module _ (tables : Tables) where
       omega (
         arith,
         rises,
-        ap order_of (get_or-map (body_by tables) (tree ∷ trees) i tree d (omega (arith, le, within))),
+        ap order_of
+            (get_or-map (body_by tables) (tree ∷ trees) i tree d (omega (arith, le, within))),
         ap order_of (get_or-map (body_by tables) (tree ∷ trees) j tree d within),
       )
 
@@ -65,9 +66,9 @@ module _ (tables : Tables) where
   functions_map number (tree ∷ trees) =
       ap (λ more. function_of number (body_by tables tree) ∷ more) (functions_map number trees)
 
-front_empty : {A : Type 0} (front more : List A) → front ++ more ≡ [] → front ≡ []
-front_empty [] more is = refl
-front_empty (x ∷ front) more is = cc
+earlier_empty : {A : Type 0} (earlier more : List A) → earlier ++ more ≡ [] → earlier ≡ []
+earlier_empty [] more is = refl
+earlier_empty (x ∷ earlier) more is = cc
 
 -- Where nothing is listed, all items so far have a property, and so has the next one.
 pub all_so_far : {A X : Type 0} (P : X → Type 0) (xs : List X) (i : ℕ) (x : X)
@@ -75,7 +76,7 @@ pub all_so_far : {A X : Type 0} (P : X → Type 0) (xs : List X) (i : ℕ) (x : 
     → (old ≡ [] → All P (take i xs)) → (new ≡ [] → P x) → new ≡ [] → All P (take (i + 1) xs)
 all_so_far P xs i x old new more below is longer before here none_listed =
     All-more P xs i x below
-    (before (front_empty old more (sym longer ∙ none_listed)))
+    (before (earlier_empty old more (sym longer ∙ none_listed)))
     (subst P is (here none_listed))
 
 -- the first of the items that are left
@@ -105,7 +106,7 @@ module _ {X : Type 0} (made : X → Function) (xs : List X) (i : ℕ) (x : X) (b
       ap (λ list. list ++ map made (drop (i + 1) xs)) (one none_listed)
       ∙ (append_assoc fewer (made x ∷ []) (map made (drop (i + 1) xs))
       ∙ (ap (λ list. fewer ++ map made list) (sym (next_left xs i x below is))
-      ∙ left (front_empty old more (sym longer ∙ none_listed))))
+      ∙ left (earlier_empty old more (sym longer ∙ none_listed))))
 
 module _ (known : Known) (numbers : NumberTable) (trees : List BodyTree)
     (are : (name : FunctionName) → number_by numbers name

@@ -21,10 +21,11 @@ use Rattle.sw_typing_rules.specs.Worlds.{and_then}
 use Rattle.sw_lower_bodies.specs.Trees.{body_by}
 use Rattle.sw_lower_bodies.specs.declared.body_tree.BodyTree.{BodyTree}
 use Rattle.sw_lower_code.specs.Whole.{Body, function_of, lower_body}
-use Rattle.sw_lower_known.specs.Knowledge.{tables_by}
-use Rattle.sw_lower_known.specs.declared.known.Known.{Known}
+use Rattle.sw_lower_bodies.specs.lower_known.Knowledge.{tables_by}
+use Rattle.sw_lower_bodies.specs.lower_known.declared.known.Known.{Known}
 use Rattle.sw_lower_table.specs.Bodies.{AreMade, AreNumbered, AreOrdered, IsFirstTooLarge}
-use Rattle.sw_lower_table.specs.Bodies.{HasFunctions, entry_key, functions_of, numbers_of, too_large_in}
+use Rattle.sw_lower_table.specs.Bodies.{HasFunctions, entry_key, functions_of, numbers_of}
+use Rattle.sw_lower_table.specs.Bodies.{too_large_in}
 use Rattle.sw_lower_table.specs.Tables.{Tables, plain}
 
 -- what a function is that is made, where it has no more points than it may have

@@ -4,7 +4,7 @@ ghost use Rattle.std.specs.Option.{option_copied};
 ghost use Rattle.sw_draft.specs.Drafts.{Gives, making_of};
 ghost use Rattle.sw_lower.specs.Initialised.{parts_code, values_of};
 ghost use Rattle.sw_lower_bodies.specs.Trees.{closure_code, code_by, gives_by, result_by};
-ghost use Rattle.sw_lower_known.specs.Knowledge.{tables_by};
+ghost use Rattle.sw_lower_bodies.specs.lower_known.Knowledge.{tables_by};
 ghost use Rattle.sw_lower_table.specs.Bodies.{first_code, first_values, getter_code, init_code};
 ghost use Rattle.sw_lower_code.specs.Code.{each};
 ghost use Rattle.sw_lower_run.specs.Run.{Making};
@@ -12,7 +12,7 @@ ghost use Rattle.sw_lower_run.specs.declared.fault.CodeFault.TheVariants.{Memory
 ghost use Rattle.sw_lower_stmt.specs.Giving.{values_given, with_values};
 ghost use Rattle.sw_lower_table.specs.Bodies.{made_instr, part_read, prop_given, stored_read};
 ghost use Rattle.sw_lower_table.specs.Bodies.{give_value, value_of};
-ghost use Rattle.sw_lower_uses.specs.Gathering.{each_after};
+ghost use Rattle.sw_lower_stmt.specs.lower_uses.Gathering.{each_after};
 ghost use Rattle.sw_lower_table.specs.Expressions.{body_code};
 ghost use Rattle.sw_lower_table.specs.Statements.{expr_code};
 
@@ -21,9 +21,9 @@ use sw_draft::Draft;
 use sw_graph::{Instr, Last, Operand, OperandList, RegKind};
 use sw_list::ListOf;
 use sw_lower_bodies::BodyForm;
-use sw_lower_expr::expr;
-use sw_lower_known::Known;
+use sw_lower_bodies::lower_known::Known;
 use sw_lower_run::CodeFault;
+use sw_lower_stmt::lower_expr::expr;
 use sw_lower_stmt::{GivenOperand, body, give_values};
 use sw_tree::{Block, Closure, Expr, PropTree};
 use sw_types::{Part, Shape, ShapeKind, Ty};
@@ -85,7 +85,8 @@ fn store_first(
     value: &Expr,
     draft: &mut Draft<'_>,
 ) -> Result<(), CodeFault>
-    ensures { Gives ((first_code key index (expr_code (tables_by known.now) None value.now).read).run
+    ensures { Gives
+        ((first_code key index (expr_code (tables_by known.now) None value.now).read).run
         (making_of draft.old)) result draft.new }
 {
     let s = expr(alloc, known, None, value, draft)?;

@@ -1,6 +1,6 @@
 //! The functions of a program: its bodies in the order of their keys, each as its plan says, or the
-//! first that is larger than a function of a graph (E510, E511). It knows nothing of how code is made
-//! of a form.
+//! first that is larger than a function of a graph (E510, E511). It knows nothing of how code is
+//! made of a form.
 #![tactic(auto)]
 
 mod codes;
@@ -10,3 +10,4 @@ mod numbers;
 mod takes;
 
 pub use lowering::{LowerFault, Lowering, lower};
+pub use sw_lower_bodies::isolation;

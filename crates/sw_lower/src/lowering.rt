@@ -1,10 +1,11 @@
 //! The functions of a program.
-ghost use Rattle.std.specs.Prelude.{◌≡◌, ◌++◌, ◌∷◌, ◌<◌, ◌^◌, [], None, List, length, map, All, IfErr, IfOk, OnOk};
-ghost use Rattle.sw_capture.specs.Known.{answers_of};
+ghost use Rattle.std.specs.Prelude.{◌≡◌, ◌++◌, ◌∷◌, ◌<◌, ◌^◌, [], None, List, length, map, All};
+ghost use Rattle.std.specs.Prelude.{IfErr, IfOk, OnOk};
+ghost use Rattle.sw_lower_bodies.specs.capture.Known.{answers_of};
 ghost use Rattle.sw_lower.specs.Lowered.{EndsWell, HasMade, IsLowering, IsMadeOf, IsTooLarge};
 ghost use Rattle.sw_lower.specs.Lowered.{function_by};
 ghost use Rattle.sw_lower.specs.declared.lowering.LowerFault.{LowerFault};
-ghost use Rattle.sw_lower_known.specs.Knowledge.{isolation_of, tables_by};
+ghost use Rattle.sw_lower_bodies.specs.lower_known.Knowledge.{isolation_of, tables_by};
 ghost use Rattle.sw_lower_table.specs.Bodies.{IsFirstTooLarge, tables_of, too_large_in};
 ghost use Rattle.sw_lower_table.specs.Tables.{Tables};
 ghost use Rattle.sw_tree.specs.declared.decl.Decl.{Decl};
@@ -16,14 +17,14 @@ use std::alloc::{AllocError, Global};
 use sw_decls::Decls;
 use sw_draft::NumberTable;
 use sw_graph::{FunctionList, IdList};
-use sw_isolation::Isolated;
 use sw_list::ListOf;
+use sw_lower_bodies::isolation::Isolated;
+use sw_lower_bodies::lower_known::Known;
+use sw_lower_bodies::typing::Typed;
 use sw_lower_bodies::{BodyTree, bodies_of};
 use sw_lower_code::BodyFault;
-use sw_lower_known::Known;
 use sw_resolve::{Placed, first_of};
 use sw_tree::{Decl, Program};
-use sw_typing::Typed;
 use thiserror::Error;
 
 /// A function with more registers than a function of a graph.
@@ -184,8 +185,8 @@ fn decided(program: MadeProgram) -> Result<Lowering, LowerFault>
 }
 
 /// The functions of a program in the order of their keys, or the first that is too large. The
-/// program declares `world`, its nodes have the types and meanings of `typed`, and `isolated` is what
-/// is known of its isolation.
+/// program declares `world`, its nodes have the types and meanings of `typed`, and `isolated` is
+/// what is known of its isolation.
 pub fn lower(
     alloc: Global,
     program: &Program,
@@ -197,7 +198,8 @@ pub fn lower(
     ensures functions { IfOk result (IsLowering (tables_of (world_of world.now)
         (answers_of typed.now) (isolation_of isolated.now) program.now.decls) program.now.decls) }
     ensures none { OnOk result (IsFirstTooLarge (tables_of (world_of world.now)
-        (answers_of typed.now) (isolation_of isolated.now) program.now.decls) program.now.decls None) }
+        (answers_of typed.now) (isolation_of isolated.now) program.now.decls) program.now.decls
+        None) }
     ensures first { IfErr result (IsTooLarge (tables_of (world_of world.now)
         (answers_of typed.now) (isolation_of isolated.now) program.now.decls) program.now.decls) }
 {

@@ -6,7 +6,7 @@ ghost use Rattle.sw_lower.specs.Lowered.{EndsWell, finished_by};
 ghost use Rattle.sw_lower_bodies.specs.Trees.{body_by, result_by, sends_by, takes_by};
 ghost use Rattle.sw_lower_code.specs.Whole.{IsWhole, code_of, lower_body};
 ghost use Rattle.sw_lower_code.specs.declared.fault.BodyFault.TheVariants as faults;
-ghost use Rattle.sw_lower_known.specs.Knowledge.{tables_by};
+ghost use Rattle.sw_lower_bodies.specs.lower_known.Knowledge.{tables_by};
 ghost use Rattle.sw_lower_table.specs.Tables.{Tables, func_result, or_void};
 ghost use Rattle.sw_isolation_rules.specs.Noting.{task_result};
 
@@ -15,9 +15,9 @@ use crate::takes::{enter_all, sending_of, takes_of};
 use std::alloc::{AllocError, Global};
 use sw_draft::{Draft, NumberTable};
 use sw_graph::{BoolList, Function};
+use sw_lower_bodies::lower_known::Known;
 use sw_lower_bodies::{BodyForm, BodyTree};
 use sw_lower_code::{BodyFault, Taken, functions_are_their_plans};
-use sw_lower_known::Known;
 use sw_lower_run::CodeFault;
 use sw_types::Ty;
 use sw_typing_words::copy_of;
@@ -151,7 +151,8 @@ pub fn function_of(
     numbers: &NumberTable,
     tree: BodyTree<'_>,
 ) -> Result<Function, BodyFault>
-    ensures whole { IsWhole (number_by numbers.now) (body_by (tables_by known.now) tree.entry) result }
+    ensures whole { IsWhole (number_by numbers.now) (body_by (tables_by known.now) tree.entry)
+        result }
     ensures made { OnOk result (EndsWell known.now numbers.now tree.entry) }
 {
     functions_are_their_plans();

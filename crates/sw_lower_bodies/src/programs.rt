@@ -17,10 +17,10 @@ use std::alloc::{AllocError, Global};
 use sw_decls::{GlobalVar, Signature};
 use sw_list::ListOf;
 use sw_lower_known::Known;
+use sw_lower_known::uses::{is_isolated, shape_iso};
 use sw_resolve::shapes_made;
 use sw_tree::{Block, Decl, Expr, FuncTree, InitTree, Name, ParamTree, PropTree};
 use sw_types::{Part, Shape};
-use sw_uses::{is_isolated, shape_iso};
 
 /// Adds the body of a function, by its signature, and those in it.
 #[tactic(auto, unfolding(crate::specs::Inside::block_inside))]

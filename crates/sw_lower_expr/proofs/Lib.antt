@@ -1,2 +1,2 @@
-pub mod CodedKeys
 pub mod Parts
+pub use Rattle.sw_lower_uses.proofs.Gathered

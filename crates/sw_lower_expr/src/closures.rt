@@ -4,13 +4,13 @@
 
 ghost use Rattle.sw_draft.specs.Drafts.{Gives, making_of};
 ghost use Rattle.sw_lower_expr.specs.Walked.{closure_made, task_made};
-ghost use Rattle.sw_lower_known.specs.Knowledge.{tables_by};
+ghost use Rattle.sw_lower_uses.specs.lower_known.Knowledge.{tables_by};
 
 use std::alloc::Global;
 use sw_draft::Draft;
 use sw_graph::{Instr, Operand, RegKind};
-use sw_lower_known::Known;
 use sw_lower_run::{CodeFault, FunctionName};
+use sw_lower_uses::lower_known::Known;
 use sw_lower_uses::{captures, emit_value, type_of};
 
 /// The closure whose body has the key `at`.

@@ -3,7 +3,7 @@
 
 ghost use Rattle.sw_draft.specs.Drafts.{Gives, making_of};
 ghost use Rattle.sw_lower_expr.specs.Walked.{cell_written};
-ghost use Rattle.sw_lower_known.specs.Knowledge.{tables_by};
+ghost use Rattle.sw_lower_uses.specs.lower_known.Knowledge.{tables_by};
 ghost use Rattle.sw_lower_table.specs.Expressions.{member_write, own_base, set_part};
 ghost use Rattle.sw_lower_table.specs.Expressions.{word_write, write_part};
 ghost use Rattle.sw_lower_table.specs.Statements.{expr_code};
@@ -14,8 +14,8 @@ use crate::walk::expr;
 use std::alloc::Global;
 use sw_draft::Draft;
 use sw_graph::{Instr, Operand, RegKind};
-use sw_lower_known::Known;
 use sw_lower_run::CodeFault;
+use sw_lower_uses::lower_known::Known;
 use sw_lower_uses::{number_of, read_self, shape_at, shape_of, write_var};
 use sw_tree::Expr;
 use sw_types::{ShapeKind, Ty};

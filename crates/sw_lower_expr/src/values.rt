@@ -3,7 +3,7 @@
 
 ghost use Rattle.sw_draft.specs.Drafts.{Gives, making_of};
 ghost use Rattle.sw_graph.specs.declared.instr.Instr.TheVariants as instr;
-ghost use Rattle.sw_lower_known.specs.Knowledge.{tables_by};
+ghost use Rattle.sw_lower_uses.specs.lower_known.Knowledge.{tables_by};
 ghost use Rattle.sw_lower_expr.specs.Walked.{waited};
 ghost use Rattle.sw_lower_table.specs.Expressions.{copied, prefixed};
 ghost use Rattle.sw_lower_table.specs.Uses.{give};
@@ -12,8 +12,8 @@ ghost use Rattle.sw_types.specs.declared.ty.Ty.TheVariants as types;
 use std::alloc::Global;
 use sw_draft::Draft;
 use sw_graph::{BinOp, Instr, Literal, Operand, OperandList, RegKind, UnOp};
-use sw_lower_known::Known;
 use sw_lower_run::CodeFault;
+use sw_lower_uses::lower_known::Known;
 use sw_lower_uses::{emit_value, type_of};
 use sw_tree::PrefixOp;
 use sw_types::Ty;

@@ -5,7 +5,7 @@ ghost use Rattle.std.specs.Prelude.{◌≡◌, ◌∷◌, Option, IfOk};
 ghost use Rattle.sw_draft.specs.Drafts.{Gives, making_of};
 ghost use Rattle.sw_lower_expr.specs.Walked.{arg_codes, case_made, held_called, link_codes};
 ghost use Rattle.sw_lower_expr.specs.Walked.{method_called};
-ghost use Rattle.sw_lower_known.specs.Knowledge.{tables_by};
+ghost use Rattle.sw_lower_uses.specs.lower_known.Knowledge.{tables_by};
 ghost use Rattle.sw_lower_table.specs.Expressions.{args_read, binary, both, by_op, call_read};
 ghost use Rattle.sw_lower_table.specs.Expressions.{either, links_read, member_read};
 ghost use Rattle.sw_lower_table.specs.Expressions.{read_of_base, right_in};
@@ -19,8 +19,8 @@ use std::alloc::{AllocError, Global};
 use sw_draft::Draft;
 use sw_graph::{BinOp, Instr, Last, Literal, Operand, OperandList};
 use sw_list::ListOf;
-use sw_lower_known::Known;
 use sw_lower_run::CodeFault;
+use sw_lower_uses::lower_known::Known;
 use sw_lower_uses::{
     call_closure, call_func, make, make_value, number_of, read_global, read_own, read_part,
     read_self, read_var, read_word, shape_of,

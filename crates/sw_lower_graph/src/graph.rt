@@ -1,13 +1,13 @@
 //! The graph of a program.
 ghost use Rattle.std.specs.Prelude.{◌≡◌, List, None, map, IfOk};
-ghost use Rattle.sw_capture.specs.Known.{answers_of};
+ghost use Rattle.sw_lower.specs.capture.Known.{answers_of};
 ghost use Rattle.sw_decls.specs.Declaring.{IsDeclared, IsFirstBreach};
 ghost use Rattle.sw_decls.specs.declared.declaring.Decls.{Decls};
 ghost use Rattle.sw_decls.specs.declared.signature.AsyncDefault.{AsyncDefault};
 ghost use Rattle.sw_graph.specs.WellFormed.{IsWellFormed};
 ghost use Rattle.sw_lower.specs.Lowered.{IsLowering};
 ghost use Rattle.sw_lower.specs.declared.lowering.Lowering.{Lowering};
-ghost use Rattle.sw_lower_known.specs.Knowledge.{isolation_of};
+ghost use Rattle.sw_lower.specs.lower_known.Knowledge.{isolation_of};
 ghost use Rattle.sw_tree.specs.CasePlaces.{CasesApart};
 ghost use Rattle.sw_lower_table.specs.Bodies.{Lowered, global_kind, tables_of};
 ghost use Rattle.sw_lower_table.specs.Tables.{Isolation};
@@ -21,9 +21,9 @@ ghost use Rattle.sw_typing_rules.specs.Worlds.{world_of};
 use std::alloc::{AllocError, Global};
 use sw_decls::{Decls, GlobalVar};
 use sw_graph::{Functions, GlobalKind, GlobalKinds, Graph};
-use sw_isolation::{Isolated, answers_are_those_of_the_program};
 use sw_list::ListOf;
 use sw_lower::Lowering;
+use sw_lower::isolation::{Isolated, answers_are_those_of_the_program};
 use sw_lower_safe::programs_have_well_formed_graphs;
 use sw_tree::Program;
 use sw_typing::Typed;
@@ -59,7 +59,8 @@ fn lowerings_are_well_formed()
         (isolation : Isolation) (lowering : Lowering) → AreKeyed decls → CasesApart decls
         → IsFirstBreach decls None → IsDeclared decls rule declared
         → IsTyped (world_of declared) decls typed → IsFirstIll (world_of declared) decls None
-        → IsLowering (tables_of (world_of declared) (answers_of typed) isolation decls) decls lowering
+        → IsLowering (tables_of (world_of declared) (answers_of typed) isolation decls) decls
+        lowering
         → IsWellFormed declared.shapes (map global_kind declared.globals) lowering.functions
         lowering.entry lowering.starts }
 {
@@ -68,9 +69,9 @@ fn lowerings_are_well_formed()
     programs_have_well_formed_graphs();
 }
 
-/// The graph of a program that keeps the rules on declarations and on types. It declares `declared`,
-/// its nodes have the types and meanings of `typed`, `isolated` is what is known of its isolation, and
-/// `lowering` has its functions.
+/// The graph of a program that keeps the rules on declarations and on types. It declares
+/// `declared`, its nodes have the types and meanings of `typed`, `isolated` is what is known of its
+/// isolation, and `lowering` has its functions.
 pub fn graph_of(
     alloc: Global,
     program: &Program,

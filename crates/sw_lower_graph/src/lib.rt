@@ -5,3 +5,4 @@
 mod graph;
 
 pub use graph::graph_of;
+pub use sw_lower as lower;

@@ -1,1 +1,2 @@
 pub mod Knowledge
+pub use Rattle.sw_isolation.specs.capture

@@ -1,7 +1,7 @@
 //! What is known of a program, by key.
 ghost use Rattle.std.specs.Prelude.{◌≡◌, Option, slice_get, IfOk};
 ghost use Rattle.std.specs.Option.{option_copied, option_map};
-ghost use Rattle.sw_capture.specs.Known.{answers_of};
+ghost use Rattle.sw_isolation.specs.capture.Known.{answers_of};
 ghost use Rattle.sw_isolation_rules.specs.Captures.{is_among, self_of};
 ghost use Rattle.sw_isolation_rules.specs.Programs.{func_at};
 ghost use Rattle.sw_isolation_rules.specs.Uses.{maker_at, named_shape};
@@ -15,11 +15,11 @@ use indexmap::{IndexMap, IndexSet};
 use std::alloc::{AllocError, Global};
 use sw_decls::{Decls, GlobalVar, Signature};
 use sw_isolation::Isolated;
+use sw_isolation::typing::Typed;
 use sw_isolation_rules::{BodyIso, Capture};
 use sw_list::ListOf;
 use sw_tree::Decl;
 use sw_types::{CallKind, Shape, Ty};
-use sw_typing::Typed;
 use sw_typing_rules::Meaning;
 
 /// What is known of a program.

@@ -12,7 +12,7 @@ use Rattle.sw_lower_table.specs.Statements.{block_code, code_steps, stmt_code}
 use Rattle.sw_lower_table.specs.Tables.{Tables}
 use Rattle.sw_lower_stmt.proofs.Loops.{Outcome, each_append, next_item}
 use Rattle.sw_lower_stmt.specs.Parts.{gives_of}
-use Rattle.sw_lower_uses.specs.Gathering.{each_after}
+use Rattle.sw_lower_expr.specs.lower_uses.Gathering.{each_after}
 
 module _ (tables : Tables) (owner : Option ℕ) where
   -- what a block gives is what its statements give

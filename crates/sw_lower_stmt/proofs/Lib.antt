@@ -5,3 +5,4 @@ pub mod Loops
 pub mod Patterns
 pub mod Switches
 pub mod Whole
+pub use Rattle.sw_lower_expr.proofs.Gathered

@@ -2,7 +2,7 @@
 ghost use Rattle.std.specs.Prelude.{◌≡◌, ℕ, Option, None, if◌then◌else◌};
 ghost use Rattle.std.specs.Option.{option_copied};
 ghost use Rattle.sw_draft.specs.Drafts.{Gives, making_of};
-ghost use Rattle.sw_lower_known.specs.Knowledge.{tables_by};
+ghost use Rattle.sw_lower_expr.specs.lower_known.Knowledge.{tables_by};
 ghost use Rattle.sw_lower_stmt.specs.Parts.{read_of};
 ghost use Rattle.sw_lower_table.specs.Expressions.{body_code, with_result};
 ghost use Rattle.sw_lower_table.specs.Statements.{block_code, stmt_code};
@@ -14,7 +14,7 @@ use std::alloc::Global;
 use sw_draft::Draft;
 use sw_graph::Last;
 use sw_lower_expr::expr;
-use sw_lower_known::Known;
+use sw_lower_expr::lower_known::Known;
 use sw_lower_run::CodeFault;
 use sw_lower_table::Targets;
 use sw_tree::{Block, Expr, Stmt};

@@ -4,7 +4,7 @@
 ghost use Rattle.std.specs.Prelude.{◌≡◌, ℕ, Option, IfOk};
 ghost use Rattle.sw_draft.specs.Drafts.{Gives, making_of};
 ghost use Rattle.sw_lower_code.specs.Code.{each};
-ghost use Rattle.sw_lower_known.specs.Knowledge.{tables_by};
+ghost use Rattle.sw_lower_expr.specs.lower_known.Knowledge.{tables_by};
 ghost use Rattle.sw_lower_stmt.specs.Parts.{arm_number, block_named, blocks_opened};
 ghost use Rattle.sw_lower_stmt.specs.Parts.{default_number, goes_to, switch_opened};
 ghost use Rattle.sw_lower_table.specs.Statements.{case_from};
@@ -13,15 +13,15 @@ use std::alloc::{AllocError, Global};
 use sw_draft::Draft;
 use sw_graph::{IdList, Last, Operand};
 use sw_list::ListOf;
+use sw_lower_expr::lower_known::Known;
+use sw_lower_expr::lower_uses::{shape_at, shape_of};
 use sw_lower_expr::{expr, key_of};
-use sw_lower_known::Known;
 use sw_lower_run::CodeFault;
-use sw_lower_uses::{shape_at, shape_of};
 use sw_tree::{Block, CaseArm, Expr};
 use sw_types::{CaseShape, Shape};
 
-/// A `switch`: the value that it looks at, and the numbers of the blocks of its arms in order, of that
-/// of its `default`, and of the one after it.
+/// A `switch`: the value that it looks at, and the numbers of the blocks of its arms in order, of
+/// that of its `default`, and of the one after it.
 #[derive(Drop)]
 pub struct OpenSwitch {
     pub subject: Operand,
@@ -42,8 +42,8 @@ fn case_number(cases: &[CaseShape], name: u32) -> Option<usize>
     None
 }
 
-/// Makes the block of an arm of a `switch` over `subject`, a value of the enum `shape`, whose number
-/// is `number`. An arm of no case of the enum has no code, as where memory runs out.
+/// Makes the block of an arm of a `switch` over `subject`, a value of the enum `shape`, whose
+/// number is `number`. An arm of no case of the enum has no code, as where memory runs out.
 fn arm_number(
     subject: Operand,
     number: u32,

@@ -1,19 +1,19 @@
 //! The values that an initialiser gives its properties.
 ghost use Rattle.std.specs.Prelude.{◌≡◌, ℕ, Option};
 ghost use Rattle.sw_draft.specs.Drafts.{Gives, making_of};
-ghost use Rattle.sw_lower_known.specs.Knowledge.{tables_by};
+ghost use Rattle.sw_lower_expr.specs.lower_known.Knowledge.{tables_by};
 ghost use Rattle.sw_lower_stmt.specs.Giving.{values_given, with_values};
 ghost use Rattle.sw_lower_table.specs.Bodies.{give_value};
 ghost use Rattle.sw_lower_table.specs.Statements.{block_code, expr_code, given_part, stmt_code};
 ghost use Rattle.sw_lower_table.specs.Tables.{Tables};
-ghost use Rattle.sw_lower_uses.specs.Gathering.{each_after};
+ghost use Rattle.sw_lower_expr.specs.lower_uses.Gathering.{each_after};
 
 use std::alloc::Global;
 use sw_draft::Draft;
 use sw_graph::Operand;
 use sw_list::ListOf;
 use sw_lower_expr::expr;
-use sw_lower_known::Known;
+use sw_lower_expr::lower_known::Known;
 use sw_lower_run::CodeFault;
 use sw_tree::{Block, Expr, Stmt};
 

@@ -3,7 +3,7 @@
 
 ghost use Rattle.std.specs.Prelude.{◌≡◌};
 ghost use Rattle.sw_draft.specs.Drafts.{Gives, making_of};
-ghost use Rattle.sw_lower_known.specs.Knowledge.{tables_by};
+ghost use Rattle.sw_lower_expr.specs.lower_known.Knowledge.{tables_by};
 ghost use Rattle.sw_lower_run.specs.Run.{run_close};
 ghost use Rattle.sw_lower_stmt.specs.Parts.{ended, left_for, read_of};
 ghost use Rattle.sw_lower_table.specs.Expressions.{jump};
@@ -13,7 +13,7 @@ use std::alloc::Global;
 use sw_draft::Draft;
 use sw_graph::Last;
 use sw_lower_expr::expr;
-use sw_lower_known::Known;
+use sw_lower_expr::lower_known::Known;
 use sw_lower_run::CodeFault;
 use sw_tree::Expr;
 

@@ -1,5 +1,5 @@
-//! The code of statements, blocks and bodies, and of what an initialiser gives its properties. It knows
-//! nothing of declarations.
+//! The code of statements, blocks and bodies, and of what an initialiser gives its properties. It
+//! knows nothing of declarations.
 #![tactic(auto)]
 
 mod bodies;
@@ -12,4 +12,5 @@ mod walk;
 
 pub use bodies::body;
 pub use givens::{GivenOperand, give_values};
+pub use sw_lower_expr as lower_expr;
 pub use walk::block;

@@ -3,15 +3,15 @@
 
 ghost use Rattle.std.specs.Prelude.{◌≡◌};
 ghost use Rattle.sw_draft.specs.Drafts.{Gives, making_of};
-ghost use Rattle.sw_lower_known.specs.Knowledge.{tables_by};
+ghost use Rattle.sw_lower_expr.specs.lower_known.Knowledge.{tables_by};
 ghost use Rattle.sw_lower_stmt.specs.Parts.{op_of};
 ghost use Rattle.sw_lower_table.specs.Statements.{assign, assign_by, expr_code};
 
 use std::alloc::Global;
 use sw_draft::Draft;
 use sw_graph::{BinOp, Instr, Operand, RegKind};
+use sw_lower_expr::lower_known::Known;
 use sw_lower_expr::{expr, write};
-use sw_lower_known::Known;
 use sw_lower_run::CodeFault;
 use sw_tree::{AssignOp, Expr};
 use sw_types::Ty;

@@ -2,16 +2,16 @@
 #![tactic(auto, unfolding(sw_lower_code::specs::Code::andthen, sw_lower_code::specs::Code::bind, sw_lower_code::specs::Code::done, sw_lower_code::specs::Code::emit, sw_lower_code::specs::Code::front, sw_lower_code::specs::Code::known, sw_lower_code::specs::Code::reg, sw_lower_table::specs::Statements::declare_var, sw_lower_table::specs::Uses::typed))]
 
 ghost use Rattle.sw_draft.specs.Drafts.{Gives, making_of};
-ghost use Rattle.sw_lower_known.specs.Knowledge.{tables_by};
+ghost use Rattle.sw_lower_expr.specs.lower_known.Knowledge.{tables_by};
 ghost use Rattle.sw_lower_stmt.specs.Parts.{var_in_box, var_in_register};
 ghost use Rattle.sw_lower_table.specs.Statements.{declare_var, pattern_code, patterns_code};
 
 use std::alloc::Global;
 use sw_draft::Draft;
 use sw_graph::{Instr, Operand, RegKind};
-use sw_lower_known::Known;
+use sw_lower_expr::lower_known::Known;
+use sw_lower_expr::lower_uses::{number_of, type_of};
 use sw_lower_run::{Bound, CodeFault};
-use sw_lower_uses::{number_of, type_of};
 use sw_tree::Pattern;
 use sw_types::Ty;
 

@@ -3,10 +3,10 @@
 
 ghost use Rattle.sw_draft.specs.Drafts.{Gives, making_of};
 ghost use Rattle.sw_lower_code.specs.Code.{all, each};
-ghost use Rattle.sw_lower_known.specs.Knowledge.{tables_by};
-ghost use Rattle.sw_lower_stmt.specs.Parts.{arm_inside, arm_opened, case_code, if_arm_code, if_codes};
-ghost use Rattle.sw_lower_stmt.specs.Parts.{joined_all, joined_in, numbered, otherwise_code};
-ghost use Rattle.sw_lower_stmt.specs.Parts.{stmt_codes, switch_body};
+ghost use Rattle.sw_lower_expr.specs.lower_known.Knowledge.{tables_by};
+ghost use Rattle.sw_lower_stmt.specs.Parts.{arm_inside, arm_opened, case_code, if_arm_code};
+ghost use Rattle.sw_lower_stmt.specs.Parts.{if_codes, joined_all, joined_in, numbered};
+ghost use Rattle.sw_lower_stmt.specs.Parts.{otherwise_code, stmt_codes, switch_body};
 ghost use Rattle.sw_lower_table.specs.Carriers.{StmtCode};
 ghost use Rattle.sw_lower_table.specs.Statements.{arm_code, block_code, default_code};
 ghost use Rattle.sw_lower_table.specs.Statements.{else_code, expr_code, ignored, stmt_code};
@@ -21,7 +21,7 @@ use sw_draft::Draft;
 use sw_graph::{IdList, Last};
 use sw_list::ListOf;
 use sw_lower_expr::expr;
-use sw_lower_known::Known;
+use sw_lower_expr::lower_known::Known;
 use sw_lower_run::CodeFault;
 use sw_lower_table::Targets;
 use sw_tree::{Block, CaseArm, Expr, IfArm, Stmt};
@@ -60,8 +60,8 @@ fn ignored(
     Ok(())
 }
 
-/// The code of a block, in a member of the type with the number `owner`; `targets` says where `break`
-/// and `continue` lead. What it declares is seen in it alone.
+/// The code of a block, in a member of the type with the number `owner`; `targets` says where
+/// `break` and `continue` lead. What it declares is seen in it alone.
 #[cycle(walk)]
 pub fn block(
     alloc: Global,

@@ -1,6 +1,6 @@
 -- The functions of a lowered graph are those of the program's bodies, in the order of their keys.
-use Rattle.std.proofs.Common.{◌≡◌, ℕ, ◌+◌, ◌*◌, ◌<◌, ◌≤◌, Option, Some, None, List, Bool, true, false}
-use Rattle.std.proofs.Common.{length, map, get_or, refl, ap, sym, ◌∙◌, arith, subst}
+use Rattle.std.proofs.Common.{◌≡◌, ℕ, ◌+◌, ◌*◌, ◌<◌, ◌≤◌, Option, Some, None, List, Bool, true}
+use Rattle.std.proofs.Common.{false, length, map, get_or, refl, ap, sym, ◌∙◌, arith, subst}
 use Rattle.std.specs.List.{slice_get}
 use Rattle.std.specs.Option.{option_map}
 use Rattle.std.specs.Prelude.{if◌then◌else◌}
@@ -10,7 +10,7 @@ use Rattle.std.proofs.lemmas.Option.{get_or_from_slice_get, slice_get-map, slice
 use Rattle.sw_tree.specs.declared.decl.Decl.{Decl}
 use Rattle.sw_graph.specs.declared.function.Function.{Function}
 use Rattle.sw_graph.specs.declared.graph.Graph.{Graph}
-use Rattle.sw_typing_rules.specs.Worlds.{World}
+use Rattle.sw_isolation_rules.specs.typing_rules.Worlds.{World}
 use Rattle.sw_isolation_rules.specs.Answers.{Answers}
 use Rattle.sw_lower_code.specs.Whole.{Body, function_of}
 use Rattle.sw_lower_table.specs.Bodies.{Lowered, numbers_of, order_of, program_bodies, tables_of}

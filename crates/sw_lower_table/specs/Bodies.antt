@@ -35,7 +35,7 @@ use Rattle.sw_resolve.specs.Words.{shapes_made}
 use Rattle.sw_resolve.specs.declared.placed.Placed.{Placed}
 use Rattle.sw_decls.specs.declared.signature.GlobalVar.{GlobalVar}
 use Rattle.sw_decls.specs.declared.signature.Signature.{Signature}
-use Rattle.sw_typing_rules.specs.Worlds.{World, and_then}
+use Rattle.sw_isolation_rules.specs.typing_rules.Worlds.{World, and_then}
 use Rattle.sw_isolation_rules.specs.Answers.{Answers, for_some}
 use Rattle.sw_isolation_rules.specs.Kinds.{is_isolated, shape_iso}
 use Rattle.sw_isolation_rules.specs.Programs.{func_at}
@@ -328,8 +328,8 @@ AreNumbered ordered = (number : ℕ) (body : Body) → slice_get ordered number 
 abbrev pub AreMade : List Body → Type 0
 AreMade ordered = All (λ (body : Body). IsOk (lower_body (numbers_of ordered) body)) ordered
 
--- The functions are those of a program: its bodies in the order of their keys, each as its plan says.
--- Each is found by its name, and its code asks for nothing that isn't known.
+-- The functions are those of a program: its bodies in the order of their keys, each as its plan
+-- says. Each is found by its name, and its code asks for nothing that isn't known.
 pub record HasFunctions (tables : Tables) (decls : List Decl) (functions : List Function)
     : Type 0 where
   pub ordered : List Body

@@ -1,6 +1,6 @@
 -- The code of expressions, by one step for each form.
-use Rattle.std.specs.Prelude.{ℕ, Bool, true, false, List, [], ◌∷◌, ◌++◌, map, flat_map, Option, Some}
-use Rattle.std.specs.Prelude.{None, if◌then◌else◌}
+use Rattle.std.specs.Prelude.{ℕ, Bool, true, false, List, [], ◌∷◌, ◌++◌, map, flat_map, Option}
+use Rattle.std.specs.Prelude.{Some, None, if◌then◌else◌}
 use Rattle.std.specs.Option.{option_map_or}
 use Rattle.sw_tree.specs.NodeKey.{last_or}
 use Rattle.sw_tree.specs.declared.expr.ClosureParam.{ClosureParam}
@@ -24,9 +24,9 @@ use Rattle.sw_graph.specs.declared.instr.Last.TheVariants as last
 use Rattle.sw_graph.specs.declared.instr.Literal.TheVariants as literals
 use Rattle.sw_graph.specs.declared.instr.Operand.{Operand}
 use Rattle.sw_graph.specs.declared.instr.UnOp.TheVariants as un
-use Rattle.sw_typing_rules.specs.Verdicts.{is_unit}
-use Rattle.sw_typing_rules.specs.declared.row.Meaning.{Meaning}
-use Rattle.sw_typing_rules.specs.declared.row.Meaning.TheVariants as means
+use Rattle.sw_isolation_rules.specs.typing_rules.Verdicts.{is_unit}
+use Rattle.sw_isolation_rules.specs.typing_rules.declared.row.Meaning.{Meaning}
+use Rattle.sw_isolation_rules.specs.typing_rules.declared.row.Meaning.TheVariants as means
 use Rattle.sw_isolation_rules.specs.Captures.{is_among, self_of}
 use Rattle.sw_isolation_rules.specs.Noting.{task_result}
 use Rattle.sw_isolation_rules.specs.declared.note.BodyIso.{BodyIso}
@@ -36,8 +36,8 @@ use Rattle.sw_lower_code.specs.Code.{resume, ◌>>=◌, ◌>>◌}
 use Rattle.sw_lower_run.specs.Plan.{Anywhere}
 use Rattle.sw_lower_code.specs.Whole.{Body}
 use Rattle.sw_lower_code.specs.declared.taken.Taken.{Taken}
-use Rattle.sw_lower_table.specs.Carriers.{ArgCode, BlockCode, CaseCode, ClosureCode, ExprCode, IfCode}
-use Rattle.sw_lower_table.specs.Carriers.{LinkCode, StmtCode, no_targets}
+use Rattle.sw_lower_table.specs.Carriers.{ArgCode, BlockCode, CaseCode, ClosureCode, ExprCode}
+use Rattle.sw_lower_table.specs.Carriers.{IfCode, LinkCode, StmtCode, no_targets}
 use Rattle.sw_lower_table.specs.Tables.{Tables, func_result, or_void, plain}
 use Rattle.sw_lower_table.specs.Uses.{call_closure, call_func, capture, give, make, make_value}
 use Rattle.sw_lower_table.specs.Uses.{operand, read_global, read_own, read_part, read_self}
@@ -260,6 +260,9 @@ module _ (tables : Tables) (owner : Option ℕ) where
   closure_called at read args = read
       >>= λ closure. args_read args >>= λ operands. call_closure tables at closure operands
 
+  -- The code of a call by a word, by the word's meaning: of a closure that a variable, a property
+  -- of `self` or a global variable holds; of a method of `self`; of a function; of a type, which
+  -- makes a value; or of `print`.
   abbrev pub call_read : ℕ → List ArgCode → Option Meaning → Code Operand
   call_read at args (Some (means.Local variable)) =
       closure_called at (read_var tables at variable) args
@@ -275,6 +278,7 @@ module _ (tables : Tables) (owner : Option ℕ) where
       >>= λ operands. give at types.Unit (λ r. instr.Print at r operands)
   call_read at args _ = unknown
 
+  -- the code of a call by a member, by the member's meaning
   abbrev pub method_read : ℕ → ExprCode → List ArgCode → Option Meaning → Code Operand
   method_read at base args (Some (means.FuncOf number)) = base.read
       >>= λ receiver. args_read args

@@ -1,5 +1,5 @@
--- What lowering looks up: what a program declares, the types and meanings of its nodes, its isolation
--- and the numbers of its functions.
+-- What lowering looks up: what a program declares, the types and meanings of its nodes, its
+-- isolation and the numbers of its functions.
 use Rattle.std.specs.Prelude.{ℕ, ◌+◌, ◌==◌, ◌&&◌, Bool, true, false, List, [], ◌∷◌, map}
 use Rattle.std.specs.Prelude.{flat_map, Option, Some, None, if◌then◌else◌, slice_get}
 use Rattle.std.specs.List.{filter}
@@ -12,7 +12,7 @@ use Rattle.sw_types.specs.declared.isolation.CallKind.{CallKind}
 use Rattle.sw_types.specs.declared.ty.Ty.{Ty, out-Ty}
 use Rattle.sw_types.specs.declared.ty.Ty.TheOpen as layer
 use Rattle.sw_types.specs.declared.ty.Ty.TheVariants as types
-use Rattle.sw_typing_rules.specs.Worlds.{World, and_then}
+use Rattle.sw_isolation_rules.specs.typing_rules.Worlds.{World, and_then}
 use Rattle.sw_isolation_rules.specs.Answers.{Answers}
 use Rattle.sw_isolation_rules.specs.Captures.{is_among}
 use Rattle.sw_isolation_rules.specs.Lists.{bodies_in, boxes_in, captures_in, kinds_in}

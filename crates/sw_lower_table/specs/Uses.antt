@@ -17,9 +17,9 @@ use Rattle.sw_graph.specs.declared.instr.Instr.TheVariants as instr
 use Rattle.sw_graph.specs.declared.instr.Operand.{Operand}
 use Rattle.sw_decls.specs.declared.signature.GlobalVar.{GlobalVar}
 use Rattle.sw_decls.specs.declared.signature.Signature.{Signature}
-use Rattle.sw_typing_rules.specs.Worlds.{item}
-use Rattle.sw_typing_rules.specs.declared.row.Meaning.{Meaning}
-use Rattle.sw_typing_rules.specs.declared.row.Meaning.TheVariants as means
+use Rattle.sw_isolation_rules.specs.typing_rules.Worlds.{item}
+use Rattle.sw_isolation_rules.specs.typing_rules.declared.row.Meaning.{Meaning}
+use Rattle.sw_isolation_rules.specs.typing_rules.declared.row.Meaning.TheVariants as means
 use Rattle.sw_isolation_rules.specs.Uses.{maker_at, named_shape}
 use Rattle.sw_isolation_rules.specs.declared.note.Capture.{Capture}
 use Rattle.sw_lower_code.specs.Code.{Code, done, emit, known, number, reg, var, ◌>>=◌}
@@ -181,7 +181,8 @@ module _ (tables : Tables) where
 
   unfoldable pub capture_bound : ℕ → Capture → Bound → Code Operand
   capture_bound at capture bound =
-      if capture.by_ref then (if bound.boxed then done (operand bound.reg capture.first) else unknown)
+      if capture.by_ref then
+      (if bound.boxed then done (operand bound.reg capture.first) else unknown)
       else (if bound.boxed then listed_value at capture bound
       else done (operand bound.reg capture.first))
 

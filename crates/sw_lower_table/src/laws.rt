@@ -1,6 +1,6 @@
 //! Laws, without code: what the definitions of lowering say of all programs.
-ghost use Rattle.std.specs.Prelude.{◌≡◌, ℕ, ◌+◌, ◌<◌, ℤ, IsTrue, List, [], ◌∷◌, Option, Some, slice_get};
-ghost use Rattle.std.specs.Prelude.{◌≤◌, ◌⊎◌, length};
+ghost use Rattle.std.specs.Prelude.{◌≡◌, ℕ, ◌+◌, ◌<◌, ℤ, IsTrue, List, [], ◌∷◌, Option, Some};
+ghost use Rattle.std.specs.Prelude.{slice_get, ◌≤◌, ◌⊎◌, length};
 ghost use Rattle.sw_tree.specs.declared.decl.Decl.{Decl};
 ghost use Rattle.sw_tree.specs.declared.expr.Expr.TheVariants as exprs;
 ghost use Rattle.sw_types.specs.declared.ty.Ty.{Ty};
@@ -14,7 +14,7 @@ ghost use Rattle.sw_graph.specs.declared.instr.Last.TheVariants as last;
 ghost use Rattle.sw_graph.specs.declared.instr.Literal.TheVariants as literals;
 ghost use Rattle.sw_graph.specs.declared.instr.Operand.{Operand};
 ghost use Rattle.sw_resolve.specs.declared.placed.Placed.{Placed};
-ghost use Rattle.sw_typing_rules.specs.Worlds.{World};
+ghost use Rattle.sw_isolation_rules.specs.typing_rules.Worlds.{World};
 ghost use Rattle.sw_isolation_rules.specs.Answers.{Answers};
 ghost use Rattle.sw_lower_run.specs.Plan.{Ended, Place};
 ghost use Rattle.sw_lower_run.specs.declared.name.FunctionName.{FunctionName};
@@ -53,7 +53,8 @@ pub fn literals_take_one_register()
 
 /// The register of a result is made after those of its operands.
 pub fn results_follow_operands()
-    ensures { (at : ℕ) (op : BinOp) (ty : Ty) (right : Code Operand) (left : Operand) (place : Place)
+    ensures { (at : ℕ) (op : BinOp) (ty : Ty) (right : Code Operand) (left : Operand)
+        (place : Place)
         → ((binary at op ty right left).plan place).value
         ≡ operand (place.regs + length (right.plan place).regs) at }
 {}

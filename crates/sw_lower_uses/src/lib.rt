@@ -1,5 +1,5 @@
-//! The code for what names mean: variables, properties, global variables, calls and what is made. It
-//! knows nothing of expressions.
+//! The code for what names mean: variables, properties, global variables, calls and what is made.
+//! It knows nothing of expressions.
 #![tactic(auto)]
 
 mod calls;
@@ -17,5 +17,6 @@ pub use finding::{number_of, shape_at, shape_of, type_of};
 pub use giving::emit_value;
 pub use globals::read_global;
 pub use parts::read_part;
+pub use sw_lower_known as lower_known;
 pub use variables::{read_var, write_var};
 pub use words::{read_own, read_self, read_word};

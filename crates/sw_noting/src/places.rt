@@ -1,6 +1,6 @@
 //! What stands before a `.`, and what an assignment writes.
 ghost use Rattle.std.specs.Prelude.{◌≡◌, ◌++◌, OnOk};
-ghost use Rattle.sw_capture.specs.Known.{answers_of};
+ghost use Rattle.sw_uses.specs.capture.Known.{answers_of};
 ghost use Rattle.sw_isolation_rules.specs.Answers.{Answers};
 ghost use Rattle.sw_isolation_rules.specs.Noting.{see};
 ghost use Rattle.sw_isolation_rules.specs.Uses.{base_of};
@@ -12,7 +12,7 @@ use sw_decls::Decls;
 use sw_isolation_rules::{Base, Context, Note, Used, expressions_are_noted_by_key};
 use sw_list::ListOf;
 use sw_tree::Expr;
-use sw_typing::Typed;
+use sw_uses::typing::Typed;
 use sw_uses::{base_of, no_base, store_notes, used, write_notes};
 
 /// The key of an expression.

@@ -1,6 +1,6 @@
 //! Expressions and statements at any depth.
 ghost use Rattle.std.specs.Prelude.{◌≡◌, ◌++◌, OnOk};
-ghost use Rattle.sw_capture.specs.Known.{answers_of};
+ghost use Rattle.sw_uses.specs.capture.Known.{answers_of};
 ghost use Rattle.sw_isolation_rules.specs.Answers.{Answers};
 ghost use Rattle.sw_isolation_rules.specs.Noting.{block_notes, fun_notes, in_await, in_closure};
 ghost use Rattle.sw_isolation_rules.specs.Noting.{place_notes, see, stmt_notes, task_notes};
@@ -13,13 +13,13 @@ ghost use Rattle.sw_typing_rules.specs.Worlds.{World, world_of};
 
 use crate::places::{base_at, written};
 use std::alloc::{AllocError, Global};
-use sw_capture::{Listed, close, list_words, mention_list, mention_self, mention_word};
 use sw_decls::Decls;
 use sw_isolation_rules::{Context, Note};
 use sw_list::ListOf;
 use sw_tree::{Arg, AssignOp, Block, CaseArm, Closure, Expr, IfArm, Link, Stmt};
 use sw_types::Iso;
-use sw_typing::Typed;
+use sw_uses::capture::{Listed, close, list_words, mention_list, mention_self, mention_word};
+use sw_uses::typing::Typed;
 use sw_uses::{
     await_notes, closure_iso, member_notes, note_body, task_iso, task_races, word_notes,
 };

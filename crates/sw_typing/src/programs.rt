@@ -17,9 +17,9 @@ use sw_list::ListOf;
 use sw_resolve::{prop_type, shapes_made};
 use sw_tree::{Block, Decl, FuncTree, InitTree, ParamTree, PropTree, TypeTree};
 use sw_types::Ty;
+use sw_typing_forms::typing_words::{Scope, is_marked, written};
 use sw_typing_forms::{Rows, Table, body_rows, open_body};
 use sw_typing_rules::Returned;
-use sw_typing_words::{Scope, is_marked, written};
 
 /// The result that is written, or `Void`.
 fn stated(alloc: Global, world: &Decls, tree: &Option<TypeTree>) -> Result<Ty, AllocError>

@@ -4,15 +4,16 @@ ghost use Rattle.std.specs.Option.{option_copied};
 ghost use Rattle.sw_typing_rules.specs.Calls.{slots_of};
 ghost use Rattle.sw_typing_rules.specs.Expressions.{base_rows};
 ghost use Rattle.sw_typing_rules.specs.Worlds.{world_of};
-ghost use Rattle.sw_typing_words.specs.Callees.{as_callee};
+ghost use Rattle.sw_typing_forms.specs.typing_words.Callees.{as_callee};
 ghost use Rattle.sw_typing_forms.specs.Steps.{enclosed_of, judged_since, known_of, setting_in};
 ghost use Rattle.sw_typing_forms.specs.Steps.{state_of, went_of};
 ghost use Rattle.sw_typing.specs.Walked.{args_passed, block_left, case_arm_left, case_arms_left};
-ghost use Rattle.sw_typing.specs.Walked.{called_member, closure_known, expr_known, if_arm_left, if_arms_left};
-ghost use Rattle.sw_typing.specs.Walked.{links_known, otherwise_left, stmt_left, stmts_left};
+ghost use Rattle.sw_typing.specs.Walked.{called_member, closure_known, expr_known, if_arm_left};
+ghost use Rattle.sw_typing.specs.Walked.{if_arms_left, links_known, otherwise_left, stmt_left};
+ghost use Rattle.sw_typing.specs.Walked.{stmts_left};
 
 use crate::settings::{
-    beside, in_body, in_loop, in_switch, is_one, label_id, part_of, then, with_only,
+    beside, in_body, in_branch, in_loop, in_switch, is_one, label_id, then, with_only,
 };
 use crate::steps::{note_fun, note_task};
 use std::alloc::{AllocError, Global};
@@ -20,6 +21,9 @@ use sw_decls::Decls;
 use sw_list::ListOf;
 use sw_tree::{Arg, Block, CaseArm, Closure, Expr, IfArm, Link, Name, Stmt};
 use sw_types::{CaseList, Ty};
+use sw_typing_forms::typing_words::{
+    Callee, cases_of, is_marked_at, marked_type, me_types, written,
+};
 use sw_typing_forms::{
     Enclosed, Known, Table, Went, assign, assign_place, awaited, bind, break_out, call,
     callee_by_member, callee_by_word, close_closure, condition, continue_on, declare_patterns,
@@ -27,7 +31,6 @@ use sw_typing_forms::{
     prefix, return_value, return_void, switch_end, word,
 };
 use sw_typing_rules::{Given, Inside, Verdict};
-use sw_typing_words::{Callee, cases_of, is_marked_at, marked_type, me_types, written};
 
 /// An expression, where a `@Sendable` function is `expected` or not.
 #[cycle(walk)]
@@ -161,7 +164,8 @@ fn links(
     table: &mut Table,
 ) -> Result<Known, AllocError>
     requires { start ≤ length table.old.rows }
-    ensures known { IfOk result (λ known. known ≡ known_of (links_known (world_of world.now) links.now
+    ensures known { IfOk result
+        (λ known. known ≡ known_of (links_known (world_of world.now) links.now
         (setting_in owner table.old) (judged_since first start table.old))) }
     ensures rows { OnOk result (table.new.rows ≡ take start table.old.rows ++
         (links_known (world_of world.now) links.now
@@ -187,7 +191,8 @@ fn closure(
     tree: &Closure,
     table: &mut Table,
 ) -> Result<Enclosed, AllocError>
-    ensures enclosed { IfOk result (λ closed. closed ≡ enclosed_of (closure_known (world_of world.now) tree.now
+    ensures enclosed { IfOk result
+        (λ closed. closed ≡ enclosed_of (closure_known (world_of world.now) tree.now
         (setting_in owner table.old))) }
     ensures rows { OnOk result (table.new.rows ≡ table.old.rows ++
         (closure_known (world_of world.now) tree.now
@@ -300,7 +305,7 @@ fn if_arm(
 {
     let cond = expr(alloc, world, inside.owner, false, &tree.cond, table)?;
     let is = condition(&cond, table)?;
-    let body = block(alloc, world, part_of(inside), &tree.body, table)?;
+    let body = block(alloc, world, in_branch(inside), &tree.body, table)?;
     Ok(Went {
         fine: is && body.fine,
         ends: body.ends,
@@ -332,7 +337,7 @@ fn otherwise(
             ends,
             breaks: false,
         }),
-        Some(tree) => block(alloc, world, part_of(inside), tree, table),
+        Some(tree) => block(alloc, world, in_branch(inside), tree, table),
     }
 }
 
@@ -390,7 +395,7 @@ fn case_arm(
 {
     let depth = table.vars.len();
     let fit = declare_patterns(alloc, cases, tree, table)?;
-    let body = block(alloc, world, part_of(inside), &tree.body, table)?;
+    let body = block(alloc, world, in_branch(inside), &tree.body, table)?;
     table.vars.truncate(depth);
     Ok(Went {
         fine: fit && body.fine,

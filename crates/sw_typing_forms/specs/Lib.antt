@@ -5,3 +5,4 @@ pub mod Results
 pub mod Steps
 pub mod Switches
 pub mod Variables
+pub use Rattle.sw_typing_words.specs as typing_words

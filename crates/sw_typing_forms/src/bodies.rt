@@ -14,11 +14,11 @@ use crate::known::Went;
 use crate::rows::Rows;
 use crate::table::Table;
 use std::alloc::{AllocError, Global};
-use sw_decls::Decls;
 use sw_resolve::type_of;
 use sw_tree::ParamTree;
 use sw_types::Ty;
 use sw_typing_rules::Returned;
+use sw_typing_rules::decls::Decls;
 use sw_typing_words::{Scope, is_unit};
 
 /// Makes parameters visible, and notes them.

@@ -22,11 +22,11 @@ use crate::rows::Rows;
 use crate::table::Table;
 use std::alloc::{AllocError, Global};
 use std::mem::replace;
-use sw_decls::Decls;
 use sw_list::{Boxed, ListOf};
 use sw_resolve::type_of;
 use sw_tree::{Closure, ClosureParam, Name, TypeTree};
 use sw_types::{Ty, TyList};
+use sw_typing_rules::decls::Decls;
 use sw_typing_rules::{Meaning, Returned, Var, Verdict};
 use sw_typing_words::{Scope, copy_if};
 

@@ -15,10 +15,10 @@ use crate::known::Known;
 use crate::reading::{member_reading, note_reading, type_in, word_reading};
 use crate::table::Table;
 use std::alloc::{AllocError, Global};
-use sw_decls::Decls;
 use sw_list::ListOf;
 use sw_tree::{InfixOp, Name, PrefixOp};
 use sw_types::Ty;
+use sw_typing_rules::decls::Decls;
 use sw_typing_rules::{Given, Row, Verdict};
 use sw_typing_words::{
     Callee, call_types, callee_meaning, case_in, enum_callee, found_callee, found_in, infix_types,

@@ -27,5 +27,6 @@ pub use stmts::{
     assign, assign_place, bind, break_out, condition, continue_on, expects, marked_result, plain,
     return_value, return_void,
 };
+pub use sw_typing_words as typing_words;
 pub use switches::{declare_patterns, switch_end};
 pub use table::Table;

@@ -12,8 +12,8 @@ ghost use Rattle.sw_typing_forms.specs.Steps.{with_rows};
 use crate::known::Known;
 use crate::table::Table;
 use std::alloc::{AllocError, Global};
-use sw_decls::Decls;
 use sw_types::Ty;
+use sw_typing_rules::decls::Decls;
 use sw_typing_rules::{Found, Meaning, Var, Verdict};
 use sw_typing_words::{
     Outer, Scope, case_in, case_meaning, enum_types, found_in, found_meaning, found_settable,

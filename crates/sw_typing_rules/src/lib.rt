@@ -19,4 +19,5 @@ pub use laws::{
 };
 pub use row::{Meaning, Row};
 pub use scope::{Inside, Returned, Var};
+pub use sw_decls as decls;
 pub use verdict::{Given, Verdict};

@@ -8,12 +8,12 @@ ghost use Rattle.sw_isolation_rules.specs.Noting.{closure_iso, task_iso, unmarke
 ghost use Rattle.sw_typing_rules.specs.Worlds.{World, world_of};
 
 use crate::known::marked_at;
+use sw_capture::typing::Typed;
 use sw_decls::Decls;
 use sw_isolation_rules::inherited;
 use sw_resolve::written_actor;
 use sw_tree::{Name, Written};
 use sw_types::{Iso, Shape, ShapeKind};
-use sw_typing::Typed;
 
 /// The isolation to a global actor, if there is one.
 pub fn actor_iso(actor: Option<u32>) -> Iso

@@ -5,9 +5,9 @@ ghost use Rattle.sw_types.specs.Sendable.{is_sendable, sends_at};
 ghost use Rattle.sw_typing_rules.specs.Statements.{marked_type};
 ghost use Rattle.sw_typing_rules.specs.Worlds.{world_of};
 
+use sw_capture::typing::Typed;
 use sw_decls::Decls;
 use sw_types::Ty;
-use sw_typing::Typed;
 use sw_typing_words::is_marked;
 
 /// Whether values of the declared type with this number may cross between isolations.
@@ -24,7 +24,7 @@ fn shape_sends(world: &Decls, shape: u32) -> bool
 
 /// Whether values of a type may cross between isolations. Those of a declared type that there isn't
 /// may not.
-pub fn sends(world: &Decls, ty: &Ty) -> bool
+pub fn may_cross(world: &Decls, ty: &Ty) -> bool
     ensures { result ≡ is_sendable (world_of world.now).shapes ty.now }
 {
     match ty {

@@ -4,16 +4,16 @@ ghost use Rattle.std.specs.Option.{option_copied};
 ghost use Rattle.sw_capture.specs.Known.{answers_of};
 ghost use Rattle.sw_isolation_rules.specs.Uses.{base_of, called, func_used, global, global_used};
 ghost use Rattle.sw_isolation_rules.specs.Uses.{made_kind, made, make_used, maker_at, meant};
-ghost use Rattle.sw_isolation_rules.specs.Uses.{named_shape, no_base, part_in, part_of};
+ghost use Rattle.sw_isolation_rules.specs.Uses.{named_shape, no_base, part_in, part_of_shape};
 ghost use Rattle.sw_isolation_rules.specs.Uses.{part_storage, part_used, used};
 ghost use Rattle.sw_typing_rules.specs.Worlds.{and_then, is_object_kind, item, world_of};
 
 use crate::isolations::{actor_iso, shape_iso};
-use crate::known::sends;
+use crate::known::may_cross;
+use sw_capture::typing::Typed;
 use sw_decls::{Decls, GlobalVar, Signature};
 use sw_isolation_rules::{Base, Callee, Storage, Used};
 use sw_types::{Part, Shape, ShapeKind, Ty};
-use sw_typing::Typed;
 use sw_typing_rules::Meaning;
 
 /// Nothing stands before a word.
@@ -61,7 +61,7 @@ fn called(world: &Decls, is_initialiser: bool, on_self: bool, func: Option<&Sign
                 is_initialiser,
                 on_self,
             },
-            sends: func.sends || sends(world, &func.result),
+            may_cross: func.sends || may_cross(world, &func.result),
         },
     }
 }
@@ -123,7 +123,7 @@ fn part_storage(world: &Decls, shape: &Shape, on_self: bool, part: &Part) -> Sto
         iso: shape_iso(shape),
         on_self,
         mutable: part.mutable,
-        sends: sends(world, &part.ty),
+        may_cross: may_cross(world, &part.ty),
     }
 }
 
@@ -155,9 +155,9 @@ fn part_in(world: &Decls, shape: &Shape, on_self: bool, part: Option<&Part>) -> 
 }
 
 /// The property of a shape with this number, on `self` or not.
-fn part_of(world: &Decls, shape: Option<&Shape>, number: usize, on_self: bool) -> Used
+fn part_of_shape(world: &Decls, shape: Option<&Shape>, number: usize, on_self: bool) -> Used
     ensures { result
-        ≡ part_of (world_of world.now) (option_copied shape.entry) number on_self }
+        ≡ part_of_shape (world_of world.now) (option_copied shape.entry) number on_self }
 {
     match shape {
         None => Used::Nothing,
@@ -180,7 +180,7 @@ fn shape_at(world: &Decls, number: Option<u32>) -> Option<&Shape>
 pub fn part_used(world: &Decls, shape: Option<u32>, number: usize, on_self: bool) -> Used
     ensures { result ≡ part_used (world_of world.now) shape number on_self }
 {
-    part_of(world, shape_at(world, shape), number, on_self)
+    part_of_shape(world, shape_at(world, shape), number, on_self)
 }
 
 /// A global variable.
@@ -193,7 +193,7 @@ fn global(world: &Decls, one: Option<&GlobalVar>) -> Used
             iso: actor_iso(one.actor),
             on_self: false,
             mutable: one.mutable,
-            sends: sends(world, &one.ty),
+            may_cross: may_cross(world, &one.ty),
         }),
     }
 }

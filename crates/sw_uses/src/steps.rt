@@ -13,8 +13,9 @@ ghost use Rattle.sw_typing_rules.specs.Worlds.{world_of};
 use crate::codes::{
     CALL_RESULT, NO_AWAIT, NOT_ASYNC, OTHER_ACTOR, OTHER_LET, TASK_RESULT, WRITTEN,
 };
-use crate::known::sends;
+use crate::known::may_cross;
 use std::alloc::AllocError;
+use sw_capture::typing::Typed;
 use sw_decls::Decls;
 use sw_isolation_rules::{
     BodyIso, Callee, Context, Kinded, Note, Storage, Used, is_outside, kind_of, needs_await,
@@ -22,7 +23,6 @@ use sw_isolation_rules::{
 use sw_list::ListOf;
 use sw_resolve::Placed;
 use sw_types::{CallKind, Iso, Ty};
-use sw_typing::Typed;
 
 /// Notes a body: its key, its isolation, and whether it is asynchronous.
 pub fn note_body(
@@ -102,21 +102,21 @@ fn is_strong(kind: CallKind) -> bool
 }
 
 /// Notes a call: its kind, the breach of a missing `await`, and a result that crosses and may not
-/// (E604). `sends` is whether the result may.
+/// (E604). `may_cross` is whether the result may.
 pub fn call_notes(
     context: Context,
     at: u32,
     callee: Callee,
-    sends: bool,
+    may_cross: bool,
     notes: &mut ListOf<Note>,
 ) -> Result<(), AllocError>
-    ensures { OnOk result (notes.new ≡ notes.old ++ call_notes context at callee sends) }
+    ensures { OnOk result (notes.new ≡ notes.old ++ call_notes context at callee may_cross) }
 {
     let kind = kind_of(callee, context.iso);
     let needs = needs_await(kind, callee.is_async);
     notes.push(Note::Kind(Kinded { at, kind }))?;
     await_if(needs, context, at, callee.is_async, notes)?;
-    race_if(is_strong(kind) && !sends, at, CALL_RESULT, notes)
+    race_if(is_strong(kind) && !may_cross, at, CALL_RESULT, notes)
 }
 
 /// What reads storage: a synchronous function in its place.
@@ -139,13 +139,13 @@ fn outside_notes(
     notes: &mut ListOf<Note>,
 ) -> Result<(), AllocError>
     ensures { OnOk result (notes.new ≡ notes.old ++
-        (if storage.mutable then call_notes context at (accessor storage) storage.sends
-        else race_if (not storage.sends) at 606)) }
+        (if storage.mutable then call_notes context at (accessor storage) storage.may_cross
+        else race_if (not storage.may_cross) at 606)) }
 {
     if storage.mutable {
-        call_notes(context, at, accessor(storage), storage.sends, notes)
+        call_notes(context, at, accessor(storage), storage.may_cross, notes)
     } else {
-        race_if(!storage.sends, at, OTHER_LET, notes)
+        race_if(!storage.may_cross, at, OTHER_LET, notes)
     }
 }
 
@@ -188,7 +188,7 @@ pub fn use_notes(
     ensures { OnOk result (notes.new ≡ notes.old ++ use_notes context at one) }
 {
     match one {
-        Used::Called { callee, sends } => call_notes(context, at, callee, sends, notes),
+        Used::Called { callee, may_cross } => call_notes(context, at, callee, may_cross, notes),
         Used::Stored(storage) => read_notes(context, at, storage, notes),
         Used::Waited => await_notes(context, at, true, notes),
         Used::Field | Used::Nothing => Ok(()),
@@ -233,7 +233,7 @@ fn result_races(
 {
     match ty {
         None => Ok(()),
-        Some(ty) => race_if(!sends(world, ty), at, TASK_RESULT, notes),
+        Some(ty) => race_if(!may_cross(world, ty), at, TASK_RESULT, notes),
     }
 }
 

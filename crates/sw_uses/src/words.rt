@@ -8,10 +8,10 @@ use crate::lookups::{no_base, used};
 use crate::steps::use_notes;
 use std::alloc::AllocError;
 use sw_capture::mention_word;
+use sw_capture::typing::Typed;
 use sw_decls::Decls;
 use sw_isolation_rules::{Base, Context, Note};
 use sw_list::ListOf;
-use sw_typing::Typed;
 
 /// Notes a member after `base`, whose own notes stand before.
 pub fn member_notes(

@@ -15,12 +15,12 @@ use Rattle.sw_parse_decl.specs.Programs.{Explains, IsProgramOf}
 use Rattle.sw_tree.specs.declared.decl.Decl.{Decl}
 use Rattle.sw_decls.specs.Declaring.{IsRefusal}
 use Rattle.sw_decls.specs.declared.declaring.DeclFault.TheVariants as decl_faults
-use Rattle.sw_decls.specs.declared.signature.AsyncDefault.TheVariants.{Concurrent}
+use Rattle.sw_decls.specs.declared.signature.AsyncDefault.{AsyncDefault}
 use Rattle.sw_typing_rules.specs.Worlds.{IsWorldOf, World}
 use Rattle.sw_isolation.specs.Isolated.{IsRefused}
 use Rattle.sw_isolation.specs.declared.isolating.IsoFault.TheVariants as isolation_faults
-use Rattle.sw_lower.specs.Lowered.{IsTooLarge}
-use Rattle.sw_lower.specs.declared.lowering.LowerFault.TheVariants as lower_faults
+use Rattle.sw_lower_graph.specs.lower.Lowered.{IsTooLarge}
+use Rattle.sw_lower_graph.specs.lower.declared.lowering.LowerFault.TheVariants as lower_faults
 use Rattle.sw_typing.specs.Typed.{IsIllProgram}
 use Rattle.sw_typing.specs.declared.typing.TypeFault.TheVariants as type_faults
 use Rattle.sw_breach.specs.declared.Breach.{Breach}
@@ -97,34 +97,37 @@ found_first text tokens decls code at refusal are spelled first is =
     (breaks_one tokens decls (record { at = at; code = code }) are spelled first)
 
 -- what the first ill node is found as
-pub found_ill : (text : List ℕ) (tokens : List Token) (decls : List Decl) (world : World)
+pub found_ill : (rule : AsyncDefault) (text : List ℕ) (tokens : List Token) (decls : List Decl)
+    (world : World)
     (code at : ℕ) (refusal : Refusal) → IsTokens text tokens
-    → IsProgramOf decls (spelling_of text tokens) → IsWorldOf decls Concurrent world
+    → IsProgramOf decls (spelling_of text tokens) → IsWorldOf decls rule world
     → IsIllProgram world decls (type_faults.Breach code at)
     → (refusal ≢ Memory → refusal ≡ Breached (breach_at code at))
-    → FoundBy (TypesFinds text) refusal
-found_ill text tokens decls world code at refusal are spelled is_world first is =
-    found_breach (TypesFinds text) code at refusal is
+    → FoundBy (TypesFinds rule text) refusal
+found_ill rule text tokens decls world code at refusal are spelled is_world first is =
+    found_breach (TypesFinds rule text) code at refusal is
     (ill_typed tokens decls world (record { at = at; code = code }) are spelled is_world first)
 
 -- what the first breach of isolation is found as
-pub found_refusal : (text : List ℕ) (tokens : List Token) (decls : List Decl) (world : World)
+pub found_refusal : (rule : AsyncDefault) (text : List ℕ) (tokens : List Token) (decls : List Decl)
+    (world : World)
     (code at : ℕ) (refusal : Refusal) → IsTokens text tokens
-    → IsProgramOf decls (spelling_of text tokens) → IsWorldOf decls Concurrent world
+    → IsProgramOf decls (spelling_of text tokens) → IsWorldOf decls rule world
     → IsRefused world (answers_of_program world decls) decls (isolation_faults.Breach code at)
     → (refusal ≢ Memory → refusal ≡ Breached (breach_at code at))
-    → FoundBy (IsolationFinds text) refusal
-found_refusal text tokens decls world code at refusal are spelled is_world first is =
-    found_breach (IsolationFinds text) code at refusal is
+    → FoundBy (IsolationFinds rule text) refusal
+found_refusal rule text tokens decls world code at refusal are spelled is_world first is =
+    found_breach (IsolationFinds rule text) code at refusal is
     (reaches_out tokens decls world (record { at = at; code = code }) are spelled is_world first)
 
 -- what the first function that is too large is found as
-pub found_too_large : (text : List ℕ) (tokens : List Token) (decls : List Decl) (world : World)
+pub found_too_large : (rule : AsyncDefault) (text : List ℕ) (tokens : List Token)
+    (decls : List Decl) (world : World)
     (code at : ℕ) (refusal : Refusal) → IsTokens text tokens
-    → IsProgramOf decls (spelling_of text tokens) → IsWorldOf decls Concurrent world
+    → IsProgramOf decls (spelling_of text tokens) → IsWorldOf decls rule world
     → IsTooLarge (tables_of_program world decls) decls (lower_faults.Breach code at)
     → (refusal ≢ Memory → refusal ≡ Breached (breach_at code at))
-    → FoundBy (SizeFinds text) refusal
-found_too_large text tokens decls world code at refusal are spelled is_world first is =
-    found_breach (SizeFinds text) code at refusal is
+    → FoundBy (SizeFinds rule text) refusal
+found_too_large rule text tokens decls world code at refusal are spelled is_world first is =
+    found_breach (SizeFinds rule text) code at refusal is
     (too_large tokens decls world (record { at = at; code = code }) are spelled is_world first)

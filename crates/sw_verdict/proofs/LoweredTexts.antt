@@ -3,11 +3,11 @@ use Rattle.std.proofs.Common.{ℕ, ◌++◌, ◌⊎◌, inl, inr, List, [], ◌�
 use Rattle.sw_breach.specs.declared.Breach.{Breach}
 use Rattle.sw_graph.specs.declared.graph.Graph.{Graph}
 use Rattle.sw_capture.specs.Known.{answers_of}
-use Rattle.sw_decls.specs.declared.signature.AsyncDefault.TheVariants.{Concurrent}
+use Rattle.sw_decls.specs.declared.signature.AsyncDefault.{AsyncDefault}
 use Rattle.sw_isolation.proofs.Answering.{answers_are_said}
 use Rattle.sw_typing_rules.proofs.OneWorld.{declared_world}
 use Rattle.sw_typing_rules.specs.Worlds.{world_of}
-use Rattle.sw_lower_known.specs.Knowledge.{isolation_of}
+use Rattle.sw_lower_graph.specs.lower_known.Knowledge.{isolation_of}
 use Rattle.sw_lower_table.specs.Bodies.{Lowered}
 use Rattle.sw_verdict.specs.Decided.{IsAnalysed, IsSpelled}
 use Rattle.sw_verdict.specs.Phases.{IsGraphOf, Phase, answers_of_program, phases_to_size}
@@ -20,33 +20,37 @@ use Rattle.sw_verdict.proofs.Tables.{isolation_is_said}
 use Rattle.sw_verdict.proofs.Verdicts.{some_to_size}
 
 -- where all phases find none, so do the first of them
-first_pass : (phases more : List Phase) (text : List ℕ) → Breaches (phases ++ more) text []
-    → Breaches phases text []
-first_pass [] more text found = none text
-first_pass (phase ∷ phases) more text (later _ _ _ _ passes rest) =
-    later phase phases text [] passes (first_pass phases more text rest)
+first_pass : (rule : AsyncDefault) (phases more : List Phase) (text : List ℕ)
+    → Breaches rule (phases ++ more) text []
+    → Breaches rule phases text []
+first_pass rule [] more text found = none text
+first_pass rule (phase ∷ phases) more text (later _ _ _ _ passes rest) =
+    later phase phases text [] passes (first_pass rule phases more text rest)
 
-pub accepted_to_size : (text : List ℕ) → Accepts text → Breaches phases_to_size text []
-accepted_to_size text accepts = first_pass phases_to_size _ text accepts
+pub accepted_to_size : (rule : AsyncDefault) (text : List ℕ) → Accepts rule text
+    → Breaches rule phases_to_size text []
+accepted_to_size rule text accepts = first_pass rule phases_to_size _ text accepts
 
-pub decided_to_size : (text : List ℕ)
-    → Breaches phases_to_size text [] ⊎ Refuses phases_to_size text
-decided_to_size text = let (list, found) = some_to_size text in by list found where
-  by : (list : List Breach) → Breaches phases_to_size text list
-      → Breaches phases_to_size text [] ⊎ Refuses phases_to_size text
+pub decided_to_size : (rule : AsyncDefault) (text : List ℕ)
+    → Breaches rule phases_to_size text [] ⊎ Refuses rule phases_to_size text
+decided_to_size rule text = let (list, found) = some_to_size rule text in by list found where
+  by : (list : List Breach) → Breaches rule phases_to_size text list
+      → Breaches rule phases_to_size text [] ⊎ Refuses rule phases_to_size text
   by [] found = inl found
   by (breach ∷ others) found = inr (breach ∷ others, (λ e. cc), found)
 
-pub some_graph_of : (text : List ℕ) → Accepts text → (graph : Graph) × IsGraphOf text graph
-some_graph_of text accepts = some_graph text (accepted_to_size text accepts)
+pub some_graph_of : (rule : AsyncDefault) (text : List ℕ) → Accepts rule text → (graph : Graph)
+    × IsGraphOf rule text graph
+some_graph_of rule text accepts = some_graph rule text (accepted_to_size rule text accepts)
 
 -- the graph that was made of a text's program, which was read and analysed
-pub made_graph : (text : List ℕ) (read : Read) (found : Analysed) (graph : Graph)
-    → IsSpelled text read → IsAnalysed read.program.decls found
+pub made_graph : (rule : AsyncDefault) (text : List ℕ) (read : Read) (found : Analysed)
+    (graph : Graph)
+    → IsSpelled text read → IsAnalysed rule read.program.decls found
     → Lowered (world_of found.declared) (answers_of found.typed) (isolation_of found.isolated)
     read.program.decls graph
-    → IsGraphOf text graph
-made_graph text read found graph is known lowered =
+    → IsGraphOf rule text graph
+made_graph rule text read found graph is known lowered =
     let decls = read.program.decls in
     let world = world_of found.declared in
     let numbered = numbered_bodies world (answers_of found.typed) (isolation_of found.isolated)
@@ -61,7 +65,7 @@ made_graph text read found graph is known lowered =
       decls = decls;
       is_program = is.is_program;
       world = world;
-      is_world = declared_world decls Concurrent found.declared known.declared;
+      is_world = declared_world decls rule found.declared known.declared;
       lowered = whole;
       numbered = names;
     }

@@ -14,6 +14,7 @@ use Rattle.sw_graph.specs.OneProof.{IsWellFormed-prop}
 use Rattle.sw_graph.specs.WellFormed.{IsWellFormed}
 use Rattle.sw_graph.specs.declared.graph.Graph.{Graph}
 use Rattle.sw_value.proofs.ListLemmas.{some_injective}
+use Rattle.sw_decls.specs.declared.signature.AsyncDefault.{AsyncDefault}
 use Rattle.sw_typing_rules.specs.Worlds.{World, and_then}
 use Rattle.sw_isolation_rules.specs.Answers.{Answers}
 use Rattle.sw_lower_code.specs.Whole.{Body}
@@ -21,8 +22,8 @@ use Rattle.sw_lower_table.specs.Bodies.{AreNumbered, AreOrdered, Lowered, entry_
 use Rattle.sw_lower_table.specs.Bodies.{numbers_of, order_of, program_bodies, tables_of}
 use Rattle.sw_lower_table.specs.Tables.{Isolation, Tables, name_of, plain}
 use Rattle.sw_lower_table.proofs.Orders.{one_numbering}
-use Rattle.sw_lower.specs.Lowered.{IsLowering}
-use Rattle.sw_lower.specs.declared.lowering.Lowering.{Lowering}
+use Rattle.sw_lower_graph.specs.lower.Lowered.{IsLowering}
+use Rattle.sw_lower_graph.specs.lower.declared.lowering.Lowering.{Lowering}
 use Rattle.sw_verdict.specs.Phases.{IsGraphOf, answers_of_program, isolation_of_program}
 use Rattle.sw_verdict.proofs.SameProgram.{of_same, same_world}
 
@@ -125,7 +126,8 @@ module _ (world : World) (answers : Answers) (isolation : Isolation) (decls : Li
   one_lowered a b is_a numbered is_b =
       let same = same_bodies is_a.ordered is_b.ordered is_a.are_ordered is_b.are_ordered numbered in
       let entry : Some a.entry ≡ Some b.entry =
-      is_a.entry ∙ (ap (λ ordered. and_then (entry_key decls) (λ key. numbers_of ordered (plain key)))
+      is_a.entry
+      ∙ (ap (λ ordered. and_then (entry_key decls) (λ key. numbers_of ordered (plain key)))
       same ∙ sym is_b.entry) in
       let starts : map Some a.starts ≡ map Some b.starts =
       is_a.starts ∙ (ap (λ ordered. map (λ global. numbers_of ordered (plain global.key.at))
@@ -147,12 +149,13 @@ abbrev pub HasGraph : Graph → World → List Decl → Answers → Isolation �
 HasGraph graph world decls answers isolation =
     (is : Lowered world answers isolation decls graph) × AreNumbered is.ordered
 
-pub one_graph_of : (text : List ℕ) (a b : Graph) → IsGraphOf text a → IsGraphOf text b → a ≡ b
-one_graph_of text a b is_a is_b =
+pub one_graph_of : (rule : AsyncDefault) (text : List ℕ) (a b : Graph) → IsGraphOf rule text a
+    → IsGraphOf rule text b → a ≡ b
+one_graph_of rule text a b is_a is_b =
     let of : World → List Decl → Type 0 = λ world decls.
     HasGraph a world decls (answers_of_program world decls) (isolation_of_program world decls) in
     let (lowered, numbered) = of_same of is_a.world is_b.world is_a.decls is_b.decls
-    (same_world text is_a.tokens is_b.tokens is_a.decls is_b.decls is_a.world is_b.world
+    (same_world rule text is_a.tokens is_b.tokens is_a.decls is_b.decls is_a.world is_b.world
     is_a.are_tokens is_a.is_program is_a.is_world is_b.are_tokens is_b.is_program is_b.is_world)
     (is_a.lowered, is_a.numbered) in
     one_lowered is_b.world (answers_of_program is_b.world is_b.decls)

@@ -12,7 +12,7 @@ use Rattle.sw_isolation_rules.specs.Captures.{is_among}
 use Rattle.sw_isolation_rules.specs.Lists.{bodies_in, boxes_in, captures_in, kinds_in}
 use Rattle.sw_isolation_rules.specs.Programs.{noted}
 use Rattle.sw_isolation_rules.specs.declared.note.Note.{Note}
-use Rattle.sw_lower_known.specs.Knowledge.{isolation_of}
+use Rattle.sw_lower_graph.specs.lower_known.Knowledge.{isolation_of}
 use Rattle.sw_lower_table.specs.Bodies.{tables_of}
 use Rattle.sw_lower_table.specs.Tables.{isolation_by, isolation_in}
 use Rattle.sw_tree.specs.declared.decl.Decl.{Decl}

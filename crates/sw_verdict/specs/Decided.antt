@@ -2,15 +2,15 @@
 use Rattle.std.specs.Prelude.{◌≢◌, ◌<◌, ◌^◌, ◌≡◌, ℕ, List, [], None, Result, Ok, Err, length}
 use Rattle.sw_tree.specs.declared.decl.Decl.{Decl}
 use Rattle.sw_decls.specs.Declaring.{IsDeclared, IsFirstBreach}
-use Rattle.sw_decls.specs.declared.signature.AsyncDefault.TheVariants.{Concurrent}
+use Rattle.sw_decls.specs.declared.signature.AsyncDefault.{AsyncDefault}
 use Rattle.sw_typing_rules.specs.Programs.{IsFirstIll}
 use Rattle.sw_typing_rules.specs.Worlds.{world_of}
 use Rattle.sw_typing.specs.Typed.{IsTyped}
 use Rattle.sw_capture.specs.Known.{answers_of}
 use Rattle.sw_isolation.specs.Isolated.{IsIsolated}
-use Rattle.sw_lower_known.specs.Knowledge.{isolation_of}
+use Rattle.sw_lower_graph.specs.lower_known.Knowledge.{isolation_of}
 use Rattle.sw_lower_table.specs.Bodies.{tables_of}
-use Rattle.sw_lower.specs.Lowered.{IsLowering}
+use Rattle.sw_lower_graph.specs.lower.Lowered.{IsLowering}
 use Rattle.sw_verdict.specs.declared.judging.Analysed.{Analysed}
 use Rattle.sw_parse_decl.specs.Programs.{IsProgramOf}
 use Rattle.sw_token.specs.Spelling.{spelling_of}
@@ -22,15 +22,15 @@ use Rattle.sw_verdict.specs.declared.phases.Refusal.{Refusal}
 use Rattle.sw_verdict.specs.declared.phases.Refusal.TheVariants.{Breached, Memory}
 
 -- the phases find these breaches, unless memory ran out
-abbrev pub DecidedBy : List Phase → List ℕ → Refusal → Type 0
-DecidedBy phases text (Breached list) = (list ≢ []) × Breaches phases text list
-DecidedBy phases text Memory = Unit {0}
+abbrev pub DecidedBy : AsyncDefault → List Phase → List ℕ → Refusal → Type 0
+DecidedBy rule phases text (Breached list) = (list ≢ []) × Breaches rule phases text list
+DecidedBy rule phases text Memory = Unit {0}
 
--- `Decided phases text result`: none of the phases finds a breach in the text, or the refusal has
--- what the first finds that finds any.
-abbrev pub Decided : {A : Type 0} → List Phase → List ℕ → Result A Refusal → Type 0
-Decided phases text (Ok value) = Breaches phases text []
-Decided phases text (Err refusal) = DecidedBy phases text refusal
+-- `Decided rule phases text result`: none of the phases finds a breach in the text, or the refusal
+-- has what the first finds that finds any.
+abbrev pub Decided : {A : Type 0} → AsyncDefault → List Phase → List ℕ → Result A Refusal → Type 0
+Decided rule phases text (Ok value) = Breaches rule phases text []
+Decided rule phases text (Err refusal) = DecidedBy rule phases text refusal
 
 -- what was read is the text with its tokens and the program that they spell
 pub record IsSpelled (text : List ℕ) (read : Spelled) : Type 0 where
@@ -39,11 +39,11 @@ pub record IsSpelled (text : List ℕ) (read : Spelled) : Type 0 where
   pub is_program : IsProgramOf read.program.decls (spelling_of text read.tokens.items)
   pub few : length read.program.decls < 2 ^ 31
 
--- What was found of a program: it keeps the rules on declarations and declares these, its nodes have
--- types, which are these, and it has this isolation and these functions.
-pub record IsAnalysed (decls : List Decl) (found : Analysed) : Type 0 where
+-- What was found of a program under a default: it keeps the rules on declarations and declares
+-- these, its nodes have types, which are these, and it has this isolation and these functions.
+pub record IsAnalysed (rule : AsyncDefault) (decls : List Decl) (found : Analysed) : Type 0 where
   pub sound : IsFirstBreach decls None
-  pub declared : IsDeclared decls Concurrent found.declared
+  pub declared : IsDeclared decls rule found.declared
   pub well : IsFirstIll (world_of found.declared) decls None
   pub typed : IsTyped (world_of found.declared) decls found.typed
   pub isolated : IsIsolated (world_of found.declared) (answers_of found.typed) decls found.isolated

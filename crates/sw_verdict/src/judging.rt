@@ -2,7 +2,8 @@ ghost use Rattle.std.specs.Prelude.{◌<◌, ◌≤◌, ◌^◌, ◌∷◌, [], 
 ghost use Rattle.std.specs.Prelude.{length};
 ghost use Rattle.sw_breach.specs.declared.Breach.{Breach};
 ghost use Rattle.sw_capture.specs.Known.{answers_of};
-ghost use Rattle.sw_lower_known.specs.Knowledge.{isolation_of};
+ghost use Rattle.sw_decls.specs.declared.signature.AsyncDefault.{AsyncDefault};
+ghost use Rattle.sw_lower_graph.specs.lower_known.Knowledge.{isolation_of};
 ghost use Rattle.sw_lower_table.specs.Bodies.{Lowered};
 ghost use Rattle.sw_parse_decl.specs.Programs.{IsProgramOf};
 ghost use Rattle.sw_token.specs.Spelling.{spelling_of};
@@ -19,11 +20,11 @@ use crate::phases::{
     Refusal, declarations, encoding, isolation, lexis, races, size, syntax, types,
 };
 use std::alloc::{AllocError, Global};
-use sw_decls::Decls;
+use sw_decls::{AsyncDefault, Decls};
 use sw_graph::Graph;
 use sw_isolation::{Isolated, race_forms};
-use sw_lower::Lowering;
 use sw_lower_graph::graph_of;
+use sw_lower_graph::lower::Lowering;
 use sw_text::{MAX_LENGTH, Source};
 use sw_token::Token;
 use sw_tree::Program;
@@ -37,10 +38,11 @@ pub struct Spelled {
     program: Program,
 }
 
-/// The program that a text spells, by the phases up to the syntax.
+/// The program that a text spells, by the phases up to the syntax. No default counts for these.
 fn read(alloc: Global, text: &[u8]) -> Result<Spelled, Refusal>
     requires { length text.now ≤ MAX_LENGTH }
-    ensures decided { Decided (Encoding ∷ Lexis ∷ Syntax ∷ []) text.now result }
+    ensures decided { (rule : AsyncDefault)
+        → Decided rule (Encoding ∷ Lexis ∷ Syntax ∷ []) text.now result }
     ensures spelled { IfOk result (IsSpelled text.now) }
 {
     let source = encoding(alloc, text)?;
@@ -62,15 +64,16 @@ pub struct Analysed {
     lowering: Lowering,
 }
 
-/// Goes through the phases that judge what a program means, up to the size of its functions.
-fn analyse(alloc: Global, program: &Program) -> Result<Analysed, Refusal>
+/// Goes through the phases that judge what a program means under a default, up to the size of its
+/// functions.
+fn analyse(alloc: Global, program: &Program, default: AsyncDefault) -> Result<Analysed, Refusal>
     requires { length program.now.decls < 2 ^ 31 }
     ensures decided { (text : List ℕ) (tokens : List Token) → IsTokens text tokens
         → IsProgramOf program.now.decls (spelling_of text tokens)
-        → Decided (Declarations ∷ Types ∷ Isolation ∷ Size ∷ []) text result }
-    ensures analysed { IfOk result (IsAnalysed program.now.decls) }
+        → Decided default (Declarations ∷ Types ∷ Isolation ∷ Size ∷ []) text result }
+    ensures analysed { IfOk result (IsAnalysed default program.now.decls) }
 {
-    let declared = declarations(alloc, program)?;
+    let declared = declarations(alloc, program, default)?;
     let typed = types(alloc, program, &declared)?;
     let isolated = isolation(alloc, program, &declared, &typed)?;
     let lowering = size(alloc, program, &declared, &typed, &isolated)?;
@@ -82,10 +85,10 @@ fn analyse(alloc: Global, program: &Program) -> Result<Analysed, Refusal>
     })
 }
 
-/// The graph of a program of which this was found.
+/// The graph of a program of which this was found under some default.
 fn graph(alloc: Global, program: &Program, found: Analysed) -> Result<Graph, AllocError>
     requires apart { CasesApart program.now.decls }
-    requires analysed { IsAnalysed program.now.decls found }
+    requires analysed { (rule : AsyncDefault) × IsAnalysed rule program.now.decls found }
     ensures { IfOk result (Lowered (world_of found.declared) (answers_of found.typed)
         (isolation_of found.isolated) program.now.decls) }
 {
@@ -98,31 +101,33 @@ fn graph(alloc: Global, program: &Program, found: Analysed) -> Result<Graph, All
     graph_of(alloc, program, declared, &typed, &isolated, lowering)
 }
 
-/// The verdict on a text: its graph, or what the first phase finds that finds a breach.
-pub fn judge(alloc: Global, text: &[u8]) -> Result<Graph, Refusal>
+/// The verdict on a text under a default: its graph, or what the first phase finds that finds a
+/// breach.
+pub fn judge(alloc: Global, text: &[u8], default: AsyncDefault) -> Result<Graph, Refusal>
     requires { length text.now ≤ MAX_LENGTH }
-    ensures graph { IfOk result (λ graph. IsVerdict all_phases text.now (Ok graph)) }
+    ensures graph { IfOk result (λ graph. IsVerdict default all_phases text.now (Ok graph)) }
     ensures breaches { (list : List Breach) → IsErrOf result (Refusal.Breached list)
-        → IsVerdict all_phases text.now (Err list) }
+        → IsVerdict default all_phases text.now (Err list) }
 {
     let spelled = read(alloc, text)?;
-    let found = analyse(alloc, &spelled.program)?;
+    let found = analyse(alloc, &spelled.program, default)?;
     let shared = race_forms(alloc, &found.declared, &found.typed, &found.isolated)?;
     let graph = graph(alloc, &spelled.program, found)?;
     races(alloc, shared.as_slice(), &graph)?;
     Ok(graph)
 }
 
-/// The verdict on a text by the phases up to the size of its functions: the graph of its program,
-/// whatever races that has, or what the first of these phases finds that finds a breach.
-pub fn lower_text(alloc: Global, text: &[u8]) -> Result<Graph, Refusal>
+/// The verdict on a text under a default by the phases up to the size of functions: the graph of
+/// its program, whatever races that has, or what the first of these phases finds that finds a
+/// breach.
+pub fn lower_text(alloc: Global, text: &[u8], default: AsyncDefault) -> Result<Graph, Refusal>
     requires { length text.now ≤ MAX_LENGTH }
-    ensures graph { IfOk result (λ graph. IsVerdict phases_to_size text.now (Ok graph)) }
+    ensures graph { IfOk result (λ graph. IsVerdict default phases_to_size text.now (Ok graph)) }
     ensures breaches { (list : List Breach) → IsErrOf result (Refusal.Breached list)
-        → IsVerdict phases_to_size text.now (Err list) }
+        → IsVerdict default phases_to_size text.now (Err list) }
 {
     let spelled = read(alloc, text)?;
-    let found = analyse(alloc, &spelled.program)?;
+    let found = analyse(alloc, &spelled.program, default)?;
     let made = graph(alloc, &spelled.program, found)?;
     Ok(made)
 }

@@ -1,25 +1,26 @@
 //! One function for each phase.
 
-ghost use Rattle.std.specs.Prelude.{◌≡◌, ◌≢◌, ◌≤◌, ◌<◌, ◌^◌, ℕ, List, IfOk, OnOk, None, length, map};
+ghost use Rattle.std.specs.Prelude.{◌≡◌, ◌≢◌, ◌≤◌, ◌<◌, ◌^◌, ℕ, List, IfOk, OnOk, None, length};
+ghost use Rattle.std.specs.Prelude.{map};
 ghost use Rattle.sw_token.specs.declared.Token.{Token};
 ghost use Rattle.sw_token.specs.Tokens.{IsTokens, position_of};
 ghost use Rattle.sw_token.specs.Spelling.{spelling_of};
 ghost use Rattle.sw_parse_decl.specs.Programs.{IsProgramOf};
 ghost use Rattle.sw_decls.specs.Declaring.{IsDeclared, IsFirstBreach};
-ghost use Rattle.sw_decls.specs.declared.signature.AsyncDefault.TheVariants.{Concurrent};
+ghost use Rattle.sw_decls.specs.declared.signature.AsyncDefault.{AsyncDefault};
 ghost use Rattle.sw_typing.specs.Typed.{IsTyped};
 ghost use Rattle.sw_typing_rules.specs.Programs.{IsFirstIll};
 ghost use Rattle.sw_typing_rules.specs.Worlds.{world_of};
 ghost use Rattle.sw_capture.specs.Known.{answers_of};
 ghost use Rattle.sw_isolation.specs.Isolated.{IsIsolated};
-ghost use Rattle.sw_lower_known.specs.Knowledge.{isolation_of};
-ghost use Rattle.sw_lower.specs.Lowered.{IsLowering};
+ghost use Rattle.sw_lower_graph.specs.lower_known.Knowledge.{isolation_of};
+ghost use Rattle.sw_lower_graph.specs.lower.Lowered.{IsLowering};
 ghost use Rattle.sw_lower_table.specs.Bodies.{tables_of};
 ghost use Rattle.sw_region_flow.specs.Breaches.{AreAll};
-ghost use Rattle.sw_verdict.specs.Phases.{Encoding, Lexis, Syntax, Declarations, Types};
-ghost use Rattle.sw_verdict.specs.Phases.{Isolation, Size, Finds, IsRace, breach_of};
-ghost use Rattle.sw_verdict.specs.Phases.{breach_at, lexical_code, syntax_code};
-ghost use Rattle.sw_verdict.specs.Phases.{token_of, token_position};
+ghost use Rattle.sw_verdict.specs.Phases.{DeclarationsFinds, EncodingFinds, IsRace};
+ghost use Rattle.sw_verdict.specs.Phases.{IsolationFinds, LexisFinds, SizeFinds, SyntaxFinds};
+ghost use Rattle.sw_verdict.specs.Phases.{TypesFinds, breach_at, breach_of, lexical_code};
+ghost use Rattle.sw_verdict.specs.Phases.{syntax_code, token_of, token_position};
 ghost use Rattle.sw_verdict.specs.Found.{Found};
 
 use std::alloc::{AllocError, Global};
@@ -30,7 +31,7 @@ use sw_decls::{AsyncDefault, DeclFault, Decls, declare};
 use sw_graph::Graph;
 use sw_isolation::{IsoFault, Isolated, isolate};
 use sw_list::ListOf;
-use sw_lower::{LowerFault, Lowering, lower};
+use sw_lower_graph::lower::{LowerFault, Lowering, lower};
 use sw_parse_body::program;
 use sw_parse_decl::ParseFault;
 use sw_region_flow::{breaches, in_order};
@@ -106,7 +107,7 @@ fn refused(alloc: Global, code: u16, at: u32) -> Refusal
 /// The text, where it is UTF-8.
 pub fn encoding(alloc: Global, text: &[u8]) -> Result<Source, Refusal>
     requires { length text.now ≤ MAX_LENGTH }
-    ensures found { Found (Finds Encoding text.now) result }
+    ensures found { Found (EncodingFinds text.now) result }
     ensures same { IfOk result (λ source. source ≡ text.now) }
 {
     match Source::new(alloc, text) {
@@ -132,7 +133,7 @@ fn lexical_refusal(alloc: Global, fault: LexFault) -> Refusal
 
 /// The tokens of a text.
 pub fn lexis(alloc: Global, source: &Source) -> Result<Vec<Token>, Refusal>
-    ensures found { Found (Finds Lexis source.now) result }
+    ensures found { Found (LexisFinds source.now) result }
     ensures tokens { IfOk result (λ tokens. IsTokens source.now tokens.items) }
 {
     match tokens(alloc, source) {
@@ -173,7 +174,7 @@ fn syntax_refusal(alloc: Global, source: &Source, tokens: &[Token], fault: Parse
 /// The program that the tokens of a text spell.
 pub fn syntax(alloc: Global, source: &Source, tokens: &[Token]) -> Result<Program, Refusal>
     requires { IsTokens source.now tokens.now }
-    ensures found { Found (Finds Syntax source.now) result }
+    ensures found { Found (SyntaxFinds source.now) result }
     ensures program { IfOk result (λ program. IsProgramOf program.decls
         (spelling_of source.now tokens.now)) }
     ensures few { IfOk result (λ program. length program.decls ≤ length tokens.now) }
@@ -184,29 +185,33 @@ pub fn syntax(alloc: Global, source: &Source, tokens: &[Token]) -> Result<Progra
     }
 }
 
-/// What a program declares.
-pub fn declarations(alloc: Global, program: &Program) -> Result<Decls, Refusal>
+/// What a program declares, where asynchronous functions run by `default` that say nothing more.
+pub fn declarations(
+    alloc: Global,
+    program: &Program,
+    default: AsyncDefault,
+) -> Result<Decls, Refusal>
     requires { length program.now.decls < 2 ^ 31 }
     ensures found { (text : List ℕ) (tokens : List Token) → IsTokens text tokens
         → IsProgramOf program.now.decls (spelling_of text tokens)
-        → Found (Finds Declarations text) result }
-    ensures declared { IfOk result (IsDeclared program.now.decls Concurrent) }
+        → Found (DeclarationsFinds text) result }
+    ensures declared { IfOk result (IsDeclared program.now.decls default) }
     ensures sound { OnOk result (IsFirstBreach program.now.decls None) }
 {
-    match declare(alloc, program, AsyncDefault::Concurrent) {
+    match declare(alloc, program, default) {
         Ok(decls) => Ok(decls),
         Err(DeclFault::Breach { code, at }) => Err(refused(alloc, code, at)),
         Err(DeclFault::Memory) => Err(Refusal::Memory),
     }
 }
 
-/// The types of a program that declares these.
+/// The types of a program that declares these, by whatever default.
 pub fn types(alloc: Global, program: &Program, declared: &Decls) -> Result<Typed, Refusal>
-    requires small { length program.now.decls < 2 ^ 31 }
-    requires declared { IsDeclared program.now.decls Concurrent declared.now }
-    ensures found { (text : List ℕ) (tokens : List Token) → IsTokens text tokens
+    requires { length program.now.decls < 2 ^ 31 }
+    ensures found { (rule : AsyncDefault) (text : List ℕ) (tokens : List Token)
+        → IsDeclared program.now.decls rule declared.now → IsTokens text tokens
         → IsProgramOf program.now.decls (spelling_of text tokens)
-        → Found (Finds Types text) result }
+        → Found (TypesFinds rule text) result }
     ensures typed { IfOk result (IsTyped (world_of declared.now) program.now.decls) }
     ensures well { OnOk result (IsFirstIll (world_of declared.now) program.now.decls None) }
 {
@@ -217,7 +222,8 @@ pub fn types(alloc: Global, program: &Program, declared: &Decls) -> Result<Typed
     }
 }
 
-/// How a program is isolated that declares these and whose nodes have these types.
+/// How a program is isolated that declares these, by whatever default, and whose nodes have these
+/// types.
 pub fn isolation(
     alloc: Global,
     program: &Program,
@@ -225,11 +231,11 @@ pub fn isolation(
     typed: &Typed,
 ) -> Result<Isolated, Refusal>
     requires small { length program.now.decls < 2 ^ 31 }
-    requires declared { IsDeclared program.now.decls Concurrent declared.now }
     requires typed { IsTyped (world_of declared.now) program.now.decls typed.now }
-    ensures found { (text : List ℕ) (tokens : List Token) → IsTokens text tokens
+    ensures found { (rule : AsyncDefault) (text : List ℕ) (tokens : List Token)
+        → IsDeclared program.now.decls rule declared.now → IsTokens text tokens
         → IsProgramOf program.now.decls (spelling_of text tokens)
-        → Found (Finds Isolation text) result }
+        → Found (IsolationFinds rule text) result }
     ensures isolated { IfOk result
         (IsIsolated (world_of declared.now) (answers_of typed.now) program.now.decls) }
 {
@@ -240,8 +246,9 @@ pub fn isolation(
     }
 }
 
-/// The functions of a program none of whose functions is too large, with the numbers of those that a
-/// graph names. It declares these, its nodes have these types, and it is isolated so.
+/// The functions of a program none of whose functions is too large, with the numbers of those that
+/// a graph names. It declares these, by whatever default, its nodes have these types, and it is
+/// isolated so.
 pub fn size(
     alloc: Global,
     program: &Program,
@@ -250,13 +257,13 @@ pub fn size(
     isolated: &Isolated,
 ) -> Result<Lowering, Refusal>
     requires small { length program.now.decls < 2 ^ 31 }
-    requires declared { IsDeclared program.now.decls Concurrent declared.now }
     requires typed { IsTyped (world_of declared.now) program.now.decls typed.now }
     requires isolated { IsIsolated (world_of declared.now) (answers_of typed.now)
         program.now.decls isolated.now }
-    ensures found { (text : List ℕ) (tokens : List Token) → IsTokens text tokens
+    ensures found { (rule : AsyncDefault) (text : List ℕ) (tokens : List Token)
+        → IsDeclared program.now.decls rule declared.now → IsTokens text tokens
         → IsProgramOf program.now.decls (spelling_of text tokens)
-        → Found (Finds Size text) result }
+        → Found (SizeFinds rule text) result }
     ensures functions { IfOk result (IsLowering (tables_of (world_of declared.now)
         (answers_of typed.now) (isolation_of isolated.now) program.now.decls)
         program.now.decls) }

@@ -5,14 +5,15 @@ use Rattle.sw_draft.specs.Drafts.{number_by}
 use Rattle.sw_lower_run.specs.Plan.{Numbers}
 use Rattle.sw_lower_run.specs.declared.name.FunctionName.{FunctionName}
 use Rattle.sw_lower_bodies.specs.Trees.{bodies_by}
-use Rattle.sw_lower_known.specs.Knowledge.{tables_by}
+use Rattle.sw_lower_bodies.specs.lower_known.Knowledge.{tables_by}
 use Rattle.sw_lower_table.specs.Bodies.{entry_key}
 use Rattle.sw_lower_table.specs.Tables.{number_in, plain}
 use Rattle.sw_typing_rules.specs.Worlds.{and_then}
 use Rattle.sw_lower.specs.Ordered.{AreFound, starts_in, tree_name}
 use Rattle.sw_lower.specs.Lowered.{EndsWell, HasMade, function_by}
 use Rattle.sw_lower.proofs.Numbered.{bodies_found}
-use Rattle.sw_lower.proofs.Programs.{bodies_end, bodies_moved, functions_are, order_kept, same_numbers}
+use Rattle.sw_lower.proofs.Programs.{bodies_end, bodies_moved, functions_are, order_kept}
+use Rattle.sw_lower.proofs.Programs.{same_numbers}
 use Rattle.sw_lower.proofs.lowering.make_program.Goals as goal
 
 pub returns : goal.returns

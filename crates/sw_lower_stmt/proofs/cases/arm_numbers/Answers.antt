@@ -4,7 +4,7 @@ use Rattle.sw_draft.specs.Drafts.{making_of}
 use Rattle.sw_lower_stmt.proofs.Loops.{each_ends, each_fails, each_next, next_item}
 use Rattle.sw_lower_stmt.proofs.Loops.{no_item}
 use Rattle.sw_lower_stmt.specs.Parts.{arm_number}
-use Rattle.sw_lower_uses.proofs.Gathered.{each_is}
+use Rattle.sw_lower_expr.proofs.Gathered.{each_is}
 use Rattle.sw_lower_stmt.proofs.cases.arm_numbers.Goals as goal
 
 pub loop-arm-init : goal.loop-arm-init

@@ -3,7 +3,7 @@ use Rattle.std.proofs.lemmas.Result.{err_from_is_err_and}
 use Rattle.std.specs.Iterator.Adapters.{zip_first, zip_second}
 use Rattle.std.specs.Slice.Iter.{iter_rest}
 use Rattle.sw_draft.specs.Drafts.{making_of}
-use Rattle.sw_lower_known.specs.Knowledge.{tables_by}
+use Rattle.sw_lower_expr.specs.lower_known.Knowledge.{tables_by}
 use Rattle.sw_lower_table.specs.Carriers.{StmtCode}
 use Rattle.sw_lower_table.specs.Statements.{arm_code, default_code, else_code, stmt_code}
 use Rattle.sw_lower_code.specs.Code.{all, each, resume}
@@ -14,7 +14,7 @@ use Rattle.sw_lower_stmt.proofs.Loops.{no_item, scope_ends, scope_fails}
 use Rattle.sw_lower_stmt.proofs.Whole.{block_whole, if_whole, switch_whole}
 use Rattle.sw_lower_stmt.specs.Parts.{arm_opened, if_arm_code, if_codes, numbered, otherwise_code}
 use Rattle.sw_lower_stmt.specs.Parts.{stmt_codes, switch_opened}
-use Rattle.sw_lower_uses.proofs.Gathered.{each_is}
+use Rattle.sw_lower_expr.proofs.Gathered.{each_is}
 use Rattle.sw_lower_stmt.proofs.walk.+walk.Goals as goal
 
 pub block-returns-in_err-stmts : goal.block-returns-in_err-stmts
@@ -105,21 +105,29 @@ if_arms-returns t c =
 
 pub stmt-returns-in_err-merges-in-If : goal.stmt-returns-in_err-merges-in-If
 stmt-returns-in_err-merges-in-If t c =
-    let p = err_from_is_err_and c.from_residual-in_err-merges-in-If.result c.from_residual-in_err-merges-in-If.ensures.1 in
-    rw (p.1, p.2) (λ other. if_whole (tables_by c.args.known.now) c.args.owner c.args.targets c.args.tree.now
+    let p =
+    err_from_is_err_and c.from_residual-in_err-merges-in-If.result
+    c.from_residual-in_err-merges-in-If.ensures.1 in
+    rw (p.1, p.2)
+    (λ other. if_whole (tables_by c.args.known.now) c.args.owner c.args.targets c.args.tree.now
     c.in-If.arms c.as_slice.result.now c.in-If.last (making_of c.args.draft.now) c.in-If.is
     c.as_slice.ensures
-    ∙ first_fails (each (arm_opened c.args.targets) (if_codes (tables_by c.args.known.now) c.args.owner
+    ∙ first_fails
+    (each (arm_opened c.args.targets) (if_codes (tables_by c.args.known.now) c.args.owner
     c.as_slice.result.now)) _
     (making_of c.args.draft.now) _ (c.in_err-merges-in-If.ensures other))
 
 pub stmt-returns-in_err-otherwise-in-If : goal.stmt-returns-in_err-otherwise-in-If
 stmt-returns-in_err-otherwise-in-If t c =
-    let p = err_from_is_err_and c.from_residual-in_err-otherwise-in-If.result c.from_residual-in_err-otherwise-in-If.ensures.1 in
-    rw (p.1, p.2) (λ other. if_whole (tables_by c.args.known.now) c.args.owner c.args.targets c.args.tree.now
+    let p =
+    err_from_is_err_and c.from_residual-in_err-otherwise-in-If.result
+    c.from_residual-in_err-otherwise-in-If.ensures.1 in
+    rw (p.1, p.2)
+    (λ other. if_whole (tables_by c.args.known.now) c.args.owner c.args.targets c.args.tree.now
     c.in-If.arms c.as_slice.result.now c.in-If.last (making_of c.args.draft.now) c.in-If.is
     c.as_slice.ensures
-    ∙ (given_then (each (arm_opened c.args.targets) (if_codes (tables_by c.args.known.now) c.args.owner
+    ∙ (given_then
+    (each (arm_opened c.args.targets) (if_codes (tables_by c.args.known.now) c.args.owner
     c.as_slice.result.now)) _
     (making_of c.args.draft.now) c.in_ok-merges-in-If.merges (making_of c.if_arms.new.draft)
     c.in_ok-merges-in-If.ensures
@@ -132,7 +140,8 @@ stmt-returns-in_ok-otherwise-in-If t c =
     rw (if_whole (tables_by c.args.known.now) c.args.owner c.args.targets c.args.tree.now
     c.in-If.arms c.as_slice.result.now c.in-If.last (making_of c.args.draft.now) c.in-If.is
     c.as_slice.ensures
-    ∙ (given_then (each (arm_opened c.args.targets) (if_codes (tables_by c.args.known.now) c.args.owner
+    ∙ (given_then
+    (each (arm_opened c.args.targets) (if_codes (tables_by c.args.known.now) c.args.owner
     c.as_slice.result.now)) _
     (making_of c.args.draft.now) c.in_ok-merges-in-If.merges (making_of c.if_arms.new.draft)
     c.in_ok-merges-in-If.ensures
@@ -143,8 +152,12 @@ stmt-returns-in_ok-otherwise-in-If t c =
 
 pub stmt-returns-in_err-opened-in-Switch : goal.stmt-returns-in_err-opened-in-Switch
 stmt-returns-in_err-opened-in-Switch t c =
-    let p = err_from_is_err_and c.from_residual-in_err-opened-in-Switch.result c.from_residual-in_err-opened-in-Switch.ensures.1 in
-    rw (p.1, p.2) (λ other. switch_whole (tables_by c.args.known.now) c.args.owner c.args.targets c.args.tree.now _
+    let p =
+    err_from_is_err_and c.from_residual-in_err-opened-in-Switch.result
+    c.from_residual-in_err-opened-in-Switch.ensures.1 in
+    rw (p.1, p.2)
+    (λ other.
+    switch_whole (tables_by c.args.known.now) c.args.owner c.args.targets c.args.tree.now _
     c.in-Switch.subject c.in-Switch.arms c.as_slice-arms.result.now c.in-Switch.last
     (making_of c.args.draft.now) c.in-Switch.is c.as_slice-arms.ensures
     ∙ first_fails (switch_opened (tables_by c.args.known.now) c.args.owner c.in-Switch.subject
@@ -153,32 +166,44 @@ stmt-returns-in_err-opened-in-Switch t c =
 
 pub stmt-returns-in_err-case_arms-in-Switch : goal.stmt-returns-in_err-case_arms-in-Switch
 stmt-returns-in_err-case_arms-in-Switch t c =
-    let p = err_from_is_err_and c.from_residual-in_err-case_arms-in-Switch.result c.from_residual-in_err-case_arms-in-Switch.ensures.1 in
-    rw (p.1, p.2) (λ other. switch_whole (tables_by c.args.known.now) c.args.owner c.args.targets c.args.tree.now _
+    let p =
+    err_from_is_err_and c.from_residual-in_err-case_arms-in-Switch.result
+    c.from_residual-in_err-case_arms-in-Switch.ensures.1 in
+    rw (p.1, p.2)
+    (λ other.
+    switch_whole (tables_by c.args.known.now) c.args.owner c.args.targets c.args.tree.now _
     c.in-Switch.subject c.in-Switch.arms c.as_slice-arms.result.now c.in-Switch.last
     (making_of c.args.draft.now) c.in-Switch.is c.as_slice-arms.ensures
     ∙ (given_then (switch_opened (tables_by c.args.known.now) c.args.owner c.in-Switch.subject
     c.as_slice-arms.result.now c.in-Switch.last) _ (making_of c.args.draft.now)
     c.in_ok-opened-in-Switch.opened (making_of c.open_switch.new.draft)
     c.in_ok-opened-in-Switch.ensures
-    ∙ first_fails (all (arm_code (tables_by c.args.known.now) c.in_ok-opened-in-Switch.opened.subject
+    ∙ first_fails
+    (all (arm_code (tables_by c.args.known.now) c.in_ok-opened-in-Switch.opened.subject
     c.args.targets c.in_ok-opened-in-Switch.opened.merge) (numbered (tables_by c.args.known.now)
-    c.args.owner c.as_slice-arms.result.now c.in_ok-opened-in-Switch.opened.numbers)) _ (making_of c.open_switch.new.draft) _
+    c.args.owner c.as_slice-arms.result.now c.in_ok-opened-in-Switch.opened.numbers)) _
+    (making_of c.open_switch.new.draft) _
     (c.in_err-case_arms-in-Switch.ensures other)))
 
 pub stmt-returns-in_err-default_arm-in-Switch : goal.stmt-returns-in_err-default_arm-in-Switch
 stmt-returns-in_err-default_arm-in-Switch t c =
-    let p = err_from_is_err_and c.from_residual-in_err-default_arm-in-Switch.result c.from_residual-in_err-default_arm-in-Switch.ensures.1 in
-    rw (p.1, p.2) (λ other. switch_whole (tables_by c.args.known.now) c.args.owner c.args.targets c.args.tree.now _
+    let p =
+    err_from_is_err_and c.from_residual-in_err-default_arm-in-Switch.result
+    c.from_residual-in_err-default_arm-in-Switch.ensures.1 in
+    rw (p.1, p.2)
+    (λ other.
+    switch_whole (tables_by c.args.known.now) c.args.owner c.args.targets c.args.tree.now _
     c.in-Switch.subject c.in-Switch.arms c.as_slice-arms.result.now c.in-Switch.last
     (making_of c.args.draft.now) c.in-Switch.is c.as_slice-arms.ensures
     ∙ (given_then (switch_opened (tables_by c.args.known.now) c.args.owner c.in-Switch.subject
     c.as_slice-arms.result.now c.in-Switch.last) _ (making_of c.args.draft.now)
     c.in_ok-opened-in-Switch.opened (making_of c.open_switch.new.draft)
     c.in_ok-opened-in-Switch.ensures
-    ∙ (given_then (all (arm_code (tables_by c.args.known.now) c.in_ok-opened-in-Switch.opened.subject
+    ∙ (given_then
+    (all (arm_code (tables_by c.args.known.now) c.in_ok-opened-in-Switch.opened.subject
     c.args.targets c.in_ok-opened-in-Switch.opened.merge) (numbered (tables_by c.args.known.now)
-    c.args.owner c.as_slice-arms.result.now c.in_ok-opened-in-Switch.opened.numbers)) _ (making_of c.open_switch.new.draft) tt
+    c.args.owner c.as_slice-arms.result.now c.in_ok-opened-in-Switch.opened.numbers)) _
+    (making_of c.open_switch.new.draft) tt
     (making_of c.case_arms.new.draft) c.in_ok-case_arms-in-Switch.ensures
     ∙ first_fails (default_code (tables_by c.args.known.now)
     (otherwise_code (tables_by c.args.known.now) c.args.owner c.in-Switch.last)
@@ -196,9 +221,11 @@ stmt-returns-in_ok-default_arm-in-Switch t c =
     c.as_slice-arms.result.now c.in-Switch.last) _ (making_of c.args.draft.now)
     c.in_ok-opened-in-Switch.opened (making_of c.open_switch.new.draft)
     c.in_ok-opened-in-Switch.ensures
-    ∙ (given_then (all (arm_code (tables_by c.args.known.now) c.in_ok-opened-in-Switch.opened.subject
+    ∙ (given_then
+    (all (arm_code (tables_by c.args.known.now) c.in_ok-opened-in-Switch.opened.subject
     c.args.targets c.in_ok-opened-in-Switch.opened.merge) (numbered (tables_by c.args.known.now)
-    c.args.owner c.as_slice-arms.result.now c.in_ok-opened-in-Switch.opened.numbers)) _ (making_of c.open_switch.new.draft) tt
+    c.args.owner c.as_slice-arms.result.now c.in_ok-opened-in-Switch.opened.numbers)) _
+    (making_of c.open_switch.new.draft) tt
     (making_of c.case_arms.new.draft) c.in_ok-case_arms-in-Switch.ensures
     ∙ given_then (default_code (tables_by c.args.known.now)
     (otherwise_code (tables_by c.args.known.now) c.args.owner c.in-Switch.last)

@@ -1,5 +1,5 @@
 use Rattle.std.proofs.Common.{rules, [], ◌∙◌, ap}
-use Rattle.sw_capture.specs.Known.{answers_of}
+use Rattle.sw_uses.specs.capture.Known.{answers_of}
 use Rattle.sw_isolation_rules.specs.Noting.{see, store_notes}
 use Rattle.sw_typing_rules.specs.Worlds.{world_of}
 use Rattle.sw_noting.proofs.Adding.{alone, none}

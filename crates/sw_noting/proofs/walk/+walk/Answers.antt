@@ -1,5 +1,5 @@
 use Rattle.std.proofs.Common.{rules, ◌++◌, ◌∙◌, ap, sym}
-use Rattle.sw_capture.specs.Known.{answers_of}
+use Rattle.sw_uses.specs.capture.Known.{answers_of}
 use Rattle.sw_tree.specs.declared.expr.Arg.{out-Arg}
 use Rattle.sw_tree.specs.declared.expr.Link.{out-Link}
 use Rattle.sw_tree.specs.declared.stmt.CaseArm.{out-CaseArm}

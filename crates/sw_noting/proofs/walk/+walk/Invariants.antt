@@ -2,7 +2,7 @@
 -- listed.
 use Rattle.std.proofs.Common.{◌≡◌, ◌++◌, drop}
 use Rattle.sw_typing_rules.specs.Worlds.{world_of}
-use Rattle.sw_capture.specs.Known.{answers_of}
+use Rattle.sw_uses.specs.capture.Known.{answers_of}
 use Rattle.sw_noting.specs.Walked.{args_noted, case_arms_noted, if_arms_noted, links_noted}
 use Rattle.sw_noting.specs.Walked.{stmts_noted}
 use Rattle.sw_noting.proofs.walk.+walk.Given as goal

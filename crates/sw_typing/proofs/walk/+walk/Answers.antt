@@ -6,7 +6,7 @@ use Rattle.sw_typing_rules.specs.Calls.{slots_of}
 use Rattle.sw_typing_rules.specs.Expressions.{Passed}
 use Rattle.sw_typing_rules.specs.Worlds.{world_of}
 use Rattle.sw_typing_rules.specs.declared.scope.Var.{Var}
-use Rattle.sw_typing_words.specs.Callees.{as_callee}
+use Rattle.sw_typing_forms.specs.typing_words.Callees.{as_callee}
 use Rattle.sw_typing.specs.Walked.{expr_known}
 use Rattle.sw_typing_forms.specs.Steps.{known_of, setting_in, state_of}
 use Rattle.sw_typing.proofs.Ending.{plain_end, return_end, switch_end, switch_went, went_by}
@@ -139,9 +139,11 @@ expr-returns-in_ok-closed-in-Spawn-clause-rows t c =
     c.in_ok-closed-in-Spawn.ensures.enclosed)
     c.note_task.ensures.noted
 
-pub stmt-returns-in_ok-other-in-Switch-clause-went : goal.stmt-returns-in_ok-other-in-Switch-clause-went
+pub stmt-returns-in_ok-other-in-Switch-clause-went
+    : goal.stmt-returns-in_ok-other-in-Switch-clause-went
 stmt-returns-in_ok-other-in-Switch-clause-went t c =
-    went_by c.switch_end.result _ _ (switch_went (world_of c.args.world.now) c.args.tree.now c.in-Switch.at c.in-Switch.subject
+    went_by c.switch_end.result _ _
+    (switch_went (world_of c.args.world.now) c.args.tree.now c.in-Switch.at c.in-Switch.subject
     c.in-Switch.arms c.as_slice-arms.result.now c.in-Switch.last c.args.inside
     c.in_switch-inside.result c.in_ok-subject-in-Switch.subject
     (option_copied c.cases_of-cases.result) c.in_ok-one-in-Switch.one c.in_ok-other-in-Switch.other
@@ -156,7 +158,8 @@ stmt-returns-in_ok-other-in-Switch-clause-went t c =
     (search rules) (search rules) (search rules))
     c.switch_end.ensures.went
 
-pub stmt-returns-in_ok-other-in-Switch-clause-rows : goal.stmt-returns-in_ok-other-in-Switch-clause-rows
+pub stmt-returns-in_ok-other-in-Switch-clause-rows
+    : goal.stmt-returns-in_ok-other-in-Switch-clause-rows
 stmt-returns-in_ok-other-in-Switch-clause-rows t c =
     switch_end (world_of c.args.world.now) c.args.tree.now c.in-Switch.at c.in-Switch.subject
     c.in-Switch.arms c.as_slice-arms.result.now c.in-Switch.last c.args.inside
@@ -183,7 +186,8 @@ stmt-returns-in_ok-value-in-Some-clause-rows t c =
     c.in_ok-value-in-Some.ensures.vars c.in_ok-value-in-Some.ensures.returned (search rules)
     c.return_value.ensures.left
 
-pub stmt-returns-in_ok-value-in-Plain-clause-rows : goal.stmt-returns-in_ok-value-in-Plain-clause-rows
+pub stmt-returns-in_ok-value-in-Plain-clause-rows
+    : goal.stmt-returns-in_ok-value-in-Plain-clause-rows
 stmt-returns-in_ok-value-in-Plain-clause-rows t c =
     plain_end (world_of c.args.world.now) c.plain.result c.plain.new.table c.expr-in-Plain.new.table
     c.args.table.now c.args.tree.now c.args.inside c.in-Plain.value c.in_ok-value-in-Plain.value

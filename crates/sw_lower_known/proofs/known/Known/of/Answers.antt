@@ -2,7 +2,7 @@ use Rattle.std.proofs.Common.{◌≡◌, ◌∙◌, ◌==◌, ℕ, List, [], fil
 use Rattle.std.specs.Option.{unwrap_or}
 use Rattle.indexmap.specs.IndexMap.{get}
 use Rattle.indexmap.specs.IndexSet.{contains}
-use Rattle.sw_capture.specs.Known.{answers_of}
+use Rattle.sw_isolation.specs.capture.Known.{answers_of}
 use Rattle.sw_isolation_rules.specs.Captures.{is_among}
 use Rattle.sw_isolation_rules.specs.declared.note.BodyIso.{BodyIso}
 use Rattle.sw_isolation_rules.specs.declared.note.Capture.{Capture}
