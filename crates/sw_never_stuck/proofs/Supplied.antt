@@ -14,7 +14,7 @@ use Rattle.sw_kinded.specs.Supplied.{BeginsWell, GivesActor, IsSupplied, Returns
 use Rattle.sw_kinded.specs.Supplied.{TakesActor}
 use Rattle.sw_token.specs.Spelling.{spelling_of}
 use Rattle.sw_resolve.specs.Placed.{IsFirst}
-use Rattle.sw_decls.specs.declared.signature.AsyncDefault.TheVariants.{Concurrent}
+use Rattle.sw_decls.specs.declared.signature.AsyncDefault.{AsyncDefault}
 use Rattle.sw_lower_code.specs.Whole.{Body}
 use Rattle.sw_lower_table.specs.Bodies.{AreMade, AreOrdered, functions_of, program_bodies}
 use Rattle.sw_lower_table.specs.Bodies.{too_large_in}
@@ -43,21 +43,22 @@ each_of P functions all n function is =
     (same_Some (get_or functions n function) function
     (sym (slice_get-get_or functions n function below) ∙ is)) (all n function below)
 
-module _ (text : List ℕ) (graph : Graph) (passes : Breaches phases_to_size text [])
-    (of : IsGraphOf text graph) where
-  abbrev keeps : Keeps text
-  keeps = passed text passes
+module _ (rule : AsyncDefault) (text : List ℕ) (graph : Graph)
+    (passes : Breaches rule phases_to_size text [])
+    (of : IsGraphOf rule text graph) where
+  abbrev keeps : Keeps rule text
+  keeps = passed rule text passes
 
   abbrev ordered : List Body
   ordered = of.lowered.ordered
 
   -- What the text keeps is said of the program and the world that its graph is of.
   same : (keeps.decls ≡ of.decls) × (keeps.world ≡ of.world)
-  same = same_world text keeps.tokens of.tokens keeps.decls of.decls keeps.world of.world
+  same = same_world rule text keeps.tokens of.tokens keeps.decls of.decls keeps.world of.world
       keeps.are_tokens keeps.is_program keeps.is_world of.are_tokens of.is_program of.is_world
 
-  welltyped : IsWelltyped of.decls Concurrent of.world
-  welltyped = of_same (λ world decls. IsWelltyped decls Concurrent world) keeps.world of.world
+  welltyped : IsWelltyped of.decls rule of.world
+  welltyped = of_same (λ world decls. IsWelltyped decls rule world) keeps.world of.world
       keeps.decls of.decls same keeps.welltyped
 
   kept_ordered : AreOrdered (tables_of_program of.world of.decls) of.decls keeps.ordered
@@ -71,14 +72,14 @@ module _ (text : List ℕ) (graph : Graph) (passes : Breaches phases_to_size tex
       kept_ordered.bodies kept_ordered.in_order of.numbered
 
   made : AreMade ordered
-  made = bodies_are_made of.decls Concurrent of.world welltyped ordered of.lowered.are_ordered
+  made = bodies_are_made of.decls rule of.world welltyped ordered of.lowered.are_ordered
       (subst (λ bodies. IsFirst (too_large_in (functions_of bodies)) None) (sym same_bodies)
       keeps.none_large)
 
   returns : EachFunction graph ReturnsResult
   returns = each_of ReturnsResult graph.functions
       (subst (All ReturnsResult) (sym of.lowered.functions)
-      (all_return of.decls Concurrent of.world (isolation_of_program of.world of.decls) ordered
+      (all_return of.decls rule of.world (isolation_of_program of.world of.decls) ordered
       welltyped.keyed (program_apart (spelling_of text of.tokens) of.decls of.is_program)
       welltyped.sound of.is_world welltyped.well of.lowered.are_ordered of.numbered made))
 
@@ -98,30 +99,31 @@ module _ (text : List ℕ) (graph : Graph) (passes : Breaches phases_to_size tex
   actors n body is p instr at = by instr at where
     by : (one : Instr) → point_in body p ≡ Some (Middle one) → GivesActor graph body one
     by (Call key r kinds.Strong f ss) here =
-        given f (calls_give of.decls Concurrent of.world ordered welltyped.keyed welltyped.sound
+        given f (calls_give of.decls rule of.world ordered welltyped.keyed welltyped.sound
         of.is_world of.lowered.are_ordered of.numbered made n p key r f ss body (listed n body is)
         here)
     by (NewTask key r f cs) here =
-        given f (tasks_give of.decls Concurrent of.world ordered welltyped
+        given f (tasks_give of.decls rule of.world ordered welltyped
         of.lowered.are_ordered of.numbered made n p key r f cs body (listed n body is) here)
     by _ here = tt
 
   begins : BeginsWell graph
   begins = record {
     actors = actors;
-    entry = entry_first of.decls Concurrent of.world graph welltyped of.lowered;
-    firsts = starts_first of.decls Concurrent of.world graph welltyped of.lowered;
+    entry = entry_first of.decls rule of.world graph welltyped of.lowered;
+    firsts = starts_first of.decls rule of.world graph welltyped of.lowered;
   }
 
   sets : SetsGlobals graph
   sets = record {
-    alone = firsts_alone of.decls Concurrent of.world graph welltyped of.lowered;
-    values = starts_store of.decls Concurrent of.world graph welltyped of.lowered;
+    alone = firsts_alone of.decls rule of.world graph welltyped of.lowered;
+    values = starts_store of.decls rule of.world graph welltyped of.lowered;
   }
 
   supplied : IsSupplied graph
   supplied = record { begins = begins; returns = returns; globals = sets }
 
-pub text_supplied : (text : List ℕ) (graph : Graph) → Breaches phases_to_size text []
-    → IsGraphOf text graph → IsSupplied graph
-text_supplied text graph passes of = supplied text graph passes of
+pub text_supplied : (rule : AsyncDefault) (text : List ℕ) (graph : Graph)
+    → Breaches rule phases_to_size text []
+    → IsGraphOf rule text graph → IsSupplied graph
+text_supplied rule text graph passes of = supplied rule text graph passes of

@@ -1,12 +1,15 @@
-ghost use Rattle.std.specs.Prelude.{◌≡◌, ℕ, List, [], Some, None, IsSome, IsTrue, false};
+ghost use Rattle.std.specs.Prelude.{◌≡◌, ◌↔◌, ℕ, List, [], Some, None, IsSome, IsTrue, false};
 ghost use Rattle.std.specs.Prelude.{length, slice_get};
+ghost use Rattle.sw_decls.specs.declared.signature.AsyncDefault.{AsyncDefault};
 ghost use Rattle.sw_graph.specs.declared.graph.Graph.{Graph};
 ghost use Rattle.sw_value.specs.declared.frame.Frame.{Frame};
 ghost use Rattle.sw_value.specs.declared.job.Job.{Job};
 ghost use Rattle.sw_value.specs.Act.{act_of};
 ghost use Rattle.sw_value.specs.Effect.{effect_of, is_stuck};
 ghost use Rattle.sw_value.specs.Job.{is_running, top_frame};
-ghost use Rattle.sw_value.specs.Reach.{reach};
+ghost use Rattle.sw_value.specs.Racing.{Racing};
+ghost use Rattle.sw_value.specs.Reach.{reach, step_of};
+ghost use Rattle.sw_race.specs.Step.{BringsInItsOwn, HasRival};
 ghost use Rattle.sw_kinded.specs.Kinded.{Kinded};
 ghost use Rattle.sw_kinded.specs.Operands.{HasNext};
 ghost use Rattle.sw_kinded.specs.Supplied.{IsSupplied};
@@ -14,24 +17,40 @@ ghost use Rattle.sw_verdict.specs.Phases.{IsGraphOf, phases_to_size};
 ghost use Rattle.sw_verdict.specs.Verdict.{Breaches};
 
 /// The graph of a text in which the phases up to the size of functions find no breach is supplied,
-/// whatever races it has. So no list of items leads its machine to a running job that is stuck: the
-/// job's next instruction finds its operands, of the kinds that it asks for, and an item that names
-/// the job executes it, unless the machine is halted.
+/// under each default and whatever races it has. So no list of items leads its machine to a running
+/// job that is stuck: the job's next instruction finds its operands, of the kinds that it asks for,
+/// and an item that names the job executes it, unless the machine is halted.
 pub fn texts_never_get_stuck()
-    ensures supplied { (text : List ℕ) (graph : Graph) → Breaches phases_to_size text []
-        → IsGraphOf text graph → IsSupplied graph }
-    ensures never_stuck { (text : List ℕ) (graph : Graph) → Breaches phases_to_size text []
-        → IsGraphOf text graph → (items : List ℕ) (j : ℕ) (job : Job) (frame : Frame)
+    ensures supplied { (rule : AsyncDefault) (text : List ℕ) (graph : Graph)
+        → Breaches rule phases_to_size text [] → IsGraphOf rule text graph → IsSupplied graph }
+    ensures never_stuck { (rule : AsyncDefault) (text : List ℕ) (graph : Graph)
+        → Breaches rule phases_to_size text [] → IsGraphOf rule text graph
+        → (items : List ℕ) (j : ℕ) (job : Job) (frame : Frame)
         → slice_get (reach graph items).jobs j ≡ Some job → IsTrue (is_running job)
         → top_frame job ≡ Some frame
         → is_stuck (effect_of graph (reach graph items) (length job.frames) frame) ≡ false }
-    ensures executes { (text : List ℕ) (graph : Graph) → Breaches phases_to_size text []
-        → IsGraphOf text graph → (items : List ℕ) (j : ℕ) (job : Job)
+    ensures executes { (rule : AsyncDefault) (text : List ℕ) (graph : Graph)
+        → Breaches rule phases_to_size text [] → IsGraphOf rule text graph
+        → (items : List ℕ) (j : ℕ) (job : Job)
         → (reach graph items).halted ≡ None → slice_get (reach graph items).jobs j ≡ Some job
         → IsTrue (is_running job) → IsSome (act_of graph (reach graph items) j) }
-    ensures operands { (text : List ℕ) (graph : Graph) → Breaches phases_to_size text []
-        → IsGraphOf text graph → (items : List ℕ) (j : ℕ) (job : Job)
+    ensures operands { (rule : AsyncDefault) (text : List ℕ) (graph : Graph)
+        → Breaches rule phases_to_size text [] → IsGraphOf rule text graph
+        → (items : List ℕ) (j : ℕ) (job : Job)
         → slice_get (reach graph items).jobs j ≡ Some job → IsTrue (is_running job)
         → (kinded : Kinded graph (reach graph items))
         × HasNext graph kinded.world.cells (reach graph items) job }
+{}
+
+/// Where the machine of such a graph isn't racing after some items, the step of a job brings in
+/// races of that job alone. So the state after it is racing exactly where that job has a rival.
+pub fn texts_race_by_their_last_step()
+    ensures one_job { (rule : AsyncDefault) (text : List ℕ) (graph : Graph)
+        → Breaches rule phases_to_size text [] → IsGraphOf rule text graph
+        → (items : List ℕ) (j : ℕ) → BringsInItsOwn graph (reach graph items) j }
+    ensures racing { (rule : AsyncDefault) (text : List ℕ) (graph : Graph)
+        → Breaches rule phases_to_size text [] → IsGraphOf rule text graph
+        → (items : List ℕ) (j : ℕ) → ¬ Racing graph (reach graph items)
+        → (Racing graph (step_of graph (reach graph items) j)
+        ↔ HasRival graph (step_of graph (reach graph items) j) j) }
 {}

@@ -128,7 +128,7 @@ clashing_swap a b clash =
     (ap (is_same_place b.place) place ∙ place_same b.place) ∙ either
 
 -- an item other than the one that is put
-other_stays : {A : Type 0} (xs : List A) (j k : ℕ) (y : A) → (j ≡ k → ⊥)
+pub other_stays : {A : Type 0} (xs : List A) (j k : ℕ) (y : A) → (j ≡ k → ⊥)
     → slice_get (slice_set xs j y) k ≡ slice_get xs k
 other_stays [] j k y apart = refl
 other_stays (x ∷ xs) zero zero y apart = absurd (apart refl)
@@ -195,8 +195,8 @@ shrunk_indexed table clear xs ys is indexed = record {
 }
 
 -- what stands before the last
-pub same_front : {A : Type 0} (xs ys : List A) (x y : A) → xs ++ x ∷ [] ≡ ys ++ y ∷ [] → xs ≡ ys
-same_front xs ys x y e =
+pub same_first : {A : Type 0} (xs ys : List A) (x y : A) → xs ++ x ∷ [] ≡ ys ++ y ∷ [] → xs ≡ ys
+same_first xs ys x y e =
     let count = ap length e in
     let len : length xs ≡ length ys =
     omega (arith, count, length-append xs (x ∷ []), length-append ys (y ∷ [])) in
@@ -214,16 +214,16 @@ push_indexed table clear xs ys (Err e) ok err indexed =
 
 -- what a pop leaves, where the last job has no target
 pub pop_indexed : {S : Type 0} (table : IndexMap Place Uses S) (clear : Bool)
-    (xs ys : List (Option Target)) (last : Option (Option Target)) (front : List (Option Target))
-    → xs ≡ front ++ None ∷ []
+    (xs ys : List (Option Target)) (last : Option (Option Target)) (earlier : List (Option Target))
+    → xs ≡ earlier ++ None ∷ []
     → MatchOption last ((xs ≡ []) × (ys ≡ [])) (λ x. xs ≡ ys ++ x ∷ []) → IsIndexed table clear xs
     → IsIndexed table clear ys
-pop_indexed table clear xs ys None front is (none, empty) indexed =
+pop_indexed table clear xs ys None earlier is (none, empty) indexed =
     let last : List (Option Target) = None ∷ [] in
     let count = ap length (sym none ∙ is) in
-    absurd (omega (arith, count, length-append front last))
-pop_indexed table clear xs ys (Some x) front is popped indexed =
-    let same = same_front ys front x None (sym popped ∙ is) in
+    absurd (omega (arith, count, length-append earlier last))
+pop_indexed table clear xs ys (Some x) earlier is popped indexed =
+    let same = same_first ys earlier x None (sym popped ∙ is) in
     shrunk_indexed table clear ys xs (is ∙ ap (λ l. l ++ None ∷ []) (sym same)) indexed
 
 -- the last of a list, put in place of one without target
@@ -232,10 +232,10 @@ set_last : {A : Type 0} (xs : List A) (x y : A)
 set_last [] x y = refl
 set_last (z ∷ xs) x y = ap (λ l. z ∷ l) (set_last xs x y)
 
-pub put_last : (xs ys zs front : List (Option Target)) (n : ℕ) (next : Option Target)
-    → front ≡ xs → n ≡ length front → ys ≡ xs ++ None ∷ [] → zs ≡ slice_set ys n next
+pub put_last : (xs ys zs earlier : List (Option Target)) (n : ℕ) (next : Option Target)
+    → earlier ≡ xs → n ≡ length earlier → ys ≡ xs ++ None ∷ [] → zs ≡ slice_set ys n next
     → zs ≡ xs ++ next ∷ []
-put_last xs ys zs front n next same number grown set =
+put_last xs ys zs earlier n next same number grown set =
     set ∙ ap (λ l. slice_set l n next) grown
     ∙ ap (λ k. slice_set (xs ++ None ∷ []) k next) (number ∙ ap length same)
     ∙ set_last xs None next

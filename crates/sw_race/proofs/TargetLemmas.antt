@@ -1,6 +1,6 @@
 -- An access is that of the job's target.
-use Rattle.std.proofs.Common.{◌≡◌, ℕ, Bool, true, false, cond, Option, Some, None, List, length, refl}
-use Rattle.std.proofs.Common.{ap, sym, ◌∙◌}
+use Rattle.std.proofs.Common.{◌≡◌, ℕ, Bool, true, false, cond, Option, Some, None, List, length}
+use Rattle.std.proofs.Common.{refl, ap, sym, ◌∙◌}
 use Rattle.std.specs.Prelude.{option_and_then, is_some}
 use Rattle.std.specs.Option.{option_map}
 use Rattle.std.specs.List.{slice_get}
@@ -18,9 +18,9 @@ use Rattle.sw_value.specs.declared.race.Place.TheVariants.{Prop, BoxOf}
 use Rattle.sw_value.specs.declared.state.State.{State}
 use Rattle.sw_value.specs.declared.value.Value.{Value}
 use Rattle.sw_value.specs.Value.{reference_at}
-use Rattle.sw_value.specs.Access.{box_in, box_at, is_var_part, var_part, part_in, part_at, global_at}
-use Rattle.sw_value.specs.Access.{read_by, write_by, access_of, point_access, frame_access}
-use Rattle.sw_value.specs.Access.{job_access, next_access}
+use Rattle.sw_value.specs.Access.{box_in, box_at, is_var_part, var_part, part_in, part_at}
+use Rattle.sw_value.specs.Access.{global_at, read_by, write_by, access_of, point_access}
+use Rattle.sw_value.specs.Access.{frame_access, job_access, next_access}
 use Rattle.sw_value.specs.Effect.{is_stuck, effect_of}
 use Rattle.sw_value.specs.Frame.{point_at}
 use Rattle.sw_value.specs.Job.{top_frame, is_running}

@@ -21,7 +21,8 @@ use Rattle.sw_value.specs.declared.state.State.{State}
 use Rattle.sw_value.specs.Access.{next_access}
 use Rattle.sw_value.specs.Act.{act_of}
 use Rattle.sw_value.specs.Frame.{finish_instr, go_on, set_field}
-use Rattle.sw_value.specs.Job.{in_top, dispatch, wake, enter, wait, rest, leave, new_job, is_running}
+use Rattle.sw_value.specs.Job.{in_top, dispatch, wake, enter, wait, rest, leave, new_job}
+use Rattle.sw_value.specs.Job.{is_running}
 use Rattle.sw_value.specs.Lists.{changed_at}
 use Rattle.sw_value.specs.Racing.{IsConflict, Racing}
 use Rattle.sw_value.specs.Reach.{after_effect, step_of}
@@ -30,7 +31,7 @@ use Rattle.sw_value.proofs.ListLemmas.{changed_at_there, changed_at_none, set_th
 use Rattle.sw_value.proofs.ListLemmas.{length-changed_at}
 use Rattle.sw_value.proofs.ReachLemmas.{after_acts, step_by_act}
 use Rattle.sw_race.specs.declared.target.Target.{Target}
-use Rattle.sw_race.specs.Index.{are_clashing, IsClear, Stands, IsOneBehind, HasNoRival}
+use Rattle.sw_race.specs.Index.{are_clashing, IsClear, Stands, StandsBefore, HasNoRival}
 use Rattle.sw_race.specs.Index.{grown, kept_up}
 use Rattle.sw_race.proofs.IndexLemmas.{clashing_swap}
 use Rattle.sw_race.specs.Target.{job_target, target_at}
@@ -40,7 +41,7 @@ use Rattle.sw_race.proofs.WithLemmas.{place_same}
 
 -- How a step of job j changes the list of jobs: job j is changed in place, and there may be a job
 -- more, which has not run yet.
-data Changes (j : ℕ) (before : List Job) : List Job → Type 0 where
+pub data Changes (j : ℕ) (before : List Job) : List Job → Type 0 where
   nothing : Changes j before before
   in_place : (g : Job → Job) → Changes j before (changed_at g j before)
   with_new : (g : Job → Job) (frame : Frame)
@@ -75,7 +76,7 @@ act_changes j (Some Dispatch) state = in_place dispatch
 act_changes j (Some (Wake ended r v)) state = in_place (wake r v)
 act_changes j (Some (Execute e)) state = effect_changes j e state
 
-step_changes : (graph : Graph) (state : State) (j : ℕ)
+pub step_changes : (graph : Graph) (state : State) (j : ℕ)
     → Changes j state.jobs (step_of graph state j).jobs
 step_changes graph state j =
     subst (λ s. Changes j state.jobs s.jobs) (sym (step_by_act graph state j))
@@ -117,7 +118,7 @@ set_target f g j jobs = by (slice_get jobs j) refl where
       ap (λ l. slice_set (map f jobs) j (option_and_then f (slice_get l j))) same
       ∙ same_target f j jobs ∙ ap (map f) (sym same)
 
-new_has_none : (graph : Graph) (frame : Frame) → job_target graph (new_job (frame ∷ [])) ≡ None
+pub new_has_none : (graph : Graph) (frame : Frame) → job_target graph (new_job (frame ∷ [])) ≡ None
 unfolding new_job is_running
 new_has_none graph frame = refl
 
@@ -166,24 +167,24 @@ changes_kept graph j before _ (with_new g frame) =
 
 -- The index stands for the state after the item, once it has kept up.
 pub stands_after : (graph : Graph) (index : List (Option Target)) (state : State) (j : ℕ)
-    (next : Option Target) (after : List (Option Target)) → IsOneBehind graph index state j
+    (next : Option Target) (after : List (Option Target)) → StandsBefore graph index state j
     → next ≡ target_at graph state j → after ≡ kept_up (length state.jobs) j next index
     → Stands graph state after
-stands_after graph index state j next after behind is kept =
-    let jobs = ap (λ (s : State). s.jobs) behind.steps in
+stands_after graph index state j next after was is kept =
+    let jobs = ap (λ (s : State). s.jobs) was.steps in
     kept ∙ ap (λ n. kept_up (length state.jobs) j n index) is
-    ∙ ap (kept_up (length state.jobs) j (target_at graph state j)) behind.stands
-    ∙ changes_kept graph j behind.before.jobs state.jobs
-    (subst (Changes j behind.before.jobs) (sym jobs) (step_changes graph behind.before j))
+    ∙ ap (kept_up (length state.jobs) j (target_at graph state j)) was.stands
+    ∙ changes_kept graph j was.before.jobs state.jobs
+    (subst (Changes j was.before.jobs) (sym jobs) (step_changes graph was.before j))
 
--- one behind means no more than one job more
-pub few_behind : (graph : Graph) (index : List (Option Target)) (state : State) (j : ℕ)
-    → IsOneBehind graph index state j → length index ≤ length state.jobs
-few_behind graph index state j behind =
-    let jobs = ap (λ (s : State). length s.jobs) behind.steps in
-    let stands = ap length behind.stands in
-    let more = grows (step_changes graph behind.before j) in
-    omega (arith, jobs, stands, more, length-map behind.before.jobs (job_target graph)) where
+-- an item makes at most one job
+pub few_before : (graph : Graph) (index : List (Option Target)) (state : State) (j : ℕ)
+    → StandsBefore graph index state j → length index ≤ length state.jobs
+few_before graph index state j was =
+    let jobs = ap (λ (s : State). length s.jobs) was.steps in
+    let stands = ap length was.stands in
+    let more = grows (step_changes graph was.before j) in
+    omega (arith, jobs, stands, more, length-map was.before.jobs (job_target graph)) where
       grows : {before after : List Job} → Changes j before after → length before ≤ length after
       grows nothing = omega arith
       grows {before} (in_place g) = omega (arith, length-changed_at g j before)

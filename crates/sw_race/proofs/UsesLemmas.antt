@@ -1,6 +1,6 @@
 -- Uses of locations, in a table and in a list of targets.
-use Rattle.std.proofs.Common.{◌≡◌, ℕ, ◌+◌, ◌<◌, ◌≤◌, ◌^◌, Bool, true, false, cond, not, Option, Some}
-use Rattle.std.proofs.Common.{None, List, [], ◌∷◌, ◌++◌, length, refl, ap, ◌∙◌, arith}
+use Rattle.std.proofs.Common.{◌≡◌, ℕ, ◌+◌, ◌<◌, ◌≤◌, ◌^◌, Bool, true, false, cond, not, Option}
+use Rattle.std.proofs.Common.{Some, None, List, [], ◌∷◌, ◌++◌, length, refl, ap, ◌∙◌, arith}
 use Rattle.std.specs.Prelude.{unwrap_or, ◌&&◌, IfSome}
 use Rattle.std.specs.List.{slice_get, slice_set}
 use Rattle.std.proofs.lemmas.List.Sums.{count_by-le-length}
@@ -102,7 +102,8 @@ target_counted xs j t here = by t.writes refl where
       omega (arith, some, o)
 
 pub old_counted : (xs : List (Option Target)) (j : ℕ) (old next : Option Target)
-    (before mid : Place → Uses) → slice_get xs j ≡ Some old → ((p : Place) → before p ≡ uses_of p xs)
+    (before mid : Place → Uses) → slice_get xs j ≡ Some old
+    → ((p : Place) → before p ≡ uses_of p xs)
     → ((p : Place) → mid p ≡ with_use next p (before p))
     → IfSome old (λ t. 0 < used t.writes (mid t.place))
 old_counted xs j None next before mid here was more = tt

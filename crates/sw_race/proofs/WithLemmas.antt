@@ -1,6 +1,6 @@
 -- The race that a job is in.
-use Rattle.std.proofs.Common.{◌≡◌, ℕ, ◌+◌, ◌<◌, ◌≤◌, ◌⊎◌, inl, inr, length, eqb, ltb, Bool, true, false, cond, not, Option}
-use Rattle.std.proofs.Common.{Some, None, refl, ap, sym, ◌∙◌, arith}
+use Rattle.std.proofs.Common.{◌≡◌, ℕ, ◌+◌, ◌<◌, ◌≤◌, ◌⊎◌, inl, inr, length, eqb, ltb, Bool, true}
+use Rattle.std.proofs.Common.{false, cond, not, Option, Some, None, refl, ap, sym, ◌∙◌, arith}
 use Rattle.std.specs.Prelude.{◌&&◌, ◌||◌, is_some, option_and_then}
 use Rattle.std.specs.List.{slice_get}
 use Rattle.std.proofs.lemmas.Option.{slice_get_within}
@@ -16,8 +16,8 @@ use Rattle.sw_value.specs.Access.{job_access, next_access}
 use Rattle.sw_value.specs.Racing.{IsConflict}
 use Rattle.sw_value.proofs.ListLemmas.{some_injective}
 use Rattle.sw_value.proofs.AccessLemmas.{next_names_its_job}
-use Rattle.sw_race.specs.With.{IsRaceOf, other_of, IsLeastRaceOf, is_same_place, are_rivals, IsRival}
-use Rattle.sw_race.specs.With.{ordered, IsFound}
+use Rattle.sw_race.specs.With.{IsRaceOf, other_of, IsLeastRaceOf, is_same_place, are_rivals}
+use Rattle.sw_race.specs.With.{IsRival, ordered, IsFound}
 
 -- the test of two locations
 pub and_left : (a b : Bool) → a && b ≡ true → a ≡ true
@@ -60,7 +60,7 @@ or_swap false true e = refl
 or_swap false false e = cc
 
 -- what the test of two accesses says
-conflicts : (a b : Access) → are_rivals a b ≡ true → IsConflict a b
+pub conflicts : (a b : Access) → are_rivals a b ≡ true → IsConflict a b
 conflicts a b e =
     let rest = and_right (not (eqb a.job b.job))
     (is_same_place a.place b.place && (a.writes || b.writes)) e in
@@ -70,14 +70,14 @@ conflicts a b e =
       writes = and_right (is_same_place a.place b.place) (a.writes || b.writes) rest;
     }
 
-differ : (a b : Access) → are_rivals a b ≡ true → eqb a.job b.job ≡ false
+pub differ : (a b : Access) → are_rivals a b ≡ true → eqb a.job b.job ≡ false
 differ a b e = by (eqb a.job b.job) (and_left (not (eqb a.job b.job))
     (is_same_place a.place b.place && (a.writes || b.writes)) e) where
       by : (t : Bool) → not t ≡ true → t ≡ false
       by true e = cc
       by false e = refl
 
-swapped : (a b : Access) → IsConflict a b → IsConflict b a
+pub swapped : (a b : Access) → IsConflict a b → IsConflict b a
 swapped a b c = record { same = sym c.same; writes = or_swap a.writes b.writes c.writes }
 
 rival_of : (a b : Access) → eqb a.job b.job ≡ false → IsConflict a b → are_rivals a b ≡ true
@@ -88,12 +88,13 @@ rival_of a b apart c =
     ∙ ap (λ t. t && (a.writes || b.writes)) place ∙ c.writes
 
 -- the accesses of a race of job j are that of j and that of a rival
-record Sides (graph : Graph) (state : State) (j : ℕ) (access : Access) (race : Race) : Type 0 where
-  rival : Access
-  is_rival : IsRival graph state access rival
-  other : other_of j race ≡ rival.job
+pub record Sides (graph : Graph) (state : State) (j : ℕ) (access : Access) (race : Race)
+    : Type 0 where
+  pub rival : Access
+  pub is_rival : IsRival graph state access rival
+  pub other : other_of j race ≡ rival.job
 
-sides : (graph : Graph) (state : State) (j : ℕ) (access : Access)
+pub sides : (graph : Graph) (state : State) (j : ℕ) (access : Access)
     → next_access graph state j ≡ Some access → (race : Race) → IsRaceOf graph state j race
     → Sides graph state j access race
 sides graph state j access next race r = by r.takes_part where
@@ -127,7 +128,8 @@ sides graph state j access next race r = by r.takes_part where
         is_rival = record {
           next = r.is_race.first_next;
           rivals = ap (λ a. are_rivals a race.first) (sym same)
-              ∙ rival_of race.second race.first apart (swapped race.first race.second r.is_race.conflict);
+              ∙ rival_of race.second race.first apart
+              (swapped race.first race.second r.is_race.conflict);
         };
         other = ap (λ b. cond b race.second.job race.first.job) test;
       }

@@ -31,17 +31,19 @@ pub record IsIndexed {S : Type 0} (table : IndexMap Place Uses S) (clear : Bool)
   pub counts : (p : Place) → uses_in table p ≡ uses_of p targets
   pub is_clear : clear ≡ true → IsClear targets
 
--- A job with that target, if it has one, clashes with no other job.
+-- Each job with that target, if it is one, clashes with no other job.
 abbrev pub HasNoRival : List (Option Target) → Option Target → Type 0
 HasNoRival targets next = (j k : ℕ) (a b : Target) → next ≡ Some a
     → slice_get targets j ≡ Some (Some a) → slice_get targets k ≡ Some (Some b)
     → IsTrue (are_clashing a b) → j ≡ k
 
--- one job more without target, if there are more jobs than targets
+-- the targets, with one more job without target at the end if there are more jobs than targets
 abbrev pub grown : ℕ → List (Option Target) → List (Option Target)
 grown jobs targets = if nat_lt (length targets) jobs then targets ++ None ∷ [] else targets
 
--- job j gets its next target, after a job that is new
+-- The targets after a step of job j: there is one more job without target if there are more jobs
+-- than targets, and then job j gets its next target. A number past the targets gives no job a
+-- target.
 abbrev pub kept_up : ℕ → ℕ → Option Target → List (Option Target) → List (Option Target)
 kept_up jobs j next targets = slice_set (grown jobs targets) j next
 
@@ -49,14 +51,14 @@ kept_up jobs j next targets = slice_set (grown jobs targets) j next
 abbrev pub Stands : Graph → State → List (Option Target) → Type 0
 Stands graph state index = index ≡ map (job_target graph) state.jobs
 
--- The index is one step behind the state: it stands for one from which the item j leads there.
-pub record IsOneBehind (graph : Graph) (index : List (Option Target)) (state : State) (j : ℕ)
+-- The index stands for a state from which the item j leads to this one.
+pub record StandsBefore (graph : Graph) (index : List (Option Target)) (state : State) (j : ℕ)
     : Type 0 where
   pub before : State
   pub stands : Stands graph before index
   pub steps : state ≡ step_of graph before j
 
--- what is found among all jobs: the least race, or that the state is not racing
+-- what is found among all jobs: the least race, or none where the state is not racing
 abbrev pub IsFoundOfAll : Graph → State → Option Race → Type 0
 IsFoundOfAll graph state None = Racing graph state → ⊥
 IsFoundOfAll graph state (Some race) = IsLeastRace graph state race

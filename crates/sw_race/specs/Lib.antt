@@ -1,5 +1,6 @@
 pub mod Index
 pub mod Live
+pub mod Step
 pub mod Target
 pub mod Uses
 pub mod With

@@ -16,8 +16,8 @@ abbrev pub box_of : State → Frame → Operand → Option Place
 box_of state frame b = option_and_then (box_at state) (reference_at frame.regs b)
 
 -- part i of the object or actor of an operand, if it is a `var`
-abbrev pub part_of : Graph → State → Frame → Operand → ℕ → Option Place
-part_of graph state frame o i =
+abbrev pub var_part_of : Graph → State → Frame → Operand → ℕ → Option Place
+var_part_of graph state frame o i =
     option_and_then (part_at graph state i) (reference_at frame.regs o)
 
 -- a load reads a location that has a value, and a store writes the value of its operand
@@ -28,9 +28,9 @@ live_access graph state j frame (instr.StoreBox at b s) =
     option_and_then (λ v. option_map (write_by j at) (box_of state frame b))
     (operand_value frame.regs s)
 live_access graph state j frame (instr.LoadProp at r o i) =
-    option_map (read_by j at) (part_of graph state frame o i)
+    option_map (read_by j at) (var_part_of graph state frame o i)
 live_access graph state j frame (instr.StoreProp at o i s) =
-    option_and_then (λ v. option_map (write_by j at) (part_of graph state frame o i))
+    option_and_then (λ v. option_map (write_by j at) (var_part_of graph state frame o i))
     (operand_value frame.regs s)
 live_access graph state j frame (instr.LoadGlobal at r g) =
     option_and_then (λ v. option_map (read_by j at) (global_at graph g)) (value_at state.globals g)

@@ -1,6 +1,6 @@
 -- How many jobs have a location as their target.
-use Rattle.std.specs.Prelude.{ℕ, ◌+◌, nat_lt, Bool, true, false, not, ◌&&◌, ◌||◌, Option, Some, None}
-use Rattle.std.specs.Prelude.{List, count_by, unwrap_or, if◌then◌else◌}
+use Rattle.std.specs.Prelude.{ℕ, ◌+◌, nat_lt, Bool, true, false, not, ◌&&◌, ◌||◌, Option, Some}
+use Rattle.std.specs.Prelude.{None, List, count_by, unwrap_or, if◌then◌else◌}
 use Rattle.indexmap.specs.IndexMap.{IndexMap, get}
 use Rattle.sw_value.specs.declared.race.Place.{Place}
 use Rattle.sw_race.specs.declared.target.Target.{Target}

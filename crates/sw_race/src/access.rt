@@ -3,13 +3,13 @@ ghost use Rattle.sw_value.specs.Access.{box_at, is_var_part, var_part, part_at, 
 ghost use Rattle.sw_value.specs.Access.{read_by, write_by};
 ghost use Rattle.sw_value.specs.Access.{frame_access, job_access, next_access};
 ghost use Rattle.sw_value.specs.Value.{reference_at};
-ghost use Rattle.sw_race.specs.Live.{box_of, part_of, live_access};
+ghost use Rattle.sw_race.specs.Live.{box_of, var_part_of, live_access};
 
 use sw_graph::{Graph, Instr, Operand, Point};
 use sw_value::{Access, Frame, HeapCell, Job, Place, State, ValueList};
 
-/// The access that a job makes next: none where the machine is halted, the job does not run, or its
-/// next instruction is stuck or accesses no location.
+/// The access that a job makes next: none where the machine is halted, there is no job with that
+/// number, it does not run, or its next instruction is stuck or accesses no location.
 #[tactic(auto, unfolding(sw_value::specs::Access::next_access))]
 pub fn next_access(graph: &Graph, state: &State, job: u32) -> Option<Access>
     ensures { result ≡ next_access graph.now state.now job }
@@ -56,11 +56,11 @@ fn live_access(
             Some(write_by(job, *at, box_of(state, frame, b)?))
         }
         Instr::LoadProp { at, o, i, .. } => {
-            Some(read_by(job, *at, part_of(graph, state, frame, o, *i)?))
+            Some(read_by(job, *at, var_part_of(graph, state, frame, o, *i)?))
         }
         Instr::StoreProp { at, o, i, s } => {
             let _value = frame.value_at(s.reg)?;
-            Some(write_by(job, *at, part_of(graph, state, frame, o, *i)?))
+            Some(write_by(job, *at, var_part_of(graph, state, frame, o, *i)?))
         }
         Instr::LoadGlobal { at, g, .. } => {
             let _value = state.globals.get(*g as usize)?.as_ref()?;
@@ -141,14 +141,14 @@ fn box_at(state: &State, cell: u32) -> Option<Place>
 }
 
 /// A part of the object or actor of an operand, if it is a `var`.
-fn part_of(
+fn var_part_of(
     graph: &Graph,
     state: &State,
     frame: &Frame,
     operand: &Operand,
     part: u32,
 ) -> Option<Place>
-    ensures { result ≡ part_of graph.now state.now frame.now operand.now part }
+    ensures { result ≡ var_part_of graph.now state.now frame.now operand.now part }
 {
     part_at(graph, state, part, reference_at(frame, operand)?)
 }

@@ -8,14 +8,14 @@ use sw_graph::Graph;
 use sw_list::ListOf;
 use sw_value::{Race, State};
 
-/// An index of the locations that running jobs are about to access. It stands for one state after
-/// another: after each item `update` tells the race of the job that the item names, in a time that
-/// doesn't grow with the number of jobs unless there is one. Contracts see the target of each job.
+/// An index of the targets of jobs. It stands for one state after another: after each item `update`
+/// tells the race of the job that the item names, and looks at no other job unless the target of
+/// that job clashes with another. Contracts see the target of each job.
 #[derive(Drop)]
 pub struct RaceIndex {
     targets: ListOf<Option<Target>>,
     uses: UsesByPlace,
-    /// Set only where no two targets clash.
+    /// Set only where the targets of no two jobs clash. Where it is not set they may clash or not.
     clear: bool,
 }
 
@@ -39,10 +39,10 @@ impl RaceIndex {
     ghost use Rattle.std.specs.Prelude.{◌≡◌, ◌+◌, ◌<◌, ◌≤◌, ◌^◌, ℕ, Option, List, [], ◌∷◌, ◌++◌};
     ghost use Rattle.std.specs.Prelude.{None, Some, true, length, slice_set, IfOk, OnOk, OnErr};
     ghost use Rattle.sw_race.specs.declared.target.Target.{Target};
-    ghost use Rattle.sw_race.specs.Index.{Stands, IsOneBehind, IsFoundOfAll, HasNoRival, kept_up};
+    ghost use Rattle.sw_race.specs.Index.{Stands, StandsBefore, IsFoundOfAll, HasNoRival, kept_up};
     ghost use Rattle.sw_race.specs.With.{IsFound};
 
-    /// The index that stands for a state.
+    /// The index that stands for a state. It answers an error only for want of memory.
     pub fn new(alloc: Global, graph: &Graph, state: &State) -> Result<RaceIndex, AllocError>
         requires jobs { length state.now.jobs < 2 ^ 32 }
         ensures { IfOk result (Stands graph.now state.now) }
@@ -54,15 +54,16 @@ impl RaceIndex {
         Ok(index)
     }
 
-    /// Follows an item of a job from the state for which the index stands, and gives the race of that
-    /// job with the least other job. Where memory runs out the index stays as it was.
+    /// Follows an item of a job from the state for which the index stands to the given state. It
+    /// gives the race of that job with the least other job, or none where the job is in no race. It
+    /// answers an error only for want of memory, and then the index stays as it was.
     pub fn update(
         &mut self,
         graph: &Graph,
         state: &State,
         job: u32,
     ) -> Result<Option<Race>, AllocError>
-        requires behind { IsOneBehind graph.now self.old state.now job }
+        requires before { StandsBefore graph.now self.old state.now job }
         requires jobs { length state.now.jobs < 2 ^ 32 }
         ensures race { IfOk result (IsFound graph.now state.now job) }
         ensures stands { OnOk result (Stands graph.now state.now self.new) }
@@ -70,14 +71,14 @@ impl RaceIndex {
     {
         let next = target_at(graph, state, job);
         self.keep_up(state.jobs.len(), job, next)?;
-        if self.has_no_rival(next) {
+        if self.surely_has_no_rival(next) {
             return Ok(None);
         }
         Ok(race_with(graph, state, job))
     }
 
-    /// The least race of the state for which the index stands, if that is racing. It looks at no job
-    /// where the targets of no two jobs ever clashed.
+    /// The least race of the state for which the index stands, or none where that is not racing. It
+    /// looks at no job where the targets of no two jobs clashed in any state for which it stood.
     pub fn least_race(&self, graph: &Graph, state: &State) -> Option<Race>
         requires stands { Stands graph.now state.now self.now }
         requires jobs { length state.now.jobs < 2 ^ 32 }
@@ -117,7 +118,8 @@ impl RaceIndex {
         }
     }
 
-    /// Gives a job its next target, after a job without one is added if there are more jobs.
+    /// Gives a job its next target, after one job without target is added if there are more jobs
+    /// than targets. A number past the targets gives no job a target.
     fn keep_up(&mut self, jobs: usize, job: u32, next: Option<Target>) -> Result<(), AllocError>
         requires room { length self.old < 2 ^ 32 }
         ensures ok { OnOk result (self.new ≡ kept_up jobs job next self.old) }
@@ -182,8 +184,9 @@ impl RaceIndex {
         Ok(())
     }
 
-    /// Whether the target of a job clashes with that of no other job.
-    fn has_no_rival(&self, target: Option<Target>) -> bool
+    /// Whether it is seen from the counts alone that the target of a job clashes with that of no
+    /// other job. `true` says that it clashes with none, `false` says nothing.
+    fn surely_has_no_rival(&self, target: Option<Target>) -> bool
         ensures { result ≡ true → HasNoRival self.now target }
     {
         is_alone(&self.uses, target)

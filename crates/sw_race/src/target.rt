@@ -21,7 +21,7 @@ pub fn target_at(graph: &Graph, state: &State, job: u32) -> Option<Target>
     job_target(graph, state.jobs.get(job as usize)?)
 }
 
-/// The target of a job.
+/// The target of a job, if it runs and its next instruction has one.
 pub fn job_target(graph: &Graph, job: &Job) -> Option<Target>
     ensures { result ≡ job_target graph.now job.now }
 {

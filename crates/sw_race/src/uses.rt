@@ -149,7 +149,7 @@ fn fewer(writes: bool, uses: Uses) -> Uses
     }
 }
 
-/// Whether no other job's target conflicts with a target that is counted.
+/// Whether no other job's target clashes with a target that is counted itself.
 pub fn is_alone(table: &UsesByPlace, target: Option<Target>) -> bool
     ensures { result ≡ is_alone table.now target }
 {

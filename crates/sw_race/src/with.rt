@@ -6,7 +6,7 @@ use crate::access::next_access;
 use sw_graph::Graph;
 use sw_value::{Access, Place, Race, State};
 
-/// The race that a job is in, with the least other job, if it is in one.
+/// The race of a job with the least other job, or none where the job is in no race.
 #[tactic(auto, using(crate::proofs::WithLemmas::found))]
 pub fn race_with(graph: &Graph, state: &State, job: u32) -> Option<Race>
     requires { length state.now.jobs < 2 ^ 32 }
@@ -17,7 +17,7 @@ pub fn race_with(graph: &Graph, state: &State, job: u32) -> Option<Race>
     Some(ordered(access, rival))
 }
 
-/// The least race of a state, if it is racing.
+/// The least race of a state, or none where it is not racing.
 #[tactic(auto, using(crate::proofs::LeastLemmas::searches))]
 pub fn least_race(graph: &Graph, state: &State) -> Option<Race>
     requires { length state.now.jobs < 2 ^ 32 }
@@ -31,7 +31,7 @@ pub fn least_race(graph: &Graph, state: &State) -> Option<Race>
     None
 }
 
-/// The access of the first other job that conflicts with an access.
+/// The access of the first other job that conflicts with an access, or none where there is none.
 #[tactic(auto, using(crate::proofs::WithLemmas::search_steps))]
 fn first_rival(graph: &Graph, state: &State, access: Access) -> Option<Access>
     requires { length state.now.jobs < 2 ^ 32 }

@@ -7,12 +7,12 @@ use Rattle.sw_never_stuck.proofs.laws.texts_never_get_stuck.Goals as goal
 pub returns : goal.returns
 returns c = record {
   supplied = text_supplied;
-  never_stuck = λ text graph passes of.
-      machine.never_stuck graph (text_supplied text graph passes of);
-  executes = λ text graph passes of.
-      machine.executes graph (text_supplied text graph passes of);
-  operands = λ text graph passes of items j job is running.
-      let supplied = text_supplied text graph passes of in
+  never_stuck = λ rule text graph passes of.
+      machine.never_stuck graph (text_supplied rule text graph passes of);
+  executes = λ rule text graph passes of.
+      machine.executes graph (text_supplied rule text graph passes of);
+  operands = λ rule text graph passes of items j job is running.
+      let supplied = text_supplied rule text graph passes of in
       let kinded = reached_kinded graph supplied items in
       (kinded, machine.has_next graph supplied (reach graph items) kinded j job is running);
 }

@@ -15,7 +15,8 @@ take_out-requires c = record {
 pub invariant_of-self-2 : goal.invariant_of-self-2
 invariant_of-self-2 c =
     replaced_indexed c.self.inside.uses c.take_out.new.table c.self.inside.clear c.if-self.self
-    (uses_in c.take_in.new.table) c.self.inside.targets c.set.new.self c.args.job c.at-old.result.now
+    (uses_in c.take_in.new.table) c.self.inside.targets c.set.new.self c.args.job
+    c.at-old.result.now
     c.args.next c.at-old.ensures c.set.ensures c.self.invariant c.in_ok-take_in.ensures.ok
     c.take_out.ensures (λ e. elim c.if-self.branch [
       | then-self w ↦ (w.if-self.true, sym w.is_alone-self-inside.ensures ∙ sym w.self-is ∙ e)

@@ -1,7 +1,7 @@
 use Rattle.std.proofs.Common.{subst, sym, ◌∙◌}
 use Rattle.sw_race.specs.Index.{HasNoRival}
 use Rattle.sw_race.proofs.IndexLemmas.{alone_apart}
-use Rattle.sw_race.proofs.index.RaceIndex.has_no_rival.Goals as goal
+use Rattle.sw_race.proofs.index.RaceIndex.surely_has_no_rival.Goals as goal
 
 pub returns : goal.returns
 returns c alone =
