@@ -6,18 +6,20 @@ use Rattle.sw_graph.specs.declared.graph.Graph.{Graph}
 use Rattle.sw_outside.specs.Shelf.{Known, file_of}
 use Rattle.sw_value.specs.Runnable.{IsRunnable}
 use Rattle.sw_course.specs.declared.TheConstants.{PROGRAM_LIMIT}
-use Rattle.sw_course.specs.declared.exit.Exit.TheVariants.{Done, Breached, Raced, TooLong}
+use Rattle.sw_course.specs.declared.exit.Exit.{Exit}
+use Rattle.sw_course.specs.declared.exit.Exit.TheVariants.{Done, Breached, Raced}
 use Rattle.sw_course.specs.declared.outcome.Outcome.{Outcome}
 use Rattle.sw_course.specs.Course.{Read, AreOf}
+use Rattle.sw_decls.specs.declared.signature.AsyncDefault.{AsyncDefault}
 use Rattle.sw_verdict.specs.Phases.{all_phases, IsGraphOf}
 use Rattle.sw_verdict.specs.Verdict.{Accepts, Refuses}
 use Rattle.sw_check.specs.Call.{Answered}
-use Rattle.sw_check.specs.Claims.{NeverRaces, Says, phases_of, program_of}
+use Rattle.sw_check.specs.Claims.{NeverRaces, Says, default_of, phases_of, program_of}
 use Rattle.sw_check.specs.Reply.{Reply}
 use Rattle.sw_check.specs.Words.{Command, Check, command_of, command_in}
 use Rattle.sw_check.proofs.ClaimLemmas.{reply_says, says_no_race, says_not_raced}
-use Rattle.sw_check.proofs.ClaimLemmas.{says_breached, says_accepted}
 use Rattle.sw_check.proofs.Courses.{one_reply}
+use Rattle.sw_check.proofs.OneExit.{one_exit, says_accepted, says_breached}
 
 -- the words as the call has them
 pub of_words : (words lent : List (String Global)) {before after : Option Known} {outcome : Outcome}
@@ -55,11 +57,19 @@ answer_says_of {command} {before} {after} {outcome} answered known given is same
     (reply_says (file_of known.files) command answered.reads outcome
     (reads_of answered known is) answered.reply)
 
+pub answer_only : {command : Option Command} {before after : Option Known} {outcome : Outcome}
+    → Answered command before outcome after → (known : Known) (exit : Exit)
+    → before ≡ Some known → Says (file_of known.files) command exit → outcome.exit ≡ exit
+answer_only {command} {outcome = outcome} answered known exit is =
+    one_exit (file_of known.files) command outcome.exit exit
+    (reply_says (file_of known.files) command answered.reads outcome
+    (reads_of answered known is) answered.reply)
+
 pub answer_no_race : {command : Option Command} {before after : Option Known} {outcome : Outcome}
     → Answered command before outcome after → (known : Known) (given : Command)
     → before ≡ Some known → command ≡ Some given → phases_of given ≡ all_phases
-    → outcome.exit ≢ Breached → outcome.exit ≢ TooLong
-    → (graph : Graph) × IsGraphOf (program_of (file_of known.files) given) graph
+    → length (program_of (file_of known.files) given) ≤ PROGRAM_LIMIT → outcome.exit ≢ Breached
+    → (graph : Graph) × IsGraphOf (default_of given) (program_of (file_of known.files) given) graph
     × (IsRunnable graph → NeverRaces graph)
 answer_no_race {outcome = outcome} answered known given is same all =
     says_no_race (file_of known.files) given outcome.exit
@@ -68,7 +78,7 @@ answer_no_race {outcome = outcome} answered known given is same all =
 pub answer_not_raced : {command : Option Command} {before after : Option Known} {outcome : Outcome}
     → Answered command before outcome after → (known : Known) (given : Command) (graph : Graph)
     → before ≡ Some known → command ≡ Some given
-    → IsGraphOf (program_of (file_of known.files) given) graph → IsRunnable graph
+    → IsGraphOf (default_of given) (program_of (file_of known.files) given) graph → IsRunnable graph
     → outcome.exit ≢ Raced
 answer_not_raced {outcome = outcome} answered known given graph is same of_text runs =
     says_not_raced (file_of known.files) given graph outcome.exit of_text runs
@@ -86,15 +96,17 @@ pub answer_breached : {command : Option Command} {before after : Option Known} {
     → Answered command before outcome after → (known : Known) (given : Command)
     → before ≡ Some known → command ≡ Some given
     → length (program_of (file_of known.files) given) ≤ PROGRAM_LIMIT
-    → Refuses (phases_of given) (program_of (file_of known.files) given) → outcome.exit ≡ Breached
+    → Refuses (default_of given) (phases_of given) (program_of (file_of known.files) given)
+    → outcome.exit ≡ Breached
 answer_breached {outcome = outcome} answered known given is same =
     says_breached (file_of known.files) given outcome.exit
     (answer_says_of answered known given is same)
 
 pub answer_accepted : {command : Option Command} {before after : Option Known} {outcome : Outcome}
-    → Answered command before outcome after → (known : Known) (file : List ℕ) → before ≡ Some known
-    → command ≡ Some (Check file) → length (file_of known.files file) ≤ PROGRAM_LIMIT
-    → Accepts (file_of known.files file) → outcome.exit ≡ Done
-answer_accepted {outcome = outcome} answered known file is same =
-    says_accepted (file_of known.files) file outcome.exit
-    (answer_says_of answered known (Check file) is same)
+    → Answered command before outcome after → (known : Known) (rule : AsyncDefault) (file : List ℕ)
+    → before ≡ Some known
+    → command ≡ Some (Check rule file) → length (file_of known.files file) ≤ PROGRAM_LIMIT
+    → Accepts rule (file_of known.files file) → outcome.exit ≡ Done
+answer_accepted {outcome = outcome} answered known rule file is same =
+    says_accepted (file_of known.files) rule file outcome.exit
+    (answer_says_of answered known (Check rule file) is same)

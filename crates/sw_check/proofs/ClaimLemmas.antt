@@ -22,13 +22,13 @@ use Rattle.sw_course.specs.declared.outcome.Outcome.{Outcome}
 use Rattle.sw_course.specs.Course.{Read, AreOf, Ended, Part, Alone, ◌>>=◌}
 use Rattle.sw_course.proofs.Inversions.{EndsAfterFetch, too_long, fetched, after_fetch}
 use Rattle.sw_course.proofs.Inversions.{EndsAfterRule, refuses, gives, after_rule, by_rule}
+use Rattle.sw_decls.specs.declared.signature.AsyncDefault.{AsyncDefault}
 use Rattle.sw_verdict.specs.Phases.{all_phases, IsGraphOf}
-use Rattle.sw_verdict.specs.Verdict.{Breaches, Accepts, Refuses}
+use Rattle.sw_verdict.specs.Verdict.{Breaches}
 use Rattle.sw_verdict.proofs.LoweredTexts.{some_graph_of}
 use Rattle.sw_verdict.proofs.OneLowered.{one_graph_of}
-use Rattle.sw_verdict.proofs.Verdicts.{never_both}
-use Rattle.sw_check.specs.Claims.{NeverRaces, EndsSo, Ends, Passes, Says, SaysOf}
-use Rattle.sw_check.specs.Claims.{phases_of, program_of, ScheduleIsBad, SecondIsLong}
+use Rattle.sw_check.specs.Claims.{NeverRaces, EndsSo, Ends, Passes, Says, SaysOf, SecondFits}
+use Rattle.sw_check.specs.Claims.{SecondIsLong, ScheduleIsBad, default_of, phases_of, program_of}
 use Rattle.sw_check.proofs.Pieces.{program_then}
 use Rattle.sw_replay.specs.declared.output.Replay.{Replay}
 use Rattle.sw_replay.specs.Output.{end_by, end_of}
@@ -51,24 +51,32 @@ module _ (files : List ℕ → List ℕ) (command : Command) where
 
   -- how a program is judged for the command
   abbrev JudgedSo : List ℕ → Result Graph Outcome → Type 0
-  JudgedSo = Judged (phases_of command)
+  JudgedSo = Judged (default_of command) (phases_of command)
 
   -- A command that begins with its program: it is too long, or refused, or the rest ended.
   module _ (file : List ℕ) (is : program_of files command ≡ files file)
       (rest : List ℕ → Graph → Part Outcome)
       (goes_on : (graph : Graph) (reads : List Read) (result : Result Outcome Outcome)
-      → AreOf files reads → Passes files command → IsGraphOf (files file) graph
+      → AreOf files reads → Passes files command → IsGraphOf (default_of command) (files file) graph
       → rest (files file) graph reads (Ended result) → SaysSo result) where
     says_judged : (reads : List Read) (result : Result Outcome Outcome) → AreOf files reads
         → length (files file) ≤ PROGRAM_LIMIT
         → EndsAfterRule (JudgedSo (files file)) (rest (files file)) reads result → SaysSo result
-    says_judged reads _ of_files short (refuses _ (breached list judges)) =
-        (list, judges.0, subst (λ text. Breaches (phases_of command) text list) (sym is) judges.1)
+    says_judged reads _ of_files short (refuses _ (breached list judges)) = record {
+      short = subst (λ text. length text ≤ PROGRAM_LIMIT) (sym is) short;
+      breaches = (
+        list,
+        judges.0,
+        subst (λ text. Breaches (default_of command) (phases_of command) text list) (sym is)
+            judges.1,
+      );
+    }
     says_judged reads _ of_files short (gives _ result (passes graph judges) ended) =
         goes_on graph reads result of_files
         (record {
           short = subst (λ text. length text ≤ PROGRAM_LIMIT) (sym is) short;
-          no_breach = subst (λ text. Breaches (phases_of command) text []) (sym is) judges.0;
+          no_breach = subst (λ text. Breaches (default_of command) (phases_of command) text [])
+              (sym is) judges.0;
         })
         judges.1 ended
 
@@ -82,7 +90,7 @@ module _ (files : List ℕ → List ℕ) (command : Command) where
         (after_rule (JudgedSo (files file)) (rest (files file)) others result ended)
 
     says_program : (reads : List Read) (result : Result Outcome Outcome) → AreOf files reads
-        → program_then (phases_of command) file rest reads (Ended result)
+        → program_then (default_of command) (phases_of command) file rest reads (Ended result)
         → SaysSo result
     says_program reads result of_files ended =
         says_fetched result
@@ -91,23 +99,26 @@ module _ (files : List ℕ → List ℕ) (command : Command) where
 
   -- A command that ends with a replay of its program by a schedule.
   module _ (text schedule_file : List ℕ) (graph : Graph) (whole : Passes files command)
-      (of_text : IsGraphOf text graph)
-      (replays : (end : End) → EndsSo end text (files schedule_file) → Ends end files command)
+      (of_text : IsGraphOf (default_of command) text graph)
+      (replays : (end : End) → EndsSo (default_of command) end text (files schedule_file)
+      → Ends end files command)
+      (fits : length (files schedule_file) ≤ SCHEDULE_LIMIT → SecondFits files command)
       (bad : (fault : SchedFault) → IsFirstFault (files schedule_file) fault
       → ScheduleIsBad files command)
       (long : SCHEDULE_LIMIT < length (files schedule_file) → SecondIsLong files command) where
-    says_end : (lines : List ℕ) (ended jobs : ℕ) (end : End)
-        → EndsSo end text (files schedule_file)
+    says_end : (lines : List ℕ) (ended jobs : ℕ) (end : End) → SecondFits files command
+        → EndsSo (default_of command) end text (files schedule_file)
         → SaysOf files command (end_outcome text lines ended jobs end).exit
-    says_end lines ended jobs ends.Ran so = (whole, replays ends.Ran so)
-    says_end lines ended jobs (ends.Trapped kind at) so =
-        (whole, kind, at, replays (ends.Trapped kind at) so)
-    says_end lines ended jobs (ends.Raced race) so = (whole, race, replays (ends.Raced race) so)
+    says_end lines ended jobs ends.Ran fitting so = (whole, fitting, replays ends.Ran so)
+    says_end lines ended jobs (ends.Trapped kind at) fitting so =
+        (whole, fitting, kind, at, replays (ends.Trapped kind at) so)
+    says_end lines ended jobs (ends.Raced race) fitting so =
+        (whole, fitting, race, replays (ends.Raced race) so)
 
-    says_replayed : (items : List ℕ) (result : Result Outcome Outcome)
+    says_replayed : (items : List ℕ) (result : Result Outcome Outcome) → SecondFits files command
         → IsItems (files schedule_file) items → Replayed text graph items result → SaysSo result
-    says_replayed items _ are (ends replay is) =
-        says_end replay.lines replay.ended replay.jobs replay.end
+    says_replayed items _ fitting are (ends replay is) =
+        says_end replay.lines replay.ended replay.jobs replay.end fitting
         (record {
           graph = graph;
           of_text = of_text;
@@ -119,11 +130,12 @@ module _ (files : List ℕ → List ℕ) (command : Command) where
         })
 
     says_scheduled : (reads : List Read) (result : Result Outcome Outcome)
-        → EndsAfterRule (Scheduled (files schedule_file))
+        → SecondFits files command → EndsAfterRule (Scheduled (files schedule_file))
         (λ items. Alone (Replayed text graph items)) reads result → SaysSo result
-    says_scheduled reads _ (refuses _ (has_fault fault is)) = (whole, bad fault is)
-    says_scheduled reads _ (gives _ result (has_items items are) ended) =
-        says_replayed items result are (by_rule (Replayed text graph items) reads result ended)
+    says_scheduled reads _ fitting (refuses _ (has_fault fault is)) = (whole, fitting, bad fault is)
+    says_scheduled reads _ fitting (gives _ result (has_items items are) ended) =
+        says_replayed items result fitting are
+        (by_rule (Replayed text graph items) reads result ended)
 
     says_fetched_schedule : (result : Result Outcome Outcome)
         → EndsAfterFetch files schedule_file SCHEDULE_LIMIT
@@ -131,7 +143,7 @@ module _ (files : List ℕ → List ℕ) (command : Command) where
         result → SaysSo result
     says_fetched_schedule _ (too_long is_long) = inr (whole, long is_long)
     says_fetched_schedule _ (fetched others result short of_files ended) =
-        says_scheduled others result
+        says_scheduled others result (fits short)
         (after_rule (Scheduled (files schedule_file)) (λ items. Alone (Replayed text graph items))
         others result ended)
 
@@ -149,28 +161,32 @@ answers_exit outcome reads result ended =
     ap outcome_of (by_rule (Answers outcome) reads result ended)
 
 -- an accepted program is answered at the end
-says_accepted_at : (files : List ℕ → List ℕ) (file : List ℕ) (reads : List Read)
-    (result : Result Outcome Outcome) → Passes files (Check file)
+says_accepted_at : (files : List ℕ → List ℕ) (rule : AsyncDefault) (file : List ℕ)
+    (reads : List Read)
+    (result : Result Outcome Outcome) → Passes files (Check rule file)
     → Alone (Answers accepted) reads (Ended result)
-    → SaysOf files (Check file) (outcome_of result).exit
-says_accepted_at files file reads result whole ended =
-    subst (λ outcome. SaysOf files (Check file) outcome.exit)
-    (sym (answers_exit accepted reads result ended)) (whole, refl)
+    → SaysOf files (Check rule file) (outcome_of result).exit
+says_accepted_at files rule file reads result whole ended =
+    subst (λ outcome. SaysOf files (Check rule file) outcome.exit)
+    (sym (answers_exit accepted reads result ended)) (whole, tt, refl)
 
 -- a command that judges its program by its phases and replays it by a schedule
 says_course : (files : List ℕ → List ℕ) (command : Command) (file schedule_file : List ℕ)
     → program_of files command ≡ files file
-    → ((end : End) → EndsSo end (files file) (files schedule_file) → Ends end files command)
+    → ((end : End) → EndsSo (default_of command) end (files file) (files schedule_file)
+    → Ends end files command)
+    → (length (files schedule_file) ≤ SCHEDULE_LIMIT → SecondFits files command)
     → ((fault : SchedFault) → IsFirstFault (files schedule_file) fault
     → ScheduleIsBad files command)
     → (SCHEDULE_LIMIT < length (files schedule_file) → SecondIsLong files command)
     → (reads : List Read) (result : Result Outcome Outcome) → AreOf files reads
-    → replay_course (phases_of command) file schedule_file reads (Ended result)
+    → replay_course (default_of command) (phases_of command) file schedule_file reads (Ended result)
     → SaysOf files command (outcome_of result).exit
-says_course files command file schedule_file is replays bad long =
+says_course files command file schedule_file is replays fits bad long =
     says_program files command file is (replay_by schedule_file)
     (λ graph others result of_files whole of_text.
-    says_replay files command (files file) schedule_file graph whole of_text replays bad long others
+    says_replay files command (files file) schedule_file graph whole of_text replays fits bad long
+    others
     result of_files)
 
 says : (files : List ℕ → List ℕ) (command : Option Command) (reads : List Read)
@@ -178,16 +194,17 @@ says : (files : List ℕ → List ℕ) (command : Option Command) (reads : List 
     → Says files command (outcome_of result).exit
 says files None reads result of_files ended =
     ap (λ o. o.exit) (answers_exit usage reads result ended)
-says files (Some (Check file)) reads result of_files ended =
-    says_program files (Check file) file refl (λ text graph. Alone (Answers accepted))
-    (λ graph others result _ whole _. says_accepted_at files file others result whole) reads result
+says files (Some (Check rule file)) reads result of_files ended =
+    says_program files (Check rule file) file refl (λ text graph. Alone (Answers accepted))
+    (λ graph others result _ whole _. says_accepted_at files rule file others result whole) reads
+    result
     of_files ended
-says files (Some (Run file schedule_file)) reads result of_files ended =
-    says_course files (Run file schedule_file) file schedule_file refl (λ end so. so)
-    (λ fault is. (fault, is)) (λ long. long) reads result of_files ended
-says files (Some (Trace file schedule_file)) reads result of_files ended =
-    says_course files (Trace file schedule_file) file schedule_file refl (λ end so. so)
-    (λ fault is. (fault, is)) (λ long. long) reads result of_files ended
+says files (Some (Run rule file schedule_file)) reads result of_files ended =
+    says_course files (Run rule file schedule_file) file schedule_file refl (λ end so. so)
+    (λ fits. fits) (λ fault is. (fault, is)) (λ long. long) reads result of_files ended
+says files (Some (Trace rule file schedule_file)) reads result of_files ended =
+    says_course files (Trace rule file schedule_file) file schedule_file refl (λ end so. so)
+    (λ fits. fits) (λ fault is. (fault, is)) (λ long. long) reads result of_files ended
 
 pub reply_says : (files : List ℕ → List ℕ) (command : Option Command) (reads : List Read)
     (outcome : Outcome) → AreOf files reads → Reply command reads outcome
@@ -197,13 +214,13 @@ reply_says files command reads outcome of_files (at_end ended) =
 reply_says files command reads outcome of_files (before_end ended) =
     says files command reads (Err outcome) of_files ended
 
--- an exit that isn't that of a refused program or of a file that is too long says that the program
--- passes
+-- an exit that isn't that of a refused program says that a program within the limit passes
 passes_at : (files : List ℕ → List ℕ) (command : Command) (exit : Exit) → SaysOf files command exit
-    → exit ≢ Breached → exit ≢ TooLong → Passes files command
+    → length (program_of files command) ≤ PROGRAM_LIMIT → exit ≢ Breached → Passes files command
 passes_at files command Done says _ _ = says.0
-passes_at files command Breached says not _ = absurd (not refl)
-passes_at files command TooLong says _ not = absurd (not refl)
+passes_at files command Breached says _ not = absurd (not refl)
+passes_at files command TooLong (inl long) short _ = absurd (omega (arith, short, long))
+passes_at files command TooLong (inr says) _ _ = says.0
 passes_at files command Trapped says _ _ = says.0
 passes_at files command BadSchedule says _ _ = says.0
 passes_at files command Raced says _ _ = says.0
@@ -213,13 +230,15 @@ passes_at files command NotWritten says _ _ = absurd says
 passes_at files command Memory says _ _ = absurd says
 
 pub says_no_race : (files : List ℕ → List ℕ) (command : Command) (exit : Exit)
-    → Says files (Some command) exit → phases_of command ≡ all_phases → exit ≢ Breached
-    → exit ≢ TooLong → (graph : Graph) × IsGraphOf (program_of files command) graph
+    → Says files (Some command) exit → phases_of command ≡ all_phases
+    → length (program_of files command) ≤ PROGRAM_LIMIT → exit ≢ Breached → (graph : Graph)
+    × IsGraphOf (default_of command) (program_of files command) graph
     × (IsRunnable graph → NeverRaces graph)
-says_no_race files command exit says all not_breached not_long =
-    let it = passes_at files command exit says not_breached not_long in
-    let (graph, of_text) = some_graph_of (program_of files command)
-    (subst (λ phases. Breaches phases (program_of files command) []) all it.no_breach) in
+says_no_race files command exit says all short not_breached =
+    let it = passes_at files command exit says short not_breached in
+    let (graph, of_text) = some_graph_of (default_of command) (program_of files command)
+    (subst (λ phases. Breaches (default_of command) phases (program_of files command) []) all
+    it.no_breach) in
     (graph, of_text, λ runs items. never_races graph runs (reach graph items))
 
 -- no race stops a replay of a runnable graph
@@ -236,74 +255,39 @@ never_raced graph items replay runs is race raced =
       by None e = cc
       by (Some trap) e = cc
 
-never_raced_so : (text schedule : List ℕ) (graph : Graph) → IsGraphOf text graph → IsRunnable graph
-    → (race : Race) → EndsSo (ends.Raced race) text schedule → ⊥
-never_raced_so text schedule graph of_text runs race so =
+never_raced_so : (rule : AsyncDefault) (text schedule : List ℕ) (graph : Graph)
+    → IsGraphOf rule text graph → IsRunnable graph
+    → (race : Race) → EndsSo rule (ends.Raced race) text schedule → ⊥
+never_raced_so rule text schedule graph of_text runs race so =
     never_raced so.graph so.items so.replay
-    (subst IsRunnable (one_graph_of text graph so.graph of_text so.of_text) runs) so.is_replay race
+    (subst IsRunnable (one_graph_of rule text graph so.graph of_text so.of_text) runs) so.is_replay
+    race
     so.ends
 
 never_raced_at : (files : List ℕ → List ℕ) (command : Command) (graph : Graph)
-    → IsGraphOf (program_of files command) graph → IsRunnable graph → (race : Race)
+    → IsGraphOf (default_of command) (program_of files command) graph → IsRunnable graph
+    → (race : Race)
     → Ends (ends.Raced race) files command → ⊥
-never_raced_at files (Check file) graph of_text runs race raced = cc
-never_raced_at files (Run file schedule_file) graph of_text runs race raced =
-    never_raced_so (files file) (files schedule_file) graph of_text runs race raced
-never_raced_at files (Trace file schedule_file) graph of_text runs race raced =
-    never_raced_so (files file) (files schedule_file) graph of_text runs race raced
+never_raced_at files (Check rule file) graph of_text runs race raced = cc
+never_raced_at files (Run rule file schedule_file) graph of_text runs race raced =
+    never_raced_so rule (files file) (files schedule_file) graph of_text runs race raced
+never_raced_at files (Trace rule file schedule_file) graph of_text runs race raced =
+    never_raced_so rule (files file) (files schedule_file) graph of_text runs race raced
 
 -- so no such program has the exit of a race
 pub says_not_raced : (files : List ℕ → List ℕ) (command : Command) (graph : Graph) (exit : Exit)
-    → IsGraphOf (program_of files command) graph → IsRunnable graph
+    → IsGraphOf (default_of command) (program_of files command) graph → IsRunnable graph
     → Says files (Some command) exit → exit ≢ Raced
 says_not_raced files command graph exit of_text runs says raced =
-    let (_, race, ends_so) = subst (SaysOf files command) raced says in
+    let (_, _, race, ends_so) = subst (SaysOf files command) raced says in
     never_raced_at files command graph of_text runs race ends_so
 
--- a program that is refused and within the limit has that exit
-pub says_breached : (files : List ℕ → List ℕ) (command : Command) (exit : Exit)
-    → Says files (Some command) exit → length (program_of files command) ≤ PROGRAM_LIMIT
-    → Refuses (phases_of command) (program_of files command) → exit ≡ Breached
-says_breached files command exit says short refused = by exit says where
-  not_passed : Passes files command → ⊥
-  not_passed it = never_both (phases_of command) (program_of files command) it.no_breach refused
-
-  by : (exit : Exit) → SaysOf files command exit → exit ≡ Breached
-  by Done says = absurd (not_passed says.0)
-  by Breached says = refl
-  by TooLong (inl long) = absurd (omega (arith, short, long))
-  by TooLong (inr says) = absurd (not_passed says.0)
-  by Trapped says = absurd (not_passed says.0)
-  by BadSchedule says = absurd (not_passed says.0)
-  by Raced says = absurd (not_passed says.0)
-  by Usage says = absurd says
-  by NotRead says = absurd says
-  by NotWritten says = absurd says
-  by Memory says = absurd says
-
--- a program that `check` accepts, within the limit, has that exit
-pub says_accepted : (files : List ℕ → List ℕ) (file : List ℕ) (exit : Exit)
-    → Says files (Some (Check file)) exit → length (files file) ≤ PROGRAM_LIMIT
-    → Accepts (files file) → exit ≡ Done
-says_accepted files file Done says short accepts = refl
-says_accepted files file Breached says short accepts =
-    absurd (never_both all_phases (files file) accepts says)
-says_accepted files file TooLong (inl long) short accepts = absurd (omega (arith, short, long))
-says_accepted files file TooLong (inr says) short accepts = absurd says.1
-says_accepted files file Trapped (_, kind, at, trapped) short accepts = cc
-says_accepted files file BadSchedule says short accepts = absurd says.1
-says_accepted files file Raced (_, race, raced) short accepts = cc
-says_accepted files file Usage says short accepts = absurd says
-says_accepted files file NotRead says short accepts = absurd says
-says_accepted files file NotWritten says short accepts = absurd says
-says_accepted files file Memory says short accepts = absurd says
-
 -- a replay of a program ends in one way by a schedule
-pub one_end : (text schedule : List ℕ) (a b : End) → EndsSo a text schedule
-    → EndsSo b text schedule → a ≡ b
-one_end text schedule a b is_a is_b =
+pub one_end : (rule : AsyncDefault) (text schedule : List ℕ) (a b : End)
+    → EndsSo rule a text schedule → EndsSo rule b text schedule → a ≡ b
+one_end rule text schedule a b is_a is_b =
     let graph : is_a.graph ≡ is_b.graph =
-    one_graph_of text is_a.graph is_b.graph is_a.of_text is_b.of_text in
+    one_graph_of rule text is_a.graph is_b.graph is_a.of_text is_b.of_text in
     let items : is_a.items ≡ is_b.items =
     one_items schedule is_a.items is_b.items is_a.are_items is_b.are_items in
     let replay = subst (λ graph. IsReplay graph is_b.items is_a.replay) graph

@@ -8,6 +8,7 @@ use Rattle.sw_course.specs.Course.{Read, AreOf, Underway, Ended, Part, Alone, Fe
 use Rattle.sw_course.specs.Lawful.{CanEnd, IsLawful, IsPrefixOf}
 use Rattle.sw_course.proofs.LawfulParts.{can_end_alone, can_end_fetched, can_end_then}
 use Rattle.sw_course.proofs.LawfulParts.{lawful_alone, lawful_fetched, lawful_then}
+use Rattle.sw_decls.specs.declared.signature.AsyncDefault.{AsyncDefault}
 use Rattle.sw_verdict.specs.Phases.{Phase, all_phases, phases_to_size, IsGraphOf}
 use Rattle.sw_verdict.specs.Verdict.{Breaches, Refuses}
 use Rattle.sw_verdict.proofs.GraphsExist.{some_graph}
@@ -21,25 +22,29 @@ use Rattle.sw_check.proofs.RuleLemmas.{answers_one, answers_some, judged_one, ju
 use Rattle.sw_check.proofs.RuleLemmas.{replayed_one, replayed_some, scheduled_one, scheduled_some}
 
 -- a program is fetched and judged, and something goes on from its text and its graph
-module _ (phases : List Phase) (file : List ℕ) (next : List ℕ → Graph → Part Outcome) where
+module _ (rule : AsyncDefault) (phases : List Phase) (file : List ℕ)
+    (next : List ℕ → Graph → Part Outcome) where
   lawful_program : ((text : List ℕ) (graph : Graph) → IsLawful (next text graph))
-      → IsLawful (program_then phases file next)
+      → IsLawful (program_then rule phases file next)
   lawful_program each =
-      lawful_then (Fetched file PROGRAM_LIMIT) (λ text. Alone (Judged phases text) >>= next text)
+      lawful_then (Fetched file PROGRAM_LIMIT)
+      (λ text. Alone (Judged rule phases text) >>= next text)
       (lawful_fetched file PROGRAM_LIMIT)
-      (λ text. lawful_then (Alone (Judged phases text)) (next text)
-      (lawful_alone (Judged phases text) (judged_one phases text)) (each text))
+      (λ text. lawful_then (Alone (Judged rule phases text)) (next text)
+      (lawful_alone (Judged rule phases text) (judged_one rule phases text)) (each text))
 
-  can_end_program : ((text : List ℕ) → Breaches phases text []
-      → (graph : Graph) × IsGraphOf text graph)
-      → ((text : List ℕ) → Breaches phases text [] ⊎ Refuses phases text)
+  can_end_program : ((text : List ℕ) → Breaches rule phases text []
+      → (graph : Graph) × IsGraphOf rule text graph)
+      → ((text : List ℕ) → Breaches rule phases text [] ⊎ Refuses rule phases text)
       → ((text : List ℕ) (graph : Graph) → CanEnd (next text graph))
-      → CanEnd (program_then phases file next)
+      → CanEnd (program_then rule phases file next)
   can_end_program have either each =
-      can_end_then (Fetched file PROGRAM_LIMIT) (λ text. Alone (Judged phases text) >>= next text)
+      can_end_then (Fetched file PROGRAM_LIMIT)
+      (λ text. Alone (Judged rule phases text) >>= next text)
       (can_end_fetched file PROGRAM_LIMIT)
-      (λ text. can_end_then (Alone (Judged phases text)) (next text)
-      (can_end_alone (Judged phases text) (judged_some phases text (have text) (either text)))
+      (λ text. can_end_then (Alone (Judged rule phases text)) (next text)
+      (can_end_alone (Judged rule phases text)
+      (judged_some rule phases text (have text) (either text)))
       (each text))
 
 -- a schedule is fetched, and its items replay a graph
@@ -65,24 +70,26 @@ module _ (file text : List ℕ) (graph : Graph) where
 
 pub lawful : (command : Option Command) → IsLawful (course_of command)
 lawful None = lawful_alone (Answers usage) (answers_one usage)
-lawful (Some (Check file)) =
-    lawful_program all_phases file _
+lawful (Some (Check rule file)) =
+    lawful_program rule all_phases file _
     (λ text graph. lawful_alone (Answers accepted) (answers_one accepted))
-lawful (Some (Run file schedule_file)) =
-    lawful_program all_phases file (replay_by schedule_file) (lawful_replay schedule_file)
-lawful (Some (Trace file schedule_file)) =
-    lawful_program phases_to_size file (replay_by schedule_file) (lawful_replay schedule_file)
+lawful (Some (Run rule file schedule_file)) =
+    lawful_program rule all_phases file (replay_by schedule_file) (lawful_replay schedule_file)
+lawful (Some (Trace rule file schedule_file)) =
+    lawful_program rule phases_to_size file (replay_by schedule_file) (lawful_replay schedule_file)
 
 pub can_end : (command : Option Command) → CanEnd (course_of command)
 can_end None = can_end_alone (Answers usage) (answers_some usage)
-can_end (Some (Check file)) =
-    can_end_program all_phases file _ some_graph_of decided
+can_end (Some (Check rule file)) =
+    can_end_program rule all_phases file _ (some_graph_of rule) (decided rule)
     (λ text graph. can_end_alone (Answers accepted) (answers_some accepted))
-can_end (Some (Run file schedule_file)) =
-    can_end_program all_phases file (replay_by schedule_file) some_graph_of decided
+can_end (Some (Run rule file schedule_file)) =
+    can_end_program rule all_phases file (replay_by schedule_file) (some_graph_of rule)
+    (decided rule)
     (can_end_replay schedule_file)
-can_end (Some (Trace file schedule_file)) =
-    can_end_program phases_to_size file (replay_by schedule_file) some_graph decided_to_size
+can_end (Some (Trace rule file schedule_file)) =
+    can_end_program rule phases_to_size file (replay_by schedule_file) (some_graph rule)
+    (decided_to_size rule)
     (can_end_replay schedule_file)
 
 reply_of : (command : Option Command) (reads : List Read) (result : Result Outcome Outcome)

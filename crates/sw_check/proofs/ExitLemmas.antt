@@ -16,6 +16,7 @@ use Rattle.sw_course.specs.Lawful.{RefusesBy}
 use Rattle.sw_course.specs.Written.{Appended}
 use Rattle.sw_course.proofs.Inversions.{EndsBy, refuses_alone}
 use Rattle.sw_course.proofs.Inversions.{refuses_fetched, refuses_then, ends_alone, ends_then}
+use Rattle.sw_decls.specs.declared.signature.AsyncDefault.{AsyncDefault}
 use Rattle.sw_verdict.specs.Phases.{Phase, all_phases, phases_to_size}
 use Rattle.sw_check.specs.Reply.{usage, accepted, end_outcome, Answers, Judged, breached}
 use Rattle.sw_check.specs.Reply.{Scheduled, has_fault, Replayed, ends, course_of, Reply, at_end}
@@ -40,10 +41,10 @@ record HasEndExit (among : List Exit) (outcome : Outcome) : Type 0 where
 too_long_exit : (among : List Exit) → IsOneOf among exits.TooLong → HasExit among too_long_file
 too_long_exit among one = record { exit = one; plain = refl; silent = λ _. refl }
 
-judged_exit : (among : List Exit) (phases : List Phase) (text : List ℕ)
-    → IsOneOf among exits.Breached → (outcome : Outcome) → Judged phases text (Err outcome)
+judged_exit : (among : List Exit) (rule : AsyncDefault) (phases : List Phase) (text : List ℕ)
+    → IsOneOf among exits.Breached → (outcome : Outcome) → Judged rule phases text (Err outcome)
     → HasExit among outcome
-judged_exit among phases text one _ (breached list _) =
+judged_exit among rule phases text one _ (breached list _) =
     record { exit = one; plain = refl; silent = λ e. cc }
 
 scheduled_exit : (among : List Exit) (schedule : List ℕ) → IsOneOf among exits.BadSchedule
@@ -61,16 +62,17 @@ replayed_nothing_else : (Q : Outcome → Type 0) (text : List ℕ) (graph : Grap
 replayed_nothing_else Q text graph items other is = elim is [ ]
 
 -- a program that is fetched and judged, and the rest
-program_refusals : (among : List Exit) (phases : List Phase) (file : List ℕ)
+program_refusals : (among : List Exit) (rule : AsyncDefault) (phases : List Phase) (file : List ℕ)
     (rest : List ℕ → Graph → Part Outcome) → IsOneOf among exits.TooLong
     → IsOneOf among exits.Breached
     → ((text : List ℕ) (graph : Graph) → RefusesBy (HasExit among) (rest text graph))
-    → RefusesBy (HasExit among) (program_then phases file rest)
-program_refusals among phases file rest long refused others =
+    → RefusesBy (HasExit among) (program_then rule phases file rest)
+program_refusals among rule phases file rest long refused others =
     refuses_then (HasExit among) (Fetched file PROGRAM_LIMIT) _
     (refuses_fetched (HasExit among) file PROGRAM_LIMIT (too_long_exit among long))
-    (λ text. refuses_then (HasExit among) (Alone (Judged phases text)) (rest text)
-    (refuses_alone (HasExit among) (Judged phases text) (judged_exit among phases text refused))
+    (λ text. refuses_then (HasExit among) (Alone (Judged rule phases text)) (rest text)
+    (refuses_alone (HasExit among) (Judged rule phases text)
+    (judged_exit among rule phases text refused))
     (others text))
 
 -- a schedule that is fetched, and its replay
@@ -87,14 +89,14 @@ replay_refusals among file text graph long bad =
 
 refusals : (command : Option Command) → RefusesBy (HasExit (exits_of command)) (course_of command)
 refusals None = refuses_alone _ (Answers usage) (answers_nothing_else _ usage)
-refusals (Some (Check file)) =
-    program_refusals _ all_phases file _ (inl refl) (inr (inl refl))
+refusals (Some (Check rule file)) =
+    program_refusals _ rule all_phases file _ (inl refl) (inr (inl refl))
     (λ text graph. refuses_alone _ (Answers accepted) (answers_nothing_else _ accepted))
-refusals (Some (Run file schedule_file)) =
-    program_refusals _ all_phases file _ (inl refl) (inr (inl refl))
+refusals (Some (Run rule file schedule_file)) =
+    program_refusals _ rule all_phases file _ (inl refl) (inr (inl refl))
     (λ text graph. replay_refusals _ schedule_file text graph (inl refl) (inr (inr (inl refl))))
-refusals (Some (Trace file schedule_file)) =
-    program_refusals _ phases_to_size file _ (inl refl) (inr (inl refl))
+refusals (Some (Trace rule file schedule_file)) =
+    program_refusals _ rule phases_to_size file _ (inl refl) (inr (inl refl))
     (λ text graph. replay_refusals _ schedule_file text graph (inl refl) (inr (inr (inl refl))))
 
 -- the replies at the end
@@ -115,13 +117,13 @@ replayed_end text graph items _ (ends replay is) = by replay.end where
   by (Raced race) =
       record { exit = inr (inr (inr (inr (inr (inl refl))))); plain = refl; speaks = refl }
 
-program_ends : (among : List Exit) (phases : List Phase) (file : List ℕ)
+program_ends : (among : List Exit) (rule : AsyncDefault) (phases : List Phase) (file : List ℕ)
     (rest : List ℕ → Graph → Part Outcome)
     → ((text : List ℕ) (graph : Graph) → EndsBy (HasEndExit among) (rest text graph))
-    → EndsBy (HasEndExit among) (program_then phases file rest)
-program_ends among phases file rest others =
+    → EndsBy (HasEndExit among) (program_then rule phases file rest)
+program_ends among rule phases file rest others =
     ends_then (HasEndExit among) (Fetched file PROGRAM_LIMIT) _
-    (λ _ text _. ends_then (HasEndExit among) (Alone (Judged phases text)) (rest text)
+    (λ _ text _. ends_then (HasEndExit among) (Alone (Judged rule phases text)) (rest text)
     (λ _ graph _. others text graph))
 
 replay_ends : (file text : List ℕ) (graph : Graph)
@@ -136,15 +138,15 @@ at_ends : (command : Option Command) → EndsBy (HasEndExit (exits_of command)) 
 at_ends None = ends_alone _ (Answers usage)
     (λ outcome is. answers_end _ usage outcome
     (record { exit = inl refl; plain = refl; speaks = refl }) is)
-at_ends (Some (Check file)) =
-    program_ends _ all_phases file _
+at_ends (Some (Check rule file)) =
+    program_ends _ rule all_phases file _
     (λ text graph. ends_alone _ (Answers accepted)
     (λ outcome is. answers_end _ accepted outcome
     (record { exit = inr (inr (inl refl)); plain = refl; speaks = refl }) is))
-at_ends (Some (Run file schedule_file)) =
-    program_ends _ all_phases file (replay_by schedule_file) (replay_ends schedule_file)
-at_ends (Some (Trace file schedule_file)) =
-    program_ends _ phases_to_size file (replay_by schedule_file) (replay_ends schedule_file)
+at_ends (Some (Run rule file schedule_file)) =
+    program_ends _ rule all_phases file (replay_by schedule_file) (replay_ends schedule_file)
+at_ends (Some (Trace rule file schedule_file)) =
+    program_ends _ rule phases_to_size file (replay_by schedule_file) (replay_ends schedule_file)
 
 pub end_exit : (command : Option Command) (reads : List Read) (outcome : Outcome)
     → course_of command reads (Ended (Ok outcome)) → IsOneOf (exits_of command) outcome.exit

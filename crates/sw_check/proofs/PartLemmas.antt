@@ -13,6 +13,7 @@ use Rattle.sw_course.specs.declared.outcome.Outcome.{Outcome}
 use Rattle.sw_course.specs.declared.stop.Stop.{Stop}
 use Rattle.sw_course.specs.Leaves.{Seen, Does, Decides}
 use Rattle.sw_course.proofs.Doing.{does_alone}
+use Rattle.sw_decls.specs.declared.signature.AsyncDefault.{AsyncDefault}
 use Rattle.sw_verdict.specs.Phases.{Phase}
 use Rattle.sw_verdict.specs.Verdict.{IsVerdict}
 use Rattle.sw_replay.specs.Replay.{IsReplay}
@@ -21,11 +22,13 @@ use Rattle.sw_check.specs.Reply.{usage, course_of, Answers, refusal, bad_schedul
 use Rattle.sw_check.specs.Reply.{replay_outcome, Judged, breached, Scheduled, has_fault, Replayed}
 use Rattle.sw_check.specs.Reply.{ends, replay_by}
 
-pub judged_refused : (phases : List Phase) (text : List ℕ) (breaches : List Breach)
-    (outcome : Outcome) → outcome ≡ refusal text breaches → IsVerdict phases text (Err breaches)
-    → Judged phases text (Err outcome) × (outcome.exit ≢ TooLong)
-judged_refused phases text breaches outcome is judges =
-    subst (λ outcome. Judged phases text (Err outcome) × (outcome.exit ≢ TooLong)) (sym is)
+pub judged_refused : (rule : AsyncDefault) (phases : List Phase) (text : List ℕ)
+    (breaches : List Breach)
+    (outcome : Outcome) → outcome ≡ refusal text breaches
+    → IsVerdict rule phases text (Err breaches)
+    → Judged rule phases text (Err outcome) × (outcome.exit ≢ TooLong)
+judged_refused rule phases text breaches outcome is judges =
+    subst (λ outcome. Judged rule phases text (Err outcome) × (outcome.exit ≢ TooLong)) (sym is)
     (breached breaches judges, λ e. cc)
 
 pub scheduled_refused : (text : List ℕ) (fault : SchedFault) (outcome : Outcome) → (fault ≢ Memory)

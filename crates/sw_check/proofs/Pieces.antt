@@ -4,12 +4,15 @@ use Rattle.sw_graph.specs.declared.graph.Graph.{Graph}
 use Rattle.sw_course.specs.declared.TheConstants.{PROGRAM_LIMIT}
 use Rattle.sw_course.specs.declared.outcome.Outcome.{Outcome}
 use Rattle.sw_course.specs.Course.{Part, Alone, Fetched, ◌>>=◌}
+use Rattle.sw_decls.specs.declared.signature.AsyncDefault.{AsyncDefault}
 use Rattle.sw_verdict.specs.Phases.{Phase}
 use Rattle.sw_check.specs.Reply.{Judged}
 
--- a program is fetched and judged by these phases, and the rest goes on from its text and its graph
-abbrev pub program_then : List Phase → List ℕ → (List ℕ → Graph → Part Outcome) → Part Outcome
-program_then phases file rest = do
+-- A program is fetched and judged by these phases under a default, and the rest goes on from its
+-- text and its graph.
+abbrev pub program_then : AsyncDefault → List Phase → List ℕ → (List ℕ → Graph → Part Outcome)
+    → Part Outcome
+program_then rule phases file rest = do
   text ← Fetched file PROGRAM_LIMIT
-  graph ← Alone (Judged phases text)
+  graph ← Alone (Judged rule phases text)
   rest text graph

@@ -9,6 +9,7 @@ use Rattle.sw_replay.proofs.ScheduleLaws.{items_or_fault-HasItems, one_list, one
 use Rattle.sw_replay.proofs.ScheduleLaws.{never_both as items_and_fault}
 use Rattle.sw_course.specs.declared.outcome.Outcome.{Outcome}
 use Rattle.sw_course.specs.Lawful.{HasOneResult, HasResult}
+use Rattle.sw_decls.specs.declared.signature.AsyncDefault.{AsyncDefault}
 use Rattle.sw_verdict.specs.Phases.{Phase, IsGraphOf}
 use Rattle.sw_verdict.specs.Verdict.{Breaches, Refuses}
 use Rattle.sw_verdict.proofs.OneLowered.{one_graph_of}
@@ -22,19 +23,20 @@ answers_one outcome a b is_a is_b = is_a ∙ sym is_b
 pub answers_some : (outcome : Outcome) → HasResult (Answers outcome)
 answers_some outcome = (Ok outcome, refl)
 
-module _ (phases : List Phase) (text : List ℕ) where
-  pub judged_one : HasOneResult (Judged phases text)
-  judged_one _ _ (passes a is_a) (passes b is_b) = ap Ok (one_graph_of text a b is_a.1 is_b.1)
+module _ (rule : AsyncDefault) (phases : List Phase) (text : List ℕ) where
+  pub judged_one : HasOneResult (Judged rule phases text)
+  judged_one _ _ (passes a is_a) (passes b is_b) = ap Ok (one_graph_of rule text a b is_a.1 is_b.1)
   judged_one _ _ (passes a is_a) (breached list is_b) =
-      absurd (never_both phases text is_a.0 (list, is_b.0, is_b.1))
+      absurd (never_both rule phases text is_a.0 (list, is_b.0, is_b.1))
   judged_one _ _ (breached list is_a) (passes b is_b) =
-      absurd (never_both phases text is_b.0 (list, is_a.0, is_a.1))
+      absurd (never_both rule phases text is_b.0 (list, is_a.0, is_a.1))
   judged_one _ _ (breached list is_a) (breached other is_b) =
-      ap (λ list. Err (refusal text list)) (one_verdict phases text list other is_a.1 is_b.1)
+      ap (λ list. Err (refusal text list)) (one_verdict rule phases text list other is_a.1 is_b.1)
 
   -- where it has a graph if it passes
-  pub judged_some : (Breaches phases text [] → (graph : Graph) × IsGraphOf text graph)
-      → Breaches phases text [] ⊎ Refuses phases text → HasResult (Judged phases text)
+  pub judged_some : (Breaches rule phases text [] → (graph : Graph) × IsGraphOf rule text graph)
+      → Breaches rule phases text [] ⊎ Refuses rule phases text
+      → HasResult (Judged rule phases text)
   judged_some have (inl pass) = let (graph, is) = have pass in (Ok graph, passes graph (pass, is))
   judged_some have (inr (list, not, found)) = (Err (refusal text list), breached list (not, found))
 

@@ -15,6 +15,7 @@ use Rattle.sw_course.specs.declared.exit.Exit.TheVariants as exits
 use Rattle.sw_course.specs.declared.outcome.Outcome.{Outcome}
 use Rattle.sw_course.specs.declared.TheConstants.{PROGRAM_LIMIT}
 use Rattle.sw_course.specs.Course.{Read, Ended, Part, Alone, Fetched, ◌>>=◌}
+use Rattle.sw_decls.specs.declared.signature.AsyncDefault.{AsyncDefault}
 use Rattle.sw_verdict.specs.Phases.{Phase, all_phases, phases_to_size}
 use Rattle.sw_verdict.specs.Verdict.{IsVerdict}
 use Rattle.sw_replay.specs.Replay.{IsReplay}
@@ -59,11 +60,13 @@ replay_outcome text replay = end_outcome text replay.lines replay.ended replay.j
 abbrev pub Answers : Outcome → Result Outcome Outcome → Type 0
 Answers outcome result = result ≡ Ok outcome
 
--- A program is judged by these phases: it has a graph, or it is refused.
-pub data Judged (phases : List Phase) (text : List ℕ) : Result Graph Outcome → Type 0 where
-  passes : (graph : Graph) → IsVerdict phases text (Ok graph) → Judged phases text (Ok graph)
-  breached : (breaches : List Breach) → IsVerdict phases text (Err breaches)
-      → Judged phases text (Err (refusal text breaches))
+-- A program is judged by these phases under a default: it has a graph, or it is refused.
+pub data Judged (rule : AsyncDefault) (phases : List Phase) (text : List ℕ)
+    : Result Graph Outcome → Type 0 where
+  passes : (graph : Graph) → IsVerdict rule phases text (Ok graph)
+      → Judged rule phases text (Ok graph)
+  breached : (breaches : List Breach) → IsVerdict rule phases text (Err breaches)
+      → Judged rule phases text (Err (refusal text breaches))
 
 -- The text of a schedule has items, or a fault.
 pub data Scheduled (schedule : List ℕ) : Result (List ℕ) Outcome → Type 0 where
@@ -85,21 +88,23 @@ replay_by schedule_file text graph = do
   Alone (Replayed text graph items)
 
 -- A program is fetched and judged by these phases, and then a schedule replays its graph.
-abbrev pub replay_course : List Phase → List ℕ → List ℕ → Part Outcome
-replay_course phases file schedule_file = do
+abbrev pub replay_course : AsyncDefault → List Phase → List ℕ → List ℕ → Part Outcome
+replay_course rule phases file schedule_file = do
   text ← Fetched file PROGRAM_LIMIT
-  graph ← Alone (Judged phases text)
+  graph ← Alone (Judged rule phases text)
   replay_by schedule_file text graph
 
 -- the parts of each command
 abbrev pub course_of : Option Command → Part Outcome
 course_of None = Alone (Answers usage)
-course_of (Some (Check file)) = do
+course_of (Some (Check rule file)) = do
   text ← Fetched file PROGRAM_LIMIT
-  graph ← Alone (Judged all_phases text)
+  graph ← Alone (Judged rule all_phases text)
   Alone (Answers accepted)
-course_of (Some (Run file schedule_file)) = replay_course all_phases file schedule_file
-course_of (Some (Trace file schedule_file)) = replay_course phases_to_size file schedule_file
+course_of (Some (Run rule file schedule_file)) =
+    replay_course rule all_phases file schedule_file
+course_of (Some (Trace rule file schedule_file)) =
+    replay_course rule phases_to_size file schedule_file
 
 -- `Reply command reads outcome`: this is answered to the words, where exactly these files are read
 -- for it, in this order.
@@ -116,6 +121,6 @@ replay_exits =
 -- the exits of the replies to a command
 abbrev pub exits_of : Option Command → List Exit
 exits_of None = exits.Usage ∷ []
-exits_of (Some (Check file)) = exits.TooLong ∷ exits.Breached ∷ exits.Done ∷ []
-exits_of (Some (Run file schedule_file)) = replay_exits
-exits_of (Some (Trace file schedule_file)) = replay_exits
+exits_of (Some (Check rule file)) = exits.TooLong ∷ exits.Breached ∷ exits.Done ∷ []
+exits_of (Some (Run rule file schedule_file)) = replay_exits
+exits_of (Some (Trace rule file schedule_file)) = replay_exits

@@ -4,6 +4,6 @@ use Rattle.sw_check.specs.declared.words.Command.TheVariants as variants
 use Rattle.sw_check.specs.Words.{Command, Check, Run, Trace}
 
 abbrev pub command : code.Command → Command
-command (variants.Check file) = Check file.now
-command (variants.Run file schedule_file) = Run file.now schedule_file.now
-command (variants.Trace file schedule_file) = Trace file.now schedule_file.now
+command (variants.Check rule file) = Check rule file.now
+command (variants.Run rule file schedule_file) = Run rule file.now schedule_file.now
+command (variants.Trace rule file schedule_file) = Trace rule file.now schedule_file.now

@@ -10,18 +10,24 @@ use crate::parts::{Phases, judged, replayed, scheduled};
 use crate::words::{self, Command};
 use std::alloc::Global;
 use sw_course::{Exit, Outcome, PROGRAM_LIMIT, Stop, fetch, lines};
+use sw_decls::AsyncDefault;
 use sw_graph::Graph;
 use sw_outside::Shelf;
 use sw_replay::SCHEDULE_LIMIT;
 
-/// `check FILE`.
-fn check<S: Shelf>(alloc: Global, file: &str, shelf: &mut S) -> Result<Outcome, Stop>
-    ensures { Does (course_of (Some (Check file.now)))
+/// `check FILE`, under a default.
+fn check<S: Shelf>(
+    alloc: Global,
+    default: AsyncDefault,
+    file: &str,
+    shelf: &mut S,
+) -> Result<Outcome, Stop>
+    ensures { Does (course_of (Some (Check default file.now)))
         (seen S.known S.received S.faults shelf.old) result
         (seen S.known S.received S.faults shelf.new) }
 {
     let text = fetch(alloc, file, PROGRAM_LIMIT, shelf)?;
-    let _graph = judged(alloc, text.as_slice(), Phases::All)?;
+    let _graph = judged(alloc, default, text.as_slice(), Phases::All)?;
     Ok(lines(alloc, Exit::Done, "accepted\n")?)
 }
 
@@ -43,20 +49,22 @@ fn by_schedule<S: Shelf>(
     Ok(replayed(alloc, text, graph, &items)?)
 }
 
-/// `run FILE SCHEDULE` and `trace FILE SCHEDULE`, which judge the program by these phases.
+/// `run FILE SCHEDULE` and `trace FILE SCHEDULE`, which judge the program by these phases under a
+/// default.
 fn replay<S: Shelf>(
     alloc: Global,
+    default: AsyncDefault,
     phases: Phases,
     file: &str,
     schedule_file: &str,
     shelf: &mut S,
 ) -> Result<Outcome, Stop>
-    ensures { Does (replay_course (list_of phases) file.now schedule_file.now)
+    ensures { Does (replay_course default (list_of phases) file.now schedule_file.now)
         (seen S.known S.received S.faults shelf.old) result
         (seen S.known S.received S.faults shelf.new) }
 {
     let text = fetch(alloc, file, PROGRAM_LIMIT, shelf)?;
-    let graph = judged(alloc, text.as_slice(), phases)?;
+    let graph = judged(alloc, default, text.as_slice(), phases)?;
     by_schedule(alloc, schedule_file, text.as_slice(), &graph, shelf)
 }
 
@@ -72,18 +80,20 @@ pub fn answer<S: Shelf>(alloc: Global, words: &[String], shelf: &mut S) -> Resul
             Exit::Usage,
             "usage: swiftcheck COMMAND FILE [SCHEDULE]\n",
         )?),
-        Some(Command::Check { file }) => check(alloc, file, shelf),
+        Some(Command::Check { default, file }) => check(alloc, default, file, shelf),
         Some(
             Command::Run {
+                default,
                 file,
                 schedule_file,
             },
-        ) => replay(alloc, Phases::All, file, schedule_file, shelf),
+        ) => replay(alloc, default, Phases::All, file, schedule_file, shelf),
         Some(
             Command::Trace {
+                default,
                 file,
                 schedule_file,
             },
-        ) => replay(alloc, Phases::ToSize, file, schedule_file, shelf),
+        ) => replay(alloc, default, Phases::ToSize, file, schedule_file, shelf),
     }
 }

@@ -1,6 +1,7 @@
 ghost use Rattle.std.specs.Prelude.{◌≡◌, ℕ, List, ◌++◌, Option};
 ghost use Rattle.sw_replay.specs.declared.output.End.{End};
 ghost use Rattle.sw_course.specs.declared.outcome.Outcome.{Outcome};
+ghost use Rattle.sw_decls.specs.declared.signature.AsyncDefault.{AsyncDefault};
 ghost use Rattle.sw_course.specs.Course.{AreOf, Read, Underway};
 ghost use Rattle.sw_course.specs.Lawful.{IsPrefixOf};
 ghost use Rattle.sw_check.specs.Claims.{EndsSo};
@@ -28,9 +29,9 @@ pub fn words_have_one_reply()
     ensures goes_on { (command : Option Command) (reads : List Read)
         → course_of command reads Underway
         → (others : List Read) × (outcome : Outcome) × Reply command (reads ++ others) outcome }
-    // A replay of a program by a schedule ends in one way.
-    ensures one_end { (text schedule : List ℕ) (a b : End) → EndsSo a text schedule
-        → EndsSo b text schedule → a ≡ b }
+    // Under a default a replay of a program by a schedule ends in one way.
+    ensures one_end { (rule : AsyncDefault) (text schedule : List ℕ) (a b : End)
+        → EndsSo rule a text schedule → EndsSo rule b text schedule → a ≡ b }
 {}
 
 /// The limit that the definitions of replies take from here.

@@ -5,15 +5,17 @@ ghost use Rattle.std.specs.Prelude.{◌≡◌, ◌≢◌, ◌<◌, ◌≤◌, �
 ghost use Rattle.std.specs.Prelude.{IsTrue, IsFalse, length};
 ghost use Rattle.sw_outside.specs.Rise.{Rose};
 ghost use Rattle.sw_outside.specs.Shelf.{Known, file_of};
+ghost use Rattle.sw_course.specs.declared.exit.Exit.{Exit};
 ghost use Rattle.sw_course.specs.declared.outcome.Outcome.{Outcome};
 ghost use Rattle.sw_course.specs.Course.{AreOf, Read};
 ghost use Rattle.sw_course.specs.Exit.{IsOneOf, is_failure, is_silent};
+ghost use Rattle.sw_decls.specs.declared.signature.AsyncDefault.{AsyncDefault};
 ghost use Rattle.sw_graph.specs.declared.graph.Graph.{Graph};
 ghost use Rattle.sw_value.specs.Runnable.{IsRunnable};
 ghost use Rattle.sw_verdict.specs.Phases.{IsGraphOf, all_phases};
 ghost use Rattle.sw_verdict.specs.Verdict.{Accepts, Refuses};
 ghost use Rattle.sw_check.specs.Call.{Interrupted, Replied, Unanswered};
-ghost use Rattle.sw_check.specs.Claims.{NeverRaces, Says, phases_of, program_of};
+ghost use Rattle.sw_check.specs.Claims.{NeverRaces, Says, default_of, phases_of, program_of};
 ghost use Rattle.sw_check.specs.Reply.{Reply, exits_of};
 ghost use Rattle.sw_check.specs.Words.{Check, Command, command_in};
 
@@ -40,66 +42,90 @@ pub fn run_words<S: Shelf, K: Sink>(
     shelf: &mut S,
     out: &mut K,
 ) -> Exit
-    // An exit that reports no failure is that of the reply, and the whole reply was written.
+    // An exit that reports no failure is that of a reply to the words, over files that were read in
+    // its order. No others were read, and the whole reply was written and nothing else.
     ensures replied { IsFalse (is_failure result) → Replied (command_in words.now.items) result
         (S.known shelf.old) (S.known shelf.new) (K.written out.old) (K.written out.new) }
-    // Where neither the outside nor memory failed, the exit is that of the reply.
+    // Where neither the outside nor memory failed, the exit reports no failure.
     ensures complete { ¬ (Rose (S.faults shelf.old) (S.faults shelf.new))
         → ¬ (Rose (K.faults out.old) (K.faults out.new)) → result ≢ Exit.Memory
         → IsFalse (is_failure result) }
-    // Each command has its exits.
+    // Each command has its exits, whatever the files hold.
     ensures exits { IsFalse (is_failure result)
         → IsOneOf (exits_of (command_in words.now.items)) result }
 
-    // What such an exit says of the files, where they are known.
+    // Where the files are known, what the exit says of them holds: from the exit to the files.
     ensures says { IsFalse (is_failure result) → IfSome (S.known shelf.old) (λ known.
         Says (file_of known.files) (command_in words.now.items) result) }
-    // Where all phases count for a command, a program that they accept has a graph, and if that is
-    // runnable, no schedule leads it to a race.
-    ensures no_race { (known : Known) (command : Command) → S.known shelf.old ≡ Some known
-        → command_in words.now.items ≡ Some command → phases_of command ≡ all_phases
-        → IsFalse (is_failure result) → result ≢ Exit.Breached → result ≢ Exit.TooLong
-        → (graph : Graph) × IsGraphOf (program_of (file_of known.files) command) graph
-        × (IsRunnable graph → NeverRaces graph) }
-    // Where a program has a runnable graph, a race stops no replay of it.
-    ensures not_raced { (known : Known) (command : Command) (graph : Graph)
-        → S.known shelf.old ≡ Some known → command_in words.now.items ≡ Some command
-        → IsGraphOf (program_of (file_of known.files) command) graph → IsRunnable graph
-        → result ≢ Exit.Raced }
-
-    // Where nothing failed, every reply over the known files has this exit.
+    // And from the files to the exit: where what some exit says of them holds, the call has that
+    // exit. So a replay that runs to its end, traps or races has exit 0, 7 or 9, and no other call
+    // has.
+    ensures only { (known : Known) (exit : Exit) → S.known shelf.old ≡ Some known
+        → Says (file_of known.files) (command_in words.now.items) exit
+        → IsFalse (is_failure result) → result ≡ exit }
+    // The exit is that of every reply over the known files. There is one such reply, by the law
+    // `words_have_one_reply`, and it was written, by `replied`.
     ensures exact { (known : Known) (reads : List Read) (outcome : Outcome)
         → S.known shelf.old ≡ Some known
         → AreOf (file_of known.files) reads → Reply (command_in words.now.items) reads outcome
         → IsFalse (is_failure result) → result ≡ outcome.exit }
-    // So words of no form, a refused program and an accepted one have these exits.
+
+    // Three cases of `only`. Words of no form have the exit of the usage line.
     ensures usage { command_in words.now.items ≡ None → IsFalse (is_failure result)
         → result ≡ Exit.Usage }
+    // A program within the limit in which a phase that counts finds a breach is refused.
     ensures breached { (known : Known) (command : Command) → S.known shelf.old ≡ Some known
         → command_in words.now.items ≡ Some command
         → length (program_of (file_of known.files) command) ≤ PROGRAM_LIMIT
-        → Refuses (phases_of command) (program_of (file_of known.files) command)
+        → Refuses (default_of command) (phases_of command)
+        (program_of (file_of known.files) command)
         → IsFalse (is_failure result) → result ≡ Exit.Breached }
-    ensures accepted { (known : Known) (file : List ℕ) → S.known shelf.old ≡ Some known
-        → command_in words.now.items ≡ Some (Check file)
+    // `check` accepts a program within the limit in which no phase finds a breach.
+    ensures accepted { (known : Known) (rule : AsyncDefault) (file : List ℕ)
+        → S.known shelf.old ≡ Some known → command_in words.now.items ≡ Some (Check rule file)
         → length (file_of known.files file) ≤ PROGRAM_LIMIT
-        → Accepts (file_of known.files file) → IsFalse (is_failure result) → result ≡ Exit.Done }
+        → Accepts rule (file_of known.files file) → IsFalse (is_failure result)
+        → result ≡ Exit.Done }
 
-    // After a failure of the outside or of memory.
+    // Where all phases count for a command and don't refuse its program, which is within the limit,
+    // the program has a graph, and if that is runnable, no schedule leads it to a race. A program
+    // that is longer isn't judged, and nothing is said of it.
+    ensures no_race { (known : Known) (command : Command) → S.known shelf.old ≡ Some known
+        → command_in words.now.items ≡ Some command → phases_of command ≡ all_phases
+        → length (program_of (file_of known.files) command) ≤ PROGRAM_LIMIT
+        → IsFalse (is_failure result) → result ≢ Exit.Breached → (graph : Graph)
+        × IsGraphOf (default_of command) (program_of (file_of known.files) command) graph
+        × (IsRunnable graph → NeverRaces graph) }
+    // Where a program has a runnable graph, a race stops no replay of it.
+    ensures not_raced { (known : Known) (command : Command) (graph : Graph)
+        → S.known shelf.old ≡ Some known → command_in words.now.items ≡ Some command
+        → IsGraphOf (default_of command) (program_of (file_of known.files) command) graph
+        → IsRunnable graph → result ≢ Exit.Raced }
+
+    // After a failed fetch the command is under way, and the file whose fetch failed was requested.
     ensures not_read { result ≡ Exit.NotRead
         → Unanswered (command_in words.now.items) 1 (S.known shelf.old) (S.known shelf.new) }
+    // Where memory ran out, the command is under way.
     ensures no_memory { result ≡ Exit.Memory
         → Unanswered (command_in words.now.items) 0 (S.known shelf.old) (S.known shelf.new) }
+    // After a failed write there is a reply, and a prefix of it was written.
     ensures not_written { result ≡ Exit.NotWritten → Interrupted (command_in words.now.items)
         (S.known shelf.old) (S.known shelf.new) (K.written out.old) (K.written out.new) }
+    // Nothing is written where a fetch fails, a file is too long or memory runs out.
     ensures silent { IsTrue (is_silent result) → K.written out.new ≡ K.written out.old }
 
-    // Each failure has its cause, and its cause has no other exit.
+    // The exit of a failed fetch has no other cause. A count of failures that stands at its last
+    // value can't rise any more, and counts as risen (`Rose`).
     ensures not_read_only { result ≡ Exit.NotRead → Rose (S.faults shelf.old) (S.faults shelf.new) }
+    // A failed fetch has no other exit.
     ensures read_failed { S.faults shelf.old < S.faults shelf.new → result ≡ Exit.NotRead }
+    // The exit of a failed write has no other cause.
     ensures not_written_only { result ≡ Exit.NotWritten
         → Rose (K.faults out.old) (K.faults out.new) }
+    // A failed write has no other exit.
     ensures write_failed { K.faults out.old < K.faults out.new → result ≡ Exit.NotWritten }
+    // Over unknown files a file was too long only where more bytes were received than a program may
+    // have.
     ensures long_unknown { result ≡ Exit.TooLong
         → IfNone (S.known shelf.old) (PROGRAM_LIMIT < S.received shelf.new) }
 {

@@ -15,6 +15,7 @@ use crate::lines::{race_lines, schedule_line, summary, trap_line};
 use std::alloc::{AllocError, Global};
 use sw_breach::{Breach, render};
 use sw_course::{Exit, Outcome, PROGRAM_LIMIT, Stop, lines, with_last_line};
+use sw_decls::AsyncDefault;
 use sw_graph::Graph;
 use sw_list::ListOf;
 use sw_replay::{End, Replay, SCHEDULE_LIMIT, SchedFault, Schedule, replay, schedule};
@@ -44,25 +45,36 @@ pub enum Phases {
     ToSize,
 }
 
-/// The verdict of these phases on a text: its graph, or what the first finds that finds a breach.
-fn verdict(alloc: Global, text: &[u8], phases: Phases) -> Result<Graph, Refusal>
+/// The verdict of these phases on a text under a default: its graph, or what the first finds that
+/// finds a breach.
+fn verdict(
+    alloc: Global,
+    default: AsyncDefault,
+    text: &[u8],
+    phases: Phases,
+) -> Result<Graph, Refusal>
     requires { length text.now ≤ PROGRAM_LIMIT }
-    ensures graph { IfOk result (λ graph. IsVerdict (list_of phases) text.now (Ok graph)) }
+    ensures graph { IfOk result (λ graph. IsVerdict default (list_of phases) text.now (Ok graph)) }
     ensures breaches { (list : List Breach) → IsErrOf result (Refusal.Breached list)
-        → IsVerdict (list_of phases) text.now (Err list) }
+        → IsVerdict default (list_of phases) text.now (Err list) }
 {
     match phases {
-        Phases::All => judge(alloc, text),
-        Phases::ToSize => lower_text(alloc, text),
+        Phases::All => judge(alloc, text, default),
+        Phases::ToSize => lower_text(alloc, text, default),
     }
 }
 
-/// The graph of a program in which none of these phases finds a breach.
-pub fn judged(alloc: Global, text: &[u8], phases: Phases) -> Result<Graph, Stop>
+/// The graph of a program in which none of these phases finds a breach under a default.
+pub fn judged(
+    alloc: Global,
+    default: AsyncDefault,
+    text: &[u8],
+    phases: Phases,
+) -> Result<Graph, Stop>
     requires { length text.now ≤ PROGRAM_LIMIT }
-    ensures { Decides (Judged (list_of phases) text.now) result }
+    ensures { Decides (Judged default (list_of phases) text.now) result }
 {
-    match verdict(alloc, text, phases) {
+    match verdict(alloc, default, text, phases) {
         Ok(graph) => Ok(graph),
         Err(Refusal::Breached { breaches }) => {
             Err(Stop::Refused(refusal(alloc, text, breaches.as_slice())?))

@@ -1,18 +1,24 @@
 ghost use Rattle.std.specs.Prelude.{◌≡◌, map, string_bytes, option_map};
-ghost use Rattle.sw_check.specs.Words.{command_of, is_file_name};
+ghost use Rattle.sw_check.specs.Words.{command_of, is_file_name, unnamed_default};
 ghost use Rattle.sw_check.specs.WordsRead.{command};
 
-/// What the words ask for. The names are lent from the words.
+use sw_decls::AsyncDefault;
+
+/// What the words ask for, with the default for asynchronous functions. The names are lent from the
+/// words.
 #[derive(Clone, Copy)]
 pub enum Command<'a> {
     Check {
+        default: AsyncDefault,
         file: &'a str,
     },
     Run {
+        default: AsyncDefault,
         file: &'a str,
         schedule_file: &'a str,
     },
     Trace {
+        default: AsyncDefault,
         file: &'a str,
         schedule_file: &'a str,
     },
@@ -28,16 +34,24 @@ fn is_file_name(word: &str) -> bool
     }
 }
 
+/// The default where the words name none. No word names one.
+fn unnamed_default() -> AsyncDefault
+    ensures { result ≡ unnamed_default }
+{
+    AsyncDefault::Concurrent
+}
+
 /// Reads the words after the program's name; `None` where they have no form.
 #[tactic(auto, unfolding(crate::specs::Words::command_of))]
 pub fn read(words: &[String]) -> Option<Command<'_>>
     ensures { option_map command result ≡ command_of (map string_bytes words.now) }
 {
+    let default = unnamed_default();
     match words {
         [verb, file] => {
             let (verb, file) = (verb.as_str(), file.as_str());
             if verb == "check" && is_file_name(file) {
-                Some(Command::Check { file })
+                Some(Command::Check { default, file })
             } else {
                 None
             }
@@ -50,11 +64,13 @@ pub fn read(words: &[String]) -> Option<Command<'_>>
             );
             if verb == "run" && is_file_name(file) && is_file_name(schedule_file) {
                 Some(Command::Run {
+                    default,
                     file,
                     schedule_file,
                 })
             } else if verb == "trace" && is_file_name(file) && is_file_name(schedule_file) {
                 Some(Command::Trace {
+                    default,
                     file,
                     schedule_file,
                 })

@@ -1,4 +1,5 @@
 ghost use Rattle.std.specs.Prelude.{◌≡◌, ℕ, List, []};
+ghost use Rattle.sw_decls.specs.declared.signature.AsyncDefault.{AsyncDefault};
 ghost use Rattle.sw_graph.specs.Clean.{IsClean};
 ghost use Rattle.sw_graph.specs.Placed.{IsPlaced};
 ghost use Rattle.sw_graph.specs.declared.graph.Graph.{Graph};
@@ -7,20 +8,21 @@ ghost use Rattle.sw_verdict.specs.Phases.{IsGraphOf, answers_of_program, phases_
 ghost use Rattle.sw_verdict.specs.Verdict.{Accepts, Breaches};
 
 /// The graph of a text in which the phases up to the size of functions find no breach is placed,
-/// whatever races it has: its calls, accesses, initialisers, closures and tasks stand where their
-/// isolation lets them (SE-0306, SE-0316).
+/// under each default and whatever races it has: its calls, accesses, initialisers, closures and
+/// tasks stand where their isolation lets them (SE-0306, SE-0316, SE-0461).
 pub fn texts_have_placed_graphs()
-    ensures { (text : List ℕ) (graph : Graph) → Breaches phases_to_size text []
-        → IsGraphOf text graph → IsPlaced graph }
+    ensures { (rule : AsyncDefault) (text : List ℕ) (graph : Graph)
+        → Breaches rule phases_to_size text [] → IsGraphOf rule text graph → IsPlaced graph }
 {}
 
-/// The graph of an accepted text is clean: it is placed, and what crosses between isolations may
-/// (SE-0302, SE-0412, SE-0430). So is that of each text besides that passes these phases and whose
-/// program shares no value that may not be, whatever breaches of regions it has.
+/// The graph of a text that is accepted under a default is clean: it is placed, and what crosses
+/// between isolations may (SE-0302, SE-0412, SE-0430). So is that of each text besides that passes
+/// these phases and whose program shares no value that may not be, whatever breaches of regions it
+/// has.
 pub fn accepted_texts_have_clean_graphs()
-    ensures accepted { (text : List ℕ) (graph : Graph) → Accepts text → IsGraphOf text graph
-        → IsClean graph }
-    ensures unshared { (text : List ℕ) (graph : Graph) → Breaches phases_to_size text []
-        → (of : IsGraphOf text graph)
+    ensures accepted { (rule : AsyncDefault) (text : List ℕ) (graph : Graph) → Accepts rule text
+        → IsGraphOf rule text graph → IsClean graph }
+    ensures unshared { (rule : AsyncDefault) (text : List ℕ) (graph : Graph)
+        → Breaches rule phases_to_size text [] → (of : IsGraphOf rule text graph)
         → races of.world (answers_of_program of.world of.decls) of.decls ≡ [] → IsClean graph }
 {}

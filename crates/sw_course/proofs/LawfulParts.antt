@@ -1,5 +1,5 @@
--- Parts of commands are lawful and can end: those that read no file, those that fetch one, and one part
--- after another.
+-- Parts of commands are lawful and can end: those that read no file, those that fetch one, and one
+-- part after another.
 use Rattle.std.proofs.Common.{◌≡◌, ◌<◌, ◌≤◌, ◌⊎◌, inl, inr, ℕ, List, [], ◌∷◌, ◌++◌, length, Result}
 use Rattle.std.proofs.Common.{Ok, Err, refl, sym, ap, ap₂, ◌∙◌, subst, arith, append_assoc}
 use Rattle.std.proofs.lemmas.Bool.{cases_lt}

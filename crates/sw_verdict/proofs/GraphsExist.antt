@@ -8,7 +8,7 @@ use Rattle.sw_graph.specs.declared.graph.Graph.{Graph}
 use Rattle.sw_resolve.specs.Placed.{IsFirst}
 use Rattle.sw_parse_decl.specs.Programs.{IsProgramOf}
 use Rattle.sw_decls.specs.Declaring.{IsFirstBreach}
-use Rattle.sw_decls.specs.declared.signature.AsyncDefault.TheVariants.{Concurrent}
+use Rattle.sw_decls.specs.declared.signature.AsyncDefault.{AsyncDefault}
 use Rattle.sw_typing_rules.specs.Programs.{IsFirstIll}
 use Rattle.sw_typing_rules.specs.Worlds.{IsWorldOf, World}
 use Rattle.sw_lower_code.specs.Whole.{Body}
@@ -26,21 +26,22 @@ use Rattle.sw_verdict.proofs.SameProgram.{of_same, same_decls, same_world}
 
 -- The program of a text keeps the rules on declarations and on types, and none of its functions, in
 -- the order of their keys, is too large.
-pub record Keeps (text : List ℕ) : Type 0 where
+pub record Keeps (rule : AsyncDefault) (text : List ℕ) : Type 0 where
   pub tokens : List Token
   pub are_tokens : IsTokens text tokens
   pub decls : List Decl
   pub is_program : IsProgramOf decls (spelling_of text tokens)
   pub world : World
-  pub is_world : IsWorldOf decls Concurrent world
-  pub welltyped : IsWelltyped decls Concurrent world
+  pub is_world : IsWorldOf decls rule world
+  pub welltyped : IsWelltyped decls rule world
   pub ordered : List Body
   pub are_ordered : AreOrdered (tables_of_program world decls) decls ordered
   pub none_large : IsFirst (too_large_in (functions_of ordered)) None
 
-kept : (text : List ℕ) → DeclarationsFinds text [] → TypesFinds text [] → SizeFinds text []
-    → Keeps text
-kept text (keeps_all a ds are_a is_a sound) (well_typed b es v are_b is_b world_b well)
+kept : (rule : AsyncDefault) (text : List ℕ) → DeclarationsFinds text [] → TypesFinds rule text []
+    → SizeFinds rule text []
+    → Keeps rule text
+kept rule text (keeps_all a ds are_a is_a sound) (well_typed b es v are_b is_b world_b well)
     (within c decls world are is_program is_world (ordered, are_ordered, none_large)) = record {
       tokens = c;
       are_tokens = are;
@@ -48,31 +49,33 @@ kept text (keeps_all a ds are_a is_a sound) (well_typed b es v are_b is_b world_
       is_program = is_program;
       world = world;
       is_world = is_world;
-      welltyped = program_welltyped (spelling_of text c) decls Concurrent world is_program
+      welltyped = program_welltyped (spelling_of text c) decls rule world is_program
           (subst (λ (list : List Decl). IsFirstBreach list None)
           (same_decls text a c ds decls are_a is_a are is_program) sound) is_world
           (of_same (λ one list. IsFirstIll one list None) v world es decls
-          (same_world text b c es decls v world are_b is_b world_b are is_program is_world) well);
+          (same_world rule text b c es decls v world are_b is_b world_b are is_program is_world)
+          well);
       ordered = ordered;
       are_ordered = are_ordered;
       none_large = none_large;
     }
 
-pub passed : (text : List ℕ) → Breaches phases_to_size text [] → Keeps text
-passed text (later _ _ _ _ encoding (later _ _ _ _ lexis (later _ _ _ _ syntax
+pub passed : (rule : AsyncDefault) (text : List ℕ) → Breaches rule phases_to_size text []
+    → Keeps rule text
+passed rule text (later _ _ _ _ encoding (later _ _ _ _ lexis (later _ _ _ _ syntax
     (later _ _ _ _ declarations (later _ _ _ _ types (later _ _ _ _ isolation
     (later _ _ _ _ size (none _)))))))) =
-    kept text declarations types size
+    kept rule text declarations types size
 
-pub some_graph : (text : List ℕ) → Breaches phases_to_size text []
-    → (graph : Graph) × IsGraphOf text graph
-some_graph text accepts =
-    let keeps = passed text accepts in
-    let (entry, entry_is) = has_entry_number keeps.decls Concurrent keeps.world keeps.welltyped
+pub some_graph : (rule : AsyncDefault) (text : List ℕ) → Breaches rule phases_to_size text []
+    → (graph : Graph) × IsGraphOf rule text graph
+some_graph rule text accepts =
+    let keeps = passed rule text accepts in
+    let (entry, entry_is) = has_entry_number keeps.decls rule keeps.world keeps.welltyped
     keeps.ordered keeps.are_ordered in
-    let (starts, starts_are) = has_starts keeps.decls Concurrent keeps.world keeps.welltyped
+    let (starts, starts_are) = has_starts keeps.decls rule keeps.world keeps.welltyped
     keeps.ordered keeps.are_ordered in
-    let found = bodies_are_found keeps.decls Concurrent keeps.world keeps.welltyped keeps.ordered
+    let found = bodies_are_found keeps.decls rule keeps.world keeps.welltyped keeps.ordered
     keeps.are_ordered in (
       record {
         shapes = keeps.world.shapes;
@@ -80,12 +83,12 @@ some_graph text accepts =
         functions = functions_of keeps.ordered;
         entry = entry;
         starts = starts;
-        well_formed = graphs_fit keeps.decls Concurrent keeps.world
+        well_formed = graphs_fit keeps.decls rule keeps.world
             (isolation_of_program keeps.world keeps.decls) keeps.ordered entry starts
             keeps.welltyped.keyed
             (program_apart (spelling_of text keeps.tokens) keeps.decls keeps.is_program)
             keeps.welltyped.sound keeps.is_world keeps.welltyped.well keeps.are_ordered found
-            (bodies_are_made keeps.decls Concurrent keeps.world keeps.welltyped keeps.ordered
+            (bodies_are_made keeps.decls rule keeps.world keeps.welltyped keeps.ordered
             keeps.are_ordered keeps.none_large) entry_is starts_are;
       },
       record {

@@ -1,6 +1,7 @@
 -- In the graph of an accepted text each test of the regions passes.
 use Rattle.std.proofs.Common.{ℕ, List, [], inr, subst}
 use Rattle.sw_graph.specs.declared.graph.Graph.{Graph}
+use Rattle.sw_decls.specs.declared.signature.AsyncDefault.{AsyncDefault}
 use Rattle.sw_region_flow.proofs.OneSites.{no_member}
 use Rattle.sw_region_flow.proofs.Passing.{graph_passes, no_breaches}
 use Rattle.sw_region_flow.specs.Passing.{IsPassed}
@@ -8,18 +9,21 @@ use Rattle.sw_verdict.specs.Phases.{IsGraphOf, RacesFinds, races}
 use Rattle.sw_verdict.specs.Verdict.{Accepts, later, none}
 use Rattle.sw_verdict.proofs.OneLowered.{one_graph_of}
 
-no_races : (text : List ℕ) → Accepts text → RacesFinds text []
-no_races text (later _ _ _ _ _ (later _ _ _ _ _ (later _ _ _ _ _ (later _ _ _ _ _
+no_races : (rule : AsyncDefault) (text : List ℕ) → Accepts rule text → RacesFinds rule text []
+no_races rule text (later _ _ _ _ _ (later _ _ _ _ _ (later _ _ _ _ _ (later _ _ _ _ _
     (later _ _ _ _ _ (later _ _ _ _ _ (later _ _ _ _ _ (later _ _ _ _ found (none _))))))))) = found
 
-raceless_passes : (text : List ℕ) (graph : Graph) → RacesFinds text [] → IsGraphOf text graph
+raceless_passes : (rule : AsyncDefault) (text : List ℕ) (graph : Graph) → RacesFinds rule text []
+    → IsGraphOf rule text graph
     → IsPassed graph
-raceless_passes text graph (races tokens decls world shared made _ are is is_world are_shared of all)
-    is_graph =
-    subst IsPassed (one_graph_of text made graph of is_graph)
+raceless_passes rule text graph
+    (races tokens decls world shared made _ are is is_world are_shared of all) is_graph =
+    subst IsPassed (one_graph_of rule text made graph of is_graph)
     (graph_passes made (no_breaches made (λ breach breaks.
     let kept = all.complete breach (inr breaks) in no_member kept.0 kept.1)))
 
-pub accepted_passes : (text : List ℕ) (graph : Graph) → Accepts text → IsGraphOf text graph
+pub accepted_passes : (rule : AsyncDefault) (text : List ℕ) (graph : Graph) → Accepts rule text
+    → IsGraphOf rule text graph
     → IsPassed graph
-accepted_passes text graph accepts = raceless_passes text graph (no_races text accepts)
+accepted_passes rule text graph accepts =
+    raceless_passes rule text graph (no_races rule text accepts)

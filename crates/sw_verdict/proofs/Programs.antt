@@ -33,7 +33,8 @@ pub program_welltyped : (tokens : List Spelled) (decls : List Decl) (rule : Asyn
     → IsWorldOf decls rule world → IsFirstIll world decls None → IsWelltyped decls rule world
 program_welltyped tokens decls rule world given sound declared well = record {
   keyed = keyed_program tokens decls given;
-  in_order = spelled_are_in_order (id_in (texts_of tokens)) decls tokens (spells tokens decls given);
+  in_order =
+      spelled_are_in_order (id_in (texts_of tokens)) decls tokens (spells tokens decls given);
   valued = globals_are_valued (id_in (texts_of tokens)) decls tokens (spells tokens decls given);
   written = are_written (id_in (texts_of tokens)) decls tokens (spells tokens decls given);
   sound = sound;

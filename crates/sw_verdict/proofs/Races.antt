@@ -8,7 +8,7 @@ use Rattle.sw_tree.specs.declared.decl.Decl.{Decl}
 use Rattle.sw_graph.specs.declared.graph.Graph.{Graph}
 use Rattle.sw_resolve.specs.declared.placed.Placed.{Placed}
 use Rattle.sw_capture.specs.Known.{answers_of}
-use Rattle.sw_decls.specs.declared.signature.AsyncDefault.TheVariants.{Concurrent}
+use Rattle.sw_decls.specs.declared.signature.AsyncDefault.{AsyncDefault}
 use Rattle.sw_typing_rules.proofs.OneWorld.{declared_world}
 use Rattle.sw_typing_rules.specs.Worlds.{World, world_of}
 use Rattle.sw_isolation.proofs.Answering.{answers_are_said}
@@ -34,21 +34,23 @@ use Rattle.sw_verdict.proofs.SameProgram.{of_same, same_world}
 abbrev pub Shared : World → List Decl → List Placed → Type 0
 Shared world decls shared = AreRaces world (answers_of_program world decls) decls shared
 
-pub races_one : (text : List ℕ) (a b : List Breach) → RacesFinds text a → RacesFinds text b → a ≡ b
-races_one text _ _ (races a ds v shared graph one are_a is_a world_a shared_a of_a all_a)
+pub races_one : (rule : AsyncDefault) (text : List ℕ) (a b : List Breach) → RacesFinds rule text a
+    → RacesFinds rule text b → a ≡ b
+races_one rule text _ _ (races a ds v shared graph one are_a is_a world_a shared_a of_a all_a)
     (races b es w values made other are_b is_b world_b shared_b of_b all_b) =
     let same_shared : shared ≡ values =
     one_merged (all_races w (answers_of_program w es) es) shared values
     (of_same (λ world decls. Shared world decls shared) v w ds es
-    (same_world text a b ds es v w are_a is_a world_a are_b is_b world_b) shared_a) shared_b in
+    (same_world rule text a b ds es v w are_a is_a world_a are_b is_b world_b) shared_a) shared_b in
     one_of_kind (IsRace values made) one other
-    (subst (λ of_text. AreAll (IsRace values of_text) one) (one_graph_of text graph made of_a of_b)
+    (subst (λ of_text. AreAll (IsRace values of_text) one)
+    (one_graph_of rule text graph made of_a of_b)
     (subst (λ list. AreAll (IsRace list graph) one) same_shared all_a)) all_b
 
 -- a text with a graph has a list of races
-pub some_races : (text : List ℕ) (graph : Graph) → IsGraphOf text graph
-    → (list : List Breach) × RacesFinds text list
-some_races text graph is =
+pub some_races : (rule : AsyncDefault) (text : List ℕ) (graph : Graph) → IsGraphOf rule text graph
+    → (list : List Breach) × RacesFinds rule text list
+some_races rule text graph is =
     let (shared, are) =
     some_merged (all_races is.world (answers_of_program is.world is.decls) is.decls) in
     let (found, of_graph) = some_list graph in
@@ -58,9 +60,10 @@ some_races text graph is =
           are is (all_with (IsBreachOf graph) (map breach_of shared) found list of_graph all),
     )
 
-pub races_in_order : (text : List ℕ) (list : List Breach) → RacesFinds text list
+pub races_in_order : (rule : AsyncDefault) (text : List ℕ) (list : List Breach)
+    → RacesFinds rule text list
     → IsStrictlySortedBy breach_cmp list
-races_in_order text _ (races _ _ _ shared graph list _ _ _ _ _ all) =
+races_in_order rule text _ (races _ _ _ shared graph list _ _ _ _ _ all) =
     kind_in_order (IsRace shared graph) list all
 
 -- what holds of the codes of values that are shared holds of those of their breaches
@@ -79,16 +82,17 @@ of_each (one ∷ shared) P each breach has =
     by among (inr later) = among later
 
 -- the races of a text's program, which was read and analysed
-pub found_races : (text : List ℕ) (read : Read) (found : Analysed) (shared : List Placed)
-    (graph : Graph) → IsSpelled text read → IsAnalysed read.program.decls found
+pub found_races : (rule : AsyncDefault) (text : List ℕ) (read : Read) (found : Analysed)
+    (shared : List Placed)
+    (graph : Graph) → IsSpelled text read → IsAnalysed rule read.program.decls found
     → AreRaces (world_of found.declared) (answers_of found.typed) read.program.decls shared
-    → IsGraphOf text graph → (list : List Breach) → AreAll (IsRace shared graph) list
-    → RacesFinds text list
-found_races text read found shared graph is known are of_text list all =
+    → IsGraphOf rule text graph → (list : List Breach) → AreAll (IsRace shared graph) list
+    → RacesFinds rule text list
+found_races rule text read found shared graph is known are of_text list all =
     let decls = read.program.decls in
     let world = world_of found.declared in
     races read.tokens.items decls world shared graph list is.are_tokens is.is_program
-    (declared_world decls Concurrent found.declared known.declared)
+    (declared_world decls rule found.declared known.declared)
     (subst (λ answers. AreRaces world answers decls shared)
     (answers_are_said world decls found.typed known.typed) are) of_text all
 

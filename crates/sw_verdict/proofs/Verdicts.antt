@@ -28,7 +28,7 @@ use Rattle.sw_decls.specs.Declaring.{IsFirstBreach}
 use Rattle.sw_decls.proofs.SomeFirst.{some_first, some_first_breach}
 use Rattle.sw_decls.proofs.OneFirst.{one_first, one_first_breach}
 use Rattle.sw_decls.proofs.BreachCodes.{first_is_coded}
-use Rattle.sw_decls.specs.declared.signature.AsyncDefault.TheVariants.{Concurrent}
+use Rattle.sw_decls.specs.declared.signature.AsyncDefault.{AsyncDefault}
 use Rattle.sw_typing_rules.specs.Programs.{IsFirstIll}
 use Rattle.sw_typing_rules.specs.Worlds.{IsWorldOf, World}
 use Rattle.sw_typing_rules.proofs.IllCodes.{ill_is_coded}
@@ -111,9 +111,11 @@ same_first text a b ds es one other are_a is_a first_a are_b is_b first_b =
 declarations_one : (text : List ℕ) (a b : List Breach) → DeclarationsFinds text a
     → DeclarationsFinds text b → a ≡ b
 declarations_one text _ _ (keeps_all _ _ _ _ _) (keeps_all _ _ _ _ _) = refl
-declarations_one text _ _ (keeps_all a ds are_a is_a keeps) (breaks_one b es placed are_b is_b some) =
+declarations_one text _ _ (keeps_all a ds are_a is_a keeps)
+    (breaks_one b es placed are_b is_b some) =
     cc (same_first text a b ds es None (Some placed) are_a is_a keeps are_b is_b some)
-declarations_one text _ _ (breaks_one a ds placed are_a is_a some) (keeps_all b es are_b is_b keeps) =
+declarations_one text _ _ (breaks_one a ds placed are_a is_a some)
+    (keeps_all b es are_b is_b keeps) =
     cc (same_first text a b ds es (Some placed) None are_a is_a some are_b is_b keeps)
 declarations_one text _ _ (breaks_one a ds one are_a is_a first_a)
     (breaks_one b es other are_b is_b first_b) =
@@ -121,15 +123,16 @@ declarations_one text _ _ (breaks_one a ds one are_a is_a first_a)
     (same_first text a b ds es (Some one) (Some other) are_a is_a first_a are_b is_b first_b))
 
 -- The program of a text has one first ill node or none.
-same_ill : (text : List ℕ) (a b : List Token) (ds es : List Decl) (v w : World)
+same_ill : (rule : AsyncDefault) (text : List ℕ) (a b : List Token) (ds es : List Decl)
+    (v w : World)
     (one other : Option Placed) → IsTokens text a → IsProgramOf ds (spelling_of text a)
-    → IsWorldOf ds Concurrent v → IsFirstIll v ds one → IsTokens text b
-    → IsProgramOf es (spelling_of text b) → IsWorldOf es Concurrent w → IsFirstIll w es other
+    → IsWorldOf ds rule v → IsFirstIll v ds one → IsTokens text b
+    → IsProgramOf es (spelling_of text b) → IsWorldOf es rule w → IsFirstIll w es other
     → one ≡ other
-same_ill text a b ds es v w one other are_a is_a world_a first_a are_b is_b world_b first_b =
+same_ill rule text a b ds es v w one other are_a is_a world_a first_a are_b is_b world_b first_b =
     one_first_ill w es one other
     (of_same (λ world decls. IsFirstIll world decls one) v w ds es
-    (same_world text a b ds es v w are_a is_a world_a are_b is_b world_b) first_a) first_b
+    (same_world rule text a b ds es v w are_a is_a world_a are_b is_b world_b) first_a) first_b
 
 -- the first breach of isolation of a program in its world
 abbrev FirstRefusal : World → List Decl → Option Placed → Type 0
@@ -141,118 +144,132 @@ abbrev FirstTooLarge : World → List Decl → Option Placed → Type 0
 FirstTooLarge world decls one = IsFirstTooLarge (tables_of_program world decls) decls one
 
 -- The program of a text has one first breach of isolation or none.
-same_refusal : (text : List ℕ) (a b : List Token) (ds es : List Decl) (v w : World)
+same_refusal : (rule : AsyncDefault) (text : List ℕ) (a b : List Token) (ds es : List Decl)
+    (v w : World)
     (one other : Option Placed) → IsTokens text a → IsProgramOf ds (spelling_of text a)
-    → IsWorldOf ds Concurrent v → FirstRefusal v ds one → IsTokens text b
-    → IsProgramOf es (spelling_of text b) → IsWorldOf es Concurrent w → FirstRefusal w es other
+    → IsWorldOf ds rule v → FirstRefusal v ds one → IsTokens text b
+    → IsProgramOf es (spelling_of text b) → IsWorldOf es rule w → FirstRefusal w es other
     → one ≡ other
-same_refusal text a b ds es v w one other are_a is_a world_a first_a are_b is_b world_b first_b =
+same_refusal rule text a b ds es v w one other are_a is_a world_a first_a are_b is_b world_b
+    first_b =
     one_first (refusals w (answers_of_program w es) es) one other
     (of_same (λ world decls. FirstRefusal world decls one) v w ds es
-    (same_world text a b ds es v w are_a is_a world_a are_b is_b world_b) first_a) first_b
+    (same_world rule text a b ds es v w are_a is_a world_a are_b is_b world_b) first_a) first_b
 
 -- The program of a text has one first function that is too large, or none.
-same_too_large : (text : List ℕ) (a b : List Token) (ds es : List Decl) (v w : World)
+same_too_large : (rule : AsyncDefault) (text : List ℕ) (a b : List Token) (ds es : List Decl)
+    (v w : World)
     (one other : Option Placed) → IsTokens text a → IsProgramOf ds (spelling_of text a)
-    → IsWorldOf ds Concurrent v → FirstTooLarge v ds one → IsTokens text b
-    → IsProgramOf es (spelling_of text b) → IsWorldOf es Concurrent w → FirstTooLarge w es other
+    → IsWorldOf ds rule v → FirstTooLarge v ds one → IsTokens text b
+    → IsProgramOf es (spelling_of text b) → IsWorldOf es rule w → FirstTooLarge w es other
     → one ≡ other
-same_too_large text a b ds es v w one other are_a is_a world_a first_a are_b is_b world_b first_b =
+same_too_large rule text a b ds es v w one other are_a is_a world_a first_a are_b is_b world_b
+    first_b =
     one_too_large (tables_of_program w es) es one other
     (of_same (λ world decls. FirstTooLarge world decls one) v w ds es
-    (same_world text a b ds es v w are_a is_a world_a are_b is_b world_b) first_a) first_b
+    (same_world rule text a b ds es v w are_a is_a world_a are_b is_b world_b) first_a) first_b
 
-types_one : (text : List ℕ) (a b : List Breach) → TypesFinds text a → TypesFinds text b → a ≡ b
-types_one text _ _ (well_typed _ _ _ _ _ _ _) (well_typed _ _ _ _ _ _ _) = refl
-types_one text _ _ (well_typed a ds v are_a is_a world_a well)
+types_one : (rule : AsyncDefault) (text : List ℕ) (a b : List Breach) → TypesFinds rule text a
+    → TypesFinds rule text b → a ≡ b
+types_one rule text _ _ (well_typed _ _ _ _ _ _ _) (well_typed _ _ _ _ _ _ _) = refl
+types_one rule text _ _ (well_typed a ds v are_a is_a world_a well)
     (ill_typed b es w placed are_b is_b world_b some) =
-    cc (same_ill text a b ds es v w None (Some placed) are_a is_a world_a well are_b is_b world_b
+    cc (same_ill rule text a b ds es v w None (Some placed) are_a is_a world_a well are_b is_b
+    world_b
     some)
-types_one text _ _ (ill_typed a ds v placed are_a is_a world_a some)
+types_one rule text _ _ (ill_typed a ds v placed are_a is_a world_a some)
     (well_typed b es w are_b is_b world_b well) =
-    cc (same_ill text a b ds es v w (Some placed) None are_a is_a world_a some are_b is_b world_b
+    cc (same_ill rule text a b ds es v w (Some placed) None are_a is_a world_a some are_b is_b
+    world_b
     well)
-types_one text _ _ (ill_typed a ds v one are_a is_a world_a first_a)
+types_one rule text _ _ (ill_typed a ds v one are_a is_a world_a first_a)
     (ill_typed b es w other are_b is_b world_b first_b) =
     ap (λ (placed : Placed). breach_at placed.code placed.at) (some_injective
-    (same_ill text a b ds es v w (Some one) (Some other) are_a is_a world_a first_a are_b is_b
+    (same_ill rule text a b ds es v w (Some one) (Some other) are_a is_a world_a first_a are_b is_b
     world_b first_b))
 
-isolation_one : (text : List ℕ) (a b : List Breach) → IsolationFinds text a
-    → IsolationFinds text b → a ≡ b
-isolation_one text _ _ (keeps_apart _ _ _ _ _ _ _) (keeps_apart _ _ _ _ _ _ _) = refl
-isolation_one text _ _ (keeps_apart a ds v are_a is_a world_a keeps)
+isolation_one : (rule : AsyncDefault) (text : List ℕ) (a b : List Breach)
+    → IsolationFinds rule text a
+    → IsolationFinds rule text b → a ≡ b
+isolation_one rule text _ _ (keeps_apart _ _ _ _ _ _ _) (keeps_apart _ _ _ _ _ _ _) = refl
+isolation_one rule text _ _ (keeps_apart a ds v are_a is_a world_a keeps)
     (reaches_out b es w placed are_b is_b world_b some) =
-    cc (same_refusal text a b ds es v w None (Some placed) are_a is_a world_a keeps are_b is_b
+    cc (same_refusal rule text a b ds es v w None (Some placed) are_a is_a world_a keeps are_b is_b
     world_b some)
-isolation_one text _ _ (reaches_out a ds v placed are_a is_a world_a some)
+isolation_one rule text _ _ (reaches_out a ds v placed are_a is_a world_a some)
     (keeps_apart b es w are_b is_b world_b keeps) =
-    cc (same_refusal text a b ds es v w (Some placed) None are_a is_a world_a some are_b is_b
+    cc (same_refusal rule text a b ds es v w (Some placed) None are_a is_a world_a some are_b is_b
     world_b keeps)
-isolation_one text _ _ (reaches_out a ds v one are_a is_a world_a first_a)
+isolation_one rule text _ _ (reaches_out a ds v one are_a is_a world_a first_a)
     (reaches_out b es w other are_b is_b world_b first_b) =
     ap (λ (placed : Placed). breach_at placed.code placed.at) (some_injective
-    (same_refusal text a b ds es v w (Some one) (Some other) are_a is_a world_a first_a are_b is_b
+    (same_refusal rule text a b ds es v w (Some one) (Some other) are_a is_a world_a first_a are_b
+    is_b
     world_b first_b))
 
-size_one : (text : List ℕ) (a b : List Breach) → SizeFinds text a → SizeFinds text b → a ≡ b
-size_one text _ _ (within _ _ _ _ _ _ _) (within _ _ _ _ _ _ _) = refl
-size_one text _ _ (within a ds v are_a is_a world_a fits)
+size_one : (rule : AsyncDefault) (text : List ℕ) (a b : List Breach) → SizeFinds rule text a
+    → SizeFinds rule text b → a ≡ b
+size_one rule text _ _ (within _ _ _ _ _ _ _) (within _ _ _ _ _ _ _) = refl
+size_one rule text _ _ (within a ds v are_a is_a world_a fits)
     (too_large b es w placed are_b is_b world_b some) =
-    cc (same_too_large text a b ds es v w None (Some placed) are_a is_a world_a fits are_b is_b
+    cc (same_too_large rule text a b ds es v w None (Some placed) are_a is_a world_a fits are_b is_b
     world_b some)
-size_one text _ _ (too_large a ds v placed are_a is_a world_a some)
+size_one rule text _ _ (too_large a ds v placed are_a is_a world_a some)
     (within b es w are_b is_b world_b fits) =
-    cc (same_too_large text a b ds es v w (Some placed) None are_a is_a world_a some are_b is_b
+    cc (same_too_large rule text a b ds es v w (Some placed) None are_a is_a world_a some are_b is_b
     world_b fits)
-size_one text _ _ (too_large a ds v one are_a is_a world_a first_a)
+size_one rule text _ _ (too_large a ds v one are_a is_a world_a first_a)
     (too_large b es w other are_b is_b world_b first_b) =
     ap (λ (placed : Placed). breach_at placed.code placed.at) (some_injective
-    (same_too_large text a b ds es v w (Some one) (Some other) are_a is_a world_a first_a are_b is_b
+    (same_too_large rule text a b ds es v w (Some one) (Some other) are_a is_a world_a first_a are_b
+    is_b
     world_b first_b))
 
-one_found : (phase : Phase) (text : List ℕ) (a b : List Breach) → Finds phase text a
-    → Finds phase text b → a ≡ b
-one_found Encoding text a b is_a is_b = encoding_one text a b is_a is_b
-one_found Lexis text a b is_a is_b = lexis_one text a b is_a is_b
-one_found Syntax text a b is_a is_b = syntax_one text a b is_a is_b
-one_found Declarations text a b is_a is_b = declarations_one text a b is_a is_b
-one_found Types text a b is_a is_b = types_one text a b is_a is_b
-one_found Isolation text a b is_a is_b = isolation_one text a b is_a is_b
-one_found Size text a b is_a is_b = size_one text a b is_a is_b
-one_found Races text a b is_a is_b = races_one text a b is_a is_b
+one_found : (rule : AsyncDefault) (phase : Phase) (text : List ℕ) (a b : List Breach)
+    → Finds rule phase text a
+    → Finds rule phase text b → a ≡ b
+one_found rule Encoding text a b is_a is_b = encoding_one text a b is_a is_b
+one_found rule Lexis text a b is_a is_b = lexis_one text a b is_a is_b
+one_found rule Syntax text a b is_a is_b = syntax_one text a b is_a is_b
+one_found rule Declarations text a b is_a is_b = declarations_one text a b is_a is_b
+one_found rule Types text a b is_a is_b = types_one rule text a b is_a is_b
+one_found rule Isolation text a b is_a is_b = isolation_one rule text a b is_a is_b
+one_found rule Size text a b is_a is_b = size_one rule text a b is_a is_b
+one_found rule Races text a b is_a is_b = races_one rule text a b is_a is_b
 
 -- and so do phases in order
-pub one_list : (phases : List Phase) (text : List ℕ) (a b : List Breach) → Breaches phases text a
-    → Breaches phases text b → a ≡ b
-one_list _ _ _ _ (none _) (none _) = refl
-one_list _ text a b (first phase _ _ _ _ is_a) (first _ _ _ _ _ is_b) =
-    one_found phase text a b is_a is_b
-one_list _ text a b (first phase _ _ _ _ is_a) (later _ _ _ _ passes _) =
-    cc (one_found phase text a [] is_a passes)
-one_list _ text a b (later phase _ _ _ passes _) (first _ _ _ _ _ is_b) =
-    cc (one_found phase text b [] is_b passes)
-one_list _ text a b (later _ phases _ _ _ is_a) (later _ _ _ _ _ is_b) =
-    one_list phases text a b is_a is_b
+pub one_list : (rule : AsyncDefault) (phases : List Phase) (text : List ℕ) (a b : List Breach)
+    → Breaches rule phases text a
+    → Breaches rule phases text b → a ≡ b
+one_list rule _ _ _ _ (none _) (none _) = refl
+one_list rule _ text a b (first phase _ _ _ _ is_a) (first _ _ _ _ _ is_b) =
+    one_found rule phase text a b is_a is_b
+one_list rule _ text a b (first phase _ _ _ _ is_a) (later _ _ _ _ passes _) =
+    cc (one_found rule phase text a [] is_a passes)
+one_list rule _ text a b (later phase _ _ _ passes _) (first _ _ _ _ _ is_b) =
+    cc (one_found rule phase text b [] is_b passes)
+one_list rule _ text a b (later _ phases _ _ _ is_a) (later _ _ _ _ _ is_b) =
+    one_list rule phases text a b is_a is_b
 
 -- Each phase but that of races finds one breach at most.
-pub few_found : (phase : Phase) (text : List ℕ) (list : List Breach) → phase ≢ Races
-    → Finds phase text list → length list ≤ 1
-few_found Encoding text _ other (is_utf8 _) = omega arith
-few_found Encoding text _ other (not_utf8 _) = omega arith
-few_found Lexis text _ other (has_tokens _ _) = omega arith
-few_found Lexis text _ other (has_fault _ _) = omega arith
-few_found Syntax text _ other (spells_program _ _ _ _) = omega arith
-few_found Syntax text _ other (has_syntax_fault _ _ _ _) = omega arith
-few_found Declarations text _ other (keeps_all _ _ _ _ _) = omega arith
-few_found Declarations text _ other (breaks_one _ _ _ _ _ _) = omega arith
-few_found Types text _ other (well_typed _ _ _ _ _ _ _) = omega arith
-few_found Types text _ other (ill_typed _ _ _ _ _ _ _ _) = omega arith
-few_found Isolation text _ other (keeps_apart _ _ _ _ _ _ _) = omega arith
-few_found Isolation text _ other (reaches_out _ _ _ _ _ _ _ _) = omega arith
-few_found Size text _ other (within _ _ _ _ _ _ _) = omega arith
-few_found Size text _ other (too_large _ _ _ _ _ _ _ _) = omega arith
-few_found Races text list other finds = absurd (other refl)
+pub few_found : (rule : AsyncDefault) (phase : Phase) (text : List ℕ) (list : List Breach)
+    → phase ≢ Races
+    → Finds rule phase text list → length list ≤ 1
+few_found rule Encoding text _ other (is_utf8 _) = omega arith
+few_found rule Encoding text _ other (not_utf8 _) = omega arith
+few_found rule Lexis text _ other (has_tokens _ _) = omega arith
+few_found rule Lexis text _ other (has_fault _ _) = omega arith
+few_found rule Syntax text _ other (spells_program _ _ _ _) = omega arith
+few_found rule Syntax text _ other (has_syntax_fault _ _ _ _) = omega arith
+few_found rule Declarations text _ other (keeps_all _ _ _ _ _) = omega arith
+few_found rule Declarations text _ other (breaks_one _ _ _ _ _ _) = omega arith
+few_found rule Types text _ other (well_typed _ _ _ _ _ _ _) = omega arith
+few_found rule Types text _ other (ill_typed _ _ _ _ _ _ _ _) = omega arith
+few_found rule Isolation text _ other (keeps_apart _ _ _ _ _ _ _) = omega arith
+few_found rule Isolation text _ other (reaches_out _ _ _ _ _ _ _ _) = omega arith
+few_found rule Size text _ other (within _ _ _ _ _ _ _) = omega arith
+few_found rule Size text _ other (too_large _ _ _ _ _ _ _ _) = omega arith
+few_found rule Races text list other finds = absurd (other refl)
 
 -- the codes that these phases name have texts
 syntax_is_code : (tokens : List Spelled) (fault : ParseFault) → IsSyntaxFault tokens fault
@@ -373,9 +390,9 @@ shared_is_code world decls shared placed all has =
     (λ e. or_later IsCode 606 code e sharing_codes.5
     (λ f. absurd (omega (arith, f, within.1))))))))
 
-races_coded : (text : List ℕ) (list : List Breach) → RacesFinds text list
+races_coded : (rule : AsyncDefault) (text : List ℕ) (list : List Breach) → RacesFinds rule text list
     → AllByRecursion (λ breach. IsCode breach.code) list
-races_coded text _ (races _ decls world shared graph list _ _ _ all _ are) =
+races_coded rule text _ (races _ decls world shared graph list _ _ _ all _ are) =
     each_breach (λ breach. IsCode breach.code) list (λ breach has. by breach (are.sound breach has))
   where
     by : (breach : Breach) → IsRace shared graph breach → IsCode breach.code
@@ -383,34 +400,35 @@ races_coded text _ (races _ decls world shared graph list _ _ _ all _ are) =
         (λ placed has. shared_is_code world decls shared placed all has) breach is_shared
     by breach (inr of_graph) = breach_code graph breach of_graph
 
-codes_found : (phase : Phase) (text : List ℕ) (list : List Breach) → Finds phase text list
+codes_found : (rule : AsyncDefault) (phase : Phase) (text : List ℕ) (list : List Breach)
+    → Finds rule phase text list
     → AllByRecursion (λ breach. IsCode breach.code) list
-codes_found Encoding text _ (is_utf8 _) = tt
-codes_found Encoding text _ (not_utf8 _) = (not_utf8_is_code, tt)
-codes_found Lexis text _ (has_tokens _ _) = tt
-codes_found Lexis text _ (has_fault fault is) = (lexical_is_code text fault is, tt)
-codes_found Syntax text _ (spells_program _ _ _ _) = tt
-codes_found Syntax text _ (has_syntax_fault tokens fault _ is) =
+codes_found rule Encoding text _ (is_utf8 _) = tt
+codes_found rule Encoding text _ (not_utf8 _) = (not_utf8_is_code, tt)
+codes_found rule Lexis text _ (has_tokens _ _) = tt
+codes_found rule Lexis text _ (has_fault fault is) = (lexical_is_code text fault is, tt)
+codes_found rule Syntax text _ (spells_program _ _ _ _) = tt
+codes_found rule Syntax text _ (has_syntax_fault tokens fault _ is) =
     (syntax_is_code (spelling_of text tokens) fault is, tt)
-codes_found Declarations text _ (keeps_all _ _ _ _ _) = tt
-codes_found Declarations text _ (breaks_one _ decls placed _ _ some) =
+codes_found rule Declarations text _ (keeps_all _ _ _ _ _) = tt
+codes_found rule Declarations text _ (breaks_one _ decls placed _ _ some) =
     (declaration_is_code decls placed some, tt)
-codes_found Types text _ (well_typed _ _ _ _ _ _ _) = tt
-codes_found Types text _ (ill_typed _ decls world placed _ _ _ some) =
+codes_found rule Types text _ (well_typed _ _ _ _ _ _ _) = tt
+codes_found rule Types text _ (ill_typed _ decls world placed _ _ _ some) =
     (ill_is_code world decls placed some, tt)
-codes_found Isolation text _ (keeps_apart _ _ _ _ _ _ _) = tt
-codes_found Isolation text _ (reaches_out _ decls world placed _ _ _ some) =
+codes_found rule Isolation text _ (keeps_apart _ _ _ _ _ _ _) = tt
+codes_found rule Isolation text _ (reaches_out _ decls world placed _ _ _ some) =
     (refusal_is_code world decls placed some, tt)
-codes_found Size text _ (within _ _ _ _ _ _ _) = tt
-codes_found Size text _ (too_large _ decls world placed _ _ _ some) =
+codes_found rule Size text _ (within _ _ _ _ _ _ _) = tt
+codes_found rule Size text _ (too_large _ decls world placed _ _ _ some) =
     (first_size_is_code world decls placed some, tt)
-codes_found Races text list finds = races_coded text list finds
+codes_found rule Races text list finds = races_coded rule text list finds
 
-pub have_codes : (phases : List Phase) (text : List ℕ) (list : List Breach)
-    → Breaches phases text list → AllByRecursion (λ breach. IsCode breach.code) list
-have_codes _ _ _ (none _) = tt
-have_codes _ text list (first phase _ _ _ _ found) = codes_found phase text list found
-have_codes _ text list (later _ phases _ _ _ found) = have_codes phases text list found
+pub have_codes : (rule : AsyncDefault) (phases : List Phase) (text : List ℕ) (list : List Breach)
+    → Breaches rule phases text list → AllByRecursion (λ breach. IsCode breach.code) list
+have_codes rule _ _ _ (none _) = tt
+have_codes rule _ text list (first phase _ _ _ _ found) = codes_found rule phase text list found
+have_codes rule _ text list (later _ phases _ _ _ found) = have_codes rule phases text list found
 
 -- the phases up to the size of functions after the tokens, after the syntax, and so on
 abbrev after_isolation : List Phase
@@ -429,34 +447,36 @@ abbrev after_lexis : List Phase
 after_lexis = Syntax ∷ after_syntax
 
 -- these phases have a list of breaches
-abbrev pub SomeList : List Phase → List ℕ → Type 0
-SomeList phases text = (list : List Breach) × Breaches phases text list
+abbrev pub SomeList : AsyncDefault → List Phase → List ℕ → Type 0
+SomeList rule phases text = (list : List Breach) × Breaches rule phases text list
 
 -- that of the phases after one that finds none
-and_before : (phase : Phase) (phases : List Phase) (text : List ℕ) → Finds phase text []
-    → SomeList phases text → SomeList (phase ∷ phases) text
-and_before phase phases text passes (list, found) =
+and_before : (rule : AsyncDefault) (phase : Phase) (phases : List Phase) (text : List ℕ)
+    → Finds rule phase text []
+    → SomeList rule phases text → SomeList rule (phase ∷ phases) text
+and_before rule phase phases text passes (list, found) =
     (list, later phase phases text list passes found)
 
 -- A text that spells a program, whose declarations make a world, has a list of breaches by the
 -- phases up to the size of functions.
-module _ (text : List ℕ) (tokens : List Token) (are : IsTokens text tokens) (decls : List Decl)
-    (is : IsProgramOf decls (spelling_of text tokens)) (world : World)
-    (is_world : IsWorldOf decls Concurrent world)
+module _ (rule : AsyncDefault) (text : List ℕ) (tokens : List Token) (are : IsTokens text tokens)
+    (decls : List Decl) (is : IsProgramOf decls (spelling_of text tokens)) (world : World)
+    (is_world : IsWorldOf decls rule world)
   where
     by_size : (found : Option Placed) → FirstTooLarge world decls found
-        → SomeList after_isolation text
+        → SomeList rule after_isolation text
     by_size None fits =
-        and_before Size [] text (within tokens decls world are is is_world fits) ([], none text)
+        and_before rule Size [] text (within tokens decls world are is is_world fits)
+        ([], none text)
     by_size (Some placed) some =
         (_, first Size _ text _ [] (too_large tokens decls world placed are is is_world some))
 
     by_refusal : (found : Option Placed) → FirstRefusal world decls found
-        → SomeList after_types text
+        → SomeList rule after_types text
     by_refusal None none_refused =
         let isolation = keeps_apart tokens decls world are is is_world none_refused in
         let (placed, is_first) = some_too_large (tables_of_program world decls) decls in
-        and_before Isolation after_isolation text isolation (by_size placed is_first)
+        and_before rule Isolation after_isolation text isolation (by_size placed is_first)
     by_refusal (Some placed) some = (
       _,
       first Isolation _ text _ []
@@ -464,94 +484,100 @@ module _ (text : List ℕ) (tokens : List Token) (are : IsTokens text tokens) (d
     )
 
     by_ill : (found : Option Placed) → IsFirstIll world decls found
-        → SomeList after_declarations text
+        → SomeList rule after_declarations text
     by_ill None none_ill =
         let types = well_typed tokens decls world are is is_world none_ill in
         let (placed, is_first) =
         some_first (refusals world (answers_of_program world decls) decls) in
-        and_before Types after_types text types (by_refusal placed is_first)
+        and_before rule Types after_types text types (by_refusal placed is_first)
     by_ill (Some placed) some =
         (_, first Types _ text _ [] (ill_typed tokens decls world placed are is is_world some))
 
-declarations_decide : (text : List ℕ) (tokens : List Token)
+declarations_decide : (rule : AsyncDefault) (text : List ℕ) (tokens : List Token)
     → IsTokens text tokens → (decls : List Decl) → IsProgramOf decls (spelling_of text tokens)
-    → (found : Option Placed) → IsFirstBreach decls found → SomeList after_syntax text
-declarations_decide text tokens are decls is None keeps_them =
+    → (found : Option Placed) → IsFirstBreach decls found → SomeList rule after_syntax text
+declarations_decide rule text tokens are decls is None keeps_them =
     let keeps = keeps_all tokens decls are is keeps_them in
-    let (world, is_world) = some_world decls Concurrent in
+    let (world, is_world) = some_world decls rule in
     let (placed, is_first) = some_first_ill world decls in
-    and_before Declarations after_declarations text keeps
-    (by_ill text tokens are decls is world is_world placed is_first)
-declarations_decide text tokens are decls is (Some placed) some =
+    and_before rule Declarations after_declarations text keeps
+    (by_ill rule text tokens are decls is world is_world placed is_first)
+declarations_decide rule text tokens are decls is (Some placed) some =
     (_, first Declarations _ text _ [] (breaks_one tokens decls placed are is some))
 
-syntax_decides : (text : List ℕ) (tokens : List Token) → IsTokens text tokens
+syntax_decides : (rule : AsyncDefault) (text : List ℕ) (tokens : List Token) → IsTokens text tokens
     → ((decls : List Decl) × IsProgramOf decls (spelling_of text tokens))
     ⊎ ((fault : ParseFault) × IsSyntaxFault (spelling_of text tokens) fault)
-    → SomeList after_lexis text
-syntax_decides text tokens are (inl (decls, is)) =
+    → SomeList rule after_lexis text
+syntax_decides rule text tokens are (inl (decls, is)) =
     let (placed, is_first) = some_first_breach decls in
-    and_before Syntax after_syntax text (spells_program tokens decls are is)
-    (declarations_decide text tokens are decls is placed is_first)
-syntax_decides text tokens are (inr (fault, place)) =
+    and_before rule Syntax after_syntax text (spells_program tokens decls are is)
+    (declarations_decide rule text tokens are decls is placed is_first)
+syntax_decides rule text tokens are (inr (fault, place)) =
     (_, first Syntax _ text _ [] (has_syntax_fault tokens fault are place))
 
-lexis_decides : (text : List ℕ) → IsUtf8 text → (read : Result (List Token) LexFault)
-    → HasTokens text read → SomeList (Lexis ∷ after_lexis) text
-lexis_decides text utf8 (Err fault) place = (_, first Lexis _ text _ [] (has_fault fault place))
-lexis_decides text utf8 (Ok tokens) are =
-    and_before Lexis after_lexis text (has_tokens tokens are)
-    (syntax_decides text tokens are
+lexis_decides : (rule : AsyncDefault) (text : List ℕ) → IsUtf8 text
+    → (read : Result (List Token) LexFault)
+    → HasTokens text read → SomeList rule (Lexis ∷ after_lexis) text
+lexis_decides rule text utf8 (Err fault) place =
+    (_, first Lexis _ text _ [] (has_fault fault place))
+lexis_decides rule text utf8 (Ok tokens) are =
+    and_before rule Lexis after_lexis text (has_tokens tokens are)
+    (syntax_decides rule text tokens are
     (programs.decided (spelling_of text tokens) (tokens_spelled text tokens utf8 are)))
 
 -- every text has a list of breaches by the phases up to the size of functions
-pub some_to_size : (text : List ℕ) → SomeList phases_to_size text
-some_to_size text = by (test_utf8 text) refl where
-  by : (test : Bool) → test_utf8 text ≡ test → SomeList phases_to_size text
+pub some_to_size : (rule : AsyncDefault) (text : List ℕ) → SomeList rule phases_to_size text
+some_to_size rule text = by (test_utf8 text) refl where
+  by : (test : Bool) → test_utf8 text ≡ test → SomeList rule phases_to_size text
   by false is = (
     _,
     first Encoding _ text _ [] (not_utf8 (λ utf8. cc (is_utf8-from_IsUtf8 text utf8, is))),
   )
   by true is =
       let utf8 = IsUtf8-from_is_utf8 text is in
-      and_before Encoding (Lexis ∷ after_lexis) text (is_utf8 utf8)
-      (lexis_decides text utf8 (tokens_or_fault text) (tokens_or_fault-HasTokens text utf8))
+      and_before rule Encoding (Lexis ∷ after_lexis) text (is_utf8 utf8)
+      (lexis_decides rule text utf8 (tokens_or_fault text) (tokens_or_fault-HasTokens text utf8))
 
 -- the phase of races alone
-by_races : (text : List ℕ) (list : List Breach) → RacesFinds text list
-    → Breaches (Races ∷ []) text list
-by_races text [] finds = later Races [] text [] finds (none text)
-by_races text (breach ∷ others) finds = first Races [] text breach others finds
+by_races : (rule : AsyncDefault) (text : List ℕ) (list : List Breach) → RacesFinds rule text list
+    → Breaches rule (Races ∷ []) text list
+by_races rule text [] finds = later Races [] text [] finds (none text)
+by_races rule text (breach ∷ others) finds = first Races [] text breach others finds
 
 -- Where those find none, the text has a graph, and so its races.
-with_races : (text : List ℕ) (list : List Breach) → Breaches phases_to_size text list
-    → SomeList all_phases text
-with_races text [] found =
-    let (graph, of_text) = some_graph text found in
-    let (list, finds) = some_races text graph of_text in (
+with_races : (rule : AsyncDefault) (text : List ℕ) (list : List Breach)
+    → Breaches rule phases_to_size text list
+    → SomeList rule all_phases text
+with_races rule text [] found =
+    let (graph, of_text) = some_graph rule text found in
+    let (list, finds) = some_races rule text graph of_text in (
       list,
-      decided_later phases_to_size (Races ∷ []) text list (passed phases_to_size text found)
-          (by_races text list finds),
+      decided_later rule phases_to_size (Races ∷ []) text list
+          (passed rule phases_to_size text found) (by_races rule text list finds),
     )
-with_races text (breach ∷ others) found = (
+with_races rule text (breach ∷ others) found = (
   breach ∷ others,
-  decided_before phases_to_size (Races ∷ []) text (breach ∷ others) (λ e. cc) found,
+  decided_before rule phases_to_size (Races ∷ []) text (breach ∷ others) (λ e. cc) found,
 )
 
 -- every text has a list of breaches
-some_list : (text : List ℕ) → SomeList all_phases text
-some_list text = let (list, found) = some_to_size text in with_races text list found
+some_list : (rule : AsyncDefault) (text : List ℕ) → SomeList rule all_phases text
+some_list rule text = let (list, found) = some_to_size rule text in with_races rule text list found
 
-pub decided : (text : List ℕ) → Accepts text ⊎ Refuses all_phases text
-decided text = let (list, found) = some_list text in by list found where
-  by : (list : List Breach) → Breaches all_phases text list → Accepts text ⊎ Refuses all_phases text
+pub decided : (rule : AsyncDefault) (text : List ℕ) → Accepts rule text
+    ⊎ Refuses rule all_phases text
+decided rule text = let (list, found) = some_list rule text in by list found where
+  by : (list : List Breach) → Breaches rule all_phases text list → Accepts rule text
+      ⊎ Refuses rule all_phases text
   by [] found = inl found
   by (breach ∷ others) found = inr (breach ∷ others, (λ e. cc), found)
 
-pub never_both : (phases : List Phase) (text : List ℕ) → Breaches phases text []
-    → Refuses phases text → ⊥
-never_both phases text accepts (list, some, found) =
-    some (one_list phases text list [] found accepts)
+pub never_both : (rule : AsyncDefault) (phases : List Phase) (text : List ℕ)
+    → Breaches rule phases text []
+    → Refuses rule phases text → ⊥
+never_both rule phases text accepts (list, some, found) =
+    some (one_list rule phases text list [] found accepts)
 
 -- the declarations of a text within the limit are few
 pub few_decls : (text : List ℕ) (tokens : List Token) (decls : List Decl) → IsTokens text tokens

@@ -9,7 +9,7 @@ abbrev pub FoundBy : (List Breach → Type 0) → Refusal → Type 0
 FoundBy Finding (Breached list) = (list ≢ []) × Finding list
 FoundBy Finding Memory = Unit {0}
 
--- `Found (Finds phase text) result`: the phase finds no breach, or those of the refusal.
+-- `Found (Finds rule phase text) result`: the phase finds no breach, or those of the refusal.
 abbrev pub Found : {A : Type 0} → (List Breach → Type 0) → Result A Refusal → Type 0
 Found Finding (Ok value) = Finding []
 Found Finding (Err refusal) = FoundBy Finding refusal

@@ -1,5 +1,7 @@
 -- The phases of the verdict. Each says which breaches it finds in a text in which the phases before
--- it find none.
+-- it find none. What a program declares, and so what the phases from that of types on find, depends
+-- on the default: where asynchronous functions run that say nothing more (SE-0338, SE-0461). It is
+-- an argument, and each phase is defined for both defaults.
 use Rattle.std.specs.Prelude.{ℕ, List, [], ◌∷◌, ◌++◌, ◌⊎◌, Contains, length, map, slice_get}
 use Rattle.std.specs.Prelude.{Some, None}
 use Rattle.std.specs.Option.{option_map_or}
@@ -18,7 +20,7 @@ use Rattle.sw_parse_decl.specs.declared.fault.ParseFault.TheVariants as faults
 use Rattle.sw_parse_decl.specs.Programs.{IsProgramOf, IsSyntaxFault}
 use Rattle.sw_resolve.specs.declared.placed.Placed.{Placed}
 use Rattle.sw_decls.specs.Declaring.{IsFirstBreach}
-use Rattle.sw_decls.specs.declared.signature.AsyncDefault.TheVariants.{Concurrent}
+use Rattle.sw_decls.specs.declared.signature.AsyncDefault.{AsyncDefault}
 use Rattle.sw_typing_rules.specs.Programs.{IsFirstIll, said}
 use Rattle.sw_typing_rules.specs.Worlds.{IsWorldOf, World}
 use Rattle.sw_isolation_rules.specs.Answers.{Answers, answers_in}
@@ -121,31 +123,31 @@ pub data DeclarationsFinds (text : List ℕ) : List Breach → Type 0 where
       → IsProgramOf decls (spelling_of text tokens) → IsFirstBreach decls (Some placed)
       → DeclarationsFinds text (breach_at placed.code placed.at)
 
--- The breach is at the first ill node of the program, by what the program declares. Asynchronous
--- functions run on no actor that say nothing more (SE-0338).
-pub data TypesFinds (text : List ℕ) : List Breach → Type 0 where
+-- The breach is at the first ill node of the program, by what the program declares.
+pub data TypesFinds (rule : AsyncDefault) (text : List ℕ) : List Breach → Type 0 where
   well_typed : (tokens : List Token) (decls : List Decl) (world : World) → IsTokens text tokens
-      → IsProgramOf decls (spelling_of text tokens) → IsWorldOf decls Concurrent world
-      → IsFirstIll world decls None → TypesFinds text []
+      → IsProgramOf decls (spelling_of text tokens) → IsWorldOf decls rule world
+      → IsFirstIll world decls None → TypesFinds rule text []
   ill_typed : (tokens : List Token) (decls : List Decl) (world : World) (placed : Placed)
       → IsTokens text tokens → IsProgramOf decls (spelling_of text tokens)
-      → IsWorldOf decls Concurrent world → IsFirstIll world decls (Some placed)
-      → TypesFinds text (breach_at placed.code placed.at)
+      → IsWorldOf decls rule world → IsFirstIll world decls (Some placed)
+      → TypesFinds rule text (breach_at placed.code placed.at)
 
 -- the types and meanings of a program's nodes, by key
 abbrev pub answers_of_program : World → List Decl → Answers
 answers_of_program world decls = answers_in (said world decls)
 
 -- The breach is the first of the rules on isolation (SE-0306, SE-0316, SE-0338, SE-0412).
-pub data IsolationFinds (text : List ℕ) : List Breach → Type 0 where
+pub data IsolationFinds (rule : AsyncDefault) (text : List ℕ) : List Breach → Type 0 where
   keeps_apart : (tokens : List Token) (decls : List Decl) (world : World) → IsTokens text tokens
-      → IsProgramOf decls (spelling_of text tokens) → IsWorldOf decls Concurrent world
-      → IsFirstRefusal world (answers_of_program world decls) decls None → IsolationFinds text []
+      → IsProgramOf decls (spelling_of text tokens) → IsWorldOf decls rule world
+      → IsFirstRefusal world (answers_of_program world decls) decls None
+      → IsolationFinds rule text []
   reaches_out : (tokens : List Token) (decls : List Decl) (world : World) (placed : Placed)
       → IsTokens text tokens → IsProgramOf decls (spelling_of text tokens)
-      → IsWorldOf decls Concurrent world
+      → IsWorldOf decls rule world
       → IsFirstRefusal world (answers_of_program world decls) decls (Some placed)
-      → IsolationFinds text (breach_at placed.code placed.at)
+      → IsolationFinds rule text (breach_at placed.code placed.at)
 
 -- what is noted of a program's isolation
 abbrev pub isolation_of_program : World → List Decl → Noted
@@ -158,24 +160,25 @@ tables_of_program world decls =
     tables_of world (answers_of_program world decls) (isolation_of_program world decls) decls
 
 -- The breach is at the key of the first function that is too large.
-pub data SizeFinds (text : List ℕ) : List Breach → Type 0 where
+pub data SizeFinds (rule : AsyncDefault) (text : List ℕ) : List Breach → Type 0 where
   within : (tokens : List Token) (decls : List Decl) (world : World) → IsTokens text tokens
-      → IsProgramOf decls (spelling_of text tokens) → IsWorldOf decls Concurrent world
-      → IsFirstTooLarge (tables_of_program world decls) decls None → SizeFinds text []
+      → IsProgramOf decls (spelling_of text tokens) → IsWorldOf decls rule world
+      → IsFirstTooLarge (tables_of_program world decls) decls None → SizeFinds rule text []
   too_large : (tokens : List Token) (decls : List Decl) (world : World) (placed : Placed)
       → IsTokens text tokens → IsProgramOf decls (spelling_of text tokens)
-      → IsWorldOf decls Concurrent world
+      → IsWorldOf decls rule world
       → IsFirstTooLarge (tables_of_program world decls) decls (Some placed)
-      → SizeFinds text (breach_at placed.code placed.at)
+      → SizeFinds rule text (breach_at placed.code placed.at)
 
--- The graph is that of the text's program. Each of its bodies is found by its name.
-pub record IsGraphOf (text : List ℕ) (graph : Graph) : Type 0 where
+-- The graph is that of the text's program under this default. Each of its bodies is found by its
+-- name.
+pub record IsGraphOf (rule : AsyncDefault) (text : List ℕ) (graph : Graph) : Type 0 where
   pub tokens : List Token
   pub are_tokens : IsTokens text tokens
   pub decls : List Decl
   pub is_program : IsProgramOf decls (spelling_of text tokens)
   pub world : World
-  pub is_world : IsWorldOf decls Concurrent world
+  pub is_world : IsWorldOf decls rule world
   pub lowered : Lowered world (answers_of_program world decls) (isolation_of_program world decls)
       decls graph
   pub numbered : AreNumbered lowered.ordered
@@ -186,21 +189,21 @@ IsRace shared graph breach = Contains (map breach_of shared) breach ⊎ IsBreach
 
 -- The breaches are all values that may not be shared, and all region breaches of the text's graph,
 -- by position and then by code, each once, with the least note (SE-0302, SE-0414, SE-0430).
-pub data RacesFinds (text : List ℕ) : List Breach → Type 0 where
+pub data RacesFinds (rule : AsyncDefault) (text : List ℕ) : List Breach → Type 0 where
   races : (tokens : List Token) (decls : List Decl) (world : World) (shared : List Placed)
       (graph : Graph) (list : List Breach) → IsTokens text tokens
-      → IsProgramOf decls (spelling_of text tokens) → IsWorldOf decls Concurrent world
-      → AreRaces world (answers_of_program world decls) decls shared → IsGraphOf text graph
-      → AreAll (IsRace shared graph) list → RacesFinds text list
+      → IsProgramOf decls (spelling_of text tokens) → IsWorldOf decls rule world
+      → AreRaces world (answers_of_program world decls) decls shared → IsGraphOf rule text graph
+      → AreAll (IsRace shared graph) list → RacesFinds rule text list
 
--- `Finds phase text list`: where the phases before it find no breach in the text, this one finds
--- these.
-abbrev pub Finds : Phase → List ℕ → List Breach → Type 0
-Finds Encoding text list = EncodingFinds text list
-Finds Lexis text list = LexisFinds text list
-Finds Syntax text list = SyntaxFinds text list
-Finds Declarations text list = DeclarationsFinds text list
-Finds Types text list = TypesFinds text list
-Finds Isolation text list = IsolationFinds text list
-Finds Size text list = SizeFinds text list
-Finds Races text list = RacesFinds text list
+-- `Finds rule phase text list`: under this default, where the phases before it find no breach in
+-- the text, this one finds these.
+abbrev pub Finds : AsyncDefault → Phase → List ℕ → List Breach → Type 0
+Finds rule Encoding text list = EncodingFinds text list
+Finds rule Lexis text list = LexisFinds text list
+Finds rule Syntax text list = SyntaxFinds text list
+Finds rule Declarations text list = DeclarationsFinds text list
+Finds rule Types text list = TypesFinds rule text list
+Finds rule Isolation text list = IsolationFinds rule text list
+Finds rule Size text list = SizeFinds rule text list
+Finds rule Races text list = RacesFinds rule text list

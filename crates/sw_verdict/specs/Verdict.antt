@@ -1,29 +1,32 @@
--- The verdict on the text of a program.
+-- The verdict on the text of a program, under a default for asynchronous functions (see Phases).
 use Rattle.std.specs.Prelude.{◌≢◌, ℕ, List, [], ◌∷◌, Result, Ok, Err}
 use Rattle.sw_graph.specs.declared.graph.Graph.{Graph}
 use Rattle.sw_breach.specs.declared.Breach.{Breach}
+use Rattle.sw_decls.specs.declared.signature.AsyncDefault.{AsyncDefault}
 use Rattle.sw_verdict.specs.Phases.{Phase, all_phases, Finds, IsGraphOf}
 
--- `Breaches phases text list`: the first of these phases that finds breaches in the text decides,
--- and these are what it finds. The list is empty where none of them finds any.
-pub data Breaches : List Phase → List ℕ → List Breach → Type 0 where
-  none : (text : List ℕ) → Breaches [] text []
+-- `Breaches rule phases text list`: the first of these phases that finds breaches in the text
+-- decides, and these are what it finds. The list is empty where none of them finds any.
+pub data Breaches (rule : AsyncDefault) : List Phase → List ℕ → List Breach → Type 0 where
+  none : (text : List ℕ) → Breaches rule [] text []
   first : (phase : Phase) (phases : List Phase) (text : List ℕ) (breach : Breach)
       (others : List Breach)
-      → Finds phase text (breach ∷ others) → Breaches (phase ∷ phases) text (breach ∷ others)
+      → Finds rule phase text (breach ∷ others)
+      → Breaches rule (phase ∷ phases) text (breach ∷ others)
   later : (phase : Phase) (phases : List Phase) (text : List ℕ) (list : List Breach)
-      → Finds phase text [] → Breaches phases text list → Breaches (phase ∷ phases) text list
+      → Finds rule phase text [] → Breaches rule phases text list
+      → Breaches rule (phase ∷ phases) text list
 
 -- no phase finds a breach in the text
-abbrev pub Accepts : List ℕ → Type 0
-Accepts text = Breaches all_phases text []
+abbrev pub Accepts : AsyncDefault → List ℕ → Type 0
+Accepts rule text = Breaches rule all_phases text []
 
 -- one of these phases finds a breach in the text
-abbrev pub Refuses : List Phase → List ℕ → Type 0
-Refuses phases text = (list : List Breach) × (list ≢ []) × Breaches phases text list
+abbrev pub Refuses : AsyncDefault → List Phase → List ℕ → Type 0
+Refuses rule phases text = (list : List Breach) × (list ≢ []) × Breaches rule phases text list
 
 -- The verdict of these phases on a text: its graph, where none of them finds a breach, or else what
 -- the first finds that does.
-abbrev pub IsVerdict : List Phase → List ℕ → Result Graph (List Breach) → Type 0
-IsVerdict phases text (Ok graph) = Breaches phases text [] × IsGraphOf text graph
-IsVerdict phases text (Err list) = (list ≢ []) × Breaches phases text list
+abbrev pub IsVerdict : AsyncDefault → List Phase → List ℕ → Result Graph (List Breach) → Type 0
+IsVerdict rule phases text (Ok graph) = Breaches rule phases text [] × IsGraphOf rule text graph
+IsVerdict rule phases text (Err list) = (list ≢ []) × Breaches rule phases text list

@@ -5,47 +5,52 @@ ghost use Rattle.sw_graph.specs.declared.graph.Graph.{Graph};
 ghost use Rattle.sw_breach.specs.declared.Breach.{Breach};
 ghost use Rattle.sw_breach.specs.Codes.{IsCode};
 ghost use Rattle.sw_breach.specs.Order.{breach_cmp};
+ghost use Rattle.sw_decls.specs.declared.signature.AsyncDefault.{AsyncDefault};
 ghost use Rattle.sw_region_flow.specs.Passing.{IsPassed};
 ghost use Rattle.sw_verdict.specs.Phases.{Finds, IsGraphOf, Phase, Races, all_phases};
 ghost use Rattle.sw_verdict.specs.Phases.{phases_to_size};
 ghost use Rattle.sw_verdict.specs.Verdict.{Accepts, Breaches, Refuses};
 
-/// Every text is accepted or refused, and never both. A text has one list of breaches, by position
-/// and then by code, each with the code of a text. A phase finds one breach at most, but for that
-/// of races, which finds all.
+/// Under each default for asynchronous functions every text is accepted or refused, and never both.
+/// A text has one list of breaches, by position and then by code, each with the code of a text. A
+/// phase finds one breach at most, but for that of races, which finds all.
 pub fn texts_have_one_verdict()
-    ensures decided { (text : List ℕ) → Accepts text ⊎ Refuses all_phases text }
-    ensures never_both { (text : List ℕ) → Accepts text → ¬ (Refuses all_phases text) }
-    ensures one_list { (phases : List Phase) (text : List ℕ) (a b : List Breach)
-        → Breaches phases text a
-        → Breaches phases text b → a ≡ b }
-    ensures one_breach { (phase : Phase) (text : List ℕ) (list : List Breach) → phase ≢ Races
-        → Finds phase text list → length list ≤ 1 }
-    ensures in_order { (phases : List Phase) (text : List ℕ) (list : List Breach)
-        → Breaches phases text list → IsStrictlySortedBy breach_cmp list }
-    ensures codes { (phases : List Phase) (text : List ℕ) (list : List Breach)
-        → Breaches phases text list
+    ensures decided { (rule : AsyncDefault) (text : List ℕ)
+        → Accepts rule text ⊎ Refuses rule all_phases text }
+    ensures never_both { (rule : AsyncDefault) (text : List ℕ) → Accepts rule text
+        → ¬ (Refuses rule all_phases text) }
+    ensures one_list { (rule : AsyncDefault) (phases : List Phase) (text : List ℕ)
+        (a b : List Breach) → Breaches rule phases text a → Breaches rule phases text b → a ≡ b }
+    ensures one_breach { (rule : AsyncDefault) (phase : Phase) (text : List ℕ)
+        (list : List Breach) → phase ≢ Races → Finds rule phase text list → length list ≤ 1 }
+    ensures in_order { (rule : AsyncDefault) (phases : List Phase) (text : List ℕ)
+        (list : List Breach) → Breaches rule phases text list
+        → IsStrictlySortedBy breach_cmp list }
+    ensures codes { (rule : AsyncDefault) (phases : List Phase) (text : List ℕ)
+        (list : List Breach) → Breaches rule phases text list
         → AllByRecursion (λ breach. IsCode breach.code) list }
 {}
 
-/// The phases up to the size of functions find no breach in a text, or one of them does, and never
-/// both. They find none in an accepted text. A text in which they find none has one graph.
+/// Under each default the phases up to the size of functions find no breach in a text, or one of
+/// them does, and never both. They find none in an accepted text. A text in which they find none
+/// has one graph.
 pub fn texts_have_one_graph()
-    ensures decided { (text : List ℕ) → Breaches phases_to_size text []
-        ⊎ Refuses phases_to_size text }
-    ensures never_both { (text : List ℕ) → Breaches phases_to_size text []
-        → ¬ (Refuses phases_to_size text) }
-    ensures accepted { (text : List ℕ) → Accepts text → Breaches phases_to_size text [] }
-    ensures some_graph { (text : List ℕ) → Breaches phases_to_size text []
-        → (graph : Graph) × IsGraphOf text graph }
-    ensures one_graph { (text : List ℕ) (a b : Graph) → IsGraphOf text a → IsGraphOf text b
-        → a ≡ b }
+    ensures decided { (rule : AsyncDefault) (text : List ℕ) → Breaches rule phases_to_size text []
+        ⊎ Refuses rule phases_to_size text }
+    ensures never_both { (rule : AsyncDefault) (text : List ℕ)
+        → Breaches rule phases_to_size text [] → ¬ (Refuses rule phases_to_size text) }
+    ensures accepted { (rule : AsyncDefault) (text : List ℕ) → Accepts rule text
+        → Breaches rule phases_to_size text [] }
+    ensures some_graph { (rule : AsyncDefault) (text : List ℕ)
+        → Breaches rule phases_to_size text [] → (graph : Graph) × IsGraphOf rule text graph }
+    ensures one_graph { (rule : AsyncDefault) (text : List ℕ) (a b : Graph)
+        → IsGraphOf rule text a → IsGraphOf rule text b → a ≡ b }
 {}
 
-/// In the graph of an accepted text each test of the regions passes, at each point of each function:
-/// what is used was given away on no way there, and what is given away is nothing that others may
-/// hold (SE-0414).
+/// In the graph of a text that is accepted under a default each test of the regions passes, at each
+/// point of each function: what is used was given away on no way there, and what is given away is
+/// nothing that others may hold (SE-0414).
 pub fn accepted_graphs_pass()
-    ensures { (text : List ℕ) (graph : Graph) → Accepts text → IsGraphOf text graph
-        → IsPassed graph }
+    ensures { (rule : AsyncDefault) (text : List ℕ) (graph : Graph) → Accepts rule text
+        → IsGraphOf rule text graph → IsPassed graph }
 {}

@@ -2,6 +2,7 @@ use Rattle.std.proofs.Common.{subst}
 use Rattle.sw_course.specs.Written.{Appended}
 use Rattle.sw_check.proofs.CallLemmas.{of_words, answer_says, answer_no_race, answer_exact}
 use Rattle.sw_check.proofs.CallLemmas.{answer_breached, answer_accepted, answer_not_raced}
+use Rattle.sw_check.proofs.CallLemmas.{answer_only}
 use Rattle.sw_check.proofs.ExitLemmas.{silent_written}
 use Rattle.sw_check.proofs.run_words.Goals as goal
 
@@ -18,10 +19,15 @@ returns-in-Ok-write_all-clause-says g c _ =
     answer_says (of_words c.args.words.now.items c.deref.result.now c.deref.ensures.value
     c.in-Ok.ensures.answered)
 
+pub returns-in-Ok-write_all-clause-only : goal.returns-in-Ok-write_all-clause-only
+returns-in-Ok-write_all-clause-only g c known exit is says _ =
+    answer_only (of_words c.args.words.now.items c.deref.result.now c.deref.ensures.value
+    c.in-Ok.ensures.answered) known exit is says
+
 pub returns-in-Ok-write_all-clause-no_race : goal.returns-in-Ok-write_all-clause-no_race
-returns-in-Ok-write_all-clause-no_race g c known command is same all _ not_breached not_long =
+returns-in-Ok-write_all-clause-no_race g c known command is same all short _ not_breached =
     answer_no_race (of_words c.args.words.now.items c.deref.result.now c.deref.ensures.value
-    c.in-Ok.ensures.answered) known command is same all not_breached not_long
+    c.in-Ok.ensures.answered) known command is same all short not_breached
 
 pub returns-in-Ok-write_all-clause-not_raced : goal.returns-in-Ok-write_all-clause-not_raced
 returns-in-Ok-write_all-clause-not_raced g c known command graph is same of_text runs =
@@ -39,6 +45,6 @@ returns-in-Ok-write_all-clause-breached g c known command is same short refused 
     c.in-Ok.ensures.answered) known command is same short refused
 
 pub returns-in-Ok-write_all-clause-accepted : goal.returns-in-Ok-write_all-clause-accepted
-returns-in-Ok-write_all-clause-accepted g c known file is same short accepts _ =
+returns-in-Ok-write_all-clause-accepted g c known rule file is same short accepts _ =
     answer_accepted (of_words c.args.words.now.items c.deref.result.now c.deref.ensures.value
-    c.in-Ok.ensures.answered) known file is same short accepts
+    c.in-Ok.ensures.answered) known rule file is same short accepts

@@ -19,8 +19,9 @@ returns-in_err-_graph g c =
     c.from_residual-in_err-_graph.ensures.1 in
     let stop = c.in_err-_graph.field-0.0 in
     rw (p.1, p.2) (does_on c.in_ok-text.ensures.done
-    (decides_stop (Judged all_phases c.in_ok-text.text) _ stop
-    (subst (λ text. Decides {A = Graph} (Judged all_phases text) (Err stop)) c.as_slice.ensures
+    (decides_stop (Judged c.args.default all_phases c.in_ok-text.text) _ stop
+    (subst (λ text. Decides {A = Graph} (Judged c.args.default all_phases text) (Err stop))
+    c.as_slice.ensures
     c.in_err-_graph.ensures)))
 
 pub returns-in_err-lines : goal.returns-in_err-lines
@@ -28,13 +29,16 @@ returns-in_err-lines g c =
     let p = err_from_is_err_and c.from_residual-in_err-lines.result
     c.from_residual-in_err-lines.ensures.1 in
     rw (p.1, p.2) (does_on c.in_ok-text.ensures.done
-    (decides_on (Judged all_phases c.in_ok-text.text)
-    (subst (λ text. Judged all_phases text (Ok c.in_ok-_graph._graph)) c.as_slice.ensures
+    (decides_on (Judged c.args.default all_phases c.in_ok-text.text)
+    (subst (λ text. Judged c.args.default all_phases text (Ok c.in_ok-_graph._graph))
+    c.as_slice.ensures
     c.in_ok-_graph.ensures) (does_alone (Answers accepted) (Err Memory) tt)))
 
 pub returns : goal.returns
 returns g c =
-    does_on c.in_ok-text.ensures.done (decides_on (Judged all_phases c.in_ok-text.text)
-    (subst (λ text. Judged all_phases text (Ok c.in_ok-_graph._graph)) c.as_slice.ensures
+    does_on c.in_ok-text.ensures.done (decides_on
+    (Judged c.args.default all_phases c.in_ok-text.text)
+    (subst (λ text. Judged c.args.default all_phases text (Ok c.in_ok-_graph._graph))
+    c.as_slice.ensures
     c.in_ok-_graph.ensures)
     (does_alone (Answers accepted) (Ok c.in_ok-lines.field-0) (ap Ok c.in_ok-lines.ensures)))

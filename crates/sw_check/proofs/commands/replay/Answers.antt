@@ -19,15 +19,17 @@ returns-in_err-graph g c =
     c.from_residual-in_err-graph.ensures.1 in
     let stop = c.in_err-graph.field-0.0 in
     rw (p.1, p.2) (does_on c.in_ok-text.ensures.done
-    (decides_stop (Judged (list_of c.args.phases) c.in_ok-text.text) _ stop
-    (subst (λ text. Decides {A = Graph} (Judged (list_of c.args.phases) text) (Err stop))
+    (decides_stop (Judged c.args.default (list_of c.args.phases) c.in_ok-text.text) _ stop
+    (subst (λ text. Decides {A = Graph} (Judged c.args.default (list_of c.args.phases) text)
+    (Err stop))
     c.as_slice.ensures c.in_err-graph.ensures)))
 
 pub returns : goal.returns
 returns g c =
     does_on c.in_ok-text.ensures.done
-    (decides_on (Judged (list_of c.args.phases) c.in_ok-text.text)
-    (subst (λ text. Judged (list_of c.args.phases) text (Ok c.in_ok-graph.graph)) c.as_slice.ensures
+    (decides_on (Judged c.args.default (list_of c.args.phases) c.in_ok-text.text)
+    (subst (λ text. Judged c.args.default (list_of c.args.phases) text (Ok c.in_ok-graph.graph))
+    c.as_slice.ensures
     c.in_ok-graph.ensures)
     (replays_lent c.args.schedule_file.now c.in_ok-graph.graph c.as_slice-2.ensures
     c.by_schedule.ensures))

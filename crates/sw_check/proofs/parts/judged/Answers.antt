@@ -13,7 +13,8 @@ returns-in-Ok c = passes c.in-Ok.graph c.in-Ok.ensures.graph
 
 pub returns-in_ok-refusal-in-Err-Breached : goal.returns-in_ok-refusal-in-Err-Breached
 returns-in_ok-refusal-in-Err-Breached c =
-    judged_refused (list_of c.args.phases) c.args.text.now c.in-Err-Breached.breaches _
+    judged_refused c.args.default (list_of c.args.phases) c.args.text.now c.in-Err-Breached.breaches
+    _
     (c.in_ok-refusal-in-Err-Breached.ensures ∙ ap (refusal c.args.text.now) c.as_slice.ensures)
     (c.in-Err-Breached.ensures.breaches c.in-Err-Breached.breaches
     (ap Err c.in-Err-Breached.field-0-is))
@@ -31,4 +32,5 @@ refusal-requires-clause-codes c =
     (ap Err c.in-Err-Breached.field-0-is) in
     subst (λ (list : List Breach). AllByRecursion (λ breach. IsCode breach.code) list)
     (sym c.as_slice.ensures)
-    (have_codes (list_of c.args.phases) c.args.text.now c.in-Err-Breached.breaches judges.1)
+    (have_codes c.args.default (list_of c.args.phases) c.args.text.now c.in-Err-Breached.breaches
+    judges.1)

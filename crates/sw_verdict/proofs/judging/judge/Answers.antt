@@ -16,16 +16,20 @@ use Rattle.sw_verdict.proofs.judging.judge.Goals as goal
 
 pub returns-in_err-spelled-clause-breaches : goal.returns-in_err-spelled-clause-breaches
 returns-in_err-spelled-clause-breaches c =
-    breaches_decided all_phases c.args.text.now _ (stopped [] (Encoding ∷ Lexis ∷ Syntax ∷ [])
+    breaches_decided c.args.default all_phases c.args.text.now _
+    (stopped c.args.default [] (Encoding ∷ Lexis ∷ Syntax ∷ [])
     (Declarations ∷ Types ∷ Isolation ∷ Size ∷ Races ∷ []) c.args.text.now
-    c.in_err-spelled.field-0.0 _ tt c.in_err-spelled.ensures.decided c.from_residual.ensures.1)
+    c.in_err-spelled.field-0.0 _ tt (c.in_err-spelled.ensures.decided c.args.default)
+    c.from_residual.ensures.1)
 
 pub returns-in_err-found-clause-breaches : goal.returns-in_err-found-clause-breaches
 returns-in_err-found-clause-breaches c =
     let text = c.args.text.now in
     let is = c.in_ok-spelled.ensures.spelled in
-    let read = passed (Encoding ∷ Lexis ∷ Syntax ∷ []) text c.in_ok-spelled.ensures.decided in
-    breaches_decided all_phases text _ (stopped (Encoding ∷ Lexis ∷ Syntax ∷ [])
+    let read = passed c.args.default (Encoding ∷ Lexis ∷ Syntax ∷ []) text
+    (c.in_ok-spelled.ensures.decided c.args.default) in
+    breaches_decided c.args.default all_phases text _
+    (stopped c.args.default (Encoding ∷ Lexis ∷ Syntax ∷ [])
     (Declarations ∷ Types ∷ Isolation ∷ Size ∷ []) (Races ∷ []) text c.in_err-found.field-0.0 _ read
     (c.in_err-found.ensures.decided text c.in_ok-spelled.spelled.tokens.items is.are_tokens
     is.is_program) c.from_residual-in_err-found.ensures.1)
@@ -53,18 +57,21 @@ returns-in_err-races-clause-breaches c =
     let is = c.in_ok-spelled.ensures.spelled in
     let known = c.in_ok-found.ensures.analysed in
     let (utf8, (lexis, (syntax, _))) =
-    passed (Encoding ∷ Lexis ∷ Syntax ∷ []) text c.in_ok-spelled.ensures.decided in
-    let rest = passed (Declarations ∷ Types ∷ Isolation ∷ Size ∷ []) text
+    passed c.args.default (Encoding ∷ Lexis ∷ Syntax ∷ []) text
+    (c.in_ok-spelled.ensures.decided c.args.default) in
+    let rest = passed c.args.default (Declarations ∷ Types ∷ Isolation ∷ Size ∷ []) text
     (c.in_ok-found.ensures.decided text read.tokens.items is.are_tokens is.is_program) in
-    let holds = found_races text read found c.as_slice.result.now graph is known
+    let holds = found_races c.args.default text read found c.as_slice.result.now graph is known
     (subst (AreRaces (world_of found.declared) (answers_of found.typed) read.program.decls)
     (sym c.as_slice.ensures) (c.in_ok-shared.ensures read.program.decls known.isolated))
-    (made_graph text read found graph is known c.in_ok-graph.ensures) in
-    let finds = found_by_as (AreAll (IsRace c.as_slice.result.now graph)) (Finds Races text)
+    (made_graph c.args.default text read found graph is known c.in_ok-graph.ensures) in
+    let finds = found_by_as (AreAll (IsRace c.as_slice.result.now graph))
+    (Finds c.args.default Races text)
     c.in_err-races.field-0.0 holds c.in_err-races.ensures in
-    breaches_decided all_phases text _ (stopped phases_to_size (Races ∷ []) [] text
+    breaches_decided c.args.default all_phases text _
+    (stopped c.args.default phases_to_size (Races ∷ []) [] text
     c.in_err-races.field-0.0 _ (utf8, (lexis, (syntax, rest)))
-    (decided_by Races [] text c.in_err-races.field-0.0 finds)
+    (decided_by c.args.default Races [] text c.in_err-races.field-0.0 finds)
     c.from_residual-in_err-races.ensures.1)
 
 pub returns-clause-graph : goal.returns-clause-graph
@@ -76,16 +83,17 @@ returns-clause-graph c =
     let is = c.in_ok-spelled.ensures.spelled in
     let known = c.in_ok-found.ensures.analysed in
     let (utf8, (lexis, (syntax, _))) =
-    passed (Encoding ∷ Lexis ∷ Syntax ∷ []) text c.in_ok-spelled.ensures.decided in
+    passed c.args.default (Encoding ∷ Lexis ∷ Syntax ∷ []) text
+    (c.in_ok-spelled.ensures.decided c.args.default) in
     let (declarations, (types, (isolation, (size, _)))) =
-    passed (Declarations ∷ Types ∷ Isolation ∷ Size ∷ []) text
+    passed c.args.default (Declarations ∷ Types ∷ Isolation ∷ Size ∷ []) text
     (c.in_ok-found.ensures.decided text read.tokens.items is.are_tokens is.is_program) in
-    let made = made_graph text read found graph is known c.in_ok-graph.ensures in
-    let races = found_races text read found c.as_slice.result.now graph is known
+    let made = made_graph c.args.default text read found graph is known c.in_ok-graph.ensures in
+    let races = found_races c.args.default text read found c.as_slice.result.now graph is known
     (subst (AreRaces (world_of found.declared) (answers_of found.typed) read.program.decls)
     (sym c.as_slice.ensures) (c.in_ok-shared.ensures read.program.decls known.isolated)) made []
     c.in_ok-races.ensures in (
-      all_pass all_phases text
+      all_pass c.args.default all_phases text
           (utf8, (lexis, (syntax, (declarations, (types, (isolation, (size, (races, tt)))))))),
       made,
     )

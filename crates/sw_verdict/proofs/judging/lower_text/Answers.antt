@@ -9,16 +9,19 @@ use Rattle.sw_verdict.proofs.judging.lower_text.Goals as goal
 
 pub returns-in_err-spelled-clause-breaches : goal.returns-in_err-spelled-clause-breaches
 returns-in_err-spelled-clause-breaches c =
-    breaches_decided phases_to_size c.args.text.now _ (stopped [] (Encoding ∷ Lexis ∷ Syntax ∷ [])
+    breaches_decided c.args.default phases_to_size c.args.text.now _
+    (stopped c.args.default [] (Encoding ∷ Lexis ∷ Syntax ∷ [])
     (Declarations ∷ Types ∷ Isolation ∷ Size ∷ []) c.args.text.now c.in_err-spelled.field-0.0 _ tt
-    c.in_err-spelled.ensures.decided c.from_residual.ensures.1)
+    (c.in_err-spelled.ensures.decided c.args.default) c.from_residual.ensures.1)
 
 pub returns-in_err-found-clause-breaches : goal.returns-in_err-found-clause-breaches
 returns-in_err-found-clause-breaches c =
     let text = c.args.text.now in
     let is = c.in_ok-spelled.ensures.spelled in
-    let read = passed (Encoding ∷ Lexis ∷ Syntax ∷ []) text c.in_ok-spelled.ensures.decided in
-    breaches_decided phases_to_size text _ (stopped (Encoding ∷ Lexis ∷ Syntax ∷ [])
+    let read = passed c.args.default (Encoding ∷ Lexis ∷ Syntax ∷ []) text
+    (c.in_ok-spelled.ensures.decided c.args.default) in
+    breaches_decided c.args.default phases_to_size text _
+    (stopped c.args.default (Encoding ∷ Lexis ∷ Syntax ∷ [])
     (Declarations ∷ Types ∷ Isolation ∷ Size ∷ []) [] text c.in_err-found.field-0.0 _ read
     (c.in_err-found.ensures.decided text c.in_ok-spelled.spelled.tokens.items is.are_tokens
     is.is_program) c.from_residual-in_err-found.ensures.1)
@@ -34,11 +37,13 @@ returns-clause-graph c =
     let text = c.args.text.now in
     let is = c.in_ok-spelled.ensures.spelled in
     let (utf8, (lexis, (syntax, _))) =
-    passed (Encoding ∷ Lexis ∷ Syntax ∷ []) text c.in_ok-spelled.ensures.decided in
-    let rest = passed (Declarations ∷ Types ∷ Isolation ∷ Size ∷ []) text
+    passed c.args.default (Encoding ∷ Lexis ∷ Syntax ∷ []) text
+    (c.in_ok-spelled.ensures.decided c.args.default) in
+    let rest = passed c.args.default (Declarations ∷ Types ∷ Isolation ∷ Size ∷ []) text
     (c.in_ok-found.ensures.decided text c.in_ok-spelled.spelled.tokens.items is.are_tokens
     is.is_program) in (
-      all_pass phases_to_size text (utf8, (lexis, (syntax, rest))),
-      made_graph text c.in_ok-spelled.spelled c.in_ok-found.found c.in_ok-made.made is
+      all_pass c.args.default phases_to_size text (utf8, (lexis, (syntax, rest))),
+      made_graph c.args.default text c.in_ok-spelled.spelled c.in_ok-found.found c.in_ok-made.made
+          is
           c.in_ok-found.ensures.analysed c.in_ok-made.ensures,
     )

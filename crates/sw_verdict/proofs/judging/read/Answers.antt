@@ -6,37 +6,41 @@ use Rattle.sw_verdict.proofs.Verdicts.{spelled_read}
 use Rattle.sw_verdict.proofs.judging.read.Goals as goal
 
 pub returns-in_err-source-clause-decided : goal.returns-in_err-source-clause-decided
-returns-in_err-source-clause-decided c =
-    stopped [] (Encoding ∷ []) (Lexis ∷ Syntax ∷ []) c.args.text.now c.in_err-source.field-0.0 _ tt
-    (decided_by Encoding [] c.args.text.now c.in_err-source.field-0.0 c.in_err-source.ensures.found)
+returns-in_err-source-clause-decided c rule =
+    stopped rule [] (Encoding ∷ []) (Lexis ∷ Syntax ∷ []) c.args.text.now c.in_err-source.field-0.0
+    _ tt
+    (decided_by rule Encoding [] c.args.text.now c.in_err-source.field-0.0
+    c.in_err-source.ensures.found)
     c.from_residual.ensures.1
 
 pub returns-in_err-tokens-clause-decided : goal.returns-in_err-tokens-clause-decided
-returns-in_err-tokens-clause-decided c =
-    let found = subst (λ source. FoundBy (Finds Lexis source) c.in_err-tokens.field-0.0)
+returns-in_err-tokens-clause-decided c rule =
+    let found = subst (λ source. FoundBy (Finds rule Lexis source) c.in_err-tokens.field-0.0)
     c.in_ok-source.ensures.same c.in_err-tokens.ensures.found in
-    stopped (Encoding ∷ []) (Lexis ∷ []) (Syntax ∷ []) c.args.text.now c.in_err-tokens.field-0.0 _
+    stopped rule (Encoding ∷ []) (Lexis ∷ []) (Syntax ∷ []) c.args.text.now
+    c.in_err-tokens.field-0.0 _
     (c.in_ok-source.ensures.found, tt)
-    (decided_by Lexis [] c.args.text.now c.in_err-tokens.field-0.0 found)
+    (decided_by rule Lexis [] c.args.text.now c.in_err-tokens.field-0.0 found)
     c.from_residual-in_err-tokens.ensures.1
 
 pub returns-in_err-program-clause-decided : goal.returns-in_err-program-clause-decided
-returns-in_err-program-clause-decided c =
+returns-in_err-program-clause-decided c rule =
     let same = c.in_ok-source.ensures.same in
-    let lexis = subst (λ source. Finds Lexis source []) same c.in_ok-tokens.ensures.found in
-    let found = subst (λ source. FoundBy (Finds Syntax source) c.in_err-program.field-0.0) same
+    let lexis = subst (λ source. Finds rule Lexis source []) same c.in_ok-tokens.ensures.found in
+    let found = subst (λ source. FoundBy (Finds rule Syntax source) c.in_err-program.field-0.0) same
     c.in_err-program.ensures.found in
-    stopped (Encoding ∷ Lexis ∷ []) (Syntax ∷ []) [] c.args.text.now c.in_err-program.field-0.0 _
+    stopped rule (Encoding ∷ Lexis ∷ []) (Syntax ∷ []) [] c.args.text.now c.in_err-program.field-0.0
+    _
     (c.in_ok-source.ensures.found, (lexis, tt))
-    (decided_by Syntax [] c.args.text.now c.in_err-program.field-0.0 found)
+    (decided_by rule Syntax [] c.args.text.now c.in_err-program.field-0.0 found)
     c.from_residual-in_err-program.ensures.1
 
 pub returns-clause-decided : goal.returns-clause-decided
-returns-clause-decided c =
+returns-clause-decided c rule =
     let same = c.in_ok-source.ensures.same in
-    let lexis = subst (λ source. Finds Lexis source []) same c.in_ok-tokens.ensures.found in
-    let syntax = subst (λ source. Finds Syntax source []) same c.in_ok-program.ensures.found in
-    all_pass (Encoding ∷ Lexis ∷ Syntax ∷ []) c.args.text.now
+    let lexis = subst (λ source. Finds rule Lexis source []) same c.in_ok-tokens.ensures.found in
+    let syntax = subst (λ source. Finds rule Syntax source []) same c.in_ok-program.ensures.found in
+    all_pass rule (Encoding ∷ Lexis ∷ Syntax ∷ []) c.args.text.now
     (c.in_ok-source.ensures.found, (lexis, (syntax, tt)))
 
 pub returns-clause-spelled : goal.returns-clause-spelled

@@ -8,7 +8,7 @@ use Rattle.sw_verdict.proofs.laws.texts_have_one_graph.Goals as goal
 pub returns : goal.returns
 returns c = record {
   decided = decided_to_size;
-  never_both = never_both phases_to_size;
+  never_both = λ rule. never_both rule phases_to_size;
   accepted = accepted_to_size;
   some_graph = some_graph;
   one_graph = one_graph_of;

@@ -6,7 +6,7 @@ use Rattle.sw_verdict.proofs.laws.texts_have_one_verdict.Goals as goal
 pub returns : goal.returns
 returns c = record {
   decided = verdicts.decided;
-  never_both = verdicts.never_both all_phases;
+  never_both = λ rule. verdicts.never_both rule all_phases;
   one_list = verdicts.one_list;
   one_breach = verdicts.few_found;
   in_order = breaches_in_order;

@@ -6,27 +6,27 @@ use Rattle.sw_isolation.specs.declared.isolating.IsoFault.TheVariants.{Breach}
 use Rattle.sw_isolation_rules.specs.Programs.{IsFirstRefusal}
 use Rattle.sw_typing_rules.proofs.OneWorld.{declared_world}
 use Rattle.sw_typing_rules.specs.Worlds.{world_of}
-use Rattle.sw_decls.specs.declared.signature.AsyncDefault.TheVariants.{Concurrent}
 use Rattle.sw_verdict.specs.Phases.{keeps_apart}
 use Rattle.sw_verdict.proofs.Finding.{found_refusal}
 use Rattle.sw_verdict.proofs.phases.isolation.Goals as goal
 
 pub returns-in-Ok-clause-found : goal.returns-in-Ok-clause-found
-returns-in-Ok-clause-found c text tokens are is =
+returns-in-Ok-clause-found c rule text tokens declared are is =
     let decls = c.args.program.now.decls in
     let world = world_of c.args.declared.now in
     keeps_apart tokens decls world are is
-    (declared_world decls Concurrent c.args.declared.now c.requires.declared)
+    (declared_world decls rule c.args.declared.now declared)
     (subst (λ answers. IsFirstRefusal world answers decls None)
     (answers_are_said world decls c.args.typed.now c.requires.typed) c.in-Ok.ensures.none)
 
 pub returns-in-Err-Breach-clause-found : goal.returns-in-Err-Breach-clause-found
-returns-in-Err-Breach-clause-found c text tokens are is =
+returns-in-Err-Breach-clause-found c rule text tokens declared are is =
     let decls = c.args.program.now.decls in
     let world = world_of c.args.declared.now in
-    found_refusal text tokens decls world c.in-Err-Breach.code c.in-Err-Breach.at _ are is
-    (declared_world decls Concurrent c.args.declared.now c.requires.declared)
-    (subst (λ answers. IsRefused world answers decls (Breach c.in-Err-Breach.code c.in-Err-Breach.at))
+    found_refusal rule text tokens decls world c.in-Err-Breach.code c.in-Err-Breach.at _ are is
+    (declared_world decls rule c.args.declared.now declared)
+    (subst (λ answers. IsRefused world answers decls
+    (Breach c.in-Err-Breach.code c.in-Err-Breach.at))
     (answers_are_said world decls c.args.typed.now c.requires.typed)
     (subst (IsRefused world (answers_of c.args.typed.now) decls) c.in-Err-Breach.field-0-is
     c.in-Err-Breach.ensures.refused))

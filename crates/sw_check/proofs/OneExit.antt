@@ -1,0 +1,139 @@
+-- No two exits say what holds of the same words and files.
+use Rattle.std.proofs.Common.{◌≡◌, ℕ, ◌<◌, ◌≤◌, inl, inr, List, length, Option, Some, None, refl}
+use Rattle.std.proofs.Common.{sym}
+use Rattle.std.proofs.Common.{ap, ◌∙◌, arith}
+use Rattle.sw_replay.specs.declared.output.End.{End}
+use Rattle.sw_replay.specs.declared.output.End.TheVariants as ends
+use Rattle.sw_replay.proofs.ScheduleLaws.{never_both as items_and_fault}
+use Rattle.sw_course.specs.declared.TheConstants.{PROGRAM_LIMIT}
+use Rattle.sw_course.specs.declared.exit.Exit.{Exit}
+use Rattle.sw_course.specs.declared.exit.Exit.TheVariants.{Done, Breached, Usage, NotRead, TooLong}
+use Rattle.sw_course.specs.declared.exit.Exit.TheVariants.{NotWritten, Memory, Trapped, BadSchedule}
+use Rattle.sw_course.specs.declared.exit.Exit.TheVariants.{Raced}
+use Rattle.sw_decls.specs.declared.signature.AsyncDefault.{AsyncDefault}
+use Rattle.sw_verdict.specs.Verdict.{Accepts, Refuses}
+use Rattle.sw_verdict.proofs.Verdicts.{never_both}
+use Rattle.sw_check.specs.Claims.{Ends, IsRefused, Passes, Says, SaysOf, ScheduleIsBad, SecondFits}
+use Rattle.sw_check.specs.Claims.{SecondIsLong, default_of, phases_of, program_of}
+use Rattle.sw_check.specs.Words.{Command, Check, Run, Trace}
+use Rattle.sw_check.proofs.ClaimLemmas.{one_end}
+
+-- a second file that is within its limit isn't too long
+second_fits : (files : List ℕ → List ℕ) (command : Command) → SecondFits files command
+    → SecondIsLong files command → ⊥
+second_fits files (Check rule file) fits long = long
+second_fits files (Run rule file schedule_file) fits long = omega (arith, fits, long)
+second_fits files (Trace rule file schedule_file) fits long = omega (arith, fits, long)
+
+-- a command ends in one way
+one_end_of : (files : List ℕ → List ℕ) (command : Command) (a b : End) → Ends a files command
+    → Ends b files command → a ≡ b
+one_end_of files (Check rule file) a b is_a is_b = is_a ∙ sym is_b
+one_end_of files (Run rule file schedule_file) a b is_a is_b =
+    one_end rule (files file) (files schedule_file) a b is_a is_b
+one_end_of files (Trace rule file schedule_file) a b is_a is_b =
+    one_end rule (files file) (files schedule_file) a b is_a is_b
+
+-- a command whose schedule has a fault doesn't come to its end
+ends_or_bad : (files : List ℕ → List ℕ) (command : Command) (end : End) → Ends end files command
+    → ScheduleIsBad files command → ⊥
+ends_or_bad files (Check rule file) end ends_so bad = bad
+ends_or_bad files (Run rule file schedule_file) end ends_so (fault, is) =
+    items_and_fault (files schedule_file) ends_so.items fault ends_so.are_items is
+ends_or_bad files (Trace rule file schedule_file) end ends_so (fault, is) =
+    items_and_fault (files schedule_file) ends_so.items fault ends_so.are_items is
+
+-- the exit of each end
+abbrev exit_of : End → Exit
+exit_of ends.Ran = Done
+exit_of (ends.Trapped kind at) = Trapped
+exit_of (ends.Raced race) = Raced
+
+-- why a command has an exit over these files
+data Cause (files : List ℕ → List ℕ) (command : Command) : Exit → Type 0 where
+  refused : IsRefused files command → Cause files command Breached
+  first_long : PROGRAM_LIMIT < length (program_of files command) → Cause files command TooLong
+  second_long : Passes files command → SecondIsLong files command → Cause files command TooLong
+  bad : Passes files command → SecondFits files command → ScheduleIsBad files command
+      → Cause files command BadSchedule
+  ended : (end : End) → Passes files command → SecondFits files command
+      → Ends end files command → Cause files command (exit_of end)
+
+module _ (files : List ℕ → List ℕ) (command : Command) where
+  cause_of : (exit : Exit) → SaysOf files command exit → Cause files command exit
+  cause_of Done (passes, fits, is) = ended ends.Ran passes fits is
+  cause_of Breached it = refused it
+  cause_of TooLong (inl long) = first_long long
+  cause_of TooLong (inr (passes, long)) = second_long passes long
+  cause_of Trapped (passes, fits, kind, at, is) = ended (ends.Trapped kind at) passes fits is
+  cause_of BadSchedule (passes, fits, is_bad) = bad passes fits is_bad
+  cause_of Raced (passes, fits, race, is) = ended (ends.Raced race) passes fits is
+  cause_of Usage says = absurd says
+  cause_of NotRead says = absurd says
+  cause_of NotWritten says = absurd says
+  cause_of Memory says = absurd says
+
+  passes_or_refused : Passes files command → IsRefused files command → ⊥
+  passes_or_refused passes it =
+      never_both (default_of command) (phases_of command) (program_of files command)
+      passes.no_breach it.breaches
+
+  one_cause : (a b : Exit) → Cause files command a → Cause files command b → a ≡ b
+  one_cause _ _ (refused it) (refused _) = refl
+  one_cause _ _ (refused it) (first_long long) = absurd (omega (arith, it.short, long))
+  one_cause _ _ (refused it) (second_long passes _) = absurd (passes_or_refused passes it)
+  one_cause _ _ (refused it) (bad passes _ _) = absurd (passes_or_refused passes it)
+  one_cause _ _ (refused it) (ended _ passes _ _) = absurd (passes_or_refused passes it)
+  one_cause _ _ (first_long long) (refused it) = absurd (omega (arith, it.short, long))
+  one_cause _ _ (first_long _) (first_long _) = refl
+  one_cause _ _ (first_long _) (second_long _ _) = refl
+  one_cause _ _ (first_long long) (bad passes _ _) = absurd (omega (arith, passes.short, long))
+  one_cause _ _ (first_long long) (ended _ passes _ _) =
+      absurd (omega (arith, passes.short, long))
+  one_cause _ _ (second_long passes _) (refused it) = absurd (passes_or_refused passes it)
+  one_cause _ _ (second_long _ _) (first_long _) = refl
+  one_cause _ _ (second_long _ _) (second_long _ _) = refl
+  one_cause _ _ (second_long _ long) (bad _ fits _) =
+      absurd (second_fits files command fits long)
+  one_cause _ _ (second_long _ long) (ended _ _ fits _) =
+      absurd (second_fits files command fits long)
+  one_cause _ _ (bad passes _ _) (refused it) = absurd (passes_or_refused passes it)
+  one_cause _ _ (bad passes _ _) (first_long long) = absurd (omega (arith, passes.short, long))
+  one_cause _ _ (bad _ fits _) (second_long _ long) =
+      absurd (second_fits files command fits long)
+  one_cause _ _ (bad _ _ _) (bad _ _ _) = refl
+  one_cause _ _ (bad _ _ is_bad) (ended end _ _ is) =
+      absurd (ends_or_bad files command end is is_bad)
+  one_cause _ _ (ended _ passes _ _) (refused it) = absurd (passes_or_refused passes it)
+  one_cause _ _ (ended _ passes _ _) (first_long long) =
+      absurd (omega (arith, passes.short, long))
+  one_cause _ _ (ended _ _ fits _) (second_long _ long) =
+      absurd (second_fits files command fits long)
+  one_cause _ _ (ended end _ _ is) (bad _ _ is_bad) =
+      absurd (ends_or_bad files command end is is_bad)
+  one_cause _ _ (ended a _ _ is_a) (ended b _ _ is_b) =
+      ap exit_of (one_end_of files command a b is_a is_b)
+
+  one_exit_of : (a b : Exit) → SaysOf files command a → SaysOf files command b → a ≡ b
+  one_exit_of a b says_a says_b = one_cause a b (cause_of a says_a) (cause_of b says_b)
+
+pub one_exit : (files : List ℕ → List ℕ) (command : Option Command) (a b : Exit)
+    → Says files command a → Says files command b → a ≡ b
+one_exit files None a b is_a is_b = is_a ∙ sym is_b
+one_exit files (Some command) a b says_a says_b = one_exit_of files command a b says_a says_b
+
+-- a program that is refused and within the limit has that exit
+pub says_breached : (files : List ℕ → List ℕ) (command : Command) (exit : Exit)
+    → Says files (Some command) exit → length (program_of files command) ≤ PROGRAM_LIMIT
+    → Refuses (default_of command) (phases_of command) (program_of files command)
+    → exit ≡ Breached
+says_breached files command exit says short found =
+    one_exit_of files command exit Breached says (record { short = short; breaches = found })
+
+-- a program that `check` accepts, within the limit, has that exit
+pub says_accepted : (files : List ℕ → List ℕ) (rule : AsyncDefault) (file : List ℕ) (exit : Exit)
+    → Says files (Some (Check rule file)) exit → length (files file) ≤ PROGRAM_LIMIT
+    → Accepts rule (files file) → exit ≡ Done
+says_accepted files rule file exit says short accepts =
+    one_exit_of files (Check rule file) exit Done says
+    (record { short = short; no_breach = accepts }, tt, refl)
