@@ -43,7 +43,8 @@ no_payloads (suc n) instr plain =
 -- the integer that a function takes has a value throughout
 has_number : (done : List Instr) → has_value 1 done 0 ≡ true
 has_number [] = refl
-has_number (instr ∷ done) = or_true (is_number 0 (set_by instr)) (has_value 1 done 0) (has_number done)
+has_number (instr ∷ done) =
+    or_true (is_number 0 (set_by instr)) (has_value 1 done 0) (has_number done)
   where
     or_true : (a b : Bool) → b ≡ true → a || b ≡ true
     or_true true b e = refl
@@ -187,7 +188,8 @@ sum_repeats functions = record {
       ∙ ap (λ b. b && true) (has_number done);
   within = int_within 0;
   fits = λ own. record {
-    registers = All-from_recursion (λ k. k < 2) (1 ∷ 0 ∷ 0 ∷ []) (lit≤ tt, (lit≤ tt, (lit≤ tt, tt)));
+    registers =
+        All-from_recursion (λ k. k < 2) (1 ∷ 0 ∷ 0 ∷ []) (lit≤ tt, (lit≤ tt, (lit≤ tt, tt)));
     functions_in = All-nil (λ k. k < length functions);
     globals_in = All-nil (λ k. k < 0);
     shapes_in = All-nil (λ k. k < 0);

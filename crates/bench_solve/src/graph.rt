@@ -99,10 +99,12 @@ impl<'a> Flow for Graph<'a> {
     ghost enters = { λ graph fact. IsBlank 100 graph.sites.now fact.state };
 
     ghost leads = { λ graph p before after.
-        IsStep (1 + p % 99) (1 + p % 99 * 7 % 99) (slice_index graph.sites.now (p % 50)) before.state after.state };
+        IsStep (1 + p % 99) (1 + p % 99 * 7 % 99) (slice_index graph.sites.now (p % 50))
+        before.state after.state };
 
     ghost successors = { λ graph p.
-        (if nat_lt (p + 1) graph.points then (p + 1) ∷ [] else (if graph.is_ring then 0 ∷ [] else []))
+        (if nat_lt (p + 1) graph.points then (p + 1) ∷ []
+        else (if graph.is_ring then 0 ∷ [] else []))
         ++ (if graph.is_ladder && nat_lt (p + 2) graph.points then (p + 2) ∷ [] else []) };
 
     fn points(&self) -> u32 {

@@ -7,7 +7,7 @@ use std::sync::ledger::{Blank, Ledger};
 use sw_partition::Partition;
 use sw_solve::{Lattice, Steps};
 
-/// So many elements, each alone.
+/// A state of `elements` elements, each alone.
 pub fn alone(alloc: Global, elements: u32) -> Result<Partition, AllocError>
     requires { 0 < elements }
     ensures { IfOk result (λ state. size_of state ≡ elements ∷ []) }
@@ -15,7 +15,7 @@ pub fn alone(alloc: Global, elements: u32) -> Result<Partition, AllocError>
     Partition::new(alloc, elements, &[])
 }
 
-/// So many elements, of which each is with the one as far from the end as it is from element 0.
+/// A state of `elements` elements, each with the one as far from the end as it is from element 0.
 pub fn paired(alloc: Global, elements: u32) -> Result<Partition, AllocError>
     requires { 0 < elements }
     ensures { IfOk result (λ state. size_of state ≡ elements ∷ []) }

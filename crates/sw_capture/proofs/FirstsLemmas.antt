@@ -28,7 +28,7 @@ firsts_of_both closure found xs ys =
     ap (firsts_from found) (filter-append (λ (one : Mention). nat_lt one.variable closure) xs ys)
     ∙ firsts_more found (outer closure xs) (outer closure ys)
 
--- what was found stays at the front
+-- what was found stays first
 grown : (found mentions : List Mention)
     → (rest : List Mention) × (firsts_from found mentions ≡ found ++ rest)
 grown found [] = ([], sym (append-nil found))
@@ -47,9 +47,9 @@ grown found (one ∷ more) =
         let last = later false in
         (one ∷ last.0, last.1 ∙ append_assoc found (one ∷ []) last.0)
 
-pub front_stays : (found mentions : List Mention)
+pub found_first_stays : (found mentions : List Mention)
     → take (length found) (firsts_from found mentions) ≡ found
-front_stays found mentions =
+found_first_stays found mentions =
     let more = grown found mentions in
     ap (take (length found)) more.1 ∙ take-append_seam found more.0
 
@@ -65,7 +65,7 @@ in_parts : (closure : ℕ) (listed me : List ℕ) (inside held own next : List M
     ++ map Mentioned (firsts (outer closure inside)))
 in_parts closure listed me inside held own next old others first second third
     is_first is_own is_next is_second is_third =
-    is_third ∙ (ap (λ list. second ++ map Mentioned list) (front ∙ is_own)
+    is_third ∙ (ap (λ list. second ++ map Mentioned list) (found_first ∙ is_own)
     ∙ (ap (λ list. list ++ map Mentioned (firsts (outer closure inside))) captures
     ∙ (append_assoc (old ++ others) (map (captured closure listed) (self_first me all))
     (map Mentioned (firsts (outer closure inside)))
@@ -83,8 +83,8 @@ in_parts closure listed me inside held own next old others first second third
         is_next ∙ (ap (λ found. firsts_from found (outer closure held)) is_own
         ∙ sym (firsts_of_both closure [] inside held))
 
-    front : take (length own) next ≡ own
-    front = ap (take (length own)) is_next ∙ front_stays own (outer closure held)
+    found_first : take (length own) next ≡ own
+    found_first = ap (take (length own)) is_next ∙ found_first_stays own (outer closure held)
 
     captures : second ≡ (old ++ others) ++ map (captured closure listed) (self_first me all)
     captures =

@@ -2,7 +2,7 @@
 ghost use Rattle.std.specs.Prelude.{◌≡◌, ◌++◌, ◌∷◌, [], flat_map, not, map, OnOk};
 ghost use Rattle.std.specs.List.{filter};
 ghost use Rattle.std.specs.Option.{option_to_list};
-ghost use Rattle.sw_isolation_rules.specs.Captures.{captured, closed, firsts, held};
+ghost use Rattle.sw_isolation_rules.specs.Captures.{captured, closed, firsts, held_self};
 ghost use Rattle.sw_isolation_rules.specs.Captures.{is_among, is_mention, mentioned, outer};
 ghost use Rattle.sw_isolation_rules.specs.Captures.{own_mentions, self_first};
 ghost use Rattle.sw_isolation_rules.specs.Kinds.{is_own};
@@ -31,8 +31,8 @@ fn is_own(iso: Iso) -> bool
 
 /// That a closure holds `self`, as a mention of it at the closure, where its body is isolated to
 /// `self`.
-fn held(world: &Decls, context: Context, closure: u32) -> Option<Mention>
-    ensures { option_to_list result ≡ held (world_of world.now) context closure }
+fn held_self(world: &Decls, context: Context, closure: u32) -> Option<Mention>
+    ensures { option_to_list result ≡ held_self (world_of world.now) context closure }
 {
     if is_own(context.iso) {
         self_mention(world, context.owner, closure)
@@ -200,6 +200,6 @@ pub fn close(
         ++ closed (world_of world.now) context closure listed.now inner) }
 {
     let me = self_of(world, context.owner);
-    let held = held(world, context, closure);
+    let held = held_self(world, context, closure);
     close_with(alloc, me, held, closure, listed, inner.as_slice(), notes)
 }

@@ -14,10 +14,10 @@ pub coded_one : (at code : ℕ) → 301 ≤ code → code ≤ 307
     → AreCoded (record { at = at; code = code } ∷ [])
 coded_one at code low high = ((low, high), tt)
 
-pub coded_join : (front back : List Placed) → AreCoded front → AreCoded back
-    → AreCoded (front ++ back)
-coded_join [] back first second = second
-coded_join (one ∷ front) back first second = (first.0, coded_join front back first.1 second)
+pub coded_join : (before after : List Placed) → AreCoded before → AreCoded after
+    → AreCoded (before ++ after)
+coded_join [] after first second = second
+coded_join (one ∷ before) after first second = (first.0, coded_join before after first.1 second)
 
 pub coded_each : {X : Type 0} (f : X → List Placed) → ((x : X) → AreCoded (f x)) → (xs : List X)
     → AreCoded (flat_map f xs)

@@ -12,13 +12,13 @@ use Rattle.sw_decls.specs.Hollow.{hollowed}
 use Rattle.sw_decls.specs.Wide.{wide}
 use Rattle.sw_decls.proofs.HollowLemmas.{hollowed_same}
 
-front_nil : (front back : List Placed) → front ++ back ≡ [] → front ≡ []
-front_nil [] back none = refl
-front_nil (one ∷ front) back none = absurd (let some = ap length none in omega arith)
+prefix_nil : (prefix suffix : List Placed) → prefix ++ suffix ≡ [] → prefix ≡ []
+prefix_nil [] suffix none = refl
+prefix_nil (one ∷ prefix) suffix none = absurd (let some = ap length none in omega arith)
 
-back_nil : (front back : List Placed) → front ++ back ≡ [] → back ≡ []
-back_nil [] back none = none
-back_nil (one ∷ front) back none = absurd (let some = ap length none in omega arith)
+suffix_nil : (prefix suffix : List Placed) → prefix ++ suffix ≡ [] → suffix ≡ []
+suffix_nil [] suffix none = none
+suffix_nil (one ∷ prefix) suffix none = absurd (let some = ap length none in omega arith)
 
 module _ (decls : List Decl) (shapes : List Shape) (marks : List Bool) (before found : List Placed)
     (made : shapes ≡ made_shapes decls) (is : found ≡ before ++ breaches_of_shapes shapes marks)
@@ -39,6 +39,6 @@ module _ (decls : List Decl) (shapes : List Shape) (marks : List Bool) (before f
     -- where none was found no shape is hollow
     pub shapes_found : found ≡ [] → hollowed marks shapes ≡ made_shapes decls
     shapes_found none =
-        hollowed_same shapes marks (front_nil (holders shapes marks) (wide (hollowed marks shapes))
-        (back_nil before (breaches_of_shapes shapes marks) (sym is ∙ none)))
+        hollowed_same shapes marks (prefix_nil (holders shapes marks) (wide (hollowed marks shapes))
+        (suffix_nil before (breaches_of_shapes shapes marks) (sym is ∙ none)))
         ∙ made

@@ -79,7 +79,8 @@ same_marks shapes m n one other k =
     (λ is. (one k).1 ((other k).0 is))
 
 module _ (m n : List Bool) (agree : (k : ℕ) → get_or m k false ≡ get_or n k false) where
-  same_holders : (at : ℕ) (shapes : List Shape) → holders_from m at shapes ≡ holders_from n at shapes
+  same_holders : (at : ℕ) (shapes : List Shape)
+      → holders_from m at shapes ≡ holders_from n at shapes
   same_holders at [] = refl
   same_holders at (shape ∷ shapes) =
       ap (λ b. holder b shape ++ holders_from m (at + 1) shapes) (agree at)

@@ -3,6 +3,7 @@ use Rattle.std.specs.Prelude.{◌≡◌, ◌==◌, ℕ, Bool, List, [], ◌∷�
 use Rattle.std.specs.Prelude.{◌+◌, flat_map, nat_eq, unwrap_or, if◌then◌else◌, IsPermutation}
 use Rattle.std.specs.List.Sorted.{IsNonDecreasingBy}
 use Rattle.indexmap.specs.IndexMap.{get}
+use Rattle.sw_tree.specs.Names.{main_actor_id}
 use Rattle.sw_tree.specs.declared.decl.Decl.{Decl}
 use Rattle.sw_tree.specs.declared.decl.Decl.TheVariants.{Entry, Struct, Enum, Class, Actor}
 use Rattle.sw_tree.specs.declared.decl.Decl.TheVariants.{GlobalActor, Func, Global}
@@ -50,11 +51,6 @@ abbrev pub IsFirstBreach : List Decl → Option Placed → Type 0
 IsFirstBreach decls first =
     (marks : List Bool) × (AreHolders (made_shapes decls) marks
     × IsFirst (breaches_of decls marks) first)
-
--- The fault is the first of these breaches. Nothing is said of memory.
-abbrev pub IsFault : List Placed → DeclFault → Type 0
-IsFault found (Breach code at) = IsFirst found (Some (record { at = at; code = code }))
-IsFault found Memory = Unit {0}
 
 -- The fault is the first breach of a program. Nothing is said of memory.
 abbrev pub IsRefusal : List Decl → DeclFault → Type 0
@@ -115,7 +111,7 @@ entry_key decls = first_or (flat_map entry_place decls) 0
 pub record IsDeclared (decls : List Decl) (rule : AsyncDefault) (made : Decls) : Type 0 where
   pub shapes : made.shapes ≡ made_shapes decls
   -- global actor 0 is `MainActor` (SE-0316)
-  pub actors : made.actors ≡ 6 ∷ flat_map actor_ids decls
+  pub actors : made.actors ≡ main_actor_id ∷ flat_map actor_ids decls
   -- the functions of the declarations, in the order of their keys
   pub funcs : IsPermutation (funcs_from (top_meaning decls) rule 0 decls) made.funcs
   pub ordered : IsNonDecreasingBy key_place made.funcs

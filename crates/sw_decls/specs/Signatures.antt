@@ -1,6 +1,7 @@
 -- The functions, global variables and global actors of a program.
 use Rattle.std.specs.Prelude.{ℕ, Bool, false, List, [], ◌∷◌, ◌++◌, Option, Some, None, map}
 use Rattle.std.specs.Prelude.{◌+◌, ◌==◌, length, if◌then◌else◌}
+use Rattle.sw_tree.specs.Names.{main_id}
 use Rattle.sw_tree.specs.declared.decl.Decl.{Decl}
 use Rattle.sw_tree.specs.declared.decl.Decl.TheVariants.{Entry, Struct, Enum, Class, Actor}
 use Rattle.sw_tree.specs.declared.decl.Decl.TheVariants.{GlobalActor, Func, Global}
@@ -98,7 +99,7 @@ module _ (known : ℕ → Option Meaning) where
   -- the functions of a declaration, by the number of shapes before it
   unfoldable pub funcs_of : AsyncDefault → ℕ → Decl → List Signature
   funcs_of rule number (Entry word written at is_async body) = record {
-    key = record { at = at; id = 10 };
+    key = record { at = at; id = main_id };
     owner = None;
     iso = actor_iso (written_actor known written);
     is_async = is_async;

@@ -16,7 +16,8 @@ use Rattle.sw_grammar.specs.Exprs.{expr}
 use Rattle.sw_grammar.specs.Stmts.{block}
 use Rattle.sw_grammar.proofs.TypesAlike.{NestAlike, OfBody, SameForm, same_types, same_type}
 use Rattle.sw_grammar.proofs.TypesAlike.{same_task_inner}
-use Rattle.sw_grammar.proofs.ExprsAlike.{same_round, same_args, same_member, same_nothing, same_expr}
+use Rattle.sw_grammar.proofs.ExprsAlike.{same_round, same_args, same_member, same_nothing}
+use Rattle.sw_grammar.proofs.ExprsAlike.{same_expr}
 use Rattle.sw_grammar.proofs.ClosuresAlike.{same_captured_words, same_closure_params}
 use Rattle.sw_grammar.proofs.StmtsAlike.{same_block, same_statements, same_closure_inside}
 use Rattle.sw_grammar.proofs.StmtsAlike.{same_task_inside, same_patterns_inside}

@@ -14,8 +14,9 @@ use Rattle.sw_grammar.specs.Closures.{captured, captured_words, captures, captur
 use Rattle.sw_grammar.specs.Closures.{closure_param, closure_params, result_if, signature}
 use Rattle.sw_grammar.specs.Closures.{signature_if, header, task_signature, task_signature_if}
 use Rattle.sw_grammar.specs.Closures.{task_header}
-use Rattle.sw_grammar.proofs.TypesAlike.{NestAlike, OfBody, SameForm, same_quote, same_name, same_at}
-use Rattle.sw_grammar.proofs.TypesAlike.{same_some_of, same_list_of, same_opened, same_type}
+use Rattle.sw_grammar.proofs.TypesAlike.{NestAlike, OfBody, SameForm, same_quote, same_name}
+use Rattle.sw_grammar.proofs.TypesAlike.{same_at, same_some_of, same_list_of, same_opened}
+use Rattle.sw_grammar.proofs.TypesAlike.{same_type}
 
 module _ (f g : List ℕ → ℕ) (depth : ℕ) (F G : (n : Nest) → Reader (El n)) where
   abbrev Alike-form : {s : Shape} {A : Type 0} → (A → A → Type 0) → Form s A → Form s A → Type 0

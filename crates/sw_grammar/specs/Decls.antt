@@ -67,10 +67,11 @@ needs_async written.Nonisolated = false
 needs_async written.Concurrent = true
 needs_async written.Nonsending = true
 
+-- what a global variable begins with, after its attribute
 abbrev pub global_first : Set
 global_first = one_of (codes "let" ∷ codes "var" ∷ [])
 
--- a shape where nothing may be spelled, and a short spelling has a token
+-- the same as `loose`, where the short spelling has a token
 abbrev pub wanted : Set → Set → Shape
 wanted first ext = record {
   nullable = true;
@@ -88,12 +89,11 @@ abbrev pub property_of : Bool → Name → Option TypeTree → Option Expr → P
 property_of mutable word ty value =
     record { written = written.Absent; mutable = mutable; word = word; ty = ty; value = value }
 
-abbrev pub member_first : Set
-member_first = method_first
-
+-- what a declaration goes on with after an attribute
 abbrev pub annotated_first : Set
 annotated_first = quoted (codes "final") ++ quoted (codes "func") ++ global_first
 
+-- what a declaration begins with
 abbrev pub decl_first : Set
 decl_first =
     quoted (codes "@main") ++ quoted (codes "@globalActor") ++ plain_at_word

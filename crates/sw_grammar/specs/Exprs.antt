@@ -20,7 +20,8 @@ use Rattle.sw_grammar.specs.Nests.{in_round, in_args, in_member, in_empty, in_cl
 use Rattle.sw_grammar.specs.Nests.{shape_of, Form, Inside, Link}
 use Rattle.sw_grammar.specs.Types.{list_of}
 
--- a shape where nothing may be spelled
+-- the shape that a rule claims, where no tokens may be a spelling and are the short one, by the
+-- tokens that may begin a spelling and those with which it may go on
 abbrev pub loose : Set → Set → Shape
 loose first ext = record {
   nullable = true;

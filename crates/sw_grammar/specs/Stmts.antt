@@ -172,7 +172,7 @@ module _ (id_of : List ℕ → ℕ) where
     inside ← nest (quote (codes "{")) in_switch
     done (stmts.Switch at subject inside.1.0 inside.1.1))
 
-  -- "return" [expr], where the value is on its line
+  -- "return" [expr], where the expression begins on the line of the "return"
   unfoldable pub return_stmt : Form
       (solid (quoted (codes "return")) (expr_ext ++ not_first expr_first) 0) Stmt
   return_stmt = shaped _ (do
@@ -181,11 +181,13 @@ module _ (id_of : List ℕ → ℕ) where
       given ← same_line (expr id_of true)
       done (stmts.Return at (Some given))) (done (stmts.Return at None)))
 
+  -- "break"
   unfoldable pub break_stmt : Form (solid (quoted (codes "break")) [] 0) Stmt
   break_stmt = shaped _ (do
     at ← expect (codes "break")
     done (stmts.Break at))
 
+  -- "continue"
   unfoldable pub continue_stmt : Form (solid (quoted (codes "continue")) [] 0) Stmt
   continue_stmt = shaped _ (do
     at ← expect (codes "continue")

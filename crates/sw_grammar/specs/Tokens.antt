@@ -22,7 +22,8 @@ infix_op text = any (4 * index_of text)
 abbrev pub prefix_op : List ℕ → Set
 prefix_op text = any (4 * index_of text + 1)
 
--- the words that name values: all that name something, but `Task`
+-- The words that an expression may be of: each word that the grammar doesn't quote, and those of
+-- the quoted ones that may be names. `Task` isn't one of them, since it begins a form of its own.
 abbrev pub value_word : Set
 value_word =
     any (4 * length quoted_texts) ++ one_of (codes "Never" ∷ codes "Sendable" ∷ codes "detached"

@@ -8,9 +8,10 @@ use Rattle.sw_weights.proofs.Owning.{none, Owns, own_done, own_then, own_either,
 use Rattle.sw_grammar.specs.Nests.{Nest, El}
 use Rattle.sw_grammar.specs.Nests.Nest.{in_captures, in_closure_params}
 use Rattle.sw_grammar.specs.Tokens.{at_word}
-use Rattle.sw_grammar.specs.Closures.{captured, captured_words, captures, captures_if, closure_param}
-use Rattle.sw_grammar.specs.Closures.{closure_params, result_if, signature, signature_if, header}
-use Rattle.sw_grammar.specs.Closures.{task_signature, task_signature_if, task_header}
+use Rattle.sw_grammar.specs.Closures.{captured, captured_words, captures, captures_if}
+use Rattle.sw_grammar.specs.Closures.{closure_param, closure_params, result_if, signature}
+use Rattle.sw_grammar.specs.Closures.{signature_if, header, task_signature, task_signature_if}
+use Rattle.sw_grammar.specs.Closures.{task_header}
 use Rattle.sw_grammar_keys.proofs.Weighing.{Weighing}
 use Rattle.sw_grammar_keys.proofs.NestWeights.{weight, signed, headed, task_signed, task_headed}
 use Rattle.sw_grammar_keys.proofs.TypeRules.{Keeps, own_list_of, own_some_of, own_name, own_mark}

@@ -18,12 +18,13 @@ use Rattle.sw_grammar.specs.Nests.Member.{property, initialiser, function, cases
 use Rattle.sw_grammar.specs.Tokens.{at_word, plain_at_word}
 use Rattle.sw_grammar.specs.Decls.{properties_in, initialisers_in, functions_in, cases_in}
 use Rattle.sw_grammar.specs.Decls.{property_of, declared, isolation_inside, nonisolated, concurrent}
-use Rattle.sw_grammar.specs.Decls.{param_type, param, params_inside, params, sent_result, func_after}
-use Rattle.sw_grammar.specs.Decls.{method, method_member, value_if, field_after, field, prop_after}
-use Rattle.sw_grammar.specs.Decls.{prop, init, enum_case, enum_cases, struct_inside, enum_inside}
-use Rattle.sw_grammar.specs.Decls.{class_inside, entry_inside, global_actor_inside, entry}
-use Rattle.sw_grammar.specs.Decls.{global_actor, struct_decl, enum_decl, actor_decl, class_after}
-use Rattle.sw_grammar.specs.Decls.{func_decl, global_value, global_after, annotated, decl, program}
+use Rattle.sw_grammar.specs.Decls.{param_type, param, params_inside, params, sent_result}
+use Rattle.sw_grammar.specs.Decls.{func_after, method, method_member, value_if, field_after, field}
+use Rattle.sw_grammar.specs.Decls.{prop_after, prop, init, enum_case, enum_cases, struct_inside}
+use Rattle.sw_grammar.specs.Decls.{enum_inside, class_inside, entry_inside, global_actor_inside}
+use Rattle.sw_grammar.specs.Decls.{entry, global_actor, struct_decl, enum_decl, actor_decl}
+use Rattle.sw_grammar.specs.Decls.{class_after, func_decl, global_value, global_after, annotated}
+use Rattle.sw_grammar.specs.Decls.{decl, program}
 use Rattle.sw_grammar_keys.proofs.Weighing.{Weighing}
 use Rattle.sw_grammar_keys.proofs.NestWeights.{weight, member, entered}
 use Rattle.sw_grammar_keys.proofs.TypeRules.{Keeps, own_list_of, own_more_of, own_quote, own_name}
@@ -228,7 +229,8 @@ module _ {id_of : List ℕ → ℕ} (w : Weighing id_of) where
     unfolding enum_inside
     own_enum_inside =
         own_then _ _ (own_items _ El shape_of table
-        (either (enum_cases id_of) (method_member id_of)) (member w) (own_either _ own_enum_cases own_method_member)) (λ read. own_past _ (λ _.
+        (either (enum_cases id_of) (method_member id_of)) (member w)
+        (own_either _ own_enum_cases own_method_member)) (λ read. own_past _ (λ _.
         own_done _ (λ k. omega arith)))
 
     pub own_class_inside : Keeps w table (class_inside id_of) none (in_all (member w))

@@ -14,18 +14,18 @@ use Rattle.sw_tree.specs.declared.expr.Expr.TheVariants as exprs
 use Rattle.sw_tree.specs.declared.expr.Arg.{Arg}
 use Rattle.sw_tree.specs.declared.expr.Link.{Link as Operand}
 use Rattle.sw_tree.specs.declared.stmt.Block.{roll-Block}
-use Rattle.sw_weights.proofs.Owning.{none, Owns, own_done, own_token, own_then, own_either, own_only}
-use Rattle.sw_weights.proofs.Owning.{own_past, own_turns, own_with, own_from, own_when}
+use Rattle.sw_weights.proofs.Owning.{none, Owns, own_done, own_token, own_then, own_either}
+use Rattle.sw_weights.proofs.Owning.{own_only, own_past, own_turns, own_with, own_from, own_when}
 use Rattle.sw_grammar.specs.Nests.{Nest, El, Form, Link, Inside}
 use Rattle.sw_grammar.specs.Nests.Nest.{in_round, in_args, in_member, in_closure, in_task}
 use Rattle.sw_grammar.specs.Tokens.{value_word, times, plus, compares, infix_op, infix_in}
 use Rattle.sw_grammar.specs.Exprs.{with_members, chained, linked, closure_at, members}
-use Rattle.sw_grammar.specs.Exprs.{call, member, after_word, after_operand, a_literal, after_task_dot}
-use Rattle.sw_grammar.specs.Exprs.{after_task, bracketed, me, closure, other_primary, postfix}
-use Rattle.sw_grammar.specs.Exprs.{negated, unary, more_times, product, more_plus, sum}
-use Rattle.sw_grammar.specs.Exprs.{more_compares, comparison, more_and, conjunction, more_or}
-use Rattle.sw_grammar.specs.Exprs.{more_operands, awaited, expr, other_expr, labelled, arg, args}
-use Rattle.sw_grammar.specs.Exprs.{round, nothing}
+use Rattle.sw_grammar.specs.Exprs.{call, member, after_word, after_operand, a_literal}
+use Rattle.sw_grammar.specs.Exprs.{after_task_dot, after_task, bracketed, me, closure}
+use Rattle.sw_grammar.specs.Exprs.{other_primary, postfix, negated, unary, more_times, product}
+use Rattle.sw_grammar.specs.Exprs.{more_plus, sum, more_compares, comparison, more_and, conjunction}
+use Rattle.sw_grammar.specs.Exprs.{more_or, more_operands, awaited, expr, other_expr, labelled, arg}
+use Rattle.sw_grammar.specs.Exprs.{args, round, nothing}
 use Rattle.sw_grammar_keys.proofs.Weighing.{Weighing}
 use Rattle.sw_grammar_keys.proofs.NestWeights.{weight, dotted, inside}
 use Rattle.sw_grammar_keys.proofs.TypeRules.{Keeps, own_list_of, own_quote, own_name, own_infix}
@@ -119,7 +119,8 @@ module _ {id_of : List ℕ → ℕ} (w : Weighing id_of) where
           own_then _ _ own_call (λ given. own_then _ _ own_members (λ links.
           own_done _ (λ k. omega arith))))
 
-      pub own_after_word : (name : Name) → Keeps w table (after_word id_of name) (w.node name) w.expr
+      pub own_after_word : (name : Name)
+          → Keeps w table (after_word id_of name) (w.node name) w.expr
       unfolding after_word called
       own_after_word name =
           own_then _ _ own_call (λ given. own_then _ _ own_members (λ links.
@@ -331,7 +332,8 @@ module _ {id_of : List ℕ → ℕ} (w : Weighing id_of) where
           own_done _ (λ k. omega (arith, w.arg-roll None value k)))))))
           (own_either _ (own_then _ _ (own_name w table (quoted (codes "Task")) (codes "Task") refl)
           (λ name. own_either _ (own_with _ (λ k. omega arith) (own_labelled name))
-          (own_from _ none w.expr (λ k. omega (arith, w.of_node name k)) (own_after_task true name.at)
+          (own_from _ none w.expr (λ k. omega (arith, w.of_node name k))
+          (own_after_task true name.at)
           (λ base. own_from _ none w.expr (λ k. omega arith) (own_after_operand base) (λ first.
           own_from _ none w.expr (λ k. omega arith) (own_more_operands true first) (λ value.
           own_done _ (λ k. omega (arith, w.arg-roll None value k))))))))

@@ -81,15 +81,18 @@ module _ (id_of : List ℕ → ℕ) where
     expr-Yield = λ at k. omega (arith, counts.in_expr-Yield at k);
     arg-roll = λ name value k. omega (arith, counts.in_arg-roll name value k);
     closure_param-is = λ given k. omega arith;
-    closure-roll = λ at mark captures params result body k. omega (arith, counts.in_closure-roll at mark captures params result body k);
+    closure-roll = λ at mark captures params result body k.
+        omega (arith, counts.in_closure-roll at mark captures params result body k);
     link-roll = λ op at operand k. omega (arith, counts.in_link-roll op at operand k);
     block-roll = λ body k. omega (arith, counts.in_block-roll body k);
-    stmt-Bind = λ mutable name ty value k. omega (arith, counts.in_stmt-Bind mutable name ty value k);
+    stmt-Bind = λ mutable name ty value k.
+        omega (arith, counts.in_stmt-Bind mutable name ty value k);
     stmt-Assign = λ at op first value k. omega (arith, counts.in_stmt-Assign at op first value k);
     stmt-Discard = λ at value k. omega (arith, counts.in_stmt-Discard at value k);
     stmt-If = λ arms otherwise k. omega (arith, counts.in_stmt-If arms otherwise k);
     stmt-While = λ at cond body k. omega (arith, counts.in_stmt-While at cond body k);
-    stmt-Switch = λ at subject arms otherwise k. omega (arith, counts.in_stmt-Switch at subject arms otherwise k);
+    stmt-Switch = λ at subject arms otherwise k.
+        omega (arith, counts.in_stmt-Switch at subject arms otherwise k);
     stmt-Return = λ at value k. omega (arith, counts.in_stmt-Return at value k);
     stmt-Break = λ at k. omega (arith, counts.in_stmt-Break at k);
     stmt-Continue = λ at k. omega (arith, counts.in_stmt-Continue at k);
@@ -108,11 +111,16 @@ module _ (id_of : List ℕ → ℕ) where
     prop-is = λ given k. omega (arith, counts.in_prop-is given k);
     init-is = λ given k. omega (arith, counts.in_init-is given k);
     case-is = λ given k. omega arith;
-    decl-Entry = λ word mark at is_async body k. omega (arith, counts.in_decl-Entry word mark at is_async body k);
-    decl-Struct = λ word conforms fields funcs k. omega (arith, counts.in_decl-Struct word conforms fields funcs k);
-    decl-Enum = λ word conforms given funcs k. omega (arith, counts.in_decl-Enum word conforms given funcs k);
-    decl-Class = λ mark word conforms props inits funcs k. omega (arith, counts.in_decl-Class mark word conforms props inits funcs k);
-    decl-Actor = λ word props inits funcs k. omega (arith, counts.in_decl-Actor word props inits funcs k);
+    decl-Entry = λ word mark at is_async body k.
+        omega (arith, counts.in_decl-Entry word mark at is_async body k);
+    decl-Struct = λ word conforms fields funcs k.
+        omega (arith, counts.in_decl-Struct word conforms fields funcs k);
+    decl-Enum = λ word conforms given funcs k.
+        omega (arith, counts.in_decl-Enum word conforms given funcs k);
+    decl-Class = λ mark word conforms props inits funcs k.
+        omega (arith, counts.in_decl-Class mark word conforms props inits funcs k);
+    decl-Actor = λ word props inits funcs k.
+        omega (arith, counts.in_decl-Actor word props inits funcs k);
     decl-GlobalActor = λ word made k. omega (arith, counts.in_decl-GlobalActor word made k);
     decl-Func = λ given k. omega (arith, counts.in_decl-Func given k);
     decl-Global = λ given _ k. omega (arith, counts.in_decl-Global given k);

@@ -80,7 +80,8 @@ module _ (id_of : List ℕ → ℕ) where
     of_node = λ name k. omega arith;
     type-Named = λ name k. omega (arith, counts.unknown_type-Named name k);
     type-Unit = λ at k. omega (arith, counts.unknown_type-Unit at k);
-    type-Arrow = λ at mark params result k. omega (arith, counts.unknown_type-Arrow at mark params result k);
+    type-Arrow = λ at mark params result k.
+        omega (arith, counts.unknown_type-Arrow at mark params result k);
     type-TaskOf = λ at inner k. omega (arith, counts.unknown_type-TaskOf at inner k);
     expr-Int = λ at value k. omega (arith, counts.unknown_expr-Int at value k);
     expr-Bool = λ at value k. omega (arith, counts.unknown_expr-Bool at value k);
@@ -99,22 +100,27 @@ module _ (id_of : List ℕ → ℕ) where
     expr-Yield = λ at k. omega (arith, counts.unknown_expr-Yield at k);
     arg-roll = λ name value k. omega (arith, counts.unknown_arg-roll name value k);
     closure_param-is = λ given k. omega (arith, counts.unknown_closure_param-is given k);
-    closure-roll = λ at mark captures params result body k. omega (arith, counts.unknown_closure-roll at mark captures params result body k);
+    closure-roll = λ at mark captures params result body k.
+        omega (arith, counts.unknown_closure-roll at mark captures params result body k);
     link-roll = λ op at operand k. omega (arith, counts.unknown_link-roll op at operand k);
     block-roll = λ body k. omega (arith, counts.unknown_block-roll body k);
-    stmt-Bind = λ mutable name ty value k. omega (arith, counts.unknown_stmt-Bind mutable name ty value k);
-    stmt-Assign = λ at op first value k. omega (arith, counts.unknown_stmt-Assign at op first value k);
+    stmt-Bind = λ mutable name ty value k.
+        omega (arith, counts.unknown_stmt-Bind mutable name ty value k);
+    stmt-Assign = λ at op first value k.
+        omega (arith, counts.unknown_stmt-Assign at op first value k);
     stmt-Discard = λ at value k. omega (arith, counts.unknown_stmt-Discard at value k);
     stmt-If = λ arms otherwise k. omega (arith, counts.unknown_stmt-If arms otherwise k);
     stmt-While = λ at cond body k. omega (arith, counts.unknown_stmt-While at cond body k);
-    stmt-Switch = λ at subject arms otherwise k. omega (arith, counts.unknown_stmt-Switch at subject arms otherwise k);
+    stmt-Switch = λ at subject arms otherwise k.
+        omega (arith, counts.unknown_stmt-Switch at subject arms otherwise k);
     stmt-Return = λ at value k. omega (arith, counts.unknown_stmt-Return at value k);
     stmt-Break = λ at k. omega (arith, counts.unknown_stmt-Break at k);
     stmt-Continue = λ at k. omega (arith, counts.unknown_stmt-Continue at k);
     stmt-Plain = λ value k. omega (arith, counts.unknown_stmt-Plain value k);
     pattern-Skip = λ at k. omega (arith, counts.unknown_pattern-Skip at k);
     pattern-Let = λ name k. omega (arith, counts.unknown_pattern-Let name k);
-    case_arm-roll = λ name given body k. omega (arith, counts.unknown_case_arm-roll name given body k);
+    case_arm-roll = λ name given body k.
+        omega (arith, counts.unknown_case_arm-roll name given body k);
     if_arm-roll = λ at cond body k. omega (arith, counts.unknown_if_arm-roll at cond body k);
     written-Absent = λ k. omega (arith, in_all-nil misses k);
     written-At = λ name k. omega (arith, counts.unknown_written-At name k);
@@ -126,11 +132,16 @@ module _ (id_of : List ℕ → ℕ) where
     prop-is = λ given k. omega (arith, counts.unknown_prop-is given k);
     init-is = λ given k. omega (arith, counts.unknown_init-is given k);
     case-is = λ given k. omega (arith, counts.unknown_case-is given k);
-    decl-Entry = λ word mark at is_async body k. omega (arith, counts.unknown_decl-Entry word mark at is_async body k);
-    decl-Struct = λ word conforms fields funcs k. omega (arith, counts.unknown_decl-Struct word conforms fields funcs k);
-    decl-Enum = λ word conforms given funcs k. omega (arith, counts.unknown_decl-Enum word conforms given funcs k);
-    decl-Class = λ mark word conforms props inits funcs k. omega (arith, counts.unknown_decl-Class mark word conforms props inits funcs k);
-    decl-Actor = λ word props inits funcs k. omega (arith, counts.unknown_decl-Actor word props inits funcs k);
+    decl-Entry = λ word mark at is_async body k.
+        omega (arith, counts.unknown_decl-Entry word mark at is_async body k);
+    decl-Struct = λ word conforms fields funcs k.
+        omega (arith, counts.unknown_decl-Struct word conforms fields funcs k);
+    decl-Enum = λ word conforms given funcs k.
+        omega (arith, counts.unknown_decl-Enum word conforms given funcs k);
+    decl-Class = λ mark word conforms props inits funcs k.
+        omega (arith, counts.unknown_decl-Class mark word conforms props inits funcs k);
+    decl-Actor = λ word props inits funcs k.
+        omega (arith, counts.unknown_decl-Actor word props inits funcs k);
     decl-GlobalActor = λ word made k. omega (arith, counts.unknown_decl-GlobalActor word made k);
     decl-Func = λ given k. omega (arith, counts.unknown_decl-Func given k);
     decl-Global = λ given _ k. omega (arith, counts.unknown_decl-Global given k);

@@ -1,4 +1,5 @@
--- What the values weigh that are no trees of their own: those of nests, headers and lists of members.
+-- What the values weigh that are no trees of their own: those of nests, headers and lists of
+-- members.
 use Rattle.std.proofs.Common.{ℕ, ◌+◌, List, Option}
 use Rattle.sw_tree.proofs.Counting.{Weight, in_all, in_option}
 use Rattle.sw_tree.specs.declared.stmt.IfArm.{IfArm}

@@ -16,7 +16,8 @@ use Rattle.sw_grammar.specs.Grammar.{body}
 use Rattle.sw_grammar.specs.Program.{SpellsDecls}
 use Rattle.sw_grammar_keys.proofs.Weighing.{Weighing}
 use Rattle.sw_grammar_keys.proofs.NestWeights.{weight}
-use Rattle.sw_grammar_keys.proofs.TypeRules.{Keeps, own_types, own_payload, own_type, own_task_inner}
+use Rattle.sw_grammar_keys.proofs.TypeRules.{Keeps, own_types, own_payload, own_type}
+use Rattle.sw_grammar_keys.proofs.TypeRules.{own_task_inner}
 use Rattle.sw_grammar_keys.proofs.ExprRules.{own_round, own_args, own_member, own_nothing_inside}
 use Rattle.sw_grammar_keys.proofs.ClosureRules.{own_captured_words, own_closure_params}
 use Rattle.sw_grammar_keys.proofs.StmtRules.{own_closure_inside, own_task_inside, own_statements}

@@ -7,9 +7,9 @@ use Rattle.sw_tree.specs.Place.{is_place}
 use Rattle.sw_tree.proofs.Counting.{in_all, in_option, in_all-append}
 use Rattle.sw_tree.specs.declared.expr.Expr.{Expr}
 use Rattle.sw_tree.specs.declared.expr.Expr.TheVariants as exprs
-use Rattle.sw_weights.proofs.Owning.{none, Owns, own_done, own_token, own_then, own_either, own_only}
-use Rattle.sw_weights.proofs.Owning.{own_past, own_turns, own_with, own_from, own_when, own_passing}
-use Rattle.sw_weights.proofs.Owning.{own_items, own_some_items}
+use Rattle.sw_weights.proofs.Owning.{none, Owns, own_done, own_token, own_then, own_either}
+use Rattle.sw_weights.proofs.Owning.{own_only, own_past, own_turns, own_with, own_from, own_when}
+use Rattle.sw_weights.proofs.Owning.{own_passing, own_items, own_some_items}
 use Rattle.sw_grammar.specs.Nests.{Nest, El, shape_of}
 use Rattle.sw_grammar.specs.Nests.Nest.{in_block, in_switch, in_patterns}
 use Rattle.sw_grammar.specs.Tokens.{value_word, an_assignment}

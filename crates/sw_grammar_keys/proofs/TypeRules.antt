@@ -8,8 +8,8 @@ use Rattle.sw_reader.specs.Relations.{Relation, One, spelled}
 use Rattle.sw_reader.specs.Quotes.{quote, quote_on_line}
 use Rattle.sw_reader.proofs.SetLemmas.{has-within}
 use Rattle.sw_tree.proofs.Counting.{Weight, in_all, in_option, in_all-append}
-use Rattle.sw_weights.proofs.Owning.{none, Owns, own_done, own_token, own_then, own_either, own_only}
-use Rattle.sw_weights.proofs.Owning.{own_past, own_turns, own_nest, own_from}
+use Rattle.sw_weights.proofs.Owning.{none, Owns, own_done, own_token, own_then, own_either}
+use Rattle.sw_weights.proofs.Owning.{own_only, own_past, own_turns, own_nest, own_from}
 use Rattle.sw_grammar.specs.Nests.{Nest, El, shape_of, Form}
 use Rattle.sw_grammar.specs.Nests.Nest.{in_types, in_result, in_task_type}
 use Rattle.sw_grammar.specs.Tokens.{name_in, at_in, value_word, infix_in, a_prefix}
@@ -26,7 +26,8 @@ module _ {id_of : List ℕ → ℕ} (w : Weighing id_of) (table : (n : Nest) →
   -- Lists.
   module _ {A : Type 0} {s : Shape} (item : Form s A) (u : A → Weight) (each : Keeps item none u)
     where
-      pub own_more_of : (first : List A) → Keeps (more_of id_of first item) (in_all u first) (in_all u)
+      pub own_more_of : (first : List A)
+          → Keeps (more_of id_of first item) (in_all u first) (in_all u)
       unfolding in_all
       own_more_of first =
           own_turns _ (λ xs. own_only _ true (own_past _ (λ _. own_then _ u each (λ x.
@@ -48,7 +49,8 @@ module _ {id_of : List ℕ → ℕ} (w : Weighing id_of) (table : (n : Nest) →
   own_quote text = own_token _ (quote text) (λ token _ k. w.of_place token k)
 
   pub own_name : (set : Set) (text : List ℕ) → within set word ≡ true
-      → Owns w.of_token none (One (name_in id_of set text)) (λ name k. w.node name k + w.label name k)
+      → Owns w.of_token none (One (name_in id_of set text))
+      (λ name k. w.node name k + w.label name k)
   own_name set text less =
       own_token _ (name_in id_of set text)
       (λ token member k. w.of_word token (has-within set word token less member) k)

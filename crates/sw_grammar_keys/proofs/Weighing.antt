@@ -1,5 +1,5 @@
--- A weight of everything that trees hold, by laws that say what each form of node adds to its parts,
--- and that tokens weigh what they give.
+-- A weight of everything that trees hold, by laws that say what each form of node adds to its
+-- parts, and that tokens weigh what they give.
 use Rattle.std.proofs.Common.{ℕ, ℤ, ◌+◌, ◌≤◌, Bool, IsSome, IsTrue, List, ◌∷◌, Option}
 use Rattle.sw_token.specs.Spelling.{Spelled}
 use Rattle.sw_reader.specs.Sets.{has, word, attribute}

@@ -25,16 +25,16 @@ slice_get_after [] ys i = rw zero-add refl
 slice_get_after (x ∷ xs) ys i = rw suc-add (slice_get_after xs ys i)
 
 -- an element of the first of two lists
-pub slice_get_front : {A : Type 0} (xs ys : List A) (i : ℕ) → i < length xs
+pub slice_get_first : {A : Type 0} (xs ys : List A) (i : ℕ) → i < length xs
     → slice_get (xs ++ ys) i ≡ slice_get xs i
-slice_get_front [] ys i inside = absurd (omega arith)
-slice_get_front (x ∷ xs) ys zero inside = refl
-slice_get_front (x ∷ xs) ys (suc i) inside = slice_get_front xs ys i (omega arith)
+slice_get_first [] ys i inside = absurd (omega arith)
+slice_get_first (x ∷ xs) ys zero inside = refl
+slice_get_first (x ∷ xs) ys (suc i) inside = slice_get_first xs ys i (omega arith)
 
 -- an element of the second of two lists
-pub slice_get_back : {A : Type 0} (xs ys : List A) (i : ℕ) → length xs ≤ i
+pub slice_get_second : {A : Type 0} (xs ys : List A) (i : ℕ) → length xs ≤ i
     → slice_get (xs ++ ys) i ≡ slice_get ys (i - length xs)
-slice_get_back xs ys i past =
+slice_get_second xs ys i past =
     ap (slice_get (xs ++ ys)) (let split : i ≡ length xs + (i - length xs) = omega arith in split)
     ∙ slice_get_after xs ys (i - length xs)
 

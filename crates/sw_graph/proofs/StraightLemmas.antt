@@ -210,15 +210,15 @@ block_of : (takes : ℕ) (blocks : List Block) → IsTrue (are_straight takes bl
     → HasBlock takes blocks
 block_of takes [] straight = cc
 block_of takes (block ∷ []) straight =
-    let front = both (returns block.last && not (has_payload block.instrs))
+    let outer = both (returns block.last && not (has_payload block.instrs))
     (reads_in_order takes block.last [] block.instrs) straight in
-    let parts = both (returns block.last) (not (has_payload block.instrs)) front.0 in
+    let parts = both (returns block.last) (not (has_payload block.instrs)) outer.0 in
     record {
       block = block;
       is = refl;
       returns_there = parts.0;
       plain = not_true (has_payload block.instrs) parts.1;
-      ordered = front.1;
+      ordered = outer.1;
     }
 block_of takes (block ∷ (other ∷ blocks)) straight = cc
 

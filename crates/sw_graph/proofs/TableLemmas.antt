@@ -14,7 +14,7 @@ use Rattle.sw_graph.specs.declared.table.Place.{Place}
 use Rattle.sw_graph.specs.declared.table.PointTable.{PointTable}
 use Rattle.sw_graph.specs.Points.{points_of, points_of_block, point_in, block_start}
 use Rattle.sw_graph.specs.Table.{places_in, places_from, starts_from, table_of, at_place}
-use Rattle.sw_graph.proofs.ListLemmas.{slice_get_before, slice_get_front, slice_get_back, at_seam}
+use Rattle.sw_graph.proofs.ListLemmas.{slice_get_before, slice_get_first, slice_get_second, at_seam}
 use Rattle.sw_graph.proofs.PointLemmas.{length-points_of_block, at_block}
 
 length-places_in : (block n : ℕ) → length (places_in block n) ≡ n
@@ -59,19 +59,19 @@ length-places_from number (block ∷ blocks) =
       length-places_from (number + 1) blocks,
     )
 
--- What stands at the place of a point is what stands at the point.
 -- a table has a place for each point
 pub length_places : (function : Function) (table : PointTable) → table ≡ table_of function
     → length table.places ≡ length (points_of function.blocks)
 length_places function table is =
     ap (λ t. length t.places) is ∙ length-places_from 0 function.blocks
 
-told : (before blocks : List Block) (point : ℕ)
+-- What stands at the place of a point is what stands at the point.
+placed : (before blocks : List Block) (point : ℕ)
     → option_and_then (at_place (before ++ blocks))
     (slice_get (places_from (length before) blocks) point) ≡ slice_get (points_of blocks) point
 unfolding places_from points_of
-told before [] point = refl
-told before (block ∷ rest) point =
+placed before [] point = refl
+placed before (block ∷ rest) point =
     let count = length block.instrs + 1 in
     let number = length before in
     let all = before ++ block ∷ rest in
@@ -81,14 +81,14 @@ told before (block ∷ rest) point =
     elim (cases_lt point count) [
       | inl below ↦
           ap (option_and_then (at_place all))
-          (slice_get_front places (places_from (number + 1) rest) point (omega arith)
+          (slice_get_first places (places_from (number + 1) rest) point (omega arith)
           ∙ place_in number count point below)
           ∙ ap (option_and_then (λ (b : Block). slice_get (points_of_block b) point))
           (at_seam before block rest)
-          ∙ sym (slice_get_front (points_of_block block) (points_of rest) point (omega arith))
+          ∙ sym (slice_get_first (points_of_block block) (points_of rest) point (omega arith))
       | inr above ↦
           ap (option_and_then (at_place all))
-          (slice_get_back places (places_from (number + 1) rest) point (omega arith)
+          (slice_get_second places (places_from (number + 1) rest) point (omega arith)
           ∙ ap (λ n. slice_get (places_from n rest) (point - length places))
           (let one : number + 1 ≡ length (before ++ block ∷ []) =
           omega (arith, length-append before (block ∷ [])) in one)
@@ -98,18 +98,18 @@ told before (block ∷ rest) point =
           ∙ ap (λ bs. option_and_then (at_place bs)
           (slice_get (places_from (length (before ++ block ∷ [])) rest)
           (point - length (points_of_block block)))) (sym (append_assoc before (block ∷ []) rest))
-          ∙ told (before ++ block ∷ []) rest (point - length (points_of_block block))
-          ∙ sym (slice_get_back (points_of_block block) (points_of rest) point (omega arith))
+          ∙ placed (before ++ block ∷ []) rest (point - length (points_of_block block))
+          ∙ sym (slice_get_second (points_of_block block) (points_of rest) point (omega arith))
     ]
 
-pub point_told : (function : Function) (table : PointTable) (point : ℕ)
+pub point_placed : (function : Function) (table : PointTable) (point : ℕ)
     → table ≡ table_of function
     → option_and_then (at_place function.blocks) (slice_get table.places point)
     ≡ point_in function point
-point_told function table point is =
+point_placed function table point is =
     ap (λ (t : PointTable).
     option_and_then (at_place function.blocks) (slice_get t.places point)) is
-    ∙ told [] function.blocks point
+    ∙ placed [] function.blocks point
 
 starts_at : (start : ℕ) (blocks : List Block) (k : ℕ) → slice_get (starts_from start blocks) k
     ≡ option_map (λ block. start + length (points_of (take k blocks))) (slice_get blocks k)

@@ -24,12 +24,12 @@ use Rattle.sw_graph.specs.Placed.{EachInstr, FunctionAt, is_inside, is_var_part,
 use Rattle.sw_graph.specs.Placed.{is_inside_global, IsPlaced}
 
 -- Whether values of a type may cross between the isolations of a graph.
-abbrev pub crosses : Graph → Ty → Bool
-crosses graph ty = is_sendable graph.shapes ty
+abbrev pub may_cross : Graph → Ty → Bool
+may_cross graph ty = is_sendable graph.shapes ty
 
 -- A register is untracked where it is no box and its type is Sendable.
 abbrev pub is_untracked : Graph → Option RegKind → Bool
-is_untracked graph (Some (Plain ty)) = crosses graph ty
+is_untracked graph (Some (Plain ty)) = may_cross graph ty
 is_untracked graph _ = false
 
 -- whether the register holds a `@Sendable` function
@@ -54,7 +54,7 @@ CallClean graph body _ = Unit {0}
 -- A task's result is Sendable.
 abbrev pub TaskClean : Graph → Instr → Type 0
 TaskClean graph (NewTask at r f cs) = FunctionAt graph f
-    (λ function. IsTrue (crosses graph function.result))
+    (λ function. IsTrue (may_cross graph function.result))
 TaskClean graph _ = Unit {0}
 
 -- What is read directly from outside its isolation is an untracked `let`.
@@ -64,23 +64,25 @@ ReadClean graph body (LoadProp at r o i) = is_inside graph.shapes body o ≡ fal
     && is_untracked graph (part (shape_of graph.shapes is_cell (slice_get body.regs o.reg)) i))
 ReadClean graph body (LoadGlobal at r g) = is_inside_global graph.globals body g ≡ false
     → IsTrue (not (is_var_global graph.globals g)
-    && option_map_or (λ global. crosses graph global.ty) (slice_get graph.globals g) false)
+    && option_map_or (λ global. may_cross graph global.ty) (slice_get graph.globals g) false)
 ReadClean graph body _ = Unit {0}
 
 -- Whether a declaration that says it is Sendable may: its parts are, and a class without a global
 -- actor has no `var`.
 abbrev pub conforms : Graph → Shape → Bool
-conforms graph shape = list_all (crosses graph) (types_in shape)
+conforms graph shape = list_all (may_cross graph) (types_in shape)
     && (not (is_class shape.kind) || list_all (λ part. not part.mutable) shape.parts)
 
+-- A declared type that says it is Sendable, and has no global actor, may say so.
 abbrev pub ShapeClean : Graph → Shape → Type 0
 ShapeClean graph shape = IsTrue shape.conforms → shape.actor ≡ None → IsTrue (conforms graph shape)
 
 -- A global without a global actor is an untracked `let`.
 abbrev pub GlobalClean : Graph → GlobalKind → Type 0
 GlobalClean graph global = global.actor ≡ None
-    → IsTrue (not global.mutable && crosses graph global.ty)
+    → IsTrue (not global.mutable && may_cross graph global.ty)
 
+-- The graph is clean: it is placed, and what crosses from one isolation to another may cross.
 pub record IsClean (graph : Graph) : Type 0 where
   pub placed : IsPlaced graph
   pub closures : EachInstr graph (ClosureClean graph)

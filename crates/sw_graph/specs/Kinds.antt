@@ -72,9 +72,9 @@ form_of (Some (Plain ty)) = Some (out-Ty ty)
 form_of _ = None
 
 -- what a box holds
-abbrev pub held : Option RegKind → Option RegKind
-held (Some (BoxOf ty)) = value ty
-held _ = None
+abbrev pub box_content : Option RegKind → Option RegKind
+box_content (Some (BoxOf ty)) = value ty
+box_content _ = None
 
 abbrev pub literal_type : Literal → Ty
 literal_type (IntOf number) = Int
@@ -94,6 +94,7 @@ abbrev pub un_type : UnOp → Ty
 un_type Not = BoolType
 un_type Neg = Int
 
+-- the kinds that an infix operator takes: `==` and `!=` two of one kind, the others two integers
 abbrev pub TakesBoth : BinOp → Option RegKind → Option RegKind → Type 0
 TakesBoth Eq left right = IsTrue (is_printable left) × (left ≡ right)
 TakesBoth Ne left right = IsTrue (is_printable left) × (left ≡ right)
@@ -192,7 +193,7 @@ awaited (Some (layer.Task result)) = value result
 awaited _ = None
 
 -- The kinds of an instruction's operands and of its result. Where a payload stands and what it
--- gives is told of its block.
+-- gives is said of its block.
 abbrev pub KindsFit : List Shape → List GlobalKind → List Function → List RegKind → Instr → Type 0
 KindsFit shapes globals functions regs (Const at r v) =
     Goes (value (literal_type v)) (slice_get regs r)
@@ -219,14 +220,14 @@ KindsFit shapes globals functions regs (NewObject at r k ss) =
     EachOf Goes (kinds_of regs ss) (parts (shape_at shapes is_class k))
     × Goes (value (Named k)) (slice_get regs r)
 KindsFit shapes globals functions regs (NewBox at r s) =
-    Goes (slice_get regs s.reg) (held (slice_get regs r))
+    Goes (slice_get regs s.reg) (box_content (slice_get regs r))
 KindsFit shapes globals functions regs (NewActor at r k ss) =
     EachOf Goes (kinds_of regs ss) (parts (shape_at shapes is_actor k))
     × Goes (value (Named k)) (slice_get regs r)
 KindsFit shapes globals functions regs (LoadBox at r b) =
-    Goes (held (slice_get regs b.reg)) (slice_get regs r)
+    Goes (box_content (slice_get regs b.reg)) (slice_get regs r)
 KindsFit shapes globals functions regs (StoreBox at b s) =
-    Goes (slice_get regs s.reg) (held (slice_get regs b.reg))
+    Goes (slice_get regs s.reg) (box_content (slice_get regs b.reg))
 KindsFit shapes globals functions regs (LoadProp at r o i) =
     Goes (part (shape_of shapes is_cell (slice_get regs o.reg)) i) (slice_get regs r)
 KindsFit shapes globals functions regs (StoreProp at o i s) =

@@ -9,6 +9,7 @@ use Rattle.sw_graph.specs.declared.function.Excess.TheVariants.{Registers, Point
 use Rattle.sw_graph.specs.declared.function.TooLarge.{TooLarge}
 use Rattle.sw_graph.specs.Points.{points_of}
 
+-- the function isn't too large
 pub record IsWithinLimits (function : Function) : Type 0 where
   pub registers : length function.regs ≤ MAX_REGISTERS
   pub points : length (points_of function.blocks) ≤ MAX_POINTS

@@ -50,6 +50,7 @@ PayloadFits shapes function number (Payload at r s i) =
     → Unpacks shapes function.regs block.last tag s i r) function.blocks)
 PayloadFits shapes function number _ = Unit {0}
 
+-- in a block payloads are taken by its first instructions alone, and each where its case is known
 pub record PayloadsFit (shapes : List Shape) (function : Function) (number : ℕ) (block : Block)
     : Type 0 where
   pub front : IsTrue (in_front block.instrs)

@@ -54,15 +54,16 @@ callee_of on_self callee = record {
 -- A call has the kind that its callee and the caller's isolation give, on `self` or on something
 -- else. One within an actor is on the body's own `self`. So may others be: what `await self` gives
 -- is no `self` by the table of kinds, so a call on it is one into another isolation.
-pub record HasKind (body callee : Function) (operands : List Operand) (kind : CallKind)
+pub record HasCallKind (body callee : Function) (operands : List Operand) (kind : CallKind)
     : Type 0 where
   pub on_self : Bool
   pub given : kind ≡ call_kind (callee_of on_self callee) body.iso
   pub within : kind ≡ Same → callee.iso ≡ Own → IsTrue (first_is_self body operands)
 
+-- each call of a body has the kind that isolation gives it
 abbrev pub CallPlaced : Graph → Function → Instr → Type 0
 CallPlaced graph body (Call at r kind f ss) = FunctionAt graph f
-    (λ callee. HasKind body callee ss kind)
+    (λ callee. HasCallKind body callee ss kind)
 CallPlaced graph body _ = Unit {0}
 
 -- Whether a part of this cell is the body's own: a part of its own `self`, or of an object of a
@@ -109,6 +110,7 @@ StorePlaced graph n body (StoreGlobal at g s) = is_var_global graph.globals g �
     → Contains graph.starts n
 StorePlaced graph n body _ = Unit {0}
 
+-- a block ends with a return
 abbrev pub IsReturn : Last → Type 0
 IsReturn (Return s) = Unit {0}
 IsReturn _ = ⊥
@@ -136,6 +138,7 @@ MadeInside body captures (Global actor) = IsTrue (is_on actor body.iso)
 MadeInside body captures Free = Unit {0}
 MadeInside body captures Caller = Unit {0}
 
+-- A task may run anywhere; one that is isolated to `self` gets the body's own `self` first.
 abbrev pub TaskInside : Function → List Operand → Iso → Type 0
 TaskInside body captures Own = IsTrue (first_is_self body captures)
 TaskInside body captures _ = Unit {0}
@@ -148,6 +151,7 @@ pub record IsRunApart (shapes : List Shape) (function : Function) : Type 0 where
   pub actor : is_actor_initialiser function ≡ false
   pub class : is_class_initialiser shapes function ≡ false
 
+-- closures and tasks stand where their isolation lets them
 abbrev pub ApartPlaced : Graph → Function → Instr → Type 0
 ApartPlaced graph body (NewClosure at r f cs) = FunctionAt graph f
     (λ function. MadeInside body cs function.iso × IsRunApart graph.shapes function)
@@ -185,14 +189,15 @@ abbrev pub named_by : Instr → List ℕ
 named_by (NewTask at r f cs) = f ∷ []
 named_by instr = leads_to instr
 
--- The entry and the functions that give first values take nothing, and are isolated to no actor or
--- to a global actor.
+-- isolated to no actor or to a global actor
 abbrev pub IsFreeOrGlobal : Iso → Type 0
 IsFreeOrGlobal Free = Unit {0}
 IsFreeOrGlobal (Global actor) = Unit {0}
 IsFreeOrGlobal Own = ⊥
 IsFreeOrGlobal Caller = ⊥
 
+-- what holds of the entry and of the functions that give first values: they take nothing, and are
+-- isolated to no actor or to a global actor
 pub record IsFirst (function : Function) : Type 0 where
   pub takes : function.takes ≡ 0
   pub iso : IsFreeOrGlobal function.iso

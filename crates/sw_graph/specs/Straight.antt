@@ -57,6 +57,7 @@ pub record StraightFits (shapes : List Shape) (globals : List GlobalKind)
   pub result : IsTrue (is_within (length shapes) function.result)
   pub blocks : All (BlockFits shapes globals functions function) function.blocks
 
+-- the numbers of the graph are in range as in a well-formed one, and its functions are straight
 pub record IsStraightGraph (shapes : List Shape) (globals : List GlobalKind)
     (functions : List Function) (entry : ℕ) (starts : List ℕ) : Type 0 where
   pub entry_in : entry < length functions

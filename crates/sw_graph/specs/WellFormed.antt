@@ -29,6 +29,8 @@ abbrev pub type_in : RegKind → Ty
 type_in (Plain ty) = ty
 type_in (BoxOf ty) = ty
 
+-- An instruction names registers of its function, and functions, globals and shapes of the graph,
+-- and its registers have the kinds that it asks for.
 pub record InstrFits (shapes : List Shape) (globals : List GlobalKind) (functions : List Function)
     (function : Function) (instr : Instr) : Type 0 where
   pub registers : AllBelow (length function.regs) (registers_of instr)
@@ -37,16 +39,21 @@ pub record InstrFits (shapes : List Shape) (globals : List GlobalKind) (function
   pub shapes_in : AllBelow (length shapes) (shapes_of instr)
   pub kinds : KindsFit shapes globals functions function.regs instr
 
+-- The same of the last of a block, which names blocks of its function.
 pub record LastFits (shapes : List Shape) (function : Function) (last : Last) : Type 0 where
   pub registers : AllBelow (length function.regs) (last_registers last)
   pub blocks_in : AllBelow (length function.blocks) (blocks_of last)
   pub kinds : LastKindsFit shapes function.regs function.result last
 
+-- each instruction of a block fits, and so does its last
 pub record BlockFits (shapes : List Shape) (globals : List GlobalKind) (functions : List Function)
     (function : Function) (block : Block) : Type 0 where
   pub instrs : All (InstrFits shapes globals functions function) block.instrs
   pub last : LastFits shapes function block.last
 
+-- A function has a block to begin at, takes no more than it has registers for, says of each thing
+-- that it takes whether that is `sending`, and has types of the graph's shapes alone. Its blocks
+-- fit, payloads stand where their case is known, and registers are set before they are read.
 pub record FunctionFits (shapes : List Shape) (globals : List GlobalKind)
     (functions : List Function) (function : Function) : Type 0 where
   pub takes : function.takes ≤ length function.regs
@@ -59,6 +66,8 @@ pub record FunctionFits (shapes : List Shape) (globals : List GlobalKind)
       → PayloadsFit shapes function number block
   pub sets : SetsBeforeReads function
 
+-- A graph is well formed: the numbers of its entry and of the functions that give first values are
+-- in range, each global has such a function, and its functions fit and are within the limits.
 pub record IsWellFormed (shapes : List Shape) (globals : List GlobalKind)
     (functions : List Function) (entry : ℕ) (starts : List ℕ) : Type 0 where
   pub entry_in : entry < length functions

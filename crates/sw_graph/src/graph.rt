@@ -11,8 +11,9 @@ use crate::instr::IdList;
 use crate::point::Point;
 use sw_types::Shapes;
 
-/// A program's control-flow graph. Its numbers are in range, its functions are within the limits and
-/// its registers have the kinds that its instructions ask for.
+/// A program's control-flow graph. It is well formed: its numbers are in range, its functions are
+/// within the limits, its registers have the kinds that its instructions ask for and are set before
+/// they are read, and payloads are taken where their case is known.
 #[derive(Debug, Drop)]
 pub struct Graph {
     pub shapes: Shapes,
@@ -22,7 +23,8 @@ pub struct Graph {
     pub entry: u32,
     /// The functions that give the globals their first values, in order of the globals.
     pub starts: IdList,
-    pub ghost well_formed: { IsWellFormed shapes globals functions entry starts } by { IsWellFormed-prop shapes globals functions entry starts },
+    pub ghost well_formed: { IsWellFormed shapes globals functions
+        entry starts } by { IsWellFormed-prop shapes globals functions entry starts },
 }
 
 impl Graph {

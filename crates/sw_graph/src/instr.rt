@@ -4,7 +4,7 @@ use sw_types::CallKind;
 /// Operands in order.
 pub type OperandList = ListOf<Operand>;
 
-/// Numbers of blocks, functions or names, in order.
+/// Numbers in order, such as those of blocks or functions.
 pub type IdList = ListOf<u32>;
 
 /// Instructions in order.

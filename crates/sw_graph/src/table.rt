@@ -42,7 +42,7 @@ impl PointTable {
     }
 
     /// What stands at a point of the function whose table this is.
-    #[tactic(auto, using(crate::proofs::TableLemmas::point_told))]
+    #[tactic(auto, using(crate::proofs::TableLemmas::point_placed))]
     pub fn point<'a>(&self, function: &'a Function, point: u32) -> Option<Point<'a>>
         requires table { self.now ≡ table_of function.now }
         requires numbered { IsNumbered function.now }

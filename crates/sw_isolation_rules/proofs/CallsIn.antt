@@ -17,7 +17,7 @@ use Rattle.sw_tree.specs.declared.stmt.Block.{Block}
 use Rattle.sw_typing_rules.specs.Worlds.{World}
 use Rattle.sw_isolation_rules.specs.Answers.{Answers}
 use Rattle.sw_isolation_rules.specs.CallKeys.{Keys, Calling, Operating, Closing, call_keys, joined}
-use Rattle.sw_isolation_rules.specs.CallKeys.{HasKind, HaveKinds, call_steps, expr_calls}
+use Rattle.sw_isolation_rules.specs.CallKeys.{HasNotedKind, HaveNotedKinds, call_steps, expr_calls}
 use Rattle.sw_isolation_rules.specs.CallKeys.{block_calls}
 use Rattle.sw_isolation_rules.specs.Captures.{closed, is_mention, captured, taken, own_mentions}
 use Rattle.sw_isolation_rules.specs.Captures.{list_mentions}
@@ -39,7 +39,8 @@ use Rattle.sw_isolation_rules.specs.declared.uses.Used.TheVariants.{Called, Stor
 use Rattle.sw_isolation_rules.specs.declared.uses.Used.TheVariants.{Nothing}
 use Rattle.sw_isolation_rules.proofs.Each.{each_join}
 
-left_has : (one other : List Note) (key : ℕ) → HasKind one key → HasKind (one ++ other) key
+left_has : (one other : List Note) (key : ℕ) → HasNotedKind one key
+    → HasNotedKind (one ++ other) key
 left_has one other key (kinded, (has, is)) = (
   kinded,
   (
@@ -49,7 +50,8 @@ left_has one other key (kinded, (has, is)) = (
   ),
 )
 
-right_has : (one other : List Note) (key : ℕ) → HasKind other key → HasKind (one ++ other) key
+right_has : (one other : List Note) (key : ℕ) → HasNotedKind other key
+    → HasNotedKind (one ++ other) key
 right_has one other key (kinded, (has, is)) = (
   kinded,
   (
@@ -59,20 +61,20 @@ right_has one other key (kinded, (has, is)) = (
   ),
 )
 
-all_left : (one other : List Note) (keys : Keys) → HaveKinds one keys
-    → HaveKinds (one ++ other) keys
+all_left : (one other : List Note) (keys : Keys) → HaveNotedKinds one keys
+    → HaveNotedKinds (one ++ other) keys
 all_left one other [] have = tt
 all_left one other (key ∷ keys) have =
     (left_has one other key have.0, all_left one other keys have.1)
 
-all_right : (one other : List Note) (keys : Keys) → HaveKinds other keys
-    → HaveKinds (one ++ other) keys
+all_right : (one other : List Note) (keys : Keys) → HaveNotedKinds other keys
+    → HaveNotedKinds (one ++ other) keys
 all_right one other [] have = tt
 all_right one other (key ∷ keys) have =
     (right_has one other key have.0, all_right one other keys have.1)
 
 record Has (notes : List Note) (keys : Keys) : Type 0 where
-  all : HaveKinds notes keys
+  all : HaveNotedKinds notes keys
 
 none : (notes : List Note) → Has notes []
 none notes = record { all = tt }
@@ -86,7 +88,7 @@ right one other keys have = record { all = all_right one other keys have.all }
 both : (one other : List Note) (keys more : Keys) → Has one keys → Has other more
     → Has (one ++ other) (keys ++ more)
 both one other keys more first second = record {
-  all = each_join (HasKind (one ++ other)) keys more (all_left one other keys first.all)
+  all = each_join (HasNotedKind (one ++ other)) keys more (all_left one other keys first.all)
       (all_right one other more second.all);
 }
 
@@ -101,8 +103,8 @@ kept_kinds (Var key ∷ notes) = kept_kinds notes
 kept_kinds (Mentioned one ∷ notes) = kept_kinds notes
 kept_kinds (Captures held ∷ notes) = kept_kinds notes
 
-all_kept : (inner : List Note) (keys : Keys) → HaveKinds inner keys
-    → HaveKinds (filter (λ note. not (is_mention note)) inner) keys
+all_kept : (inner : List Note) (keys : Keys) → HaveNotedKinds inner keys
+    → HaveNotedKinds (filter (λ note. not (is_mention note)) inner) keys
 all_kept inner [] have = tt
 all_kept inner (key ∷ keys) have = (
   subst (λ list. (kinded : Kinded) × (Contains list kinded × (kinded.at ≡ key)))
@@ -125,7 +127,7 @@ closed_has world context closure listed inner keys have =
 after_body : (body : BodyIso) (notes : List Note) (keys : Keys) → Has notes keys
     → Has (Body body ∷ notes) keys
 after_body body notes keys have = record { all = go keys have.all } where
-  go : (more : Keys) → HaveKinds notes more → HaveKinds (Body body ∷ notes) more
+  go : (more : Keys) → HaveNotedKinds notes more → HaveNotedKinds (Body body ∷ notes) more
   go [] all = tt
   go (key ∷ more) all = (all.0, go more all.1)
 
@@ -435,13 +437,13 @@ module _ (world : World) (answers : Answers) (owner : Option ℕ) where
   block_has block = every_block claims cases block
 
 module _ (world : World) (answers : Answers) (context : Context) (listed : List ℕ) where
-  pub expr_has_kinds : (e : Expr) → HaveKinds ((see world answers e).notes context listed)
+  pub expr_has_kinds : (e : Expr) → HaveNotedKinds ((see world answers e).notes context listed)
       (expr_calls world answers context.owner e)
   unfolding see expr_calls
   expr_has_kinds e = (expr_has world answers context.owner e context listed refl).all
 
   pub block_has_kinds : (block : Block)
-      → HaveKinds (block_notes world answers block context listed)
+      → HaveNotedKinds (block_notes world answers block context listed)
       (block_calls world answers context.owner block)
   unfolding block_notes block_calls
   block_has_kinds block = (block_has world answers context.owner block context listed refl).all

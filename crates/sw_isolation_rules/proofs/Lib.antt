@@ -1,11 +1,13 @@
 mod Apart
 mod Calls
 mod CallsIn
-mod Each
+pub mod Each
 pub mod OneMerged
 mod InOrder
 mod Meant
-mod NotedKeys
+pub mod Noted
+pub mod NotedKeys
+pub mod NotedUses
 mod Sound
 mod SoundNotes
 pub mod SoundPrograms

@@ -38,7 +38,7 @@ pub record Closing : Type 0 where
 
 -- the key of a call of a function, a method or an initialiser
 abbrev pub call_keys : ℕ → Used → Keys
-call_keys at (Called callee sends) = at ∷ []
+call_keys at (Called callee may_cross) = at ∷ []
 call_keys at (Stored storage) = []
 call_keys at Field = []
 call_keys at Waited = []
@@ -51,12 +51,12 @@ abbrev pub joined : List Keys → Keys
 joined keys = flat_map (λ more. more) keys
 
 -- the notes have the kind of a call with this key
-abbrev pub HasKind : List Note → ℕ → Type 0
-HasKind notes key = (kinded : Kinded) × (Contains (kinds_in notes) kinded × (kinded.at ≡ key))
+abbrev pub HasNotedKind : List Note → ℕ → Type 0
+HasNotedKind notes key = (kinded : Kinded) × (Contains (kinds_in notes) kinded × (kinded.at ≡ key))
 
 -- the notes have the kinds of calls with these keys
-abbrev pub HaveKinds : List Note → Keys → Type 0
-HaveKinds notes keys = AllByRecursion (HasKind notes) keys
+abbrev pub HaveNotedKinds : List Note → Keys → Type 0
+HaveNotedKinds notes keys = AllByRecursion (HasNotedKind notes) keys
 
 module _ (world : World) (answers : Answers) (owner : Option ℕ) where
   abbrev pub word_calls : ℕ → Keys

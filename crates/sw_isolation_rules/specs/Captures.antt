@@ -63,7 +63,7 @@ mentioned (Refused placed) = []
 mentioned (Race placed) = []
 mentioned (Var key) = []
 mentioned (Mentioned one) = one ∷ []
-mentioned (Captures held) = []
+mentioned (Captures one) = []
 
 abbrev pub is_mention : Note → Bool
 is_mention (Body body) = false
@@ -72,7 +72,7 @@ is_mention (Refused placed) = false
 is_mention (Race placed) = false
 is_mention (Var key) = false
 is_mention (Mentioned one) = true
-is_mention (Captures held) = false
+is_mention (Captures one) = false
 
 -- A variable that is mentioned in a closure is an outer one where its declaration stands before the
 -- closure: it is declared before it is mentioned.
@@ -89,26 +89,28 @@ firsts_from found (one ∷ more) =
 abbrev pub firsts : List Mention → List Mention
 firsts mentions = firsts_from [] mentions
 
--- A closure or a task that is isolated to `self` holds it. Where it doesn't mention it, this stands
--- at the closure.
-abbrev pub held : World → Context → ℕ → List Mention
-held world context closure =
+-- The mention of `self` by a closure or a task that is isolated to it, at the closure
+-- itself: it captures `self` even where no word in it does.
+abbrev pub held_self : World → Context → ℕ → List Mention
+held_self world context closure =
     if is_own context.iso then me_mentions world context.owner closure else []
 
--- what a closure takes: `self` before the others, which are in the order of their first mentions
+-- mentions with those of `self`, by the key of `self`, before the others
 abbrev pub self_first : List ℕ → List Mention → List Mention
 self_first me mentions =
     filter (λ (one : Mention). is_among me one.variable) mentions
     ++ filter (λ (one : Mention). not (is_among me one.variable)) mentions
 
--- the outer variables that a closure mentions, and all that it takes
+-- the first mention of each outer variable in a closure, by what is noted inside it
 abbrev pub own_mentions : ℕ → List Note → List Mention
 own_mentions closure inner = firsts (outer closure (flat_map mentioned inner))
 
+-- What a closure takes, by what is noted inside it: `self` first, where it mentions or holds it,
+-- and then each other outer variable that it mentions.
 abbrev pub taken : World → Context → ℕ → List Note → List Mention
 taken world context closure inner =
     self_first (self_of world context.owner)
-    (firsts (outer closure (flat_map mentioned inner ++ held world context closure)))
+    (firsts (outer closure (flat_map mentioned inner ++ held_self world context closure)))
 
 -- what is listed by a closure or by one around it is captured by value
 abbrev pub captured : ℕ → List ℕ → Mention → Note

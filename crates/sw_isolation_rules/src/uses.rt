@@ -35,7 +35,7 @@ pub struct Storage {
     pub iso: Iso,
     pub on_self: bool,
     pub mutable: bool,
-    pub sends: bool,
+    pub may_cross: bool,
 }
 
 /// What the use of a name, a member or a call is, by its meaning.
@@ -43,7 +43,7 @@ pub struct Storage {
 pub enum Used {
     /// The call of a function, a method or an initialiser, and whether its result may cross: it is
     /// Sendable or `sending`.
-    Called { callee: Callee, sends: bool },
+    Called { callee: Callee, may_cross: bool },
     /// Storage of an actor, of an object or of the program.
     Stored(Storage),
     /// A part of a struct's value.

@@ -58,16 +58,16 @@ pub register_count : (count : ℕ) (vs : List Value) → length vs ≤ count
 unfolding registers
 register_count count vs few =
     let all = length-append (map Some vs) (replicate (count - length vs) None) in
-    let front = length-map vs Some in
-    let back = length-replicate {A = Option Value} (count - length vs) None in
-    omega (arith, all, front, back, few)
+    let filled = length-map vs Some in
+    let empty = length-replicate {A = Option Value} (count - length vs) None in
+    omega (arith, all, filled, empty, few)
 
-front_get : {A : Type 0} (xs : List A) (n r : ℕ) (x : A) → slice_get xs r ≡ Some x → r < n
+taken_get : {A : Type 0} (xs : List A) (n r : ℕ) (x : A) → slice_get xs r ≡ Some x → r < n
     → slice_get (take n xs) r ≡ Some x
-front_get [] n r x e inside = cc
-front_get (y ∷ ys) zero r x e inside = absurd (omega (arith, inside))
-front_get (y ∷ ys) (suc n) zero x e inside = e
-front_get (y ∷ ys) (suc n) (suc r) x e inside = front_get ys n r x e (omega (arith, inside))
+taken_get [] n r x e inside = cc
+taken_get (y ∷ ys) zero r x e inside = absurd (omega (arith, inside))
+taken_get (y ∷ ys) (suc n) zero x e inside = e
+taken_get (y ∷ ys) (suc n) (suc r) x e inside = taken_get ys n r x e (omega (arith, inside))
 
 begins_at : (function : Function) → 0 < length function.blocks → block_start function 0 ≡ Some 0
 unfolding points_of
@@ -97,7 +97,7 @@ stands_first graph cells function fits awaits vs have =
         each = λ r v k here at. let given : slice_get vs r ≡ Some v =
             sym (register_is (length function.regs) vs r) ∙ here in
             let inside = slice_get_within vs r v given in
-            have.each r v k given (front_get function.regs function.takes r k at
+            have.each r v k given (taken_get function.regs function.takes r k at
             (omega (arith, inside, count, taken_count)));
       };
       has = λ r inside set apart. let low : r < function.takes = grind (arith, nat_tests, set) in
@@ -123,7 +123,7 @@ executor_there graph cells function fits vs have gives = by function.iso refl wh
       let kind = found_within function.regs 0 (omega (arith, few, takes)) in
       let value = found_within vs 0 (omega (arith, few, count, taken_count)) in
       let has = have.each 0 value.0 kind.0 value.1
-      (front_get function.regs function.takes 0 kind.0 kind.1 few) in
+      (taken_get function.regs function.takes 0 kind.0 kind.1 few) in
       let is = reference_is graph.shapes cells value.0 kind.0 has
       (sort_actor graph.shapes kind.0 (subst (λ k. is_some (shape_of graph.shapes is_actor k) ≡
       true)

@@ -16,7 +16,7 @@ use Rattle.sw_graph.proofs.ListLemmas.{slice_get_before}
 use Rattle.sw_value.specs.declared.cell.HeapCell.{HeapCell}
 use Rattle.sw_value.specs.declared.cell.HeapCell.TheVariants as cell
 use Rattle.sw_value.specs.declared.cell.Slot.{Slot}
-use Rattle.sw_value.specs.declared.cell.Slot.TheVariants.{Part, Held}
+use Rattle.sw_value.specs.declared.cell.Slot.TheVariants.{Part, Content}
 use Rattle.sw_value.specs.declared.effect.Effect.{Effect}
 use Rattle.sw_value.specs.declared.effect.Effect.TheVariants as effect
 use Rattle.sw_value.specs.declared.frame.Frame.{Frame}
@@ -213,11 +213,11 @@ slot_closure (Part i) v (cell.Actor k vs) f captures e = cc
 slot_closure (Part i) v (cell.BoxOf w) f captures e = e
 slot_closure (Part i) v (cell.Closure n vs) f captures e = e
 slot_closure (Part i) v (cell.TaskOf j) f captures e = e
-slot_closure Held v (cell.Object k vs) f captures e = e
-slot_closure Held v (cell.Actor k vs) f captures e = e
-slot_closure Held v (cell.BoxOf w) f captures e = cc
-slot_closure Held v (cell.Closure n vs) f captures e = e
-slot_closure Held v (cell.TaskOf j) f captures e = e
+slot_closure Content v (cell.Object k vs) f captures e = e
+slot_closure Content v (cell.Actor k vs) f captures e = e
+slot_closure Content v (cell.BoxOf w) f captures e = cc
+slot_closure Content v (cell.Closure n vs) f captures e = e
+slot_closure Content v (cell.TaskOf j) f captures e = e
 
 changed_from : {A : Type 0} (h : A → A) (i : ℕ) (xs : List A) (y : A)
     → slice_get (changed_at h i xs) i ≡ Some y → (x : A) × (slice_get xs i ≡ Some x) × (h x ≡ y)

@@ -124,7 +124,7 @@ record MakesClosure (graph : Graph) (regs : List RegKind) (number count r : ℕ)
     (captured : List RegKind) : Type 0 where
   function : Function
   is : slice_get graph.functions number ≡ Some function
-  front : captured ≡ take count (taken function)
+  taken_first : captured ≡ take count (taken function)
   params : List Ty
   rest : drop count (taken function) ≡ map Plain params
   kind : RegKind
@@ -145,7 +145,7 @@ makes_closure graph regs number count r captured are goes =
           → take count (taken function) ≡ captured → (o : Option (List Ty))
           → types_of (drop count (taken function)) ≡ o
           → MakesClosure graph regs number count r captured
-      by function is front o types =
+      by function is taken_first o types =
           pick o types (subst (λ x. Goes x (slice_get regs r))
           (ap (option_and_then (closure_of count)) is
           ∙ ap (option_map (λ ps. Plain (Func true ps function.result))) types) goes) where
@@ -162,7 +162,7 @@ makes_closure graph regs number count r captured are goes =
                 record {
                   function = function;
                   is = is;
-                  front = sym front;
+                  taken_first = sym taken_first;
                   params = ps;
                   rest = types_are (drop count (taken function)) ps types;
                   kind = there.1;
@@ -196,7 +196,7 @@ new_closure_fits graph world state frame depth at r f cs x =
       captured = all.kinds;
       params = closure.params;
       takes = sym (take-append-drop (length cs) (taken closure.function))
-          ∙ ap (λ l. l ++ drop (length cs) (taken closure.function)) (sym closure.front)
+          ∙ ap (λ l. l ++ drop (length cs) (taken closure.function)) (sym closure.taken_first)
           ∙ ap (λ l. all.kinds ++ l) closure.rest;
       have = all.gathers.have;
       sendable = closure.marked;
@@ -224,7 +224,7 @@ entered graph world state function frame depth next at r number callee entering 
             (sym begun.result_is) stands;
       }
 
--- what is told of the actor of a strong call
+-- what is said of the actor of a strong call
 strong_gives : (graph : Graph) (body : Function) (at r f : ℕ) (call : CallKind)
     (ss : List Operand) → GivesActor graph body (instr.Call at r call f ss) → (callee : Function)
     → slice_get graph.functions f ≡ Some callee → call ≡ kind.Strong → callee.iso ≡ Own

@@ -20,21 +20,22 @@ use Rattle.sw_graph.specs.declared.instr.Instr.{Instr}
 use Rattle.sw_graph.specs.declared.instr.Instr.TheVariants as instr
 use Rattle.sw_graph.specs.declared.instr.Operand.{Operand}
 use Rattle.sw_graph.specs.Kinds.{EachOf, kinds_of}
-use Rattle.sw_graph.specs.Kinds.{Goes, IsCaptured, value, form_of, held, part, parts, shape_of}
+use Rattle.sw_graph.specs.Kinds.{Goes, IsCaptured, value, form_of, box_content, part, parts}
+use Rattle.sw_graph.specs.Kinds.{shape_of}
 use Rattle.sw_graph.specs.Kinds.{shape_at}
 use Rattle.sw_graph.specs.Kinds.{number_of, is_class, is_actor, is_cell}
 use Rattle.sw_graph.specs.Mentions.{set_by}
 use Rattle.sw_value.specs.declared.cell.HeapCell.{HeapCell}
 use Rattle.sw_value.specs.declared.cell.HeapCell.TheVariants as cell
 use Rattle.sw_value.specs.declared.cell.Slot.{Slot}
-use Rattle.sw_value.specs.declared.cell.Slot.TheVariants.{Part, Held}
+use Rattle.sw_value.specs.declared.cell.Slot.TheVariants.{Part, Content}
 use Rattle.sw_value.specs.declared.effect.Effect.TheVariants as effect
 use Rattle.sw_value.specs.declared.frame.Frame.{Frame}
 use Rattle.sw_value.specs.declared.state.State.{State}
 use Rattle.sw_value.specs.declared.value.Value.{Value}
 use Rattle.sw_value.specs.declared.value.Value.TheVariants as value
 use Rattle.sw_value.specs.Cell.{slot_of, with_slot}
-use Rattle.sw_value.specs.Effect.{needs, instr_effect, new_of, cell_at, loaded, slot_at, store_of}
+use Rattle.sw_value.specs.Effect.{needs, instr_effect, new_of, cell_at, loaded, slot_at, slot_write}
 use Rattle.sw_value.specs.Value.{values_at, value_at, operand_value, reference_at, reference_of}
 use Rattle.sw_value.specs.Value.{layer_reference}
 use Rattle.sw_value.proofs.ListLemmas.{some_injective}
@@ -177,7 +178,7 @@ new_actor_fits graph world state frame depth at r k ss x =
     (operand_at graph world state frame (instr.NewActor at r k ss) x) kinds.0 kinds.1
 
 -- a place that holds a value is a box
-box_place : (o : Option RegKind) (kind : RegKind) → held o ≡ Some kind
+box_place : (o : Option RegKind) (kind : RegKind) → box_content o ≡ Some kind
     → (box : RegKind) × (o ≡ Some box)
 box_place None kind e = cc
 box_place (Some box) kind e = (box, refl)
@@ -193,10 +194,10 @@ new_box_fits graph world state frame depth at r s x =
     let kinds = kinds_at graph world state frame (instr.NewBox at r s) x in
     let operand = operand_at graph world state frame (instr.NewBox at r s) x 0 s refl in
     let went = goes_to graph.shapes world.cells operand.value operand.kind (slice_get regs s.reg)
-    (held (slice_get regs r)) operand.fits operand.is
-    (goes_captured (slice_get regs s.reg) (held (slice_get regs r)) kinds) in
+    (box_content (slice_get regs r)) operand.fits operand.is
+    (goes_captured (slice_get regs s.reg) (box_content (slice_get regs r)) kinds) in
     let box = box_place (slice_get regs r) went.kind went.is in
-    let inner = ap held (sym box.1) ∙ went.is in
+    let inner = ap box_content (sym box.1) ∙ went.is in
     subst (λ o. TopFits graph world state x.run.function frame
     (needs o (λ v. new_of state (frame.point + 1) r (cell.BoxOf v)))) (sym operand.has)
     (makes graph world state frame (instr.NewBox at r s) x refl r refl (cell.BoxOf operand.value)
@@ -244,16 +245,16 @@ record BoxAt (graph : Graph) (world : World) (state : State) (frame : Frame) (o 
     (inner : RegKind) : Type 0 where
   kind : RegKind
   found : IsCellAt graph world state frame o kind
-  held_is : held (Some found.from) ≡ Some inner
+  held_is : box_content (Some found.from) ≡ Some inner
   box : IsBox graph world found.cell found.from inner
 
 box_at : (graph : Graph) (world : World) (state : State) (frame : Frame) (instr : Instr)
     → (x : IsAt graph world state frame instr) → (o : Operand)
     → HasOperand graph.shapes world.cells x.run.function.regs frame.regs o.reg → (inner : RegKind)
-    → held (slice_get x.run.function.regs o.reg) ≡ Some inner
+    → box_content (slice_get x.run.function.regs o.reg) ≡ Some inner
     → BoxAt graph world state frame o inner
 box_at graph world state frame instr x o operand inner at =
-    let holds = ap held (sym operand.is) ∙ at in
+    let holds = ap box_content (sym operand.is) ∙ at in
     let found = cell_of graph world state frame o x.run operand.value operand.kind operand.has
     operand.fits (sort_box graph.shapes operand.kind inner holds) in
     let from = held_captured found.from operand.kind inner found.goes holds in
@@ -273,15 +274,15 @@ load_box_fits graph world state frame depth at r b x =
     let regs = x.run.function.regs in
     let kinds = kinds_at graph world state frame (instr.LoadBox at r b) x in
     let operand = operand_at graph world state frame (instr.LoadBox at r b) x 0 b refl in
-    let there = goes_there (held (slice_get regs b.reg)) (slice_get regs r) kinds in
+    let there = goes_there (box_content (slice_get regs b.reg)) (slice_get regs r) kinds in
     let box = box_at graph world state frame (instr.LoadBox at r b) x b operand there.0 there.2 in
     set_there graph world state x.run.function frame (frame.point + 1) r
-    (loaded state frame b Held) box.box.value
-    (ap (option_and_then (slot_of Held)) (box.found.at ∙ ap Some box.box.is))
+    (loaded state frame b Content) box.box.value
+    (ap (option_and_then (slot_of Content)) (box.found.at ∙ ap Some box.box.is))
     (puts graph world state frame (instr.LoadBox at r b) x refl r refl box.box.value
-    (goes_to graph.shapes world.cells box.box.value there.0 (held (slice_get regs b.reg))
+    (goes_to graph.shapes world.cells box.box.value there.0 (box_content (slice_get regs b.reg))
     (slice_get regs r) box.box.fits there.2
-    (goes_captured (held (slice_get regs b.reg)) (slice_get regs r) kinds)))
+    (goes_captured (box_content (slice_get regs b.reg)) (slice_get regs r) kinds)))
 
 -- a value is written into a slot that is there
 stored : (graph : Graph) (world : World) (state : State) (function : Function) (frame : Frame)
@@ -289,7 +290,7 @@ stored : (graph : Graph) (world : World) (state : State) (function : Function) (
     → operand_value frame.regs s ≡ Some v → reference_at frame.regs o ≡ Some c
     → slice_get state.cells c ≡ Some cell → slot_of slot cell ≡ Some old
     → WriteFits graph world state function frame c slot v next
-    → TopFits graph world state function frame (store_of state frame next o slot s)
+    → TopFits graph world state function frame (slot_write state frame next o slot s)
 unfolding TopFits
 stored graph world state function frame o s slot next c v old cell has reference is slot_is fits =
     subst (λ x. TopFits graph world state function frame
@@ -314,17 +315,17 @@ store_box_fits graph world state frame depth at b s x =
     let owner = operand_at graph world state frame (instr.StoreBox at b s) x 0 b refl in
     let operand = operand_at graph world state frame (instr.StoreBox at b s) x 1 s refl in
     let went = goes_to graph.shapes world.cells operand.value operand.kind (slice_get regs s.reg)
-    (held (slice_get regs b.reg)) operand.fits operand.is
-    (goes_captured (slice_get regs s.reg) (held (slice_get regs b.reg)) kinds) in
+    (box_content (slice_get regs b.reg)) operand.fits operand.is
+    (goes_captured (slice_get regs s.reg) (box_content (slice_get regs b.reg)) kinds) in
     let box = box_at graph world state frame (instr.StoreBox at b s) x b owner went.kind went.is in
     let found = box.found in
-    stored graph world state x.run.function frame b s Held (frame.point + 1) found.number
+    stored graph world state x.run.function frame b s Content (frame.point + 1) found.number
     operand.value box.box.value found.cell operand.has found.reference found.is
-    (ap (slot_of Held) box.box.is)
+    (ap (slot_of Content) box.box.is)
     (record {
       cell = found.cell;
       is = found.is;
-      keeps = λ kind at. subst (λ c. CellFits graph world (with_slot Held operand.value c) kind)
+      keeps = λ kind at. subst (λ c. CellFits graph world (with_slot Content operand.value c) kind)
           (sym box.box.is)
           (subst (CellFits graph world (cell.BoxOf operand.value))
           (some_injective (sym found.from_is ∙ at))

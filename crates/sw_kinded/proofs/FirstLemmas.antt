@@ -36,10 +36,10 @@ use Rattle.sw_value.specs.Call.{called_in, called_frame, closure_frame, call_exe
 use Rattle.sw_value.specs.Call.{crosses}
 use Rattle.sw_value.specs.Cell.{task_of}
 use Rattle.sw_value.specs.Effect.{needs, set_of, computed_of, new_of, cell_at, loaded, slot_at}
-use Rattle.sw_value.specs.Effect.{store_of, enter_of, instr_effect, goto_of}
+use Rattle.sw_value.specs.Effect.{slot_write, enter_of, instr_effect, goto_of}
 use Rattle.sw_value.specs.Effect.{returned_value, last_effect, point_effect, effect_of}
 use Rattle.sw_value.specs.declared.cell.Slot.{Slot}
-use Rattle.sw_value.specs.declared.cell.Slot.TheVariants.{Part, Held}
+use Rattle.sw_value.specs.declared.cell.Slot.TheVariants.{Part, Content}
 use Rattle.sw_value.specs.Frame.{point_at, start_at}
 use Rattle.sw_value.specs.Printed.{printed_line}
 use Rattle.sw_value.specs.Value.{values_at, operand_value, value_at, field_of, payload_of, made}
@@ -104,7 +104,7 @@ computed_first graph function p next g at r (Err kind) steps = tt
 
 store_first : (graph : Graph) (state : State) (function : Function) (frame : Frame)
     (next g : ℕ) (o : Operand) (slot : Slot) (s : Operand) → Steps function frame.point next g
-    → FirstFits graph function frame.point g (store_of state frame next o slot s)
+    → FirstFits graph function frame.point g (slot_write state frame next o slot s)
 unfolding FirstFits
 store_first graph state function frame next g o slot s steps =
     if_there graph function frame.point g
@@ -264,10 +264,10 @@ instr_first graph state depth frame function g x (instr.NewActor at r k ss) here
       no_closure graph (cell.Actor k parts) (λ f vs e. cc),
     ))
 instr_first graph state depth frame function g x (instr.LoadBox at r b) here =
-    set_first graph function frame.point (frame.point + 1) g r (loaded state frame b Held)
+    set_first graph function frame.point (frame.point + 1) g r (loaded state frame b Content)
     (steps_on function frame.point g (instr.LoadBox at r b) here refl)
 instr_first graph state depth frame function g x (instr.StoreBox at b s) here =
-    store_first graph state function frame (frame.point + 1) g b Held s
+    store_first graph state function frame (frame.point + 1) g b Content s
     (steps_on function frame.point g (instr.StoreBox at b s) here refl)
 instr_first graph state depth frame function g x (instr.LoadProp at r o i) here =
     set_first graph function frame.point (frame.point + 1) g r (loaded state frame o (Part i))

@@ -77,7 +77,7 @@ moves shapes cells more function awaits p regs after instr s here front constant
       ];
     }
 
--- Behind an instruction that takes no payload none is taken.
+-- Where an instruction of a list takes a payload, the list has one.
 payload_there : (instrs : List Instr) (k at r : ℕ) (s : Operand) (i : ℕ)
     → slice_get instrs k ≡ Some (Payload at r s i) → has_payload instrs ≡ true
 payload_there [] k at r s i e = cc
@@ -165,7 +165,7 @@ same_subject shapes function last tag s t i j r q first second =
     let same : first.subject ≡ second.subject = cc in
     sym first.same ∙ ap (λ (o : Operand). o.reg) same ∙ second.same
 
--- Behind a payload another of the same operand may be taken.
+-- After a payload another of the same operand may be taken.
 pub front_payload : (shapes : List Shape) (function : Function) (p : ℕ)
     (regs : List (Option Value)) (v : Value) (at r : ℕ) (s : Operand) (i : ℕ)
     (place : Place function p) → PayloadsFit shapes function place.number place.block

@@ -11,7 +11,8 @@ use Rattle.sw_types.specs.declared.ty.Ty.TheOpen as type
 use Rattle.sw_types.specs.Accepts.{Accepts, unmarked_layer}
 use Rattle.sw_graph.specs.declared.function.RegKind.{RegKind}
 use Rattle.sw_graph.specs.declared.function.RegKind.TheVariants.{Plain, BoxOf}
-use Rattle.sw_graph.specs.Kinds.{Goes, IsCaptured, form_of, held, number_of, shape_of, shape_at}
+use Rattle.sw_graph.specs.Kinds.{Goes, IsCaptured, form_of, box_content, number_of, shape_of}
+use Rattle.sw_graph.specs.Kinds.{shape_at}
 use Rattle.sw_graph.specs.Kinds.{is_struct, is_enum, is_class, is_cell, is_actor, parts, payload}
 use Rattle.sw_value.specs.declared.value.Value.{Value, out-Value}
 use Rattle.sw_value.specs.declared.value.Value.TheOpen as layer
@@ -217,7 +218,7 @@ pub sort_form : (shapes : List Shape) (kind : RegKind) (l : type.Ty-F Ty)
 sort_form shapes (BoxOf ty) l e = cc
 sort_form shapes (Plain ty) l e = ap (layer_sort shapes) (some_injective e)
 
-pub sort_box : (shapes : List Shape) (kind inner : RegKind) → held (Some kind) ≡ Some inner
+pub sort_box : (shapes : List Shape) (kind inner : RegKind) → box_content (Some kind) ≡ Some inner
     → sort_of shapes kind ≡ Reference
 sort_box shapes (BoxOf ty) inner e = refl
 sort_box shapes (Plain ty) inner e = cc
@@ -319,7 +320,7 @@ forms_captured (Plain a) (BoxOf b) l goes form = absurd goes
 forms_captured (BoxOf a) (Plain b) l goes form = absurd goes
 
 pub held_captured : (a b inner : RegKind) → IsCaptured (Some a) (Some b)
-    → held (Some b) ≡ Some inner → held (Some a) ≡ Some inner
+    → box_content (Some b) ≡ Some inner → box_content (Some a) ≡ Some inner
 held_captured (BoxOf a) (BoxOf b) inner goes is = ap (λ t. Some (Plain t)) goes ∙ is
 held_captured (Plain a) (Plain b) inner goes is = cc
 held_captured (Plain a) (BoxOf b) inner goes is = absurd goes

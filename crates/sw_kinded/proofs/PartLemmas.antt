@@ -15,7 +15,8 @@ use Rattle.sw_types.specs.declared.ty.Ty.TheVariants.{Named, outs-Named}
 use Rattle.sw_graph.specs.declared.function.RegKind.{RegKind}
 use Rattle.sw_graph.specs.declared.function.RegKind.TheVariants.{Plain}
 use Rattle.sw_graph.specs.declared.graph.Graph.{Graph}
-use Rattle.sw_graph.specs.Kinds.{Goes, form_of, number_of, held, shape_of, shape_at, is_struct}
+use Rattle.sw_graph.specs.Kinds.{Goes, form_of, number_of, box_content, shape_of, shape_at}
+use Rattle.sw_graph.specs.Kinds.{is_struct}
 use Rattle.sw_graph.specs.Kinds.{is_enum, is_class, is_actor, is_cell, part, parts, payload}
 use Rattle.sw_graph.specs.Kinds.{made_of}
 use Rattle.sw_graph.specs.Payloads.{payload_at}
@@ -172,7 +173,7 @@ made_has shapes cells k (Some tag) vs kinds are have =
 
 -- a kind with a form is no box
 pub unformed : (kind inner : RegKind) (l : type.Ty-F Ty) → form_of (Some kind) ≡ Some l
-    → held (Some kind) ≡ Some inner → ⊥
+    → box_content (Some kind) ≡ Some inner → ⊥
 unformed (Plain ty) inner l form is = cc
 unformed _ inner l form is = cc
 
@@ -184,7 +185,8 @@ pub record IsBox (graph : Graph) (world : World) (c : HeapCell) (kind inner : Re
   pub fits : HasKind graph.shapes world.cells value inner
 
 pub box_is : (graph : Graph) (world : World) (c : HeapCell) (kind inner : RegKind)
-    → CellFits graph world c kind → held (Some kind) ≡ Some inner → IsBox graph world c kind inner
+    → CellFits graph world c kind → box_content (Some kind) ≡ Some inner
+    → IsBox graph world c kind inner
 box_is graph world (cell.BoxOf v) kind inner fits is = record {
   value = v;
   is = refl;

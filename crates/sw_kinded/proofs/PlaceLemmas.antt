@@ -11,7 +11,7 @@ use Rattle.sw_graph.specs.declared.instr.Instr.{Instr}
 use Rattle.sw_graph.specs.declared.instr.Last.{Last}
 use Rattle.sw_graph.specs.Points.{Point, Middle, End, points_of_block, points_of, point_in}
 use Rattle.sw_graph.specs.Points.{block_start}
-use Rattle.sw_graph.proofs.ListLemmas.{slice_get_front, slice_get_after}
+use Rattle.sw_graph.proofs.ListLemmas.{slice_get_first, slice_get_after}
 use Rattle.sw_graph.proofs.PointLemmas.{length-points_of_block}
 use Rattle.sw_value.proofs.ListLemmas.{some_injective}
 use Rattle.sw_kinded.specs.Standing.{Place}
@@ -30,7 +30,7 @@ point_of_block (b ∷ bs) zero block index is inside =
     let at : zero + index ≡ index = omega arith in
     ap (slice_get (points_of_block b ++ points_of bs)) at
     ∙ ap (λ c. slice_get (points_of_block c ++ points_of bs) index) same
-    ∙ slice_get_front (points_of_block block) (points_of bs) index (omega (arith, count))
+    ∙ slice_get_first (points_of_block block) (points_of bs) index (omega (arith, count))
 point_of_block (b ∷ bs) (suc n) block index is inside =
     let at : length (points_of_block b ++ points_of (take n bs)) + index
     ≡ length (points_of_block b) + (length (points_of (take n bs)) + index) =

@@ -12,7 +12,7 @@ use Rattle.sw_graph.specs.declared.instr.Instr.TheVariants as instr
 use Rattle.sw_graph.specs.declared.instr.Operand.{Operand}
 use Rattle.sw_graph.specs.Bodies.{is_own, is_actor_initialiser, has_self}
 use Rattle.sw_graph.specs.CallKinds.{call_kind, kind_by}
-use Rattle.sw_graph.specs.Placed.{EachFunction, FunctionAt, HasKind, IsPlaced}
+use Rattle.sw_graph.specs.Placed.{EachFunction, FunctionAt, HasCallKind, IsPlaced}
 use Rattle.sw_graph.specs.Points.{Middle, point_in}
 use Rattle.sw_kinded.specs.FirstValues.{StoresFirst}
 use Rattle.sw_kinded.specs.Supplied.{IsSupplied, TakesActor, GivesActor, ReturnsResult}
@@ -29,7 +29,7 @@ takes_actor graph placed n function is plain own =
 
 -- the callee of a strong call is no initialiser of an actor
 strong_plain : (body callee : Function) (ss : List Operand)
-    → HasKind body callee ss kind.Strong → is_actor_initialiser callee ≡ false
+    → HasCallKind body callee ss kind.Strong → is_actor_initialiser callee ≡ false
 strong_plain body callee ss has = by (is_actor_initialiser callee) refl where
   by : (b : Bool) → is_actor_initialiser callee ≡ b → is_actor_initialiser callee ≡ false
   by false plain = plain

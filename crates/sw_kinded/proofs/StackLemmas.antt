@@ -9,7 +9,7 @@ use Rattle.sw_types.specs.declared.ty.Ty.{Ty}
 use Rattle.sw_graph.specs.declared.function.RegKind.{RegKind}
 use Rattle.sw_graph.specs.declared.graph.Graph.{Graph}
 use Rattle.sw_graph.specs.Kinds.{IsCaptured}
-use Rattle.sw_graph.proofs.ListLemmas.{slice_get_front}
+use Rattle.sw_graph.proofs.ListLemmas.{slice_get_first}
 use Rattle.sw_value.specs.declared.cell.HeapCell.{HeapCell}
 use Rattle.sw_value.specs.declared.frame.Frame.{Frame}
 use Rattle.sw_value.specs.declared.job.Job.{Job}
@@ -49,7 +49,7 @@ above_below below top awaits i inside =
           ≡ or_above (slice_get below (i + 1)) (Some top.result)
       by (f, is) =
           let within = slice_get_within below (i + 1) f is in
-          ap (λ o. or_above o awaits) (slice_get_front below (top ∷ []) (i + 1) within ∙ is)
+          ap (λ o. or_above o awaits) (slice_get_first below (top ∷ []) (i + 1) within ∙ is)
           ∙ sym (ap (λ o. or_above o (Some top.result)) is)
 
 top_at : (graph : Graph) (cells : List RegKind) (below : List Frame) (top : Frame)

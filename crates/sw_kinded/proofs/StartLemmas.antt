@@ -38,8 +38,8 @@ record IsIn {A : Type 0} (xs : List A) (x : A) : Type 0 where
   index : ℕ
   is : slice_get xs index ≡ Some x
 
-in_front : {A : Type 0} (xs ys : List A) (x : A) → IsIn xs x → IsIn (xs ++ ys) x
-in_front xs ys x found =
+in_first : {A : Type 0} (xs ys : List A) (x : A) → IsIn xs x → IsIn (xs ++ ys) x
+in_first xs ys x found =
     record { index = found.index; is = slice_get_before xs ys found.index x found.is }
 
 in_end : {A : Type 0} (xs : List A) (x : A) → IsIn (xs ++ x ∷ []) x
@@ -53,7 +53,7 @@ in_reverse (y ∷ ys) zero x e =
     (subst (λ z. IsIn (reverse ys ++ z ∷ []) x) (sym (some_injective e)) (in_end (reverse ys) x))
 in_reverse (y ∷ ys) (suc k) x e =
     subst (λ l. IsIn l x) (sym (reverse-cons y ys))
-    (in_front (reverse ys) (y ∷ []) x (in_reverse ys k x e))
+    (in_first (reverse ys) (y ∷ []) x (in_reverse ys k x e))
 
 from_reverse : {A : Type 0} (xs : List A) (k : ℕ) (x : A) → slice_get (reverse xs) k ≡ Some x
     → IsIn xs x

@@ -86,8 +86,8 @@ after_block (b ∷ bs) zero block is =
 after_block (b ∷ bs) (suc n) block is =
     let rest = after_block bs n block is in
     let all = length-append (points_of_block b) (points_of (take (suc n) bs)) in
-    let front = length-append (points_of_block b) (points_of (take n bs)) in
-    omega (arith, rest, all, front)
+    let first = length-append (points_of_block b) (points_of (take n bs)) in
+    omega (arith, rest, all, first)
 
 -- Before the beginning of a block there is no point, or the last of another block.
 end_before : (function : Function) (n q : ℕ) (block : Block)

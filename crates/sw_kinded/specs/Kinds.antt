@@ -12,7 +12,7 @@ use Rattle.sw_graph.specs.declared.function.RegKind.TheVariants.{Plain, BoxOf}
 use Rattle.sw_graph.specs.declared.graph.Graph.{Graph}
 use Rattle.sw_graph.specs.Kinds.{IsCaptured, form_of, shape_of, shape_at, is_struct, is_enum}
 use Rattle.sw_graph.specs.Kinds.{is_class}
-use Rattle.sw_graph.specs.Kinds.{is_actor, parts, payload, held, taken}
+use Rattle.sw_graph.specs.Kinds.{is_actor, parts, payload, box_content, taken}
 use Rattle.sw_value.specs.declared.value.Value.{Value, out-Value}
 use Rattle.sw_value.specs.declared.value.Value.TheOpen as layer
 use Rattle.sw_value.specs.declared.cell.HeapCell.{HeapCell}
@@ -115,7 +115,7 @@ pub record Grows (before after : World) : Type 0 where
 pub record BoxFits (shapes : List Shape) (cells : List RegKind) (v : Value) (kind : RegKind)
     : Type 0 where
   pub inner : RegKind
-  pub is : held (Some kind) ≡ Some inner
+  pub is : box_content (Some kind) ≡ Some inner
   pub fits : HasKind shapes cells v inner
 
 -- A closure has captured what its function takes first; it takes the rest, and gives the result.

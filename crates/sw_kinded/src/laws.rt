@@ -51,7 +51,8 @@ pub fn machine_is_never_stuck()
 pub fn steps_keep_kinds()
     ensures starts { (graph : Graph) → IsSupplied graph → Kinded graph (start_of graph) }
     ensures keeps { (graph : Graph) → IsSupplied graph → (state : State) (item : ℕ)
-        → (kinded : Kinded graph state) → KindedLater graph kinded.world (step_of graph state item) }
+        → (kinded : Kinded graph state)
+        → KindedLater graph kinded.world (step_of graph state item) }
 {}
 
 /// What a kinded state says of each frame, and of each cell that a value names: they are there, and

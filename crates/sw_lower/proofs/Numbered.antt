@@ -1,7 +1,7 @@
 -- Names that are all apart are each found at their own place.
 use Rattle.std.proofs.Common.{◌≡◌, ℕ, ◌+◌, ◌<◌, ◌≤◌, List, Option, Some, None, Bool, true, false}
-use Rattle.std.proofs.Common.{inl, inr, length, map, option_map, slice_get, get_or, refl, ap, sym, ◌∙◌}
-use Rattle.std.proofs.Common.{arith, drop, subst}
+use Rattle.std.proofs.Common.{inl, inr, length, map, option_map, slice_get, get_or, refl, ap, sym}
+use Rattle.std.proofs.Common.{◌∙◌, arith, drop, subst}
 use Rattle.std.proofs.lemmas.Bool.{cases_eq}
 use Rattle.std.proofs.lemmas.Option.{same_Some, slice_get-map, slice_get_read, slice_get_within}
 use Rattle.std.specs.Prelude.{if◌then◌else◌}

@@ -1,6 +1,5 @@
 pub mod BodyNotes
 pub mod Calls
-pub mod Every
 pub mod Functions
 pub mod Giving
 pub mod Holding

@@ -1,5 +1,5 @@
-//! Laws, without code: what the calls and the tasks of programs are of, and which give the actor that
-//! they run on. It knows nothing of how a program is gone through.
+//! Laws, without code: what the calls and the tasks of programs are of, and which give the actor
+//! that they run on. It knows nothing of how a program is gone through.
 #![tactic(auto)]
 
 mod laws;

@@ -1,7 +1,8 @@
 -- The bodies in the parts of a tree, in a member of the type with a number.
 use Rattle.std.specs.Prelude.{ℕ, List, ◌∷◌, map, flat_map, Option}
 use Rattle.std.specs.Option.{option_map}
-use Rattle.sw_tree.specs.Folds.{fold_arg, fold_block, fold_case_arm, fold_if_arm, fold_link, fold_stmt}
+use Rattle.sw_tree.specs.Folds.{fold_arg, fold_block, fold_case_arm, fold_if_arm, fold_link}
+use Rattle.sw_tree.specs.Folds.{fold_stmt}
 use Rattle.sw_tree.specs.declared.expr.Arg.{Arg}
 use Rattle.sw_tree.specs.declared.expr.Closure.{Closure}
 use Rattle.sw_tree.specs.declared.expr.Expr.{Expr}

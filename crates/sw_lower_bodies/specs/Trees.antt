@@ -17,7 +17,8 @@ use Rattle.sw_lower_code.specs.Code.{Code}
 use Rattle.sw_lower_code.specs.Whole.{Body}
 use Rattle.sw_lower_code.specs.declared.taken.Taken.{Taken}
 use Rattle.sw_lower_table.specs.Bodies.{first_code, first_values, getter_code, init_code}
-use Rattle.sw_lower_table.specs.Bodies.{init_signed, param_taken, part_read, self_by, self_taken, stored_read}
+use Rattle.sw_lower_table.specs.Bodies.{init_signed, param_taken, part_read, self_by, self_taken}
+use Rattle.sw_lower_table.specs.Bodies.{stored_read}
 use Rattle.sw_lower_table.specs.Carriers.{ClosureCode, Given}
 use Rattle.sw_lower_table.specs.Expressions.{body_code, closure_takes, fun_result, is_async_of}
 use Rattle.sw_lower_table.specs.Expressions.{iso_of, spawn_result}

@@ -1,7 +1,7 @@
 //! The bodies of closures and tasks, at any depth.
 ghost use Rattle.std.specs.Prelude.{◌≡◌, ◌++◌, ◌∷◌, [], OnOk};
-ghost use Rattle.sw_lower_bodies.specs.Inside.{args_inside, block_inside, cases_inside, expr_inside};
-ghost use Rattle.sw_lower_bodies.specs.Inside.{fun_inside, ifs_inside, links_inside};
+ghost use Rattle.sw_lower_bodies.specs.Inside.{args_inside, block_inside, cases_inside};
+ghost use Rattle.sw_lower_bodies.specs.Inside.{expr_inside, fun_inside, ifs_inside, links_inside};
 ghost use Rattle.sw_lower_bodies.specs.Inside.{other_inside, stmt_inside, task_inside};
 ghost use Rattle.sw_lower_bodies.specs.Trees.{bodies_by, body_by, known_body};
 ghost use Rattle.sw_lower_known.specs.Knowledge.{tables_by};
@@ -26,7 +26,8 @@ pub fn add<'a>(
     bodies: &mut BodyList<'a>,
 ) -> Result<(), AllocError>
     ensures { OnOk result (bodies_by (tables_by known.now) bodies.new
-        ≡ bodies_by (tables_by known.now) bodies.old ++ body_by (tables_by known.now) body.entry ∷ []) }
+        ≡ bodies_by (tables_by known.now) bodies.old ++ body_by (tables_by known.now) body.entry
+        ∷ []) }
 {
     bodies.push(body)
 }

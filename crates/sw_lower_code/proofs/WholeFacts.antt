@@ -1,7 +1,7 @@
 -- The function that is made of a body within the limits is the one that its plan says.
 use Rattle.std.proofs.Common.{◌≡◌, ℕ, zero, suc, ◌+◌, ◌<◌, ◌≤◌, ◌⊎◌, inl, inr, Some, None}
-use Rattle.std.proofs.Common.{List, [], ◌∷◌, ◌++◌, Bool, true, false, length, map, refl, ap, sym, ◌∙◌}
-use Rattle.std.proofs.Common.{arith, length-append, subst}
+use Rattle.std.proofs.Common.{List, [], ◌∷◌, ◌++◌, Bool, true, false, length, map, refl, ap, sym}
+use Rattle.std.proofs.Common.{◌∙◌, arith, length-append, subst}
 use Rattle.std.specs.Prelude.{◌==◌, ◌||◌, Result, Ok, Err, nat_lt, if◌then◌else◌}
 use Rattle.std.proofs.lemmas.Bool.{cases_eq}
 use Rattle.sw_graph.specs.Limits.{excess_of}
@@ -26,7 +26,7 @@ use Rattle.sw_lower_run.specs.declared.fault.CodeFault.{CodeFault}
 use Rattle.sw_lower_run.specs.declared.fault.CodeFault.TheVariants.{Registers, Memory}
 use Rattle.sw_lower_code.specs.declared.fault.BodyFault.TheVariants as faults
 
--- blocks are told by their instructions and last instructions
+-- blocks are determined by their instructions and last instructions
 blocks_are : (instrs : ℕ → List Instr) (last : ℕ → Last) (from : ℕ) (blocks : List Block)
     → ((number : ℕ) → instrs_at number blocks ≡ instrs (from + number))
     → ((number : ℕ) → number < length blocks → last_at number blocks ≡ last (from + number))
@@ -181,7 +181,7 @@ blocks_made number body t made fits =
     (λ block. ended_in block (piece_of number body).lasts (Return None)) 0 t.made.blocks
     (λ block.
     made.instrs fits block
-    ∙ ap (λ front. front ++ written_in block (piece_of number body).writes) (instrs_none block)
+    ∙ ap (λ earlier. earlier ++ written_in block (piece_of number body).writes) (instrs_none block)
     ∙ ap (λ n. written_in n (piece_of number body).writes) (omega arith))
     (λ block below.
     made.lasts block
@@ -294,7 +294,8 @@ meets_whole number body (Ok at) meets = by at.1.over refl where
   measured true fits many = (
     refl,
     too_many_points (function_of number body) few
-        (subst (λ n. MAX_POINTS < n) (sym (as_many fits)) (more_than MAX_POINTS (points at.1) many)),
+        (subst (λ n. MAX_POINTS < n) (sym (as_many fits))
+        (more_than MAX_POINTS (points at.1) many)),
   )
   measured false fits many = (
     same fits,

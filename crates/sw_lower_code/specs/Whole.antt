@@ -80,8 +80,8 @@ unfoldable pub lower_body : Numbers → Body → Result Function BodyFault
 lower_body number body =
     ended_by body ((code_of body).run (at_start number body.key body.iso body.is_async))
 
--- What is made of a body is the function of its whole lists, which is within the limits; or else its
--- whole lists have too many registers, or only too many points. Nothing is said of memory.
+-- What is made of a body is the function of its whole lists, which is within the limits; or else
+-- its whole lists have too many registers, or only too many points. Nothing is said of memory.
 abbrev pub IsWhole : Numbers → Body → Result Function BodyFault → Type 0
 IsWhole number body (Ok function) =
     (function ≡ function_of number body) × (excess_of (function_of number body) ≡ None)

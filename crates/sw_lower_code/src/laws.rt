@@ -10,8 +10,8 @@ pub fn runs_make_plans<T>()
         → Meets making (code.run making) (code.plan (place_of making)) }
 {}
 
-/// The function that is made of a body is that of its whole lists, where these are within the limits
-/// of a graph's functions; too many registers are named before too many points.
+/// The function that is made of a body is that of its whole lists, where these are within the
+/// limits of a graph's functions; too many registers are named before too many points.
 pub fn functions_are_their_plans()
     ensures { (number : Numbers) (body : Body) → IsWhole number body (lower_body number body) }
 {}

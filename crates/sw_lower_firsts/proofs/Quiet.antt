@@ -11,4 +11,3 @@ pub mod Makers
 pub mod Simple
 pub mod Uses
 pub mod Values
-pub mod Words

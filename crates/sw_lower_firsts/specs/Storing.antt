@@ -8,10 +8,10 @@ use Rattle.sw_graph.specs.declared.instr.Operand.{Operand}
 
 -- the last of the instructions stores global g
 pub record EndsStoring (g : ℕ) (instrs : List Instr) : Type 0 where
-  pub front : List Instr
+  pub earlier : List Instr
   pub at : ℕ
   pub given : Operand
-  pub is : instrs ≡ front ++ StoreGlobal at g given ∷ []
+  pub is : instrs ≡ earlier ++ StoreGlobal at g given ∷ []
 
 abbrev pub ReturnsStoring : ℕ → Block → Type 0
 ReturnsStoring g block = IsReturn block.last → EndsStoring g block.instrs

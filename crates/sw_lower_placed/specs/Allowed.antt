@@ -31,7 +31,7 @@ use Rattle.sw_isolation_rules.specs.Kinds.{accessor, is_strong, kind_of}
 use Rattle.sw_isolation_rules.specs.Lists.{captures_in, races_in}
 use Rattle.sw_isolation_rules.specs.Noting.{closure_iso}
 use Rattle.sw_isolation_rules.specs.Races.{capture_races}
-use Rattle.sw_isolation_rules.specs.Uses.{is_sent, maker_at, part_storage}
+use Rattle.sw_isolation_rules.specs.Uses.{may_cross, maker_at, part_storage}
 use Rattle.sw_isolation_rules.specs.declared.uses.Callee.{Callee}
 use Rattle.sw_isolation_rules.specs.declared.uses.Storage.{Storage}
 use Rattle.sw_lower_run.specs.declared.name.FunctionName.{FunctionName}
@@ -54,7 +54,7 @@ global_storage program global = record {
   iso = actor_iso global.actor;
   on_self = false;
   mutable = global.mutable;
-  sends = is_sent program.tables.world global.ty;
+  may_cross = may_cross program.tables.world global.ty;
 }
 
 -- the initialiser of an actor
@@ -106,7 +106,7 @@ module _ (program : Program) where
       pub on_self : callee.on_self ≡ true → FirstIsOwn host ss
       pub gives : HasType regs r result
       pub crosses : SharesNone → is_strong kind ≡ true
-          → (sends || is_sent program.tables.world result) ≡ true
+          → (sends || may_cross program.tables.world result) ≡ true
 
     -- part i of the object or actor in a register, one of `self` or not
     pub record PartUsed (o : Operand) (i : ℕ) : Type 0 where
@@ -127,7 +127,7 @@ module _ (program : Program) where
     -- Storage of another isolation is read where it is a `let`, and may cross.
     pub record ReadOk (storage : Storage) : Type 0 where
       pub constant : is_away host.iso storage ≡ true → storage.mutable ≡ false
-      pub crosses : SharesNone → is_away host.iso storage ≡ true → storage.sends ≡ true
+      pub crosses : SharesNone → is_away host.iso storage ≡ true → storage.may_cross ≡ true
 
     -- Storage is written in its own isolation, where it is a `var`.
     pub record WriteOk (storage : Storage) : Type 0 where

@@ -12,11 +12,11 @@ ghost use Rattle.sw_lower_firsts.specs.Programs.{IsGraph};
 ghost use Rattle.sw_lower_placed.specs.Programs.{KeepsApart, KeepsUnshared};
 
 /// In the graph of a program that keeps the rules on declarations, on types and on isolation each
-/// call has the kind that its callee and its caller's isolation give; parts and global variables are
-/// accessed in their isolation, but for a `let` that is read; actors, and objects of classes with
-/// global actors, are made as the last of their initialisers; closures and tasks stand where their
-/// isolation lets them; and each body that is isolated to `self` has its own in register 0, but for
-/// initialisers (SE-0306, SE-0316).
+/// call has the kind that its callee and its caller's isolation give; parts and global variables
+/// are accessed in their isolation, but for a `let` that is read; actors, and objects of classes
+/// with global actors, are made as the last of their initialisers; closures and tasks stand where
+/// their isolation lets them; and each body that is isolated to `self` has its own in register 0,
+/// but for initialisers (SE-0306, SE-0316).
 pub fn graphs_are_placed()
     ensures { (decls : List Decl) (rule : AsyncDefault) (world : World) (graph : Graph)
         → IsWelltyped decls rule world → CasesApart decls → KeepsApart world decls
@@ -25,8 +25,8 @@ pub fn graphs_are_placed()
 
 /// Where such a program shares no value that may not be, its graph is clean besides: what closures
 /// that may be sent capture, what calls into other isolations and tasks give, and what is read from
-/// outside its isolation may cross; and so may what types that declare it hold, and global variables
-/// without a global actor (SE-0302, SE-0412, SE-0430).
+/// outside its isolation may cross; and so may what types that declare it hold, and global
+/// variables without a global actor (SE-0302, SE-0412, SE-0430).
 pub fn graphs_are_clean()
     ensures { (decls : List Decl) (rule : AsyncDefault) (world : World) (graph : Graph)
         → IsWelltyped decls rule world → CasesApart decls → KeepsApart world decls

@@ -1,5 +1,5 @@
-//! Laws, without code: where calls, accesses, initialisers, closures and tasks of programs stand. It
-//! knows nothing of how a program is gone through.
+//! Laws, without code: where calls, accesses, initialisers, closures and tasks of programs stand.
+//! It knows nothing of how a program is gone through.
 #![tactic(auto)]
 
 mod laws;

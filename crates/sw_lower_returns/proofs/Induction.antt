@@ -24,7 +24,7 @@ use Rattle.sw_typing_rules.specs.Judges as is
 use Rattle.sw_typing_rules.specs.Statements.{Armed, Head, Left, State, arm_left, arm_payload}
 use Rattle.sw_typing_rules.specs.Statements.{arm_vars, beside, cases_of, closure_state}
 use Rattle.sw_typing_rules.specs.Statements.{condition_rows, in_body, in_loop, in_switch}
-use Rattle.sw_typing_rules.specs.Statements.{is_one, part_of, patterns_fit, setting_of}
+use Rattle.sw_typing_rules.specs.Statements.{is_one, in_branch, patterns_fit, setting_of}
 use Rattle.sw_typing_rules.specs.Statements.{vars_rows, with_only, written}
 use Rattle.sw_typing_rules.specs.Words.{Setting}
 use Rattle.sw_typing_rules.specs.declared.scope.Inside.{Inside}
@@ -45,8 +45,8 @@ use Rattle.sw_lower_safe.proofs.Lists.Joined.{all_left, all_right}
 use Rattle.sw_lower_safe.proofs.Said.Rows.{rows_left, rows_right}
 use Rattle.sw_lower_safe.proofs.Statements.Cases.{switch_fit as fitting}
 use Rattle.sw_lower_safe.proofs.Statements.Sequences.{arm_vars_hold, arms_vars, bind_rows}
-use Rattle.sw_lower_safe.proofs.Statements.Sequences.{cases_vars, one_still, plain_rows, return_rows}
-use Rattle.sw_lower_safe.proofs.Statements.Sequences.{some_still, vars_after}
+use Rattle.sw_lower_safe.proofs.Statements.Sequences.{cases_vars, one_still, plain_rows}
+use Rattle.sw_lower_safe.proofs.Statements.Sequences.{return_rows, some_still, vars_after}
 use Rattle.sw_lower_safe.proofs.Expressions.Typed.{member_rows}
 use Rattle.sw_lower_total.proofs.Trees.Enums.{enum_alone}
 use Rattle.sw_lower_safe.proofs.Expressions.Typed.{has_type, rows_before, type_of_expr}
@@ -56,8 +56,9 @@ use Rattle.sw_lower_returns.specs.Forms.{StmtsReturn}
 use Rattle.sw_lower_returns.proofs.Bodies.Closures.{fun_returns, spawn_returns}
 use Rattle.sw_lower_returns.proofs.Expressions.Induction.{expr_flows}
 use Rattle.sw_lower_returns.proofs.Flow.Then.{flows_then}
-use Rattle.sw_lower_returns.proofs.Forms.Parts.{ArmsReturn, CasesReturn, DefaultReturns, ElseReturns}
-use Rattle.sw_lower_returns.proofs.Forms.Parts.{block_returns, more_stmts_return, no_stmts_return}
+use Rattle.sw_lower_returns.proofs.Forms.Parts.{ArmsReturn, CasesReturn, DefaultReturns}
+use Rattle.sw_lower_returns.proofs.Forms.Parts.{ElseReturns, block_returns, more_stmts_return}
+use Rattle.sw_lower_returns.proofs.Forms.Parts.{no_stmts_return}
 use Rattle.sw_lower_returns.proofs.Forms.Stating.{bind_ways, plain_left_ways, value_ways}
 use Rattle.sw_lower_returns.proofs.Statements.Branches.{else_ways, more_arms_flow, no_arms_flow}
 use Rattle.sw_lower_returns.proofs.Statements.Declaring.{assign_flow, declare_flow}
@@ -146,7 +147,8 @@ module _ (tables : Tables) (number : Numbers) (functions : List Function)
         (λ form. base_returns setting base one of_base
         (member_rows tables.world tables.answers one name rows)
         (λ noted. expr_returns setting false base one of_base vars noted form) one.enum refl)
-    expr_returns setting expected expr judged (is.call _ _ name args passed of_args) vars rows here =
+    expr_returns setting expected expr judged (is.call _ _ name args passed of_args) vars rows
+        here =
         expr_by _ _ (eq.fold_expr-Call (steps setting.owner) name args) here
         (λ form. args_return setting _ args passed of_args vars
         (rows_left tables.answers passed.rows _ (rows_left tables.answers _ _ rows)) form)
@@ -179,7 +181,8 @@ module _ (tables : Tables) (number : Numbers) (functions : List Function)
         expr_by _ _ (eq.fold_expr-Await (steps setting.owner) at inner) here
         (λ form. expr_returns setting false inner one of_inner vars
         (rows_left tables.answers one.rows _ rows) form)
-    expr_returns setting expected expr judged (is.fun _ _ closure closed (is.closes _ at mark captures
+    expr_returns setting expected expr judged
+        (is.fun _ _ closure closed (is.closes _ at mark captures
         params result body left of_body)) vars rows here =
         expr_by _ _
         (eq.fold_expr-Fun (steps setting.owner) closure
@@ -253,7 +256,8 @@ module _ (tables : Tables) (number : Numbers) (functions : List Function)
         let now = subst (λ (link : LinkCode). Here (link.inside
         ++ flat_map (λ (one : LinkCode). one.inside)
         (map (fold_link (steps setting.owner)) more))) head_is here in
-        let noted = rows_before tables setting (infix_judged op at left right) judged more rest rows in
+        let noted =
+        rows_before tables setting (infix_judged op at left right) judged more rest rows in
         subst (λ (link : LinkCode). Return (link.inside
         ++ flat_map (λ (one : LinkCode). one.inside)
         (map (fold_link (steps setting.owner)) more))) (sym head_is)
@@ -308,8 +312,8 @@ module _ (tables : Tables) (number : Numbers) (functions : List Function)
         → VarsHold tables.answers state.vars → RowsHold tables.answers left.rows
         → Here (stmt_code tables inside.owner stmt).inside
         → StmtReturns number inside.only state (stmt_code tables inside.owner stmt) left
-    stmt_returns inside state stmt left (is.bind _ _ mutable name ty value judged of_value) init vars
-        rows here =
+    stmt_returns inside state stmt left (is.bind _ _ mutable name ty value judged of_value) init
+        vars rows here =
         stmt_by inside.only state _ _ _
         (eq.fold_stmt-Bind (steps inside.owner) mutable name ty value) here
         (λ form. record {
@@ -323,7 +327,8 @@ module _ (tables : Tables) (number : Numbers) (functions : List Function)
           back = bind_back state mutable name (written tables.world ty) judged;
           only_flows = λ read is. cc;
           inside = expr_returns (setting_of inside state) _ value judged of_value vars
-              (bind_rows tables.answers state mutable name (written tables.world ty) judged rows) form;
+              (bind_rows tables.answers state mutable name (written tables.world ty) judged rows)
+              form;
         })
     stmt_returns inside state stmt left
         (is.assign _ _ at op place value placed judged of_place of_value) init vars rows here =
@@ -354,10 +359,11 @@ module _ (tables : Tables) (number : Numbers) (functions : List Function)
               (expr_flows tables inside.owner value).read;
           back = λ gives. gives;
           only_flows = λ read is. cc;
-          inside = expr_returns (setting_of inside state) false value judged of_value vars rows form;
+          inside =
+              expr_returns (setting_of inside state) false value judged of_value vars rows form;
         })
-    stmt_returns inside state stmt left (is.if_of _ _ arms other one last of_arms of_other) init vars
-        rows here =
+    stmt_returns inside state stmt left (is.if_of _ _ arms other one last of_arms of_other) init
+        vars rows here =
         stmt_by inside.only state _ _ _ (eq.fold_stmt-If (steps inside.owner) arms other) here
         (λ form.
         let of_if = arms_return inside state arms one of_arms init vars
@@ -375,7 +381,8 @@ module _ (tables : Tables) (number : Numbers) (functions : List Function)
           only_flows = λ read is. cc;
           inside = both _ _ of_if.inside of_else.inside;
         })
-    stmt_returns inside state stmt left (is.while_of _ _ at cond body judged one of_cond of_body) init
+    stmt_returns inside state stmt left
+        (is.while_of _ _ at cond body judged one of_cond of_body) init
         vars rows here =
         stmt_by inside.only state _ _ _ (eq.fold_stmt-While (steps inside.owner) at cond body) here
         (λ form.
@@ -384,7 +391,8 @@ module _ (tables : Tables) (number : Numbers) (functions : List Function)
         (here_right (expr_code tables inside.owner cond).inside _ form) in
         record {
           ways = λ gives none.
-              while_ways (expr_code tables inside.owner cond).read (block_code tables inside.owner body)
+              while_ways (expr_code tables inside.owner cond).read
+              (block_code tables inside.owner body)
               one.ends one.breaks (of_loop.ways gives (λ is. absurd (false≢true is))) judged.is_true
               (expr_flows tables inside.owner cond).read
               (makes_true tables (setting_of inside state) false cond judged of_cond);
@@ -408,20 +416,22 @@ module _ (tables : Tables) (number : Numbers) (functions : List Function)
         let inner = rows_left tables.answers (armed.left.rows ++ last.rows) _
         (rows_right tables.answers judged.rows _ rows) in
         let subject_rows = rows_left tables.answers judged.rows _ rows in
-        let front = here_left (code.inside ++ in_arms) (inside_of default) form in
-        let subject_here = here_left code.inside in_arms front in
+        let before = here_left (code.inside ++ in_arms) (inside_of default) form in
+        let subject_here = here_left code.inside in_arms before in
         let ok = exprs (setting_of inside state) false subject judged of_subject vars subject_rows
         subject_here in
         let fit = switch_fit tables.answers (cases_of tables.world judged.ty) at judged armed.heads
         (is_some other) (beside armed.left last) (ap is_some ok.has) rows in
-        let of_all = cases_return (in_switch inside) (cases_of tables.world judged.ty) state arms armed
+        let of_all =
+        cases_return (in_switch inside) (cases_of tables.world judged.ty) state arms armed
         of_cases init vars (rows_left tables.answers armed.left.rows last.rows inner)
-        (here_right code.inside in_arms front)
+        (here_right code.inside in_arms before)
         (fitting (cases_of tables.world judged.ty) armed.heads (is_some other) fit).each in
-        let of_default = default_returns (in_switch inside) armed.left.state other last of_other init
+        let of_default =
+        default_returns (in_switch inside) armed.left.state other last of_other init
         (subst (VarsHold tables.answers)
-        (sym (cases_vars tables.world (in_switch inside) (cases_of tables.world judged.ty) state arms
-        armed of_cases)) vars)
+        (sym (cases_vars tables.world (in_switch inside) (cases_of tables.world judged.ty) state
+        arms armed of_cases)) vars)
         (rows_right tables.answers armed.left.rows last.rows inner)
         (here_right (code.inside ++ in_arms) (inside_of default) form) in
         let ends = armed.left.ends && last.ends in
@@ -441,8 +451,8 @@ module _ (tables : Tables) (number : Numbers) (functions : List Function)
           only_flows = λ read is. cc;
           inside = both (code.inside ++ in_arms) (inside_of default)
               (both code.inside in_arms
-              (expr_returns (setting_of inside state) false subject judged of_subject vars subject_rows
-              subject_here) of_all.inside) of_default.inside;
+              (expr_returns (setting_of inside state) false subject judged of_subject vars
+              subject_rows subject_here) of_all.inside) of_default.inside;
         })
     stmt_returns inside state stmt left (is.return_nothing _ _ at) init vars rows here =
         stmt_by inside.only state _ _ _ (eq.fold_stmt-Return (steps inside.owner) at None) here
@@ -456,8 +466,8 @@ module _ (tables : Tables) (number : Numbers) (functions : List Function)
         })
     stmt_returns inside state stmt left (is.return_of _ _ at value judged of_value) init vars rows
         here =
-        stmt_by inside.only state _ _ _ (eq.fold_stmt-Return (steps inside.owner) at (Some value)) here
-        (λ form. record {
+        stmt_by inside.only state _ _ _ (eq.fold_stmt-Return (steps inside.owner) at (Some value))
+        here (λ form. record {
           ways = λ gives none. value_ways state.returned state at judged
               (λ targets. return_code tables (Some (expr_code tables inside.owner value).read))
               (return_ways tables (expr_code tables inside.owner value).read
@@ -517,7 +527,7 @@ module _ (tables : Tables) (number : Numbers) (functions : List Function)
         ++ (block_code tables inside.owner body).inside in
         let own = here_left both_inside _ now in
         let noted = rows_left tables.answers (arm_left state judged one).rows last.rows rows in
-        let of_block = block_returns_of (part_of inside) state body one of_body init vars
+        let of_block = block_returns_of (in_branch inside) state body one of_body init vars
         (rows_right tables.answers (condition_rows judged) one.rows noted)
         (here_right (expr_code tables inside.owner cond).inside _ own) in
         let others = arms_return inside (arm_left state judged one).state more last rest init vars
@@ -548,7 +558,8 @@ module _ (tables : Tables) (number : Numbers) (functions : List Function)
     else_returns inside state other left (is.absent _ _) init vars rows here =
         record { ways = λ gives. else_ways; back = λ gives. gives; inside = none }
     else_returns inside state other left (is.present _ _ _ body one of_body) init vars rows here =
-        let of_block = block_returns_of (part_of inside) state body one of_body init vars rows here in
+        let of_block =
+        block_returns_of (in_branch inside) state body one of_body init vars rows here in
         record {
           ways = λ gives. of_block.ways gives (λ is. absurd (false≢true is));
           back = of_block.back;
@@ -562,8 +573,10 @@ module _ (tables : Tables) (number : Numbers) (functions : List Function)
         → DefaultReturns number state (option_map (fold_block (steps inside.owner)) other) left
     default_returns inside state other left (is.absent_default _ _) init vars rows here =
         record { ways = λ gives ends breaks one two. tt; back = λ gives. gives; inside = none }
-    default_returns inside state other left (is.present _ _ _ body one of_body) init vars rows here =
-        let of_block = block_returns_of (part_of inside) state body one of_body init vars rows here in
+    default_returns inside state other left (is.present _ _ _ body one of_body) init vars rows
+        here =
+        let of_block =
+        block_returns_of (in_branch inside) state body one of_body init vars rows here in
         record {
           ways = λ gives ends breaks ends_too breaks_too. record {
             own_ends = one.ends;
@@ -599,7 +612,7 @@ module _ (tables : Tables) (number : Numbers) (functions : List Function)
         let left = is.case_of cases state (is.head_of name patterns) one in
         let noted = rows_left tables.answers left.rows rest.left.rows rows in
         let new = arm_vars (is.head_of name patterns) (arm_payload cases name.id) in
-        let of_block = block_returns_of (part_of inside)
+        let of_block = block_returns_of (in_branch inside)
         (is.arm_state cases state (is.head_of name patterns)) body one of_body init
         (All-append (VarHolds tables.answers) state.vars new vars
         (arm_vars_hold tables.answers (is.head_of name patterns) (arm_payload cases name.id)
@@ -627,6 +640,7 @@ module _ (tables : Tables) (number : Numbers) (functions : List Function)
                 (λ is. breaks_too (or_right one.breaks rest.left.breaks is)),
           );
           back = λ gives. of_block.back (others.back gives);
-          inside = both (block_code tables inside.owner body).inside _ of_block.inside others.inside;
+          inside =
+              both (block_code tables inside.owner body).inside _ of_block.inside others.inside;
           names = ap (λ names. name.id ∷ names) others.names;
         })

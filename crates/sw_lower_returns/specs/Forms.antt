@@ -1,5 +1,5 @@
--- What is shown of the code of each form: where blocks that are reached go on, and that the functions
--- of the bodies in it return their results.
+-- What is shown of the code of each form: where blocks that are reached go on, and that the
+-- functions of the bodies in it return their results.
 use Rattle.std.specs.Prelude.{◌≡◌, Bool, true, false, List, [], ◌∷◌, Option, Some, None, All}
 use Rattle.std.specs.Prelude.{flat_map}
 use Rattle.std.specs.List.{AllByRecursion}

@@ -107,7 +107,7 @@ makes_both first second s t u one two =
             length-append first.made second.made,
           ))
 
--- the second run, from where the first came to
+-- the second run, from where the first ended
 second_meets : {A B : Type 0} (first : Piece A) (second : Piece B) (s t : Making)
     (result : Result (B × Making) CodeFault) → Makes first s t → Meets t result second
     → Meets s result (joined first second)
@@ -147,7 +147,8 @@ same_then {A = A} {B = B} run plan runs plans same sames s going =
           let here = place_after (plan (place_of s)) s at.1 meets.1 in
           second_meets (plan (place_of s)) _ s at.1 (runs at.0 at.1) meets.1
           (subst (λ there. Meets at.1 (runs at.0 at.1) (plans (plan (place_of s)).value there)) here
-          (subst (λ value. Meets at.1 (runs at.0 at.1) (plans value (place_of at.1))) meets.0 second))
+          (subst (λ value. Meets at.1 (runs at.0 at.1) (plans value (place_of at.1))) meets.0
+          second))
 
 -- Of variables to which others were added, the first are those that were there.
 scope_vars : {A : Type 0} (piece : Piece A) (s t : Making) → Makes piece s t

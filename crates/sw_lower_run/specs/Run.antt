@@ -22,9 +22,9 @@ use Rattle.sw_lower_run.specs.declared.name.FunctionName.{FunctionName}
 use Rattle.sw_lower_run.specs.declared.fault.CodeFault.{CodeFault}
 use Rattle.sw_lower_run.specs.declared.fault.CodeFault.TheVariants.{Registers, Memory}
 
--- A function while code for it is made: what is made, the block that goes on, the variables that are
--- seen, the numbers of functions, and whether an instruction was dropped since the function had all
--- its points.
+-- A function while code for it is made: what is made, the block that goes on, the variables that
+-- are seen, the numbers of functions, and whether an instruction was dropped since the function had
+-- all its points.
 pub record Making : Type 0 where
   pub made : Unfinished
   pub here : ℕ
@@ -145,8 +145,8 @@ AreInside count [] = Unit {0}
 AreInside count (one ∷ more) = (one.block < count) × AreInside count more
 
 -- What is made by a piece of code, from s to t. Registers, blocks and variables are those of the
--- plan. The instructions are, but where the function has too many points; then more are planned than
--- it may have.
+-- plan. The instructions are, but where the function has too many points; then more are planned
+-- than it may have.
 pub record Makes {A : Type 0} (piece : Piece A) (s t : Making) : Type 0 where
   pub key : t.made.key ≡ s.made.key
   pub iso : t.made.iso ≡ s.made.iso

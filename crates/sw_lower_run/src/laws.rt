@@ -3,11 +3,11 @@ ghost use Rattle.std.specs.Prelude.{ℕ};
 ghost use Rattle.sw_graph.specs.declared.function.RegKind.{RegKind};
 ghost use Rattle.sw_graph.specs.declared.instr.Instr.{Instr};
 ghost use Rattle.sw_graph.specs.declared.instr.Last.{Last};
-ghost use Rattle.sw_lower_run.specs.Plan.{Entry, Plan, plan_after, plan_bind, plan_block, plan_close};
-ghost use Rattle.sw_lower_run.specs.Plan.{plan_emit, plan_reg, plan_resume, plan_scope};
-ghost use Rattle.sw_lower_run.specs.Run.{IsGoing, Making, Meets, Run, place_of, run_after, run_bind};
-ghost use Rattle.sw_lower_run.specs.Run.{run_block, run_close, run_emit, run_front, run_reg};
-ghost use Rattle.sw_lower_run.specs.Run.{run_resume, run_scope};
+ghost use Rattle.sw_lower_run.specs.Plan.{Entry, Plan, plan_after, plan_bind, plan_block};
+ghost use Rattle.sw_lower_run.specs.Plan.{plan_close, plan_emit, plan_reg, plan_resume, plan_scope};
+ghost use Rattle.sw_lower_run.specs.Run.{IsGoing, Making, Meets, Run, place_of, run_after};
+ghost use Rattle.sw_lower_run.specs.Run.{run_bind, run_block, run_close, run_emit, run_front};
+ghost use Rattle.sw_lower_run.specs.Run.{run_reg, run_resume, run_scope};
 ghost use Rattle.sw_lower_run.specs.declared.bound.Bound.{Bound};
 
 /// Each single step makes what its plan says of the place at which the function has come.

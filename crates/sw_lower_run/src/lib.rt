@@ -1,5 +1,5 @@
-//! Steps of making a function of a graph: what each adds, said by whole lists, and what it does to a
-//! function that is being made. It knows nothing of trees.
+//! Steps of making a function of a graph: what each adds, said by whole lists, and what it does to
+//! a function that is being made. It knows nothing of trees.
 #![tactic(auto)]
 
 mod bound;

@@ -23,7 +23,7 @@ use Rattle.sw_typing_rules.specs.Expressions.{Judged, Passed, base_rows, infix_j
 use Rattle.sw_typing_rules.specs.Judges as is
 use Rattle.sw_typing_rules.specs.Statements.{Armed, Left, State, arm_left, arm_payload, arm_vars}
 use Rattle.sw_typing_rules.specs.Statements.{beside, cases_of, closure_state, condition_rows, fixed}
-use Rattle.sw_typing_rules.specs.Statements.{in_body, in_loop, in_switch, is_one, part_of}
+use Rattle.sw_typing_rules.specs.Statements.{in_body, in_loop, in_switch, is_one, in_branch}
 use Rattle.sw_typing_rules.specs.Statements.{setting_of, switch_left, vars_rows, with_only, written}
 use Rattle.sw_typing_rules.specs.Verdicts.{ill_if}
 use Rattle.sw_typing_rules.specs.Words.{Setting}
@@ -434,7 +434,7 @@ module _ (tables : Tables) (number : Numbers) (functions : List Function)
         (rows_right tables.answers judged.rows _ rows) in
         let in_arms = flat_map (λ (arm : CaseCode). arm.body.inside)
         (map (fold_case_arm (code_steps tables inside.owner)) arms) in
-        let front = all_left (IsHere tables number functions)
+        let before = all_left (IsHere tables number functions)
         ((expr_code tables inside.owner subject).inside ++ in_arms)
         (inside_of (option_map (fold_block (code_steps tables inside.owner)) other)) form in
         subst (λ has. StmtOk tables number functions inside.owner inside.only state
@@ -451,7 +451,7 @@ module _ (tables : Tables) (number : Numbers) (functions : List Function)
         (expr_ok (setting_of inside state) false subject judged of_subject vars
         (rows_left tables.answers judged.rows _ rows)
         (all_left (IsHere tables number functions) (expr_code tables inside.owner subject).inside
-        in_arms front))
+        in_arms before))
         (subst (λ has. RowsHold tables.answers (switch_left (cases_of tables.world judged.ty) at
         judged armed.heads has (beside armed.left last)).rows)
         (sym (some_still (fold_block (code_steps tables inside.owner)) other)) rows)
@@ -459,7 +459,7 @@ module _ (tables : Tables) (number : Numbers) (functions : List Function)
         init
         vars (rows_left tables.answers armed.left.rows last.rows inner)
         (all_right (IsHere tables number functions) (expr_code tables inside.owner subject).inside
-        in_arms front)
+        in_arms before)
         (switch_well tables.answers (cases_of tables.world judged.ty) at judged armed.heads
         (is_some other) (beside armed.left last)
         (type_of_expr tables (setting_of inside state) false subject judged of_subject vars
@@ -532,7 +532,7 @@ module _ (tables : Tables) (number : Numbers) (functions : List Function)
         (rows_left tables.answers (condition_rows judged) one.rows noted))
         (all_left (IsHere tables number functions) (expr_code tables inside.owner cond).inside _
         own)) noted
-        (block_ok_of (part_of inside) state body one of_body init vars
+        (block_ok_of (in_branch inside) state body one of_body init vars
         (rows_right tables.answers (condition_rows judged) one.rows noted)
         (all_right (IsHere tables number functions) (expr_code tables inside.owner cond).inside _
         own))
@@ -553,7 +553,7 @@ module _ (tables : Tables) (number : Numbers) (functions : List Function)
     other_ok ends inside state other left (is.present _ _ _ body one of_body) init vars rows here =
         some_block_ok tables number functions inside.owner state
         (block_code tables inside.owner body)
-        one (block_ok_of (part_of inside) state body one of_body init vars rows here)
+        one (block_ok_of (in_branch inside) state body one of_body init vars rows here)
 
     cases_ok : (inside : Inside) (cases : Option (List CaseShape)) (state : State)
         (arms : List CaseArm) (armed : Armed)
@@ -582,7 +582,8 @@ module _ (tables : Tables) (number : Numbers) (functions : List Function)
           patterns = patterns;
           body = block_code tables inside.owner body;
         }) one (map (fold_case_arm (code_steps tables inside.owner)) more) rest
-        (block_ok_of (part_of inside) (is.arm_state cases state (is.head_of name patterns)) body one
+        (block_ok_of (in_branch inside) (is.arm_state cases state (is.head_of name patterns)) body
+        one
         of_body init
         (All-append (VarHolds tables.answers) state.vars new vars
         (arm_vars_hold tables.answers (is.head_of name patterns) (arm_payload cases name.id)

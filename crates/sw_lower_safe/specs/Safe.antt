@@ -34,9 +34,9 @@ moved p piece making = record {
 abbrev pub here : Position → ℕ
 here p = p.making.here
 
--- One list is the front of another.
-abbrev pub IsFront : {A : Type 0} → List A → List A → Type 0
-IsFront {A} front list = (rest : List A) × (list ≡ front ++ rest)
+-- One list is the start of another.
+abbrev pub IsStart : {A : Type 0} → List A → List A → Type 0
+IsStart {A} start list = (rest : List A) × (list ≡ start ++ rest)
 
 -- The function as it is made until then is what its plan says, and not too long.
 pub record Stands (p : Position) : Type 0 where
@@ -45,11 +45,11 @@ pub record Stands (p : Position) : Type 0 where
   pub blocks : length p.making.made.blocks ≡ 1 + length p.made
   pub instrs : (number : ℕ) → instrs_at number p.making.made.blocks ≡ written_in number p.writes
 
--- What is made until then is the front of what the whole function has.
+-- What is made until then is the start of what the whole function has.
 pub record IsIn (w : Whole) (p : Position) : Type 0 where
-  pub regs : IsFront p.making.made.regs w.regs
-  pub made : IsFront p.made w.made
-  pub writes : IsFront p.writes w.writes
+  pub regs : IsStart p.making.made.regs w.regs
+  pub made : IsStart p.made w.made
+  pub writes : IsStart p.writes w.writes
 
 -- Code is safe at a position: if it runs to its end there, and what it makes is part of the whole
 -- function, then it fits, and the claim holds of its value and of the position after it.

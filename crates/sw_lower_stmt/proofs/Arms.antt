@@ -56,32 +56,32 @@ arms_split (arm ∷ arms) otherwise targets s =
     (λ _ v. run_after ((joined_all merges).run v) (λ _. join)) (λ _ v. refl)))))
 
 -- the last joins first
-pub last_joins : (front : List ℕ) (merge : ℕ) (s : Making)
-    → (joined_all (front ++ merge ∷ [])).run s
-    ≡ run_after ((joined_in merge).run s) (λ _. (joined_all front).run)
+pub last_joins : (before : List ℕ) (merge : ℕ) (s : Making)
+    → (joined_all (before ++ merge ∷ [])).run s
+    ≡ run_after ((joined_in merge).run s) (λ _. (joined_all before).run)
 unfolding andthen done joined_all
 last_joins [] merge s = sym (after_nothing ((joined_in merge).run s))
-last_joins (one ∷ front) merge s =
-    ap (λ run. run_after run (λ _. (joined_in one).run)) (last_joins front merge s)
-    ∙ after_then ((joined_in merge).run s) (λ _. (joined_all front).run)
-    (λ _. (joined_in one).run) (λ _. (joined_all (one ∷ front)).run) (λ _ t. refl)
+last_joins (one ∷ before) merge s =
+    ap (λ run. run_after run (λ _. (joined_in one).run)) (last_joins before merge s)
+    ∙ after_then ((joined_in merge).run s) (λ _. (joined_all before).run)
+    (λ _. (joined_in one).run) (λ _. (joined_all (one ∷ before)).run) (λ _ t. refl)
 
-module _ (all front : List ℕ) (merge : ℕ) (s : Making) (whole : Outcome (Unit {0}))
+module _ (all before : List ℕ) (merge : ℕ) (s : Making) (whole : Outcome (Unit {0}))
     (left : (joined_all all).run s ≡ whole) where
   -- one way joins
-  pub joins_next : (t : Making) → all ≡ front ++ merge ∷ []
-      → (joined_in merge).run s ≡ Ok (tt, t) → (joined_all front).run t ≡ whole
+  pub joins_next : (t : Making) → all ≡ before ++ merge ∷ []
+      → (joined_in merge).run s ≡ Ok (tt, t) → (joined_all before).run t ≡ whole
   joins_next t is one =
-      sym (ap (λ run. run_after run (λ _. (joined_all front).run)) one)
-      ∙ (sym (last_joins front merge s)
+      sym (ap (λ run. run_after run (λ _. (joined_all before).run)) one)
+      ∙ (sym (last_joins before merge s)
       ∙ (sym (ap (λ merges. (joined_all merges).run s) is) ∙ left))
 
   -- one way doesn't join
-  pub joins_fail : (fault : CodeFault) → all ≡ front ++ merge ∷ []
+  pub joins_fail : (fault : CodeFault) → all ≡ before ++ merge ∷ []
       → (joined_in merge).run s ≡ Err fault → whole ≡ Err fault
   joins_fail fault is one =
-      sym left ∙ (ap (λ merges. (joined_all merges).run s) is ∙ (last_joins front merge s
-      ∙ ap (λ run. run_after run (λ _. (joined_all front).run)) one))
+      sym left ∙ (ap (λ merges. (joined_all merges).run s) is ∙ (last_joins before merge s
+      ∙ ap (λ run. run_after run (λ _. (joined_all before).run)) one))
 
 -- all ways have joined
 pub joins_end : (all : List ℕ) (s : Making) (whole : Outcome (Unit {0}))

@@ -1,6 +1,6 @@
 -- The code of the parts of statements: what each function makes, over the trees that it is given.
-use Rattle.std.specs.Prelude.{ℕ, ◌==◌, true, false, List, [], ◌∷◌, map, flat_map, Option, Some, None}
-use Rattle.std.specs.Prelude.{option_map, unwrap_or, if◌then◌else◌}
+use Rattle.std.specs.Prelude.{ℕ, ◌==◌, true, false, List, [], ◌∷◌, map, flat_map, Option, Some}
+use Rattle.std.specs.Prelude.{None, option_map, unwrap_or, if◌then◌else◌}
 use Rattle.sw_tree.specs.Folds.{fold_case_arm, fold_if_arm}
 use Rattle.sw_tree.specs.declared.expr.Expr.{Expr}
 use Rattle.sw_tree.specs.declared.operator.AssignOp.{AssignOp}
@@ -20,8 +20,8 @@ use Rattle.sw_graph.specs.declared.instr.Last.{Last}
 use Rattle.sw_graph.specs.declared.instr.Last.TheVariants as last
 use Rattle.sw_graph.specs.declared.instr.Operand.{Operand}
 use Rattle.sw_lower_run.specs.Plan.{OfCase}
-use Rattle.sw_lower_code.specs.Code.{Code, all, bind, block_for, close, done, each, emit, known, reg}
-use Rattle.sw_lower_code.specs.Code.{resume, ◌>>=◌, ◌>>◌}
+use Rattle.sw_lower_code.specs.Code.{Code, all, bind, block_for, close, done, each, emit, known}
+use Rattle.sw_lower_code.specs.Code.{reg, resume, ◌>>=◌, ◌>>◌}
 use Rattle.sw_lower_table.specs.Carriers.{BlockCode, CaseCode, Given, IfCode, StmtCode}
 use Rattle.sw_lower_table.specs.Expressions.{block_made, jump}
 use Rattle.sw_lower_table.specs.Statements.{Arm, arm_code, block_code, case_from, code_steps}
@@ -60,8 +60,8 @@ op_of assigns.Multiply = Some bin.Mul
 op_of assigns.Divide = Some bin.Div
 op_of assigns.Remainder = Some bin.Rem
 
--- An arm of an `if`: what follows goes on where its condition is false. The block in which both ways
--- join is given.
+-- An arm of an `if`: what follows goes on where its condition is false. The block in which both
+-- ways join is given.
 unfoldable pub arm_opened : Targets → IfCode → Code ℕ
 arm_opened targets arm = arm.cond
     >>= λ given. block_made

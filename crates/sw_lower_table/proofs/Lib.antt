@@ -1,3 +1,4 @@
+pub mod CodedKeys
 pub mod FirstTooLarge
 pub mod Forms
 pub mod InOrder

@@ -21,7 +21,8 @@ found_later from number first names name later = record {
   above = omega (arith, later.above);
   below = omega (arith, later.below);
   named = λ one is. later.named one (subst (λ k. slice_get (first ∷ names) k ≡ Some one)
-      (let next : number - from ≡ suc (number - (from + 1)) = omega (arith, later.above) in next) is);
+      (let next : number - from ≡ suc (number - (from + 1)) = omega (arith, later.above) in next)
+      is);
 }
 
 found : (from : ℕ) (names : List FunctionName) (name : FunctionName) (number : ℕ)

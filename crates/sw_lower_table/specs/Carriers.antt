@@ -48,8 +48,8 @@ pub record StmtCode : Type 0 where
   pub gives : List Given
   pub inside : List Body
 
--- a block: its code, the code of its value where it is one expression, what its statements give, and
--- the bodies in it
+-- a block: its code, the code of its value where it is one expression, what its statements give,
+-- and the bodies in it
 pub record BlockCode : Type 0 where
   pub code : Targets → Code (Unit {0})
   pub only : Option (Code Operand)

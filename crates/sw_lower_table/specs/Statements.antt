@@ -21,12 +21,12 @@ use Rattle.sw_graph.specs.declared.instr.BinOp.TheVariants as bin
 use Rattle.sw_graph.specs.declared.instr.Instr.TheVariants as instr
 use Rattle.sw_graph.specs.declared.instr.Last.TheVariants as last
 use Rattle.sw_graph.specs.declared.instr.Operand.{Operand}
-use Rattle.sw_lower_code.specs.Code.{Code, all, bind, block_for, close, done, each, emit, front, known}
-use Rattle.sw_lower_code.specs.Code.{reg, resume, scope, ◌>>=◌, ◌>>◌}
+use Rattle.sw_lower_code.specs.Code.{Code, all, bind, block_for, close, done, each, emit, front}
+use Rattle.sw_lower_code.specs.Code.{known, reg, resume, scope, ◌>>=◌, ◌>>◌}
 use Rattle.sw_lower_run.specs.Plan.{OfCase}
 use Rattle.sw_lower_code.specs.Whole.{Body}
-use Rattle.sw_lower_table.specs.Carriers.{ArgCode, BlockCode, CaseCode, ClosureCode, ExprCode, Given}
-use Rattle.sw_lower_table.specs.Carriers.{IfCode, LinkCode, StmtCode}
+use Rattle.sw_lower_table.specs.Carriers.{ArgCode, BlockCode, CaseCode, ClosureCode, ExprCode}
+use Rattle.sw_lower_table.specs.Carriers.{Given, IfCode, LinkCode, StmtCode}
 use Rattle.sw_lower_table.specs.declared.targets.Targets.{Targets}
 use Rattle.sw_lower_table.specs.Expressions.{block_made, expr_layer, jump}
 use Rattle.sw_lower_table.specs.Tables.{Tables}

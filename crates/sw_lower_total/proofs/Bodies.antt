@@ -16,5 +16,6 @@ pub mod ProgramBodies
 pub mod ProgramStands
 pub mod SimpleHeld
 pub mod SimpleMentions
+pub mod SimpleWords
 pub mod Taking
 pub mod UseNotes

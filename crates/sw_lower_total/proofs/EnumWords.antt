@@ -8,13 +8,13 @@ use Rattle.sw_tree.specs.Keys.{keys_of}
 use Rattle.sw_tree.specs.declared.decl.Decl.{Decl}
 use Rattle.sw_tree.proofs.Counting.{Weight, count, hits, hits_same, in_all}
 use Rattle.sw_resolve.specs.Evident.{Meanings, meanings_of}
+use Rattle.sw_typing_rules.proofs.OneWorld.{distinct_once}
 use Rattle.sw_typing_rules.specs.Programs.{BodyOf, ValueOf, said, bodies_from, values_from}
 use Rattle.sw_typing_rules.specs.Worlds.{World}
 use Rattle.sw_typing_rules.specs.declared.row.Meaning.{Meaning}
 use Rattle.sw_typing_rules.specs.declared.row.Row.{Row}
 use Rattle.sw_typing_rules.specs.declared.row.Row.TheVariants.{Ill, Means, Typed}
 use Rattle.sw_isolation_rules.specs.Answers.{answers_in, meaning_in, meaning_row}
-use Rattle.sw_lower_safe.proofs.Programs.Keyed.{distinct_once}
 use Rattle.sw_lower_safe.proofs.Said.Counts.{Counts}
 use Rattle.sw_lower_safe.proofs.Said.OneAnswer.{contained_counts, meanings_count, meanings_told}
 use Rattle.sw_lower_safe.proofs.Said.OneAnswer.{none_answers}

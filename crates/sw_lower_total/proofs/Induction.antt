@@ -30,7 +30,7 @@ use Rattle.sw_typing_rules.specs.Calls.{Slot}
 use Rattle.sw_typing_rules.specs.Expressions.{Judged, Passed, infix_judged}
 use Rattle.sw_typing_rules.specs.Judges as is
 use Rattle.sw_typing_rules.specs.Statements.{Armed, Left, State, arm_left, cases_of, closure_state}
-use Rattle.sw_typing_rules.specs.Statements.{in_body, in_loop, in_switch, is_one, part_of}
+use Rattle.sw_typing_rules.specs.Statements.{in_body, in_loop, in_switch, is_one, in_branch}
 use Rattle.sw_typing_rules.specs.Statements.{setting_of, with_only}
 use Rattle.sw_typing_rules.specs.Words.{Setting}
 use Rattle.sw_typing_rules.specs.declared.scope.Inside.{Inside}
@@ -246,7 +246,7 @@ module _ (tables : Tables) (number : Numbers) (all : List Note) (known : Known t
         (is.one_arm _ _ at cond body more judged one last of_cond of_body rest) =
         more_arms_case tables number all inside state at cond body more judged one last of_cond
         of_body rest (expr_proceeds (setting_of inside state) false cond judged of_cond)
-        (block_proceeds_of (part_of inside) state body one of_body)
+        (block_proceeds_of (in_branch inside) state body one of_body)
         (arms_proceed inside (arm_left state judged one).state more last rest)
 
     -- an `else` or a `default`
@@ -259,7 +259,7 @@ module _ (tables : Tables) (number : Numbers) (all : List Note) (known : Known t
         no_default_case tables number all inside state
     other_proceeds ends inside state other left (is.present _ _ _ body one of_body) =
         some_block_case tables number all ends inside state body one of_body
-        (block_proceeds_of (part_of inside) state body one of_body)
+        (block_proceeds_of (in_branch inside) state body one of_body)
 
     -- the arms of a `switch`
     cases_proceed : (inside : Inside) (cases : Option (List CaseShape)) (state : State)
@@ -272,7 +272,7 @@ module _ (tables : Tables) (number : Numbers) (all : List Note) (known : Known t
         (is.one_case _ _ _ name patterns body more one rest of_body of_more) =
         more_cases_case tables number all known inside cases state name patterns body more one rest
         of_body of_more
-        (block_proceeds_of (part_of inside) (is.arm_state cases state (is.head_of name patterns))
+        (block_proceeds_of (in_branch inside) (is.arm_state cases state (is.head_of name patterns))
         body one of_body)
         (cases_proceed inside cases
         (is.case_of cases state (is.head_of name patterns) one).state more rest of_more)

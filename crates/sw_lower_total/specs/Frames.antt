@@ -3,8 +3,8 @@ use Rattle.std.specs.Prelude.{◌≡◌, ◌≢◌, ℕ, ◌<◌, ◌≤◌, ◌
 use Rattle.sw_lower_run.specs.Run.{IsGoing, Making, instrs_at}
 use Rattle.sw_lower_code.specs.Code.{Code}
 
--- From s to t, of the first blocks, as many as the count, only `own` is written into. The block that
--- goes on is `own` or none of those.
+-- From s to t, of the first blocks, as many as the count, only `own` is written into. The block
+-- that goes on is `own` or none of those.
 pub record Stays (count own : ℕ) (s t : Making) : Type 0 where
   pub others : (number : ℕ) → number < count → number ≢ own
       → instrs_at number t.made.blocks ≡ instrs_at number s.made.blocks

@@ -1,4 +1,4 @@
--- Code for each item in order, where some items are behind.
+-- Code for each item in order, after that of some items.
 use Rattle.std.specs.Prelude.{List, [], ◌∷◌, ◌++◌, Ok}
 use Rattle.sw_lower_code.specs.Code.{Code}
 use Rattle.sw_lower_run.specs.Run.{Run, run_after}

@@ -39,8 +39,8 @@ fn listed_value(
     emit_value(capture.first, r, instr, draft)
 }
 
-/// What goes into a closure for a variable that was looked up. One that is captured by reference and
-/// is in no box has no code, as where memory runs out.
+/// What goes into a closure for a variable that was looked up. One that is captured by reference
+/// and is in no box has no code, as where memory runs out.
 fn capture_bound(
     alloc: Global,
     known: &Known<'_>,

@@ -14,14 +14,16 @@ use Rattle.sw_names.specs.Repeats.{repeats}
 use Rattle.sw_resolve.specs.TypeWords.{bad_words}
 use Rattle.sw_resolve.specs.declared.placed.Placed.{Placed}
 use Rattle.sw_resolve.specs.declared.words.Meaning.{Meaning}
-use Rattle.sw_resolve.specs.declared.words.Meaning.TheVariants.{Shape, GlobalActor, Func, Global, Entry}
+use Rattle.sw_resolve.specs.declared.words.Meaning.TheVariants.{Shape, GlobalActor, Func, Global}
+use Rattle.sw_resolve.specs.declared.words.Meaning.TheVariants.{Entry}
 
 -- the names that a statement or the statements of a block declare, and the breaches inside
 pub record Inside : Type 0 where
   pub names : List Name
   pub found : List Placed
 
--- what `@Sendable` or a global actor is written on a closure, and the breaches inside
+-- a closure: the word of its attribute, `Sendable` or a global actor, if one is written, and the
+-- breaches inside
 pub record Marked : Type 0 where
   pub mark : Option Name
   pub found : List Placed

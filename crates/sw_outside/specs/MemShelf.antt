@@ -3,6 +3,7 @@ use Rattle.std.specs.Prelude.{ℕ, Bool, List, length, ◌==◌, ◌||◌, is_no
 use Rattle.std.specs.List.{list_any}
 use Rattle.sw_outside.specs.Shelf.{Known, find_file, with_request}
 
+-- what a shelf in memory is
 pub record ShelfState : Type 0 where
   -- the files, and the names requested so far
   pub known : Known

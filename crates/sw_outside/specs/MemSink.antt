@@ -2,6 +2,7 @@
 use Rattle.std.specs.Prelude.{ℕ, Bool, List, length, ◌-◌, ◌==◌, ◌||◌, min}
 use Rattle.std.specs.List.{list_any}
 
+-- what a sink in memory is
 pub record SinkState : Type 0 where
   -- the bytes written so far
   pub bytes : List ℕ
@@ -25,5 +26,5 @@ abbrev pub put_fails : SinkState → Bool
 put_fails sink = list_any (λ number. number == sink.number) sink.fails || (room_left sink == 0)
 
 -- the number of bytes that the next put writes of a piece of n bytes
-abbrev pub part_of : SinkState → ℕ → ℕ
-part_of sink n = min n (min sink.step (room_left sink))
+abbrev pub put_length : SinkState → ℕ → ℕ
+put_length sink n = min n (min sink.step (room_left sink))

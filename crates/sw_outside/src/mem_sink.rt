@@ -1,6 +1,6 @@
 ghost use Rattle.std.specs.Prelude.{◌≡◌, Some, [], ◌++◌, ◌<◌, ◌≤◌, ◌↔◌, length, take, IsTrue};
 ghost use Rattle.std.specs.Prelude.{IsErr, IfOk, OnOk, OnErr};
-ghost use Rattle.sw_outside.specs.MemSink.{SinkState, put_fails, part_of};
+ghost use Rattle.sw_outside.specs.MemSink.{SinkState, put_fails, put_length};
 ghost use Rattle.sw_outside.specs.Rise.{Rose, raised};
 
 use crate::sink::{Sink, SinkFault};
@@ -85,7 +85,7 @@ impl Sink for MemSink {
 
         // When it fails, and how many bytes it writes.
         ensures fails { IsErr result ↔ IsTrue (put_fails self.old) }
-        ensures part { IfOk result (λ n. n ≡ part_of self.old (length piece.now)) }
+        ensures part { IfOk result (λ n. n ≡ put_length self.old (length piece.now)) }
 
         // The sink after a put.
         ensures after_ok { IfOk result (λ n. self.new ≡ record self.old {

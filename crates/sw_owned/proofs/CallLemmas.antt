@@ -2,11 +2,15 @@
 use Rattle.std.specs.Prelude.{◌≡◌, ℕ, Bool, true, false, IsTrue, Some, refl}
 use Rattle.std.proofs.Common.{sym, subst, ap, ◌∙◌, inl, inr, arith}
 use Rattle.sw_owned.specs.Colours.{Actor, OfActor, Generic, On, IsOwnedBy}
-use Rattle.sw_owned.specs.View.{Frame, above, bottom, IsBelow, Element, Here, Register, IsolatedTo, MakesActor, Shape, View, IsFrame, HoldsLive, IsDisconnected, Together, RunsOn}
+use Rattle.sw_owned.specs.View.{Frame, above, bottom, IsBelow, Element, Here, Register, IsolatedTo}
+use Rattle.sw_owned.specs.View.{MakesActor, Shape, View, IsFrame, HoldsLive, IsDisconnected}
+use Rattle.sw_owned.specs.View.{Together, RunsOn}
 use Rattle.sw_owned.specs.Owned.{IsSound}
 use Rattle.sw_owned.specs.Within.{Kept, KeptLive}
-use Rattle.sw_owned.specs.Calls.{Called, SharesArgument, CalledPlain, CalledSame, CalledWeak, CalledStrong, CalledMake, Spawned}
-use Rattle.sw_owned.proofs.FrameLemmas.{cases_frame, same_frame, top_is_frame, frame_below, nothing_above}
+use Rattle.sw_owned.specs.Calls.{Called, SharesArgument, CalledPlain, CalledSame, CalledWeak}
+use Rattle.sw_owned.specs.Calls.{CalledStrong, CalledMake, Spawned}
+use Rattle.sw_owned.proofs.FrameLemmas.{cases_frame, same_frame, top_is_frame, frame_below}
+use Rattle.sw_owned.proofs.FrameLemmas.{nothing_above}
 use Rattle.sw_owned.proofs.WithinLemmas.{free_is_of_job}
 use Rattle.sw_owned.proofs.PushedLemmas.{is_entered}
 

@@ -2,7 +2,8 @@
 use Rattle.std.specs.Prelude.{◌≡◌, ◌⊎◌, ℕ, suc, true, false}
 use Rattle.std.proofs.Common.{sym, subst, ap, ◌∙◌, inl, inr, arith}
 use Rattle.sw_owned.specs.Colours.{Actor, Colour, OfActor, IsOwnedBy}
-use Rattle.sw_owned.specs.View.{Frame, above, Element, Here, Register, Shape, View, IsFrame, HoldsLive, Together, RunsOn}
+use Rattle.sw_owned.specs.View.{Frame, above, Element, Here, Register, Shape, View, IsFrame}
+use Rattle.sw_owned.specs.View.{HoldsLive, Together, RunsOn}
 use Rattle.sw_owned.specs.Owned.{IsOwned, IsStacked, IsReturnLinked, IsInitialiserLinked, IsSound}
 use Rattle.sw_owned.specs.Within.{SameJobs}
 use Rattle.sw_owned.proofs.FrameLemmas.{frame_below}

@@ -3,7 +3,8 @@ use Rattle.std.specs.Prelude.{◌≡◌, ◌≢◌, ◌⊎◌, ℕ, zero, suc, �
 use Rattle.std.proofs.Common.{sym, ap, ◌∙◌, inl, inr, arith}
 use Rattle.std.proofs.lemmas.Bool.{cases_eq}
 use Rattle.sw_owned.specs.Colours.{Actor, On}
-use Rattle.sw_owned.specs.View.{Frame, above, IsBelow, Element, Here, Register, IsolatedTo, View, IsFrame, IsTop}
+use Rattle.sw_owned.specs.View.{Frame, above, IsBelow, Element, Here, Register, IsolatedTo, View}
+use Rattle.sw_owned.specs.View.{IsFrame, IsTop}
 use Rattle.sw_owned.specs.Owned.{IsStacked}
 
 pub same_frame : {p q : Frame} → p.job ≡ q.job → p.depth ≡ q.depth → p ≡ q

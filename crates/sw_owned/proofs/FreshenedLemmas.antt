@@ -2,10 +2,12 @@
 use Rattle.std.specs.Prelude.{◌≡◌, ◌≢◌, ◌⊎◌, ℕ}
 use Rattle.std.proofs.Common.{sym, subst, ap, ◌∙◌, inl, inr}
 use Rattle.sw_owned.specs.Colours.{Colour, OfJob, IsOwnedBy}
-use Rattle.sw_owned.specs.View.{Frame, above, IsBelow, Element, Here, Register, Shape, View, IsFrame, IsTop, HoldsLive, Together}
+use Rattle.sw_owned.specs.View.{Frame, above, IsBelow, Element, Here, Register, Shape, View}
+use Rattle.sw_owned.specs.View.{IsFrame, IsTop, HoldsLive, Together}
 use Rattle.sw_owned.specs.Owned.{IsOwned, IsReturnLinked, IsInitialiserLinked, IsSound}
 use Rattle.sw_owned.specs.Within.{Freshened}
-use Rattle.sw_owned.proofs.FrameLemmas.{cases_frame, cases_register, below_is_not_top, frame_below, below_above, below_trans}
+use Rattle.sw_owned.proofs.FrameLemmas.{cases_frame, cases_register, below_is_not_top, frame_below}
+use Rattle.sw_owned.proofs.FrameLemmas.{below_above, below_trans}
 use Rattle.sw_owned.proofs.CarriedLemmas.{still_exclusive, restacked, still_frames}
 
 module _ (old new : View) (q : Frame) (r number : ℕ) (sound : IsSound old)

@@ -4,10 +4,12 @@ use Rattle.std.specs.Prelude.{◌≡◌, ◌≢◌, ◌⊎◌, ℕ, false, refl}
 use Rattle.std.proofs.Common.{sym, subst, ap, ◌∙◌, inl, inr}
 use Rattle.std.proofs.lemmas.Bool.{cases_eq}
 use Rattle.sw_owned.specs.Colours.{Actor, Colour, OfJob, OfActor, IsOwnedBy}
-use Rattle.sw_owned.specs.View.{Frame, above, IsBelow, Element, Here, Shape, View, IsFrame, IsTop, HoldsLive, Together}
+use Rattle.sw_owned.specs.View.{Frame, above, IsBelow, Element, Here, Shape, View, IsFrame, IsTop}
+use Rattle.sw_owned.specs.View.{HoldsLive, Together}
 use Rattle.sw_owned.specs.Owned.{IsOwned, IsReturnLinked, IsInitialiserLinked, IsSound}
 use Rattle.sw_owned.specs.Within.{Kept, Becomes, Merged}
-use Rattle.sw_owned.proofs.FrameLemmas.{cases_frame, below_trans, below_is_not_top, frame_below, top_or_below, below_above}
+use Rattle.sw_owned.proofs.FrameLemmas.{cases_frame, below_trans, below_is_not_top, frame_below}
+use Rattle.sw_owned.proofs.FrameLemmas.{top_or_below, below_above}
 use Rattle.sw_owned.proofs.CarriedLemmas.{still_exclusive, restacked, still_frames}
 
 -- what a colour becomes is one colour

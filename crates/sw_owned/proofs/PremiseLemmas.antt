@@ -3,10 +3,27 @@ use Rattle.std.specs.Prelude.{ℕ, List}
 use Rattle.std.proofs.Common.{inl}
 use Rattle.sw_owned.specs.Colours.{Actor, Colour}
 use Rattle.sw_owned.specs.View.{Frame, Element, View}
-use Rattle.sw_owned.specs.Within.{Within, Comes, Freshened, Recoloured, Merged, Weakened, Given, Closed, Dispatched}
-use Rattle.sw_owned.specs.Calls.{CalledPlain, CalledSame, CalledWeak, CalledStrong, CalledMake, Spawned, Returned, Ended}
-use Rattle.sw_owned.specs.Premises.{WithinPremise, within_says, ComesPremise, comes_says, FreshenedPremise, freshened_says, MergedPremise, merged_says, WeakenedPremise, weakened_says, UnheldPremise, unheld_says, GivenPremise, given_says, ClosedPremise, closed_says, DispatchedPremise, dispatched_says, PlainPremise, plain_says, SharesPremise, shares_says, SamePremise, same_says, WeakPremise, weak_says, StrongPremise, strong_says, MakePremise, make_says, SpawnedPremise, spawned_says, ReturnedPremise, returned_says, EndedPremise, ended_says}
-use Rattle.sw_owned.specs.Premises.{Top, Jobs, SameShape, SameHere, Others, Held, Joined, Change, Fresh, NewColour, HoldsLost, HoldsKept, Recolours, Heights, Running, HereTurns, Weakens, Free, Gone, NewShape, Frames, Exclusive, Before, Height, Fits, NotClosing, CallerShape, CallerHeld, CallerJoined, Sent, Stays, SameExecutor, Isolated, NoInitialiser, HereColour, Plain, Colours, Result, Calls, IsIsolated, CallerHere, Crosses, NoExecutor, NotIsolated, Leaves, OnActor, NoResult, Makes, Pushes, Ready, Stands}
+use Rattle.sw_owned.specs.Within.{Within, Comes, Freshened, Recoloured, Merged, Weakened, Given}
+use Rattle.sw_owned.specs.Within.{Closed, Dispatched}
+use Rattle.sw_owned.specs.Calls.{CalledPlain, CalledSame, CalledWeak, CalledStrong, CalledMake}
+use Rattle.sw_owned.specs.Calls.{Spawned, Returned, Ended}
+use Rattle.sw_owned.specs.Premises.{WithinPremise, within_says, ComesPremise, comes_says}
+use Rattle.sw_owned.specs.Premises.{FreshenedPremise, freshened_says, MergedPremise, merged_says}
+use Rattle.sw_owned.specs.Premises.{WeakenedPremise, weakened_says, UnheldPremise, unheld_says}
+use Rattle.sw_owned.specs.Premises.{GivenPremise, given_says, ClosedPremise, closed_says}
+use Rattle.sw_owned.specs.Premises.{DispatchedPremise, dispatched_says, PlainPremise, plain_says}
+use Rattle.sw_owned.specs.Premises.{SharesPremise, shares_says, SamePremise, same_says, WeakPremise}
+use Rattle.sw_owned.specs.Premises.{weak_says, StrongPremise, strong_says, MakePremise, make_says}
+use Rattle.sw_owned.specs.Premises.{SpawnedPremise, spawned_says, ReturnedPremise, returned_says}
+use Rattle.sw_owned.specs.Premises.{EndedPremise, ended_says, Top, Jobs, SameShape, SameHere}
+use Rattle.sw_owned.specs.Premises.{Others, Held, Joined, Change, Fresh, NewColour, HoldsLost}
+use Rattle.sw_owned.specs.Premises.{HoldsKept, Recolours, Heights, Running, HereTurns, Weakens}
+use Rattle.sw_owned.specs.Premises.{Free, Gone, NewShape, Frames, Exclusive, Before, Height, Fits}
+use Rattle.sw_owned.specs.Premises.{NotClosing, CallerShape, CallerHeld, CallerJoined, Sent, Stays}
+use Rattle.sw_owned.specs.Premises.{SameExecutor, Isolated, NoInitialiser, HereColour, Plain}
+use Rattle.sw_owned.specs.Premises.{Colours, Result, Calls, IsIsolated, CallerHere, Crosses}
+use Rattle.sw_owned.specs.Premises.{NoExecutor, NotIsolated, Leaves, OnActor, NoResult, Makes}
+use Rattle.sw_owned.specs.Premises.{Pushes, Ready, Stands}
 
 pub within_whole : (old new : View) (q : Frame) (origin : Element → Element)
     → ((premise : WithinPremise) → within_says old new (q, origin) premise)

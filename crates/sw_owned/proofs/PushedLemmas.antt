@@ -3,11 +3,13 @@ use Rattle.std.specs.Prelude.{◌≡◌, ◌≢◌, ◌⊎◌, ℕ, zero, true, 
 use Rattle.std.proofs.Common.{sym, subst, ap, ◌∙◌, inl, inr, arith}
 use Rattle.std.proofs.lemmas.Bool.{cases_eq}
 use Rattle.sw_owned.specs.Colours.{Actor, Colour, OfActor, Generic, On, IsOwnedBy}
-use Rattle.sw_owned.specs.View.{Frame, above, IsBelow, Element, Here, Register, IsolatedTo, MakesActor, Shape, View, IsFrame, HoldsLive, Together, RunsOn}
+use Rattle.sw_owned.specs.View.{Frame, above, IsBelow, Element, Here, Register, IsolatedTo}
+use Rattle.sw_owned.specs.View.{MakesActor, Shape, View, IsFrame, HoldsLive, Together, RunsOn}
 use Rattle.sw_owned.specs.Owned.{IsSound}
 use Rattle.sw_owned.specs.Within.{KeptLive}
 use Rattle.sw_owned.specs.Calls.{Pushed}
-use Rattle.sw_owned.proofs.FrameLemmas.{cases_frame, same_frame, top_is_frame, frame_below, below_above}
+use Rattle.sw_owned.proofs.FrameLemmas.{cases_frame, same_frame, top_is_frame, frame_below}
+use Rattle.sw_owned.proofs.FrameLemmas.{below_above}
 use Rattle.sw_owned.proofs.CarriedLemmas.{SameShape, same_shape}
 
 -- what a new top frame must bring with it

@@ -4,10 +4,13 @@ use Rattle.std.specs.Prelude.{◌≡◌, ◌≢◌, ◌⊎◌, ℕ, ◌≤◌, S
 use Rattle.std.proofs.Common.{sym, subst, ap, ◌∙◌, inl, inr, arith}
 use Rattle.std.proofs.lemmas.Bool.{cases_eq}
 use Rattle.sw_owned.specs.Colours.{Actor, Colour, OfJob, OfActor, On, IsOwnedBy}
-use Rattle.sw_owned.specs.View.{Frame, above, IsBelow, Element, Here, Register, IsolatedTo, Shape, View, IsFrame, IsTop, HoldsLive, Together, RunsOn}
+use Rattle.sw_owned.specs.View.{Frame, above, IsBelow, Element, Here, Register, IsolatedTo, Shape}
+use Rattle.sw_owned.specs.View.{View, IsFrame, IsTop, HoldsLive, Together, RunsOn}
 use Rattle.sw_owned.specs.Owned.{IsOwned, IsReturnLinked, IsInitialiserLinked, IsSound}
 use Rattle.sw_owned.specs.Calls.{Handed, Returned, Ended}
-use Rattle.sw_owned.proofs.FrameLemmas.{cases_frame, cases_crossing, same_frame, same_top, top_is_frame, frame_below, below_above, below_is_frame, below_is_not_top, below_trans, anchored}
+use Rattle.sw_owned.proofs.FrameLemmas.{cases_frame, cases_crossing, same_frame, same_top}
+use Rattle.sw_owned.proofs.FrameLemmas.{top_is_frame, frame_below, below_above, below_is_frame}
+use Rattle.sw_owned.proofs.FrameLemmas.{below_is_not_top, below_trans, anchored}
 use Rattle.sw_owned.proofs.CarriedLemmas.{carried, restacked}
 use Rattle.sw_owned.proofs.WithinLemmas.{Itself, kept_carried, waits_below}
 

@@ -4,11 +4,16 @@ use Rattle.std.specs.Prelude.{◌≡◌, ◌≢◌, ◌⊎◌, ℕ, ◌≤◌, f
 use Rattle.std.proofs.Common.{sym, subst, ap, ◌∙◌, inl, inr, arith}
 use Rattle.std.proofs.lemmas.Bool.{cases_eq}
 use Rattle.sw_owned.specs.Colours.{Actor, Colour, OfJob, OfActor, On, IsOwnedBy}
-use Rattle.sw_owned.specs.View.{Frame, above, IsBelow, Element, Here, Register, IsolatedTo, MakesActor, Shape, View, IsFrame, IsTop, HoldsLive, IsUnheld, IsDisconnected, Together, RunsOn}
+use Rattle.sw_owned.specs.View.{Frame, above, IsBelow, Element, Here, Register, IsolatedTo}
+use Rattle.sw_owned.specs.View.{MakesActor, Shape, View, IsFrame, IsTop, HoldsLive, IsUnheld}
+use Rattle.sw_owned.specs.View.{IsDisconnected, Together, RunsOn}
 use Rattle.sw_owned.specs.Owned.{IsSound}
-use Rattle.sw_owned.specs.Within.{Kept, ChangesTop, Within, Comes, Becomes, Recoloured, Weakened, Given, Closed, Dispatched}
-use Rattle.sw_owned.proofs.FrameLemmas.{cases_frame, below_is_frame, frame_below, nothing_above, top_is_frame, same_frame, top_or_below, anchored}
-use Rattle.sw_owned.proofs.CarriedLemmas.{Carried, SameShape, carried, still_exclusive, still_frames, same_shape}
+use Rattle.sw_owned.specs.Within.{Kept, ChangesTop, Within, Comes, Becomes, Recoloured, Weakened}
+use Rattle.sw_owned.specs.Within.{Given, Closed, Dispatched}
+use Rattle.sw_owned.proofs.FrameLemmas.{cases_frame, below_is_frame, frame_below, nothing_above}
+use Rattle.sw_owned.proofs.FrameLemmas.{top_is_frame, same_frame, top_or_below, anchored}
+use Rattle.sw_owned.proofs.CarriedLemmas.{Carried, SameShape, carried, still_exclusive}
+use Rattle.sw_owned.proofs.CarriedLemmas.{still_frames, same_shape}
 
 -- a frame below another waits, and isn't closing
 pub waits_below : (w : View) → IsSound w → {o q : Frame} → IsBelow o q → IsFrame w q

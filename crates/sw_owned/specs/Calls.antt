@@ -1,7 +1,9 @@
 -- Moves that put a frame on a job's stack or take it off: calls, returns, tasks.
 use Rattle.std.specs.Prelude.{◌≡◌, ◌≢◌, ◌⊎◌, ℕ, suc, true, false, IsTrue, Some, None}
 use Rattle.sw_owned.specs.Colours.{Actor, Colour, OfJob, OfActor, Generic, On}
-use Rattle.sw_owned.specs.View.{Frame, above, bottom, Element, Here, Register, Nonisolated, IsolatedTo, MakesActor, View, IsFrame, IsTop, HoldsLive, IsDisconnected, Together}
+use Rattle.sw_owned.specs.View.{Frame, above, bottom, Element, Here, Register, Nonisolated}
+use Rattle.sw_owned.specs.View.{IsolatedTo, MakesActor, View, IsFrame, IsTop, HoldsLive}
+use Rattle.sw_owned.specs.View.{IsDisconnected, Together}
 use Rattle.sw_owned.specs.Within.{Kept, KeptLive}
 
 -- frame q is put on top of its job's stack

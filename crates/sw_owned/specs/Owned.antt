@@ -1,7 +1,8 @@
 -- When the jobs of a view keep their memory apart, and what makes that last.
 use Rattle.std.specs.Prelude.{◌≡◌, ◌⊎◌, ℕ, zero, true, false, Some}
 use Rattle.sw_owned.specs.Colours.{Actor, Colour, OfActor, Generic, On, IsOwnedBy}
-use Rattle.sw_owned.specs.View.{Frame, above, IsBelow, Element, Here, Register, IsolatedTo, MakesActor, View, IsFrame, HoldsLive, Together, RunsOn}
+use Rattle.sw_owned.specs.View.{Frame, above, IsBelow, Element, Here, Register, IsolatedTo}
+use Rattle.sw_owned.specs.View.{MakesActor, View, IsFrame, HoldsLive, Together, RunsOn}
 
 pub record IsOwned (w : View) : Type 0 where
   -- one running job at most stands on an actor with its top frame

@@ -1,10 +1,13 @@
 -- The premises of each move, one by one, and what it means that a move needs one of them.
 use Rattle.std.specs.Prelude.{◌≡◌, ◌≢◌, ◌⊎◌, ℕ, suc, true, false, IsTrue, None, List, Contains}
 use Rattle.sw_owned.specs.Colours.{Actor, Colour, OfJob, OfActor, Generic, On}
-use Rattle.sw_owned.specs.View.{Frame, above, bottom, Element, Here, Register, Nonisolated, IsolatedTo, MakesActor, View, IsFrame, IsTop, HoldsLive, IsUnheld, IsDisconnected, Together, RunsOn}
+use Rattle.sw_owned.specs.View.{Frame, above, bottom, Element, Here, Register, Nonisolated}
+use Rattle.sw_owned.specs.View.{IsolatedTo, MakesActor, View, IsFrame, IsTop, HoldsLive, IsUnheld}
+use Rattle.sw_owned.specs.View.{IsDisconnected, Together, RunsOn}
 use Rattle.sw_owned.specs.Owned.{IsSound}
 use Rattle.sw_owned.specs.Within.{Kept, SameJobs, ChangesTop, Becomes, Recoloured, Weakened, Closed}
-use Rattle.sw_owned.specs.Calls.{Pushed, Called, ResultWith, SharesArgument, IsOnActor, IsOnNone, Handed}
+use Rattle.sw_owned.specs.Calls.{Pushed, Called, ResultWith, SharesArgument, IsOnActor, IsOnNone}
+use Rattle.sw_owned.specs.Calls.{Handed}
 
 -- From some sound view a move that meets each premise but this one ends where the goal does not
 -- hold.

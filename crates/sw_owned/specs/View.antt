@@ -1,6 +1,7 @@
 -- What ownership knows of a running program: the frames of the jobs, the regions in each frame
 -- (SE-0414), and the colours that each element holds.
-use Rattle.std.specs.Prelude.{◌≡◌, ℕ, zero, suc, ◌<◌, Bool, false, IsTrue, Option, List, Contains, ⊤}
+use Rattle.std.specs.Prelude.{◌≡◌, ℕ, zero, suc, ◌<◌, Bool, false, IsTrue, Option, List, Contains}
+use Rattle.std.specs.Prelude.{⊤}
 use Rattle.sw_owned.specs.Colours.{Actor, Colour, OfJob, Executor, On}
 
 -- a frame, by its job and the number of frames below it

@@ -1,8 +1,10 @@
 -- Moves that leave each job with the frames that it has: what a step does to the top frame of its
 -- job, or to colours.
-use Rattle.std.specs.Prelude.{◌≡◌, ◌≢◌, ◌⊎◌, ℕ, true, IsTrue, ◌==◌, if◌then◌else◌, List, [], ◌∷◌, Contains}
+use Rattle.std.specs.Prelude.{◌≡◌, ◌≢◌, ◌⊎◌, ℕ, true, IsTrue, ◌==◌, if◌then◌else◌, List, [], ◌∷◌}
+use Rattle.std.specs.Prelude.{Contains}
 use Rattle.sw_owned.specs.Colours.{Colour, OfJob, On, Actor}
-use Rattle.sw_owned.specs.View.{Frame, Element, Here, Register, View, IsFrame, IsTop, HoldsLive, IsUnheld, Together, RunsOn}
+use Rattle.sw_owned.specs.View.{Frame, Element, Here, Register, View, IsFrame, IsTop, HoldsLive}
+use Rattle.sw_owned.specs.View.{IsUnheld, Together, RunsOn}
 
 -- a frame holds what it held, or less; its regions stay, or unite
 pub record Kept (old new : View) (p : Frame) : Type 0 where

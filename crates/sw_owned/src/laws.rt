@@ -2,10 +2,13 @@
 //! keeps jobs apart.
 ghost use Rattle.std.specs.Prelude.{◌≡◌, ◌≢◌, ◌⊎◌, ℕ, List, false, IsTrue};
 ghost use Rattle.sw_owned.specs.Colours.{Actor, Colour, OfJob, OfActor, On};
-ghost use Rattle.sw_owned.specs.View.{Frame, Element, View, IsBelow, IsFrame, IsTop, IsolatedTo, MakesActor, HoldsLive, IsUnheld, IsDisconnected};
+ghost use Rattle.sw_owned.specs.View.{Frame, Element, View, IsBelow, IsFrame, IsTop, IsolatedTo};
+ghost use Rattle.sw_owned.specs.View.{MakesActor, HoldsLive, IsUnheld, IsDisconnected};
 ghost use Rattle.sw_owned.specs.Owned.{IsOwned, IsSound};
-ghost use Rattle.sw_owned.specs.Within.{Kept, Within, Comes, put_with, without, Weakened, Freshened, Merged, Recoloured, Given, Closed, Dispatched};
-ghost use Rattle.sw_owned.specs.Calls.{CalledPlain, CalledSame, CalledWeak, CalledStrong, CalledMake, Spawned, Returned, Ended};
+ghost use Rattle.sw_owned.specs.Within.{Kept, Within, Comes, put_with, without, Weakened};
+ghost use Rattle.sw_owned.specs.Within.{Freshened, Merged, Recoloured, Given, Closed, Dispatched};
+ghost use Rattle.sw_owned.specs.Calls.{CalledPlain, CalledSame, CalledWeak, CalledStrong};
+ghost use Rattle.sw_owned.specs.Calls.{CalledMake, Spawned, Returned, Ended};
 
 /// Who holds one colour: frames of one job, or frames that stand on the actor that owns it. So of
 /// the jobs that run, one at most holds it live in its top frame, which is the frame that reads and
@@ -115,8 +118,8 @@ pub fn dispatch_keeps_soundness()
     ensures { (old new : View) (j : ℕ) → IsSound old → Dispatched old new j → IsSound new }
 {}
 
-/// What other jobs do to colours leaves a job's frames as they are, whether it runs or is
-/// suspended, and whatever actor its frames stand on meanwhile.
+/// What other jobs do to colours gives no colour to a job's frames and parts no region of theirs,
+/// whether the job runs or is suspended, and whatever actor its frames stand on meanwhile.
 pub fn suspended_frames_stay()
     ensures merged { (old new : View) (q : Frame) (x y : Element) (number : ℕ) (kept : Colour)
         → IsSound old → Merged old new q x y number kept

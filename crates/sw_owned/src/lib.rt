@@ -1,5 +1,5 @@
 //! Who owns memory while a program runs, as laws: which moves of jobs and frames keep each job's
-//! memory apart from the others', so that no two jobs that run reach the same memory at once.
+//! memory apart from the others', so that no two running jobs hold one colour in their top frames.
 //!
 //! A move says what one view of the running program has to do with the next. There is no machine
 //! here, no graph and no code: whoever has one shows that each of its steps is made of these moves.

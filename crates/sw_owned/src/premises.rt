@@ -2,13 +2,27 @@
 //!
 //! For each move, `whole` says that its premises taken one by one are the move; `possible`, that
 //! they can be met together from a sound view; and `needed`, that without any one of them the move
-//! leads from some sound view where its law does not hold.
+//! leads from some sound view to one for which its law does not hold.
 ghost use Rattle.std.specs.Prelude.{ℕ, List};
 ghost use Rattle.sw_owned.specs.Colours.{Actor, Colour};
 ghost use Rattle.sw_owned.specs.View.{Frame, Element, View};
-ghost use Rattle.sw_owned.specs.Within.{Within, Comes, Freshened, Weakened, Merged, Recoloured, Given, Closed, Dispatched};
-ghost use Rattle.sw_owned.specs.Calls.{CalledPlain, CalledSame, CalledWeak, CalledStrong, CalledMake, Spawned, Returned, Ended};
-ghost use Rattle.sw_owned.specs.Premises.{IsPossible, IsNeeded, StaysSound, LeavesNothing, HandsOver, ClosedPremise, ComesPremise, DispatchedPremise, EndedPremise, FreshenedPremise, GivenPremise, HandsOverPremise, MakePremise, MergedPremise, PlainPremise, ReturnedPremise, SamePremise, SharesPremise, SpawnedPremise, StrongPremise, UnheldPremise, WeakPremise, WeakenedPremise, WithinPremise, closed_says, comes_says, dispatched_says, ended_says, freshened_says, given_says, hands_over_says, make_says, merged_says, plain_says, returned_says, same_says, shares_says, spawned_says, strong_says, unheld_says, weak_says, weakened_says, within_says};
+ghost use Rattle.sw_owned.specs.Within.{Within, Comes, Freshened, Weakened, Merged, Recoloured};
+ghost use Rattle.sw_owned.specs.Within.{Given, Closed, Dispatched};
+ghost use Rattle.sw_owned.specs.Calls.{CalledPlain, CalledSame, CalledWeak, CalledStrong};
+ghost use Rattle.sw_owned.specs.Calls.{CalledMake, Spawned, Returned, Ended};
+ghost use Rattle.sw_owned.specs.Premises.{IsPossible, IsNeeded, StaysSound, LeavesNothing};
+ghost use Rattle.sw_owned.specs.Premises.{HandsOver, ClosedPremise, ComesPremise};
+ghost use Rattle.sw_owned.specs.Premises.{DispatchedPremise, EndedPremise, FreshenedPremise};
+ghost use Rattle.sw_owned.specs.Premises.{GivenPremise, HandsOverPremise, MakePremise};
+ghost use Rattle.sw_owned.specs.Premises.{MergedPremise, PlainPremise, ReturnedPremise};
+ghost use Rattle.sw_owned.specs.Premises.{SamePremise, SharesPremise, SpawnedPremise};
+ghost use Rattle.sw_owned.specs.Premises.{StrongPremise, UnheldPremise, WeakPremise};
+ghost use Rattle.sw_owned.specs.Premises.{WeakenedPremise, WithinPremise, closed_says, comes_says};
+ghost use Rattle.sw_owned.specs.Premises.{dispatched_says, ended_says, freshened_says, given_says};
+ghost use Rattle.sw_owned.specs.Premises.{hands_over_says, make_says, merged_says, plain_says};
+ghost use Rattle.sw_owned.specs.Premises.{returned_says, same_says, shares_says, spawned_says};
+ghost use Rattle.sw_owned.specs.Premises.{strong_says, unheld_says, weak_says, weakened_says};
+ghost use Rattle.sw_owned.specs.Premises.{within_says};
 
 /// What changes inside a frame, and what only ends.
 pub fn premises_of_changes()

@@ -2,14 +2,15 @@
 ghost use Rattle.std.specs.Prelude.{◌≡◌, ℕ};
 ghost use Rattle.sw_owned.specs.Colours.{Actor, OfActor};
 ghost use Rattle.sw_owned.specs.View.{Frame, Element, View, MakesActor, RunsOn};
-ghost use Rattle.sw_owned.specs.Owned.{IsOwned, IsStacked, IsReturnLinked, IsInitialiserLinked, IsSound};
+ghost use Rattle.sw_owned.specs.Owned.{IsOwned, IsStacked, IsReturnLinked, IsInitialiserLinked};
+ghost use Rattle.sw_owned.specs.Owned.{IsSound};
 ghost use Rattle.sw_owned.specs.Within.{Kept, Merged, Recoloured, Closed};
 ghost use Rattle.sw_owned.specs.Calls.{Returned};
 ghost use Rattle.sw_owned.specs.Premises.{WaitsOn};
 
 /// Ownership lasts only together with the three facts beside it: for each of them there is a view
-/// that is owned and has the other two, and a step that ends its ownership. Such views are reached
-/// by no program.
+/// that is owned and has the other two, and a move, or two, that end its ownership. No law says
+/// that no program reaches such views.
 pub fn ownership_alone_is_not_kept()
     ensures without_return_link { (old new : View) × (p : Frame) × (r : ℕ)
         × IsOwned old × IsStacked old × IsInitialiserLinked old × Returned old new p r

@@ -127,8 +127,8 @@ pub record IsPartInterned (phrase : Phrase) (depth : ℕ) (tokens : List Spelled
   pub within : to ≤ read.1
   pub texts : after ≡ texts_after before tokens from to
 
--- A fault of the tokens leaves the names as they were. Out of memory, the names of the front's first
--- tokens may be interned.
+-- A fault of the tokens leaves the names as they were. Out of memory, the names of the front's
+-- first tokens may be interned.
 abbrev pub Keeps : Phrase → ℕ → List Spelled → ℕ → List (List ℕ) → List (List ℕ) → ParseFault
     → Type 0
 Keeps phrase depth tokens from before after (faults.Unexpected token) = after ≡ before

@@ -97,8 +97,8 @@ fn block_at(
 }
 
 /// The block with which the tokens begin at the index `from`, and the index after it, where
-/// `depth` nests are open before it. The names of its tokens are interned. Out of memory, those of
-/// its first tokens may be.
+/// `depth` nests are open before it. The names of its tokens are interned. A syntax fault leaves
+/// the names as they were; out of memory, those of its first tokens may be interned.
 pub fn body(
     alloc: Global,
     source: &Source,
@@ -151,8 +151,9 @@ fn expr_at(
 }
 
 /// The expression with which the tokens begin at the index `from`, and the index after it, where
-/// `depth` nests are open before it. The names of its tokens are interned. Out of memory, those of
-/// its first tokens may be.
+/// `depth` nests are open before it. No expression goes on with the token after it. The names of
+/// its tokens are interned. A syntax fault leaves the names as they were; out of memory, those of
+/// its first tokens may be interned.
 pub fn value(
     alloc: Global,
     source: &Source,
@@ -205,8 +206,9 @@ fn type_at(
 }
 
 /// The type with which the tokens begin at the index `from`, and the index after it, where
-/// `depth` nests are open before it. The names of its tokens are interned. Out of memory, those of
-/// its first tokens may be.
+/// `depth` nests are open before it. No type goes on with the token after it. The names of its
+/// tokens are interned. A syntax fault leaves the names as they were; out of memory, those of its
+/// first tokens may be interned.
 pub fn written_type(
     alloc: Global,
     source: &Source,

@@ -17,8 +17,8 @@ use sw_tree::{Arg, Expr, Names, Stmt};
 /// An expression, in which closures may stand.
 #[cycle(nests)]
 pub fn expr(alloc: Global, names: &Names, tokens: &mut Cursor<'_>, depth: u32) -> Result<Expr, Stop>
-    ensures { Gives (read (id_in names.now) depth (exprs.expr (id_in names.now) true) tokens.old) result
-        tokens.new }
+    ensures { Gives (read (id_in names.now) depth (exprs.expr (id_in names.now) true) tokens.old)
+        result tokens.new }
 {
     let inner = Parts {
         expr: |alloc: Global, names: &Names, tokens: &mut Cursor<'_>, inside: u32| -> Result<
@@ -26,7 +26,8 @@ pub fn expr(alloc: Global, names: &Names, tokens: &mut Cursor<'_>, depth: u32) -
             Stop,
         >
             requires { inside < depth }
-            ensures { Gives (read (id_in names.now) inside (exprs.expr (id_in names.now) true) tokens.old)
+            ensures { Gives
+                (read (id_in names.now) inside (exprs.expr (id_in names.now) true) tokens.old)
                 result tokens.new }
         {
             prove!(inside < depth);
@@ -48,7 +49,8 @@ pub fn expr(alloc: Global, names: &Names, tokens: &mut Cursor<'_>, depth: u32) -
             Stop,
         >
             requires { inside < depth }
-            ensures { Gives (read (id_in names.now) inside (stmts.stmt (id_in names.now)) tokens.old)
+            ensures { Gives
+                (read (id_in names.now) inside (stmts.stmt (id_in names.now)) tokens.old)
                 result tokens.new }
         {
             prove!(inside < depth);
@@ -70,7 +72,8 @@ pub fn arg(alloc: Global, names: &Names, tokens: &mut Cursor<'_>, depth: u32) ->
             Stop,
         >
             requires { inside < depth }
-            ensures { Gives (read (id_in names.now) inside (exprs.expr (id_in names.now) true) tokens.old)
+            ensures { Gives
+                (read (id_in names.now) inside (exprs.expr (id_in names.now) true) tokens.old)
                 result tokens.new }
         {
             prove!(inside < depth);
@@ -92,7 +95,8 @@ pub fn arg(alloc: Global, names: &Names, tokens: &mut Cursor<'_>, depth: u32) ->
             Stop,
         >
             requires { inside < depth }
-            ensures { Gives (read (id_in names.now) inside (stmts.stmt (id_in names.now)) tokens.old)
+            ensures { Gives
+                (read (id_in names.now) inside (stmts.stmt (id_in names.now)) tokens.old)
                 result tokens.new }
         {
             prove!(inside < depth);
@@ -114,7 +118,8 @@ pub fn stmt(alloc: Global, names: &Names, tokens: &mut Cursor<'_>, depth: u32) -
             Stop,
         >
             requires { inside < depth }
-            ensures { Gives (read (id_in names.now) inside (exprs.expr (id_in names.now) true) tokens.old)
+            ensures { Gives
+                (read (id_in names.now) inside (exprs.expr (id_in names.now) true) tokens.old)
                 result tokens.new }
         {
             prove!(inside < depth);
@@ -136,7 +141,8 @@ pub fn stmt(alloc: Global, names: &Names, tokens: &mut Cursor<'_>, depth: u32) -
             Stop,
         >
             requires { inside < depth }
-            ensures { Gives (read (id_in names.now) inside (stmts.stmt (id_in names.now)) tokens.old)
+            ensures { Gives
+                (read (id_in names.now) inside (stmts.stmt (id_in names.now)) tokens.old)
                 result tokens.new }
         {
             prove!(inside < depth);

@@ -13,8 +13,8 @@ use sw_tree::{Block, Expr, Names};
 ///
 /// Each method answers as the grammar's reader of its rule, for any names, tokens and depth: it
 /// takes the tokens of the rule from the front of `tokens`, or stops where the reader does. A name
-/// is looked up in `names`, and at most `depth` nests may be open inside one another. Out of memory
-/// is the one free answer.
+/// is looked up in `names`, and at most `depth` more nests may be open inside one another. Out of
+/// memory is the one free answer, and after a stop nothing is said of the tokens that are left.
 pub trait Bodies {
     /// `=` and an expression.
     fn value(

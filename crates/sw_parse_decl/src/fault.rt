@@ -3,14 +3,14 @@
 use std::alloc::AllocError;
 use thiserror::Error;
 
-/// Why tokens spell no program.
+/// Why tokens gave no tree: their one syntax fault, or a lack of memory.
 #[derive(Clone, Copy, Debug, PartialEq, Eq, Error)]
 pub enum ParseFault {
-    /// The token that can't be taken, by its index in the list; the list's length stands for the
-    /// end.
+    /// The first token that can't be taken, by its index in the list; the list's length stands for
+    /// the end.
     #[error("unexpected token {token}")]
     Unexpected { token: u32 },
-    /// The token that opens a nest too many, by its index in the list.
+    /// The first token that opens a nest too many, by its index in the list.
     #[error("token {token} is nested too deeply")]
     TooDeep { token: u32 },
     /// Memory for the tree ran out.

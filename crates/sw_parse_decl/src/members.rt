@@ -296,8 +296,8 @@ fn payload(
     tokens: &mut Cursor<'_>,
     depth: u32,
 ) -> Result<TypeTreeList, Stop>
-    ensures { Gives (nested (id_in names.now) depth (quote (codes "(")) in_payload tokens.old) result
-        tokens.new }
+    ensures { Gives (nested (id_in names.now) depth (quote (codes "(")) in_payload tokens.old)
+        result tokens.new }
 {
     tokens.open("(", depth)?;
     some_types(alloc, names, tokens, depth - 1)

@@ -21,7 +21,7 @@ use sw_parse_parts::{sees_value_word, task_word, value_word, word};
 use sw_reader::{Cursor, Stop};
 use sw_tree::{Arg, ArgList, Expr, Name, Names};
 
-/// The arguments of a call, where they come.
+/// The arguments of a call, where a `(` comes that isn't the first on its line.
 #[tactic(auto, unfolding(sw_grammar::specs::Exprs::call))]
 pub fn call<I: Inner>(
     alloc: Global,
@@ -100,7 +100,8 @@ fn more_args<I: Inner>(
     Ok(ListOf::from_vec(args))
 }
 
-/// A word that was read, with its arguments and members.
+/// A word that was read, with the arguments and the members after it. The `(` of arguments isn't
+/// the first on its line.
 #[tactic(auto, unfolding(sw_grammar::specs::Exprs::after_word, sw_grammar::specs::Exprs::after_operand))]
 pub fn after_word<I: Inner>(
     alloc: Global,
@@ -123,7 +124,8 @@ pub fn after_word<I: Inner>(
     }
 }
 
-/// An expression that was read, with the members after it.
+/// An expression that was read, with the members after it. Each `.` opens a nest inside the one
+/// before it.
 #[tactic(auto, unfolding(sw_grammar::specs::Exprs::after_operand))]
 pub fn after_operand<I: Inner>(
     alloc: Global,
@@ -147,7 +149,7 @@ pub fn after_operand<I: Inner>(
     Ok(whole)
 }
 
-/// An argument of a call.
+/// An argument of a call, with its label where it has one.
 #[tactic(auto, unfolding(sw_grammar::specs::Exprs::arg))]
 pub fn arg<I: Inner>(
     alloc: Global,

@@ -96,7 +96,7 @@ fn sum<I: Inner>(
     more_plus(alloc, inner, names, tokens, depth, closures, first)
 }
 
-/// A comparison after its first operand, where it comes.
+/// A comparison after its first operand, where it comes. There is at most one.
 #[tactic(auto, unfolding(sw_grammar::specs::Exprs::more_compares))]
 fn more_compares<I: Inner>(
     alloc: Global,
@@ -194,7 +194,7 @@ fn more_or<I: Inner>(
     Ok(chained(alloc, first, links)?)
 }
 
-/// All operators after the first operand.
+/// All operators after the first operand, with their right operands.
 #[tactic(auto, unfolding(sw_grammar::specs::Exprs::more_operands))]
 pub fn more_operands<I: Inner>(
     alloc: Global,

@@ -85,7 +85,8 @@ fn task_header(
     Ok(no_header(alloc))
 }
 
-/// Statements, up to a token that begins none.
+/// Statements, up to a token that begins none. Each but the first is the first on its line or after
+/// the `;` of the one before it. They stand inside a nest, so the `Inner` reads at this very depth.
 pub fn statements<I: Inner>(
     alloc: Global,
     inner: &I,
@@ -106,7 +107,7 @@ pub fn statements<I: Inner>(
     Ok(ListOf::from_vec(stmts))
 }
 
-/// A closure.
+/// A closure, from its `{` to its `}`.
 pub fn closure<I: Inner>(
     alloc: Global,
     inner: &I,
@@ -142,7 +143,7 @@ fn closure_inside<I: Inner>(
     Ok(closure_of(at, header, stmts))
 }
 
-/// The body of a task.
+/// The body of a task, from its `{` to its `}`.
 pub fn task_body<I: Inner>(
     alloc: Global,
     inner: &I,

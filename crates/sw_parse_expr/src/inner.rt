@@ -16,7 +16,8 @@ use sw_tree::{Arg, Expr, Names, Stmt};
 /// The functions of this crate read one nest, and ask an `Inner` for what stands in the nests that
 /// they open, where fewer nests may be opened. So none of them calls itself, and each is proved
 /// alone. Each method answers as the grammar's reader of its rule, at the depths for which the
-/// parser `reads`.
+/// parser `reads`: it takes the tokens of the rule from the front of `tokens`, or stops where the
+/// reader does. Out of memory is the one free answer.
 pub trait Inner {
     /// The methods may be called where this many more nests may be opened.
     ghost reads: { Self → ℕ → Type 0 };
@@ -33,7 +34,7 @@ pub trait Inner {
         ensures { Gives (read (id_in names.now) depth (exprs.expr (id_in names.now) true)
             tokens.old) result tokens.new };
 
-    /// An argument of a call.
+    /// An argument of a call, with its label where it has one.
     fn arg(
         &self,
         alloc: Global,
@@ -45,7 +46,7 @@ pub trait Inner {
         ensures { Gives (read (id_in names.now) depth (exprs.arg (id_in names.now)) tokens.old)
             result tokens.new };
 
-    /// A statement.
+    /// A statement, without the `;` after it.
     fn stmt(
         &self,
         alloc: Global,

@@ -48,7 +48,7 @@ fn after_task_dot<I: Inner>(
     Ok(Expr::Yield { at })
 }
 
-/// What stands after a `Task` at this position.
+/// What stands after a `Task` at this position: a body, or `.` and `detached` or `yield`.
 #[tactic(auto, unfolding(sw_grammar::specs::Exprs::after_task))]
 pub fn after_task<I: Inner>(
     alloc: Global,

@@ -19,7 +19,7 @@ use sw_list::ListOf;
 use sw_reader::{Cursor, Stop};
 use sw_tree::{ClosureParam, ClosureParamList, Name, NameList, Names, TypeTree};
 
-/// A capture list.
+/// The words of a capture list, in `[` and `]`.
 #[tactic(auto, unfolding(sw_grammar::specs::Closures::captures))]
 pub fn captures(
     alloc: Global,
@@ -94,7 +94,7 @@ fn more_captured(
     Ok(ListOf::from_vec(words))
 }
 
-/// A capture list, where it comes.
+/// The words of a capture list, where it comes; else none.
 #[tactic(auto, unfolding(sw_grammar::specs::Closures::captures_if))]
 pub fn captures_if(
     alloc: Global,
@@ -214,7 +214,7 @@ fn result_if(
     Ok(Some(type_tree(alloc, names, tokens, depth)?))
 }
 
-/// The parameters of a closure, and its result type.
+/// The parameters of a closure, in `(` and `)`, and its result type, where it comes.
 #[tactic(auto, unfolding(sw_grammar::specs::Closures::signature))]
 pub fn signature(
     alloc: Global,
@@ -230,7 +230,7 @@ pub fn signature(
     Ok((params, result))
 }
 
-/// The same, where they come.
+/// The parameters of a closure and its result type, where a `(` comes; else neither.
 #[tactic(auto, unfolding(sw_grammar::specs::Closures::signature_if))]
 pub fn signature_if(
     alloc: Global,
@@ -247,7 +247,8 @@ pub fn signature_if(
     signature(alloc, names, tokens, depth)
 }
 
-/// The brackets of a task's closure, and its result type.
+/// The `()` of a task's closure, `async` where it comes, and its result type where it comes. A task
+/// has no parameters, so the list is empty.
 #[tactic(auto, unfolding(sw_grammar::specs::Closures::task_signature))]
 pub fn task_signature(
     alloc: Global,
@@ -264,7 +265,7 @@ pub fn task_signature(
     Ok((ListOf::new(alloc), result))
 }
 
-/// The same, where they come.
+/// The same, where a `(` comes; else no parameters and no result type.
 #[tactic(auto, unfolding(sw_grammar::specs::Closures::task_signature_if))]
 pub fn task_signature_if(
     alloc: Global,

@@ -1,6 +1,12 @@
 //! The parser of what holds no expression: words, operators, literals, written types, headers of
 //! closures and patterns. It knows the rules of the grammar for them, each as a function that
 //! follows it, and nothing of statements, of declarations or of what trees mean.
+//!
+//! Each function answers as the grammar's reader of its rule: it takes the tokens of the rule from
+//! the front of `tokens`, or stops where the reader does. `names` gives a name its id, and `depth`
+//! is how many more nests may be opened. Out of memory is the one free answer, and after a stop
+//! nothing is said of the tokens that are left. A part that may be missing takes no token where it
+//! doesn't come.
 #![tactic(auto)]
 
 mod headers;

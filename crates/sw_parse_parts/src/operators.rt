@@ -62,7 +62,7 @@ fn take_infix(tokens: &mut Cursor<'_>) -> (InfixOp, u32)
     (op, tokens.take())
 }
 
-/// Whether the next token is one of the operators `*`, `/` and `%`.
+/// Whether the next token is one of the operators `*`, `/` and `%` between operands.
 pub fn sees_times(tokens: &Cursor<'_>) -> bool
     ensures { result ≡ starts times (head tokens.now) }
 {
@@ -70,7 +70,7 @@ pub fn sees_times(tokens: &Cursor<'_>) -> bool
     tokens.sees_operator_of(texts.as_slice(), Fixity::Infix)
 }
 
-/// Whether the next token is one of the operators `+` and `-`.
+/// Whether the next token is one of the operators `+` and `-` between operands.
 pub fn sees_plus(tokens: &Cursor<'_>) -> bool
     ensures { result ≡ starts plus (head tokens.now) }
 {
@@ -94,7 +94,7 @@ pub fn sees_assign(tokens: &Cursor<'_>) -> bool
     tokens.sees_operator_of(texts.as_slice(), Fixity::Infix)
 }
 
-/// Whether the next token is an operator before its operand.
+/// Whether the next token is an operator before its operand: `!` or `-`.
 pub fn sees_prefix(tokens: &Cursor<'_>) -> bool
     ensures { result ≡ starts prefix_ops (head tokens.now) }
 {
@@ -102,7 +102,7 @@ pub fn sees_prefix(tokens: &Cursor<'_>) -> bool
     tokens.sees_operator_of(texts.as_slice(), Fixity::Prefix)
 }
 
-/// Takes such an operator, and gives where it stands.
+/// Takes an operator `*`, `/` or `%`; gives it and where it stands.
 pub fn infix_times(tokens: &mut Cursor<'_>) -> Result<(InfixOp, u32), Stop>
     ensures { Gives (next (infix_in times (codes "*")) tokens.old) result tokens.new }
 {
@@ -112,7 +112,7 @@ pub fn infix_times(tokens: &mut Cursor<'_>) -> Result<(InfixOp, u32), Stop>
     Ok(take_infix(tokens))
 }
 
-/// Takes such an operator, and gives where it stands.
+/// Takes an operator `+` or `-`; gives it and where it stands.
 pub fn infix_plus(tokens: &mut Cursor<'_>) -> Result<(InfixOp, u32), Stop>
     ensures { Gives (next (infix_in plus (codes "+")) tokens.old) result tokens.new }
 {
@@ -122,7 +122,7 @@ pub fn infix_plus(tokens: &mut Cursor<'_>) -> Result<(InfixOp, u32), Stop>
     Ok(take_infix(tokens))
 }
 
-/// Takes such an operator, and gives where it stands.
+/// Takes an operator that compares; gives it and where it stands.
 pub fn infix_compare(tokens: &mut Cursor<'_>) -> Result<(InfixOp, u32), Stop>
     ensures { Gives (next (infix_in compares (codes "==")) tokens.old) result tokens.new }
 {
@@ -132,7 +132,7 @@ pub fn infix_compare(tokens: &mut Cursor<'_>) -> Result<(InfixOp, u32), Stop>
     Ok(take_infix(tokens))
 }
 
-/// Takes such an operator, and gives where it stands.
+/// Takes an operator `&&`; gives it and where it stands.
 pub fn infix_and(tokens: &mut Cursor<'_>) -> Result<(InfixOp, u32), Stop>
     ensures { Gives (next (infix_in (infix_op (codes "&&")) (codes "&&")) tokens.old) result
         tokens.new }
@@ -143,7 +143,7 @@ pub fn infix_and(tokens: &mut Cursor<'_>) -> Result<(InfixOp, u32), Stop>
     Ok(take_infix(tokens))
 }
 
-/// Takes such an operator, and gives where it stands.
+/// Takes an operator `||`; gives it and where it stands.
 pub fn infix_or(tokens: &mut Cursor<'_>) -> Result<(InfixOp, u32), Stop>
     ensures { Gives (next (infix_in (infix_op (codes "||")) (codes "||")) tokens.old) result
         tokens.new }
@@ -154,7 +154,7 @@ pub fn infix_or(tokens: &mut Cursor<'_>) -> Result<(InfixOp, u32), Stop>
     Ok(take_infix(tokens))
 }
 
-/// Takes an operator before its operand, and gives where it stands.
+/// Takes an operator before its operand, `!` or `-`; gives it and where it stands.
 pub fn prefix_op(tokens: &mut Cursor<'_>) -> Result<(PrefixOp, u32), Stop>
     ensures { Gives (next a_prefix tokens.old) result tokens.new }
 {
@@ -175,7 +175,7 @@ fn take_prefix(tokens: &mut Cursor<'_>) -> (PrefixOp, u32)
     (op, tokens.take())
 }
 
-/// Takes an operator that assigns, and gives where it stands.
+/// Takes an operator that assigns; gives it and where it stands.
 pub fn assign_op(tokens: &mut Cursor<'_>) -> Result<(AssignOp, u32), Stop>
     ensures { Gives (next an_assignment tokens.old) result tokens.new }
 {
@@ -193,7 +193,7 @@ fn take_assign(tokens: &mut Cursor<'_>) -> (AssignOp, u32)
     (op, tokens.take())
 }
 
-/// Takes a `=` between operands.
+/// Takes a `=` between operands, and gives where it stands.
 pub fn equals(tokens: &mut Cursor<'_>) -> Result<u32, Stop>
     ensures { Gives (next an_equals tokens.old) result tokens.new }
 {
@@ -203,7 +203,7 @@ pub fn equals(tokens: &mut Cursor<'_>) -> Result<u32, Stop>
     Ok(tokens.take())
 }
 
-/// Whether the next token is a literal.
+/// Whether the next token is a literal: an integer, `true` or `false`.
 pub fn sees_literal(tokens: &Cursor<'_>) -> bool
     ensures { result ≡ starts literal_first (head tokens.now) }
 {
@@ -220,7 +220,7 @@ fn sees_boolean(tokens: &Cursor<'_>) -> bool
     tokens.sees_one_of(texts.as_slice())
 }
 
-/// A literal.
+/// A literal: an integer, `true` or `false`.
 #[tactic(auto, unfolding(sw_grammar::specs::Exprs::a_literal, sw_reader::specs::Terminals::literal))]
 pub fn a_literal(tokens: &mut Cursor<'_>) -> Result<Expr, Stop>
     ensures { Gives (literal_value tokens.old) result tokens.new }

@@ -16,7 +16,7 @@ use sw_list::ListOf;
 use sw_reader::{Cursor, Stop};
 use sw_tree::{Names, Pattern, PatternList};
 
-/// The patterns of an arm, where they come.
+/// The patterns of an arm, in `(` and `)`, where they come; else none.
 #[tactic(auto, unfolding(sw_grammar::specs::Stmts::patterns_if))]
 pub fn patterns_if(
     alloc: Global,

@@ -17,7 +17,7 @@ use sw_list::{Boxed, ListOf};
 use sw_reader::{Cursor, Stop};
 use sw_tree::{Names, TypeTree, TypeTreeList};
 
-/// A type.
+/// A type: a word, `()`, a function type or that of a task.
 #[cycle(types)]
 pub fn type_tree(
     alloc: Global,
@@ -183,7 +183,7 @@ fn task_inner(
     Ok(inner)
 }
 
-/// Types up to a `)`; there may be none.
+/// Types and the `)` after them; there may be none.
 #[cycle(types)]
 #[tactic(auto, unfolding(sw_grammar::specs::Types::types, sw_grammar::specs::Types::payload))]
 fn types(
@@ -202,7 +202,7 @@ fn types(
     some_types(alloc, names, tokens, depth)
 }
 
-/// One type at least, up to a `)`.
+/// One type at least, each after the first with a `,` before it, and the `)` after them.
 #[cycle(types)]
 #[tactic(auto, unfolding(sw_grammar::specs::Types::payload))]
 pub fn some_types(
@@ -240,7 +240,7 @@ fn more_types(
     Ok(ListOf::from_vec(types))
 }
 
-/// `: T`, or nothing.
+/// `:` and a type, where they come.
 #[tactic(auto, unfolding(sw_grammar::specs::Stmts::type_if))]
 pub fn type_if(
     alloc: Global,

@@ -18,7 +18,7 @@ use sw_parse_parts::{sees_binding, sees_value_word};
 use sw_reader::{Cursor, Stop};
 use sw_tree::{Names, Stmt};
 
-/// A statement.
+/// A statement, without the `;` after it.
 #[tactic(auto, unfolding(sw_grammar::specs::Stmts::stmt))]
 pub fn stmt<I: Inner>(
     alloc: Global,

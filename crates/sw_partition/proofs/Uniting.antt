@@ -80,13 +80,14 @@ union_least old other new rose filled size u z z_size above_old above_other =
           (max_one (bit_of old.words (x * (words_for (length new.sites) * 64) + has.column))
           (bit_of other.words (x * (words_for (length new.sites) * 64) + has.column))
           (bit_at-lt _ _) (bit_at-lt _ _)
-          (sym (u.words.each (x * (words_for (length new.sites) * 64) + has.column)) ∙ has.marked)) [
+          (sym (u.words.each (x * (words_for (length new.sites) * 64) + has.column))
+          ∙ has.marked)) [
             | inl was ↦ above_old.pairs x site
                 (pair_stays x site new old (sym u.united.length_same) (sym u.sites) has was)
-            | inr came ↦ above_other.pairs x site
+            | inr added ↦ above_other.pairs x site
                 (pair_stays x site new other (sym (labels_of_size old other size)
                 ∙ sym u.united.length_same) (sym (sites_of_size old other size)
-                ∙ sym u.sites) has came)
+                ∙ sym u.sites) has added)
           ];
     }
 

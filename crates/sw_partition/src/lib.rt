@@ -1,7 +1,7 @@
 //! Region states: which elements are in one region, and which sites gave an element away.
 //!
-//! The elements are numbers from 0 on, and element 0 is `Here`, the region of the code itself. A
-//! `Partition` is such a state, with the operations of region-based isolation (SE-0414) in place.
+//! The elements are numbers from 0 on. Element 0 is `Here`, what belongs to the running isolation.
+//! A `Partition` is such a state, with the operations of region-based isolation (SE-0414) in place.
 //! It is a `Lattice`, whose order is the inclusion of the equivalence and of the set of pairs.
 #![tactic(auto)]
 

@@ -1,5 +1,5 @@
 //! Tables of links: each element is linked to itself or to one below it, and elements that links
-//! lead from one to the other are in one class.
+//! connect are in one class.
 ghost use Rattle.std.specs.Prelude.{◌<◌, length};
 ghost use Rattle.sw_partition.specs.Tables.{AreLabels, AreLinks, IsSunk, IsLinked, IsFlattened};
 
@@ -19,8 +19,8 @@ pub(crate) fn sink(labels: &mut [u32])
 }
 
 /// Puts the classes of the two elements together (Rem's algorithm; Dijkstra, A Discipline of
-/// Programming, 1976). The links on the way are shortened, so that many calls take about as many steps
-/// as there are calls and elements.
+/// Programming, 1976). The links on the way are shortened, so that many calls take about as many
+/// steps as there are calls and elements.
 pub(crate) fn link(links: &mut [u32], x: usize, y: usize)
     requires x { x < length links.old }
     requires y { y < length links.old }

@@ -16,8 +16,8 @@ use sw_solve::{Lattice, Steps};
 /// A region state over elements from 0 on, of which element 0 is `Here`, and over sites: an
 /// equivalence of the elements, and pairs of an element and a site that gave it away.
 ///
-/// A change passes over a table of the elements or a row of bits for each, and takes no memory. In
-/// contracts a state is seen by `Together` and `HasPair` alone.
+/// A change passes over a table of the elements or a row of bits for each, and takes no memory.
+/// Contracts speak of `Together` and `HasPair`, of how many elements there are, and of the sites.
 #[derive(Drop)]
 pub struct Partition {
     labels: Vec<u32>,
@@ -163,8 +163,8 @@ impl Lattice for Partition {
         })
     }
 
-    /// Unites the classes, with one pass over the elements and one more for each two classes that
-    /// unite, and then the pairs, word by word.
+    /// Unites the classes, with one pass over the elements, and where some unite with three more,
+    /// which walk along links, and then the pairs, word by word.
     fn join_with<L: Ledger>(&mut self, other: &Partition, steps: &mut Steps<L>) -> bool {
         steps.tick();
         let united = unite(&mut self.labels, &other.labels);

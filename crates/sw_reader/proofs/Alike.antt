@@ -1,13 +1,14 @@
--- Two forms that differ in their values alone are read alike: their readers take the same tokens, or
--- stop at the same token. What is asked of the two values is what the forms after them look at.
+-- Two forms that differ in their values alone are read alike: their readers take the same tokens,
+-- or stop at the same token. What is asked of the two values is what the forms after them look at.
 use Rattle.std.proofs.Common.{◌≡◌, ℕ, zero, suc, Bool, true, false, cond, not, List, [], ◌∷◌, ◌++◌}
 use Rattle.std.proofs.Common.{length, refl, ap, subst, codes}
 use Rattle.std.specs.Prelude.{Option, Ok, Err}
 use Rattle.sw_token.specs.declared.Fixity.{Fixity}
 use Rattle.sw_token.specs.Spelling.{Spelled}
 use Rattle.sw_reader.specs.Sets.{Set, has, starts}
-use Rattle.sw_reader.specs.Form.{Shape, Terminal, Form, one, seq, alt, star, choice, nested, started}
-use Rattle.sw_reader.specs.Form.{inline, held, listed, listed_some, Claim}
+use Rattle.sw_reader.specs.Form.{Shape, Terminal, Form, one, seq, alt, star, choice, nested}
+use Rattle.sw_reader.specs.Form.{started}
+use Rattle.sw_reader.specs.Form.{inline, claimed, listed, listed_some, Claim}
 use Rattle.sw_reader.specs.Form as forms
 use Rattle.sw_reader.specs.Relations.{head, may_start, stays}
 use Rattle.sw_reader.specs.Reader.{Answer, Reader, refused, and_then, then_read}
@@ -94,11 +95,13 @@ alike_repeat : {S : Type 0} (P : S → S → Type 0) (set : Set) (is_open opens 
     → ((s t : S) → P s t → Alike P (f s) (g t)) → (n : ℕ) (s t : S) → P s t
     → Alike P (repeat set is_open f n s) (repeat set opens g n t)
 alike_repeat P set is_open opens f g same turn zero s t h ts =
-    alike_cond P (starts (set_if (is_open s) set) (head ts)) (starts (set_if (opens t) set) (head ts))
+    alike_cond P (starts (set_if (is_open s) set) (head ts))
+    (starts (set_if (opens t) set) (head ts))
     (refused ts) (Ok (s, ts)) (refused ts) (Ok (t, ts))
     (ap (λ b. starts (set_if b set) (head ts)) (same s t h)) refl (h, refl)
 alike_repeat P set is_open opens f g same turn (suc n) s t h ts =
-    alike_cond P (starts (set_if (is_open s) set) (head ts)) (starts (set_if (opens t) set) (head ts))
+    alike_cond P (starts (set_if (is_open s) set) (head ts))
+    (starts (set_if (opens t) set) (head ts))
     (then_read (f s) (repeat set is_open f n) ts) (Ok (s, ts))
     (then_read (g t) (repeat set opens g n) ts) (Ok (t, ts))
     (ap (λ b. starts (set_if b set) (head ts)) (same s t h))
@@ -140,7 +143,8 @@ module _ {N : Type 0} {El : N → Type 0} {shape_of : N → Shape} {depth : ℕ}
   same_token t = record { answers = alike_next Any t t refl (λ _. tt) }
 
   pub same_then : {A B : Type 0} {s t : Shape} {P : A → A → Type 0} {Q : B → B → Type 0}
-      {p q : Form El shape_of s A} {f g : A → Form El shape_of t B} → Same {shape_of = shape_of} depth F G P p q
+      {p q : Form El shape_of s A} {f g : A → Form El shape_of t B}
+      → Same {shape_of = shape_of} depth F G P p q
       → ((a b : A) → P a b → Same {shape_of = shape_of} depth F G Q (f a) (g b))
       → Same {shape_of = shape_of} depth F G Q (forms.followed p f) (forms.followed q g)
   same_then {P = P} {Q = Q} {p = p} {q = q} {f = f} {g = g} h k = record {
@@ -150,7 +154,8 @@ module _ {N : Type 0} {El : N → Type 0} {shape_of : N → Shape} {depth : ℕ}
   }
 
   pub same_either : {A : Type 0} {s t : Shape} {P : A → A → Type 0} {p q : Form El shape_of s A}
-      {u v : Form El shape_of t A} → Same {shape_of = shape_of} depth F G P p q → Same {shape_of = shape_of} depth F G P u v
+      {u v : Form El shape_of t A} → Same {shape_of = shape_of} depth F G P p q
+      → Same {shape_of = shape_of} depth F G P u v
       → Same {shape_of = shape_of} depth F G P (forms.either p u) (forms.either q v)
   same_either {s = s} {P = P} {p = p} {q = q} {u = u} {v = v} h k = record {
     answers = λ ts. alike_cond P (starts s.first (head ts)) (starts s.first (head ts))
@@ -170,7 +175,8 @@ module _ {N : Type 0} {El : N → Type 0} {shape_of : N → Shape} {depth : ℕ}
   }
 
   pub same_when : {A : Type 0} {s t : Shape} {P : A → A → Type 0} {b c : Bool}
-      {p q : Form El shape_of s A} {u v : Form El shape_of t A} → b ≡ c → Same {shape_of = shape_of} depth F G P p q → Same {shape_of = shape_of} depth F G P u v
+      {p q : Form El shape_of s A} {u v : Form El shape_of t A} → b ≡ c
+      → Same {shape_of = shape_of} depth F G P p q → Same {shape_of = shape_of} depth F G P u v
       → Same {shape_of = shape_of} depth F G P (forms.when b p u) (forms.when c q v)
   same_when {s = s} {P = P} {b = b} {c = c} {p = p} {q = q} {u = u} {v = v} is h k = record {
     answers = λ ts. alike_cond P b c
@@ -182,7 +188,8 @@ module _ {N : Type 0} {El : N → Type 0} {shape_of : N → Shape} {depth : ℕ}
   }
 
   pub same_unless : {A : Type 0} {s t : Shape} {P : A → A → Type 0} {b c : Bool}
-      {p q : Form El shape_of s A} {u v : Form El shape_of t A} → b ≡ c → Same {shape_of = shape_of} depth F G P p q → Same {shape_of = shape_of} depth F G P u v
+      {p q : Form El shape_of s A} {u v : Form El shape_of t A} → b ≡ c
+      → Same {shape_of = shape_of} depth F G P p q → Same {shape_of = shape_of} depth F G P u v
       → Same {shape_of = shape_of} depth F G P (forms.unless b p u) (forms.unless c q v)
   same_unless {s = s} {P = P} {b = b} {c = c} {p = p} {q = q} {u = u} {v = v} is h k = record {
     answers = λ ts. alike_cond P (starts s.first (head ts)) (starts s.first (head ts))
@@ -229,7 +236,8 @@ module _ {N : Type 0} {El : N → Type 0} {shape_of : N → Shape} {depth : ℕ}
   }
 
   pub same_nest : {A : Type 0} (t : Terminal A) (n : N) (Q : El n → El n → Type 0)
-      → Alike Q (F n) (G n) → Same {shape_of = shape_of} depth F G (λ a b. Q a.1 b.1) (forms.nest t n) (forms.nest t n)
+      → Alike Q (F n) (G n)
+      → Same {shape_of = shape_of} depth F G (λ a b. Q a.1 b.1) (forms.nest t n) (forms.nest t n)
   same_nest {A} t n Q h = record {
     answers = alike_then Any (λ a b. Q a.1 b.1) (opening depth t) (opening depth t)
         (λ a. then_read (F n) (λ x. pure (a, x))) (λ a. then_read (G n) (λ x. pure (a, x)))
@@ -247,7 +255,8 @@ module _ {N : Type 0} {El : N → Type 0} {shape_of : N → Shape} {depth : ℕ}
   }
 
   pub same_same_line : {A : Type 0} {s : Shape} {P : A → A → Type 0}
-      {p q : Form El shape_of s A} → Same {shape_of = shape_of} depth F G P p q → Same {shape_of = shape_of} depth F G P (forms.same_line p) (forms.same_line q)
+      {p q : Form El shape_of s A} → Same {shape_of = shape_of} depth F G P p q
+      → Same {shape_of = shape_of} depth F G P (forms.same_line p) (forms.same_line q)
   same_same_line {P = P} {p = p} {q = q} h = record {
     answers = alike_checked P stays stays (reading El shape_of depth F p)
         (reading El shape_of depth G q) (λ _. refl) h.answers;
@@ -260,7 +269,8 @@ module _ {N : Type 0} {El : N → Type 0} {shape_of : N → Shape} {depth : ℕ}
 
   -- less is asked of the values
   pub same_weaker : {A : Type 0} {s : Shape} {P Q : A → A → Type 0} {p q : Form El shape_of s A}
-      → ((a b : A) → P a b → Q a b) → Same {shape_of = shape_of} depth F G P p q → Same {shape_of = shape_of} depth F G Q p q
+      → ((a b : A) → P a b → Q a b) → Same {shape_of = shape_of} depth F G P p q
+      → Same {shape_of = shape_of} depth F G Q p q
   same_weaker {P = P} {Q = Q} {p = p} {q = q} weaker h = record {
     answers = λ ts. by_answers (reading El shape_of depth F p ts) (reading El shape_of depth G q ts)
         (h.answers ts);

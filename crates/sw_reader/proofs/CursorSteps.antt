@@ -1,7 +1,6 @@
 -- The readers of one token, step by step as the cursor takes them.
-use Rattle.std.proofs.Common.{◌≡◌, ℕ, zero, suc, ℤ, Bool, true, false, cond, not, ◌&&◌, List, [], ◌∷◌, length}
-use Rattle.std.proofs.Common.{refl, sym, ◌∙◌, ap, subst}
-use Rattle.std.proofs.Common.{◌<◌, arith}
+use Rattle.std.proofs.Common.{◌≡◌, ℕ, zero, suc, ℤ, Bool, true, false, cond, not, ◌&&◌, List, []}
+use Rattle.std.proofs.Common.{◌∷◌, length, refl, sym, ◌∙◌, ap, subst, ◌<◌, arith}
 use Rattle.std.specs.Prelude.{Option, Some, None, Ok, Err}
 use Rattle.std.specs.Str.{IsUtf8, IsCharBoundary}
 use Rattle.std.proofs.lemmas.Str.{IsCharBoundary-after_ascii}
@@ -116,7 +115,7 @@ opening_on_line_is text zero ts h =
     (within_line (quoted text) (head ts) h)
 opening_on_line_is text (suc depth) ts h = on_line_is text ts h
 
--- Behind the `@` of an attribute its text may be cut.
+-- After the `@` of an attribute its text may be cut.
 pub attribute_cut : (token : Option Spelled) → IsUtf8 (text_of token)
     → starts attribute token ≡ true → IsCharBoundary (text_of token) 1
 attribute_cut None utf8 h = absurd (cc)

@@ -7,7 +7,7 @@ use Rattle.sw_token.specs.Spelling.{Spelled}
 use Rattle.sw_reader.specs.Sets.{Set, class_of, is_in, has, starts, not_first}
 use Rattle.sw_reader.specs.Sets as sets
 use Rattle.sw_reader.specs.Form.{Shape, Terminal, Claim, Form, shows, one, seq, choice, alt}
-use Rattle.sw_reader.specs.Form.{is_shorter, star, nested, started, inline, held, listed}
+use Rattle.sw_reader.specs.Form.{is_shorter, star, nested, started, inline, claimed, listed}
 use Rattle.sw_reader.specs.Form.{listed_some}
 use Rattle.sw_reader.specs.Form as forms
 use Rattle.sw_reader.specs.Relations.{Relation, head, Turns, stays, spelled, Only, OneMore}
@@ -82,7 +82,7 @@ pub record Covers (s : Shape) (c : Claim) : Type 0 where
   pub stays_on_line : c.stays_on_line ≡ true → s.stays_on_line ≡ true
   pub some : (c.begins_line || c.stays_on_line) ≡ true
 
-pub covers : (s : Shape) (c : Claim) → (held s c).ok ≡ true → Covers s c
+pub covers : (s : Shape) (c : Claim) → (claimed s c).ok ≡ true → Covers s c
 covers s c h =
     let eight = and_left _ _ h in
     let seven = and_left _ _ eight in
@@ -104,7 +104,7 @@ covers s c h =
     }
 
 pub starts_held : (s : Shape) (c : Claim) (us : List Spelled) → Covers s c → StartsWith s us
-    → StartsWith (held s c) us
+    → StartsWith (claimed s c) us
 starts_held s c [] is h = sym is.nullable ∙ h
 starts_held s c (u ∷ us) is h = is.first u h
 
@@ -125,7 +125,7 @@ good_choice s t short h =
       apart = and_right _ _ four;
     }
 
--- what items that can be told apart say
+-- what items that can be distinguished say
 pub record GoodItem (s : Shape) : Type 0 where
   pub ok : s.ok ≡ true
   pub some : s.nullable ≡ false

@@ -18,8 +18,8 @@ use Rattle.sw_reader.specs.Spells.{spells, Wide, reads}
 use Rattle.sw_reader.specs.Opens.{opens}
 use Rattle.sw_reader.specs.Whole.{IsTooDeepIn}
 use Rattle.sw_reader.specs.Fronts.{IsFrontOf, HasFront, IsFrontRefused, ends_before, front}
-use Rattle.sw_reader.proofs.ReaderLaws.{Outside, Without, Failed, Reads, ok_parts, bind_ok, bind_err}
-use Rattle.sw_reader.proofs.ReaderLaws.{bind_step, bind_stop, left_of}
+use Rattle.sw_reader.proofs.ReaderLaws.{Outside, Without, Failed, Reads, ok_parts, bind_ok}
+use Rattle.sw_reader.proofs.ReaderLaws.{bind_err, bind_step, bind_stop, left_of}
 use Rattle.sw_reader.proofs.LoopLaws.{same_ends}
 use Rattle.sw_reader.proofs.FormLaws.{deeper, law}
 use Rattle.sw_reader.proofs.DepthLaws.{NotDeep, Agrees, then_agrees, reads_deeper}

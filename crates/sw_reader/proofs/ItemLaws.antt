@@ -135,7 +135,8 @@ module _ {A : Type 0} (s : Shape) (P V : Relation A) (p : Reader A) (is : GoodIt
           ∙ apart_back s.ext semicolon mark.first.token is.next_mark mark.first.member
       by_mark (inr none) =
           let ended : next.1 ≡ false = ap (λ n. n.1) h.second.0 ∙ none.0 in
-          let both : after_item s false (head rest) = subst (λ b. after_item s b (head rest)) ended g in
+          let both : after_item s false (head rest) =
+          subst (λ b. after_item s b (head rest)) ended g in
           let whole : right ++ rest ≡ rest =
           ap (λ ws. ws ++ rest) (h.whole ∙ (ap (λ ws. ws ++ h.right) none.1 ∙ h.second.1)) in
           ap (λ ws. starts s.ext (head ws)) whole ∙ both.0

@@ -118,7 +118,8 @@ skipped_is text ts us e = by_test (starts (quoted text) (head ts)) e
     by_answer (Err fault) is k = absurd (cc)
 
     by_test : (b : Bool)
-        → cond b (then_read (next (quote text)) (λ _. pure true) ts) (Ok (false, ts)) ≡ Ok (true, us)
+        → cond b (then_read (next (quote text)) (λ _. pure true) ts) (Ok (false, ts))
+        ≡ Ok (true, us)
         → (at : ℕ) × (next (quote text) ts ≡ Ok (at, us))
     by_test true k = by_answer (next (quote text) ts) refl k
     by_test false k = never (sym (ok_parts k).0)

@@ -28,7 +28,9 @@ module _ {N : Type 0} (El : N → Type 0) (shape_of : N → Shape)
           → and_then (cond b (Err (too_deep (length ts))) (refused {A = A} ts))
           (λ x. then_read {B = A × El n} (refused {A = El n}) (λ y. pure (x.0, y)) x.1)
           ≡ and_then (cond b (Err (too_deep (length ts))) (refused {A = A} ts))
-          (λ x. then_read {B = A × El n} (reads El shape_of body (0 - 1) (body n)) (λ y. pure (x.0, y)) x.1)
+          (λ x.
+          then_read {B = A × El n} (reads El shape_of body (0 - 1) (body n)) (λ y. pure (x.0, y))
+          x.1)
       by_test true = refl
       by_test false = refl
   nest_reads (suc depth) t n ts =
@@ -37,8 +39,8 @@ module _ {N : Type 0} (El : N → Type 0) (shape_of : N → Shape)
       (λ a. then_read (reads El shape_of body d (body n)) (λ x. pure (a, x))) ts) same
 
   -- what the code's steps give
-  pub nest_read : (depth : ℕ) {A : Type 0} (t : Terminal A) (n : N) (ts us vs : List Spelled) (a : A)
-      (x : El n) → opening depth t ts ≡ Ok (a, us)
+  pub nest_read : (depth : ℕ) {A : Type 0} (t : Terminal A) (n : N) (ts us vs : List Spelled)
+      (a : A) (x : El n) → opening depth t ts ≡ Ok (a, us)
       → reads El shape_of body (depth - 1) (body n) us ≡ Ok (x, vs)
       → reads El shape_of body depth (nest t n) ts ≡ Ok ((a, x), vs)
   nest_read depth t n ts us vs a x opened inner =

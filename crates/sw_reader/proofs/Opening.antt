@@ -15,8 +15,8 @@ use Rattle.sw_reader.specs.Reader.{Answer, Reader, refused, and_then, then_read,
 use Rattle.sw_reader.specs.Reader.{choose, only_if}
 use Rattle.sw_reader.specs.Reader.Fault.{unexpected, too_deep}
 use Rattle.sw_reader.specs.Opens.{Saying, After}
-use Rattle.sw_reader.proofs.ReaderLaws.{Follow, Filled, Reads, passed, ok_parts, bind_err, bind_stop}
-use Rattle.sw_reader.proofs.ReaderLaws.{bind_step, cond_cases, head_after}
+use Rattle.sw_reader.proofs.ReaderLaws.{Follow, Filled, Reads, passed, ok_parts, bind_err}
+use Rattle.sw_reader.proofs.ReaderLaws.{bind_stop, bind_step, cond_cases, head_after}
 use Rattle.sw_reader.proofs.DepthLaws.{NotDeep, Agrees}
 
 -- the reader finds a nest too many, and the token that opens it isn't one of the last `rest`

@@ -81,9 +81,10 @@ module _ {S : Type 0} (P V : S → Relation S) (F G : Follow S) (O : S → Sayin
                       value = opened.said.value;
                       left = found.prefix ++ opened.said.left;
                       right = opened.said.right;
-                      first = turn s two.0.0 opened.said.value found.prefix opened.said.left
-                          (is_open_there s ts h.0, (reads s).wide two.0.0 found.prefix found.spelled)
-                          opened.said.first;
+                      first =
+                          let wide = (reads s).wide two.0.0 found.prefix found.spelled in
+                          turn s two.0.0 opened.said.value found.prefix opened.said.left
+                          (is_open_there s ts h.0, wide) opened.said.first;
                       last = opened.said.last;
                       whole = ap (λ us. found.prefix ++ us) opened.said.whole
                           ∙ sym (append_assoc found.prefix opened.said.left opened.said.right);

@@ -11,7 +11,8 @@ use Rattle.sw_reader.specs.Relations.{Relation, head, Turns, OneMore, may_start,
 use Rattle.sw_reader.specs.Relations.{is_first_on_line}
 use Rattle.sw_reader.specs.Relations.Turns.{stop, turn}
 use Rattle.sw_reader.specs.Reader.{Answer, Reader, refused, pure, then_read, take_if, next}
-use Rattle.sw_reader.specs.Reader.{opening, choose, read_item, read_items, skipping, checked, only_if}
+use Rattle.sw_reader.specs.Reader.{opening, choose, read_item, read_items, skipping, checked}
+use Rattle.sw_reader.specs.Reader.{only_if}
 use Rattle.sw_reader.specs.Reader.Fault.{unexpected, too_deep}
 use Rattle.sw_reader.specs.Spells.{spells, Wide, read_inside, reads}
 use Rattle.sw_reader.specs.Opens.{Saying, After, Opener, into, opens}
@@ -78,9 +79,11 @@ module _ {A B : Type 0} (t : Terminal A) (I : Saying) (p : Reader B) where
         | inl one ↦ elim (cond_cases (starts t.set (head ts)) (Err (too_deep (length ts)))
             (refused {A = A} ts) (Err (too_deep left)) one) [
               | inl is ↦ by_first ts is.0
-                  (ap (λ r. elim r [ Ok x ↦ 0 | Err fault ↦ elim fault [ unexpected n ↦ 0 | too_deep n ↦ n ] ])
+                  (ap (λ r. elim r
+                  [ Ok x ↦ 0 | Err fault ↦ elim fault [ unexpected n ↦ 0 | too_deep n ↦ n ] ])
                   is.1)
-              | inr is ↦ absurd (let clash : ◌≡◌ {A = Answer A} (refused ts) (Err (too_deep left)) = is.1
+              | inr is ↦
+                  absurd (let clash : ◌≡◌ {A = Answer A} (refused ts) (Err (too_deep left)) = is.1
                   in cc)
             ]
         | inr two ↦ absurd (never (opening 0 t ts) refl two.0 two.1)
@@ -100,7 +103,8 @@ module _ {A B : Type 0} (t : Terminal A) (I : Saying) (p : Reader B) where
       never : (r : Answer A) → opening 0 t ts ≡ r → (x : A × List Spelled) → r ≡ Ok x → ⊥
       never r e' x ok = elim (cond_cases (starts t.set (head ts)) (Err (too_deep (length ts)))
           (refused {A = A} ts) (Ok x) (e' ∙ ok)) [
-            | inl is ↦ (let clash : ◌≡◌ {A = Answer A} (Err (too_deep (length ts))) (Ok x) = is.1 in cc)
+            | inl is ↦
+                (let clash : ◌≡◌ {A = Answer A} (Err (too_deep (length ts))) (Ok x) = is.1 in cc)
             | inr is ↦ (let clash : ◌≡◌ {A = Answer A} (refused ts) (Ok x) = is.1 in cc)
           ]
 
@@ -151,26 +155,27 @@ module _ {A B : Type 0} (t : Terminal A) (I : Saying) (p : Reader B) where
     some_names ts left e = elim (bind_err (next t ts)
         (λ x. then_read p (λ y. pure (x.0, y)) x.1) (too_deep left) e) [
           | inl one ↦ absurd (subst NotDeep one (next_calm ts))
-          | inr two ↦ elim (bind_err (p two.0.1) (λ y. Ok ((two.0.0, y.0), y.1)) (too_deep left) two.2) [
-            | inl three ↦ (
-                let first = next_answers ts two.0 two.1 in
-                let opened = inner.names two.0.1 left three in
-                record {
-                  upto = first.0 ∷ opened.upto;
-                  more = opened.more;
-                  split = first.2 ∙ ap (λ us. first.0 ∷ us) opened.split;
-                  count = opened.count;
-                  said = record {
-                    token = first.0;
-                    others = opened.upto;
-                    member = first.1;
-                    inner = opened.said;
-                    whole = refl;
-                  };
-                })
-            | inr four ↦ absurd (let clash : ◌≡◌ {A = Answer (A × B)}
-                (Ok ((two.0.0, four.0.0), four.0.1)) (Err (too_deep left)) = four.2 in cc)
-          ]
+          | inr two ↦
+              elim (bind_err (p two.0.1) (λ y. Ok ((two.0.0, y.0), y.1)) (too_deep left) two.2) [
+                | inl three ↦ (
+                    let first = next_answers ts two.0 two.1 in
+                    let opened = inner.names two.0.1 left three in
+                    record {
+                      upto = first.0 ∷ opened.upto;
+                      more = opened.more;
+                      split = first.2 ∙ ap (λ us. first.0 ∷ us) opened.split;
+                      count = opened.count;
+                      said = record {
+                        token = first.0;
+                        others = opened.upto;
+                        member = first.1;
+                        inner = opened.said;
+                        whole = refl;
+                      };
+                    })
+                | inr four ↦ absurd (let clash : ◌≡◌ {A = Answer (A × B)}
+                    (Ok ((two.0.0, four.0.0), four.0.1)) (Err (too_deep left)) = four.2 in cc)
+              ]
         ]
 
     some_finds : (us more : List Spelled) → Opener t I us

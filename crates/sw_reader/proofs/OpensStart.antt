@@ -44,7 +44,8 @@ module _ {N : Type 0} (El : N → Type 0) (shape_of : N → Shape)
 
   wide_starts : {s : Shape} {A : Type 0} (form : Form El shape_of s A) → s.ok ≡ true → (a : A)
       (us : List Spelled) → W form a us → StartsWith s us
-  wide_starts form ok a us h = starts_form El shape_of (inside El shape_of body h.0) form ok a us h.1
+  wide_starts form ok a us h =
+      starts_form El shape_of (inside El shape_of body h.0) form ok a us h.1
 
   turns_lead : {S : Type 0} (s t : Shape) (One : S → Relation S) (O : S → Saying)
       → s.first ≡ t.first → ((a b : S) (us : List Spelled) → One a b us → Leads s us)

@@ -46,7 +46,8 @@ bit_small : (first : Bool) → cond first 1 0 < 2
 bit_small true = omega arith
 bit_small false = omega arith
 
-pub any_says : (class other : ℕ) (first : Bool) → is_in (any class) (2 * other + cond first 1 0) ≡ true
+pub any_says : (class other : ℕ) (first : Bool)
+    → is_in (any class) (2 * other + cond first 1 0) ≡ true
     → class ≡ other
 any_says class other first h = let small = bit_small first in elim (or_cases _ _ h) [
   | inl is ↦ (let same = eqb-true (2 * class) (2 * other + cond first 1 0) is in omega arith)
@@ -200,7 +201,8 @@ pub number_other : (text : List ℕ) → is_quoted text ≡ false
     → text_number text ≡ index_of text + sort_of (kind_of text)
 number_other text h = ap (λ b. cond b (index_of text) (index_of text + sort_of (kind_of text))) h
 
-pub number_is_text : (text other : List ℕ) → is_quoted other ≡ true → text_number text ≡ index_of other
+pub number_is_text : (text other : List ℕ) → is_quoted other ≡ true
+    → text_number text ≡ index_of other
     → text ≡ other
 number_is_text text other h same = by_quoted (is_quoted text) refl
   where
@@ -303,7 +305,8 @@ index_other text h =
 pub class_other : (text : List ℕ) (fixity : Fixity) → is_quoted text ≡ false
     → kind_class text fixity ≡ 4 * (length quoted_texts + sort_of (kind_of text))
 class_other text fixity h =
-    let number : text_number text ≡ length quoted_texts + sort_of (kind_of text) = number_other text h
+    let number : text_number text ≡ length quoted_texts + sort_of (kind_of text) =
+    number_other text h
     ∙ ap (λ n. n + sort_of (kind_of text)) (index_other text h) in
     let high : nat_lt (text_number text) (length operators) ≡ false =
     le-ltb (text_number text) (length operators) (omega arith) in
@@ -406,7 +409,8 @@ one_of_says (x ∷ texts) text fixity first h k =
     elim (or_cases _ _ (sym (is_in-append (quoted x) (one_of texts) (class_of text fixity first))
     ∙ k)) [
       | inl here ↦ (let both = and_left _ _ h in
-          let same = number_is_text text x (and_left _ _ both) (quoted_says text x fixity first here) in
+          let same =
+          number_is_text text x (and_left _ _ both) (quoted_says text x fixity first here) in
           ap (λ t. is_name (kind_of t)) same ∙ and_right _ _ both)
       | inr there ↦ one_of_says texts text fixity first (and_right _ _ h) there
     ]

@@ -7,7 +7,7 @@ use Rattle.std.proofs.Math.Nat.{le-max_left, le-max_right}
 use Rattle.sw_token.specs.Spelling.{Spelled}
 use Rattle.sw_reader.specs.Sets.{has}
 use Rattle.sw_reader.specs.Form.{Shape, Terminal, Claim, Form, shows, empty, one, is_usable, seq}
-use Rattle.sw_reader.specs.Form.{choice, alt, is_shorter, star, nested, started, inline, held}
+use Rattle.sw_reader.specs.Form.{choice, alt, is_shorter, star, nested, started, inline, claimed}
 use Rattle.sw_reader.specs.Form.{listed, listed_some}
 use Rattle.sw_reader.specs.Form as forms
 use Rattle.sw_reader.specs.Relations.{Relation, head, is_first_on_line, Then, Either, may_start}
@@ -365,7 +365,7 @@ module _ {N : Type 0} (El : N → Type 0) (shape_of : N → Shape) (depth : ℕ)
         let height = is.height in
         by_claim is (short_form p is.ok (omega arith) lead (by_lead lead is way) from)
       where
-        by_lead : (lead : Bool) → Covers s claim → may (held s claim) lead ≡ true
+        by_lead : (lead : Bool) → Covers s claim → may (claimed s claim) lead ≡ true
             → may s lead ≡ true
         by_lead true is way = is.begins_line way
         by_lead false is way = is.stays_on_line way

@@ -234,7 +234,8 @@ opened_begins R W ts is left bad =
 module _ {A : Type 0} (Opens : List Spelled → Type 0) (p : Reader A) (opening : Opening Opens p)
     (ts : List Spelled) where
   finish_calm : (us : List Spelled) (left : ℕ) → finish us ≡ Err (too_deep left) → ⊥
-  finish_calm [] left e = let clash : ◌≡◌ {A = Answer (Unit {0})} (Ok (tt, [])) (Err (too_deep left))
+  finish_calm [] left e =
+      let clash : ◌≡◌ {A = Answer (Unit {0})} (Ok (tt, [])) (Err (too_deep left))
       = e in cc
   finish_calm (u ∷ us) left e = let clash : ◌≡◌ {A = Answer (Unit {0})}
       (Err (unexpected (suc (length us)))) (Err (too_deep left)) = e in cc
@@ -244,11 +245,12 @@ module _ {A : Type 0} (Opens : List Spelled → Type 0) (p : Reader A) (opening 
   whole_deep left e =
       elim (bind_err (p ts) (λ x. and_then (finish x.1) (λ y. Ok (x.0, y.1))) (too_deep left) e) [
         | inl one ↦ one
-        | inr two ↦ elim (bind_err (finish two.0.1) (λ y. Ok (two.0.0, y.1)) (too_deep left) two.2) [
-          | inl three ↦ absurd (finish_calm two.0.1 left three)
-          | inr four ↦ absurd (let clash : ◌≡◌ {A = Answer A} (Ok (two.0.0, four.0.1))
-              (Err (too_deep left)) = four.2 in cc)
-        ]
+        | inr two ↦
+            elim (bind_err (finish two.0.1) (λ y. Ok (two.0.0, y.1)) (too_deep left) two.2) [
+              | inl three ↦ absurd (finish_calm two.0.1 left three)
+              | inr four ↦ absurd (let clash : ◌≡◌ {A = Answer A} (Ok (two.0.0, four.0.1))
+                  (Err (too_deep left)) = four.2 in cc)
+            ]
       ]
 
   pub opened_token : (left : ℕ) → whole p ts ≡ Err (too_deep left)

@@ -128,8 +128,8 @@ nested t s = record {
 abbrev pub semicolon : Set
 semicolon = quoted (codes ";")
 
--- whether items of this shape can be told apart, each ended by a `;` or followed by one that begins
--- a line
+-- whether items of this shape can be distinguished, each ended by a `;` or followed by one that
+-- begins a line
 abbrev pub is_item : Shape → Bool
 is_item s =
     s.ok && not s.nullable && (s.begins_line && not s.bare) && apart s.ext (first_only s.first)
@@ -202,8 +202,8 @@ pub record Claim : Type 0 where
   pub stays_on_line : Bool
 
 -- a claim that covers the shape of a form
-abbrev pub held : Shape → Claim → Shape
-held s t = record {
+abbrev pub claimed : Shape → Claim → Shape
+claimed s t = record {
   nullable = t.nullable;
   first = t.first;
   ext = t.ext;
@@ -260,4 +260,4 @@ module _ {N : Type 0} (El : N → Type 0) (shape_of : N → Shape) where
     -- the first token doesn't begin a line
     same_line : {A : Type 0} {s : Shape} → Form s A → Form (inline s) A
     -- a rule, with its claim
-    shaped : {A : Type 0} {s : Shape} → (claim : Claim) → Form s A → Form (held s claim) A
+    shaped : {A : Type 0} {s : Shape} → (claim : Claim) → Form s A → Form (claimed s claim) A

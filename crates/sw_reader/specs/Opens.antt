@@ -35,7 +35,8 @@ module _ {N : Type 0} (El : N → Type 0) (shape_of : N → Shape)
     (body : (n : N) → Form El shape_of (shape_of n) (El n)) where
   -- The last of the tokens opens a nest of the form. `into` says what stands between the token that
   -- opens the outermost of the nests and the end.
-  abbrev pub opens_in : ((n : N) → Saying) → {s : Shape} {A : Type 0} → Form El shape_of s A → Saying
+  abbrev pub opens_in : ((n : N) → Saying) → {s : Shape} {A : Type 0} → Form El shape_of s A
+      → Saying
   opens_in into (forms.done value) tokens = ⊥
   opens_in into (forms.terminal t) tokens = ⊥
   opens_in into (forms.followed p f) tokens =

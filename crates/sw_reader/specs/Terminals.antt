@@ -4,8 +4,8 @@ use Rattle.sw_bytes.specs.Classes.{is_digit}
 use Rattle.sw_token.specs.Bytes.{is_operator_byte, is_mark}
 use Rattle.sw_token.specs.Literals.{unsigned_of, literal_of, number_in}
 use Rattle.sw_token.specs.Kinds.{kind_of, word_kind, ruled_words, reserved_words, mark_number}
-use Rattle.sw_reader.specs.Sets.{word, integer}
-use Rattle.sw_reader.specs.Quotes.{quote, quote_on_line, a_word, an_integer}
+use Rattle.sw_reader.specs.Sets.{integer}
+use Rattle.sw_reader.specs.Quotes.{quote, an_integer}
 use Rattle.sw_reader.specs.Form.{Shape, Form, empty, one, solid, seq, alt, listed}
 use Rattle.sw_reader.specs.Form as forms
 
@@ -19,18 +19,6 @@ p >>= f = forms.followed p f
 abbrev pub expect : {N : Type 0} {El : N → Type 0} {shape_of : N → Shape} (text : List ℕ)
     → Form El shape_of (one (quote text)) ℕ
 expect text = forms.terminal (quote text)
-
--- the same, where the token isn't the first on its line
-abbrev pub expect_on_line : {N : Type 0} {El : N → Type 0} {shape_of : N → Shape} (text : List ℕ)
-    → Form El shape_of (one (quote_on_line text)) ℕ
-expect_on_line text = forms.terminal (quote_on_line text)
-
--- a word that names something
-unfoldable pub name : {N : Type 0} {El : N → Type 0} {shape_of : N → Shape}
-    → Form El shape_of (solid word [] 0) ℕ
-unfolding kind_of literal_of unsigned_of number_in is_digit is_operator_byte is_mark
-    word_kind ruled_words reserved_words mark_number
-name = forms.shaped _ (forms.terminal a_word)
 
 -- an integer literal
 unfoldable pub literal : {N : Type 0} {El : N → Type 0} {shape_of : N → Shape}

@@ -18,6 +18,9 @@ use sw_text::Source;
 use sw_token::{Fixity, Kind, Token};
 
 /// The tokens that are left. Contracts see the list of them with their texts.
+///
+/// A step that finds another token than it asks for, or the end, gives a `Stop` with the number of
+/// tokens that were left then. After a stop its contract says nothing of what is left.
 #[derive(Drop)]
 pub struct Cursor<'a> {
     source: &'a Source,
@@ -39,7 +42,7 @@ impl<'a> Model for Cursor<'a> {
 }
 
 impl<'a> Cursor<'a> {
-    /// All tokens of a source.
+    /// These tokens, with their texts in the source.
     pub fn new(source: &'a Source, tokens: &'a [Token]) -> Cursor<'a>
         requires { All (IsReadable source.now) tokens.now }
         ensures { result ≡ spelling_of source.now tokens.now }
@@ -192,7 +195,7 @@ impl<'a> Cursor<'a> {
         }
     }
 
-    /// The text of the next token.
+    /// The text of the next token; there has to be one.
     pub fn text(&self) -> &'a str
         requires { 0 < length self.now }
         ensures { result.now ≡ text_of (head self.now) }
@@ -200,7 +203,7 @@ impl<'a> Cursor<'a> {
         self.source.slice(self.left[0].span)
     }
 
-    /// What stands after the `@` of the next token.
+    /// The word after the `@` of the next token, which has to be an attribute.
     pub fn attribute(&self) -> &'a str
         requires { IsTrue (starts attribute (head self.now)) }
         ensures { result.now ≡ drop 1 (text_of (head self.now)) }
@@ -208,7 +211,7 @@ impl<'a> Cursor<'a> {
         &self.text()[1..]
     }
 
-    /// Takes the next token, and gives its position.
+    /// Takes the next token, of which there has to be one, and gives its position.
     pub fn take(&mut self) -> u32
         requires { 0 < length self.old }
         ensures { Takes self.old result self.new }
@@ -225,7 +228,7 @@ impl<'a> Cursor<'a> {
         self.left.len()
     }
 
-    /// The refusal of the next token.
+    /// The refusal of the next token, or of the end where none is left.
     pub fn stop(&self) -> Stop
         ensures { result ≡ Stop.Unexpected (length self.now) }
     {
@@ -262,7 +265,8 @@ impl<'a> Cursor<'a> {
     }
 
     /// Takes the token with this text, which opens a nest, where `depth` more may be opened, and
-    /// gives its position.
+    /// gives its position. Another token can't be taken, whatever the depth; with a depth of 0 this
+    /// one is too deep.
     pub fn open(&mut self, text: &str, depth: u32) -> Result<u32, Stop>
         requires { IsTrue (is_quoted text.now) }
         ensures opened { Gives (opening depth (quote text.now) self.old) result self.new }

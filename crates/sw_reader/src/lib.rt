@@ -1,5 +1,6 @@
-//! Grammars as forms, and how they are read. This crate knows what a form spells, the reader of a form, the laws that hold
-//! of every grammar whose forms are decided by one token, and the cursor that a parser reads with. It knows no grammar.
+//! Grammars as forms, and how they are read. This crate knows what a form spells, the reader of a
+//! form, the laws that hold of every grammar whose forms are decided by one token, and the cursor
+//! that a parser reads with. It knows no grammar.
 #![tactic(auto)]
 
 mod cursor;

@@ -253,7 +253,7 @@ module _ (setting : Setting) where
       (meet (table.marks setting (c ∷ ss)))
       (put_first (table.result setting r) (table.marks setting (c ∷ ss)))
   instr_ops (instr.NewTask at r f cs) =
-      task_ops (table.iso_is setting (λ iso. table.is_inside iso setting.body.iso) f)
+      task_ops (table.iso_is setting (λ iso. table.shares_actor iso setting.body.iso) f)
       (free_code setting.body.iso) at (free_has_code setting.body.iso) (table.marks setting cs)
   instr_ops (instr.Await at r t) = tt
   instr_ops (instr.Yield at r) = tt

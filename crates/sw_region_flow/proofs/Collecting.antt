@@ -113,7 +113,8 @@ unfolding joins_below
 joins_more graph k old was new within first second =
     let h = element_at graph.functions k within in
     let at = get_or_from_slice_get graph.functions k h.0 h.0 h.1 in
-    let more = sum_by_more (λ body. joins_of (setting_of graph body)) graph.functions k h.0 within in
+    let more =
+    sum_by_more (λ body. joins_of (setting_of graph body)) graph.functions k h.0 within in
     let same = ap (λ body. joins_of (setting_of graph body)) at in
     omega (arith, more, same, first, second h.0 h.1)
 

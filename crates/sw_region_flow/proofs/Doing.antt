@@ -17,7 +17,7 @@ use Rattle.sw_region_ops.specs.Runs.{Does, Runs, Fits}
 use Rattle.sw_region_ops.specs.declared.op.Op.{Op}
 use Rattle.sw_region_ops.specs.declared.op.Op.TheVariants.{Need, Free, Fresh, Put, Join, Give}
 
--- what is said of a state can be told
+-- what is said of a state can be decided
 pub tell_together : (r : Regions) (x y : ℕ) → Decided (Together r x y)
 tell_together r x y = by (below_decided x (length r.labels)) (below_decided y (length r.labels))
     (same_decided (slice_index r.labels x) (slice_index r.labels y))

@@ -143,7 +143,8 @@ module _ (analysis : Analysis) (fits : IsAnalysis analysis) where
       let h = element_at analysis.setting.body.blocks b inside in
       All-contains (λ target. target < length analysis.setting.body.blocks) (blocks_of h.0.last) q
       (fits.targets b h.0 h.1)
-      (subst (λ targets. Contains targets q) (targets_of analysis.setting.body.blocks b h.0 h.1) has)
+      (subst (λ targets. Contains targets q) (targets_of analysis.setting.body.blocks b h.0 h.1)
+      has)
 
   filled : (b : ℕ) → b < length analysis.setting.body.blocks
       → 0 < point_count analysis.setting.body.blocks b

@@ -12,7 +12,7 @@ use Rattle.sw_graph.specs.Mentions.{blocks_of}
 use Rattle.sw_graph.specs.Points.{Point, Middle, End, points_of, points_of_block}
 use Rattle.sw_graph.specs.declared.instr.Block.{Block}
 use Rattle.sw_graph.specs.declared.instr.Instr.{Instr}
-use Rattle.sw_graph.proofs.ListLemmas.{slice_get_before, slice_get_front, slice_get_after}
+use Rattle.sw_graph.proofs.ListLemmas.{slice_get_before, slice_get_first, slice_get_after}
 use Rattle.sw_graph.proofs.PointLemmas.{length-points_of_block}
 use Rattle.sw_region_flow.specs.Analysis.{point_count, targets_at}
 use Rattle.sw_region_flow.specs.Least.{first_point, followers, following}
@@ -60,7 +60,7 @@ point_is (first ∷ rest) zero k block e within =
     let same : first ≡ block = cc in
     let here : 0 + k ≡ k = omega arith in
     ap (slice_get (points_of_block first ++ points_of rest)) here
-    ∙ slice_get_front (points_of_block first) (points_of rest) k
+    ∙ slice_get_first (points_of_block first) (points_of rest) k
     (let h : k < length (points_of_block first) =
     omega (arith, ap (λ x. length (points_of_block x)) same, within) in h)
     ∙ ap (λ x. slice_get (points_of_block x) k) same
@@ -87,7 +87,8 @@ pub last_at : (block : Block) (k : ℕ) → k ≡ length block.instrs
     → slice_get (points_of_block block) k ≡ Some (End block.last)
 last_at block k e =
     ap (slice_get (map Middle block.instrs ++ End block.last ∷ []))
-    (let h : k ≡ length (map Middle block.instrs) + 0 = omega (arith, e, length-map block.instrs Middle)
+    (let h : k ≡ length (map Middle block.instrs) + 0 =
+    omega (arith, e, length-map block.instrs Middle)
     in h)
     ∙ slice_get_after (map Middle block.instrs) (End block.last ∷ []) 0
 
@@ -132,7 +133,7 @@ place_of (block ∷ rest) p point e = elim (cases_lt p (length (points_of_block 
     refl,
     here,
     omega arith,
-    sym (slice_get_front (points_of_block block) (points_of rest) p here) ∙ e,
+    sym (slice_get_first (points_of_block block) (points_of rest) p here) ∙ e,
   )
   | inr later ↦
       let k : ℕ = p - length (points_of_block block) in

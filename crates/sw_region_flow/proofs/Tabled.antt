@@ -1,4 +1,4 @@
--- Region states from an equivalence and a set of pairs that can be told.
+-- Region states from an equivalence and a set of pairs that can be decided.
 use Rattle.std.proofs.Common.{◌≡◌, ℕ, zero, suc, ◌+◌, ◌*◌, ◌/◌, ◌%◌, ◌<◌, inl, inr}
 use Rattle.std.proofs.Common.{◌↔◌, Bool, true, false, cond, List, [], ◌∷◌, length, Contains}
 use Rattle.std.proofs.Common.{get_or, refl, sym, subst, ap, ◌∙◌, arith}

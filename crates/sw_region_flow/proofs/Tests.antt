@@ -1,6 +1,6 @@
 -- What a failing test says of a state.
-use Rattle.std.proofs.Common.{◌≡◌, ℕ, ◌<◌, ◌⊎◌, inl, inr, ◌↔◌, Option, Some, None, IsSome, length, Bool, true, false, IsTrue}
-use Rattle.std.proofs.Common.{sym, ap, ◌∙◌, arith}
+use Rattle.std.proofs.Common.{◌≡◌, ℕ, ◌<◌, ◌⊎◌, inl, inr, ◌↔◌, Option, Some, None, IsSome, length}
+use Rattle.std.proofs.Common.{Bool, true, false, IsTrue, sym, ap, ◌∙◌, arith}
 use Rattle.std.proofs.lemmas.Bool.{cases_eq, both_ways}
 use Rattle.std.specs.Prelude.{slice_index}
 use Rattle.sw_breach.specs.declared.Breach.{Breach}

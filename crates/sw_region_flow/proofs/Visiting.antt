@@ -1,10 +1,11 @@
 -- What is found on the way through a block, and through all blocks.
-use Rattle.std.proofs.Common.{◌≡◌, ℕ, ◌+◌, ◌<◌, ◌≤◌, ◌⊎◌, inl, inr, ◌↔◌, Option, Some, None, List, []}
-use Rattle.std.proofs.Common.{IfSome}
-use Rattle.std.proofs.Common.{◌∷◌, ◌++◌, length, take, get_or, Contains, refl, sym, subst, ap, ◌∙◌, arith}
+use Rattle.std.proofs.Common.{◌≡◌, ℕ, ◌+◌, ◌<◌, ◌≤◌, ◌⊎◌, inl, inr, ◌↔◌, Option, Some, None, List}
+use Rattle.std.proofs.Common.{[], IfSome, ◌∷◌, ◌++◌, length, take, get_or, Contains, refl, sym}
+use Rattle.std.proofs.Common.{subst, ap, ◌∙◌, arith}
 use Rattle.std.proofs.lemmas.Bool.{cases_eq, cases_lt}
 use Rattle.std.proofs.lemmas.List.{take_more, take_all}
-use Rattle.std.proofs.lemmas.List.Elements.{Contains-append_left, Contains-push, Contains-push_cases}
+use Rattle.std.proofs.lemmas.List.Elements.{Contains-append_left, Contains-push}
+use Rattle.std.proofs.lemmas.List.Elements.{Contains-push_cases}
 use Rattle.std.proofs.lemmas.Option.{slice_get_past}
 use Rattle.std.specs.List.{All}
 use Rattle.std.specs.Option.{option_map_or}
@@ -180,7 +181,8 @@ pub visits_start : (setting : Setting) (s : List (Option Regions)) (list : List 
 visits_start setting s list = found_none (FailsBelow setting s 0) list
     (λ b fails. let h = fails.below in omega arith)
 
-pub visits_more : (setting : Setting) (s : List (Option Regions)) (n : ℕ) (old was new : List Breach)
+pub visits_more : (setting : Setting) (s : List (Option Regions)) (n : ℕ)
+    (old was new : List Breach)
     → IsFound (FailsBelow setting s n) old was
     → IsFound (FailsAt (block_ops_at setting) s n) was new
     → IsFound (FailsBelow setting s (n + 1)) old new

@@ -1,5 +1,5 @@
--- What the tests of operations ask of region states (SE-0414, SE-0430), and the graphs in which each
--- test passes.
+-- What the tests of operations ask of region states (SE-0414, SE-0430), and the graphs in which
+-- each test passes.
 use Rattle.std.specs.Prelude.{◌≡◌, ℕ, Option, Some, List, [], ◌∷◌, slice_get}
 use Rattle.sw_graph.specs.declared.function.Function.{Function}
 use Rattle.sw_graph.specs.declared.graph.Graph.{Graph}

@@ -33,7 +33,8 @@ fn visit(
     requires block { block < length flow.now.setting.body.blocks }
     requires states { IsLeastOfBlocks (layout flow.now) states.now }
     ensures { OnOk result ((breach : Breach) → Contains found.new breach
-        ↔ (Contains found.old breach ⊎ FailsAt (block_ops_at flow.now.setting) states.now block breach)) }
+        ↔ (Contains found.old breach
+        ⊎ FailsAt (block_ops_at flow.now.setting) states.now block breach)) }
 {
     let Some(state) = states.at(block) else {
         return Ok(());

@@ -34,9 +34,9 @@ pub fn graphs_have_one_list_of_breaches()
         → IsStrictlySortedBy breach_cmp list }
 {}
 
-/// A graph has no region breach exactly where each test passes in the least annotation of the points
-/// of each function: what is used was given away on no way, and what is given away is nothing that
-/// others may hold.
+/// A graph has no region breach exactly where each test passes in the least annotation of the
+/// points of each function: what is used was given away on no way, and what is given away is
+/// nothing that others may hold.
 pub fn graphs_without_breaches_pass()
     ensures passes { (graph : Graph) → AreBreaches graph [] → IsPassed graph }
     ensures no_breach { (graph : Graph) → IsPassed graph → AreBreaches graph [] }

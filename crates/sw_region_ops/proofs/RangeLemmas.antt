@@ -376,7 +376,7 @@ module _ (setting : Setting) (are : AreInside setting.elements) where
       (put_first width (table.result setting r) (result r) (table.marks setting (c ∷ ss))
       (marks (c ∷ ss)))
   instr_ops (instr.NewTask at r f cs) =
-      task_ops width (table.iso_is setting (λ iso. table.is_inside iso setting.body.iso) f)
+      task_ops width (table.iso_is setting (λ iso. table.shares_actor iso setting.body.iso) f)
       (free_code setting.body.iso) at (table.marks setting cs) (marks cs)
   instr_ops (instr.Await at r t) = none width
   instr_ops (instr.Yield at r) = none width

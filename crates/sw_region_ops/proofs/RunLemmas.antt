@@ -25,7 +25,8 @@ runs_size [] a b e = ap size_of e
 runs_size (op ∷ ops) a b (m, does, later) = runs_size ops m b later ∙ does_size op a m does
 
 -- a list of operations is done part after part
-pub runs_both : (xs ys : List Op) (a m b : Regions) → Runs xs a m → Runs ys m b → Runs (xs ++ ys) a b
+pub runs_both : (xs ys : List Op) (a m b : Regions) → Runs xs a m → Runs ys m b
+    → Runs (xs ++ ys) a b
 runs_both [] ys a m b e later = subst (λ r. Runs ys r b) e later
 runs_both (op ∷ xs) ys a m b (n, does, rest) later = (n, does, runs_both xs ys n m b rest later)
 

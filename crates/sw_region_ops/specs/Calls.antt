@@ -26,9 +26,12 @@ is_isolated Caller = false
 abbrev pub free_code : Iso → ℕ
 free_code iso = if is_isolated iso then ISOLATED_TO_ACTOR else ISOLATED_TO_TASK
 
--- What happens to the arguments whose parameters aren't `sending`. A callee that stays where the
--- caller is may bring them together; one of the caller's own actor may also keep them there. What
--- leaves an actor has to be free, and what goes to another actor is given away.
+-- The operations of a call of each kind on the arguments whose parameters aren't `sending`
+-- (SE-0414). A plain callee may bring them into one region. One of the caller's own isolation may
+-- keep them, so they go to `Here`. A weak call leaves the actor: the arguments may not be with
+-- `Here`, which is breach `code`, and the callee may bring them into one region. A strong call and
+-- an actor's initialiser hand them to another isolation: they may not be with `Here` either, and
+-- are given away at this site.
 abbrev pub kind_ops : CallKind → ℕ → ℕ → List Mark → List Op
 kind_ops Plain code site kept = meet kept
 kind_ops Same code site kept = keep kept

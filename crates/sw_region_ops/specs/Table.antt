@@ -52,10 +52,10 @@ closure_ops isolated r captures =
     make_of r captures ++ (if isolated then join_result_here r else [])
 
 -- whether a task runs on the actor of the body that makes it
-abbrev pub is_inside : Iso → Iso → Bool
-is_inside Own Own = true
-is_inside (Global actor) (Global other) = actor == other
-is_inside task body = false
+abbrev pub shares_actor : Iso → Iso → Bool
+shares_actor Own Own = true
+shares_actor (Global actor) (Global other) = actor == other
+shares_actor task body = false
 
 -- A task on the actor of its body keeps the captures there; any other is given them.
 abbrev pub task_ops : Bool → ℕ → ℕ → List Mark → List Op
@@ -96,7 +96,7 @@ instr_ops setting (Call at r kind f ss) =
 instr_ops setting (CallClosure at r c ss) =
     meet (marks setting (c ∷ ss)) ++ put_first (result setting r) (marks setting (c ∷ ss))
 instr_ops setting (NewTask at r f cs) =
-    task_ops (iso_is setting (λ iso. is_inside iso setting.body.iso) f)
+    task_ops (iso_is setting (λ iso. shares_actor iso setting.body.iso) f)
     (free_code setting.body.iso) at (marks setting cs)
 instr_ops setting (Await at r t) = []
 instr_ops setting (Yield at r) = []

@@ -6,7 +6,7 @@ ghost use Rattle.sw_region_ops.specs.Calls.{is_isolated, free_code, callee_ops};
 ghost use Rattle.sw_region_ops.specs.Elements.{element_at};
 ghost use Rattle.sw_region_ops.specs.Groups.{need_each, meet, keep, take_from, make_of, put_here};
 ghost use Rattle.sw_region_ops.specs.Groups.{put_first};
-ghost use Rattle.sw_region_ops.specs.Table.{marks, result as result_at, is_inside, iso_is};
+ghost use Rattle.sw_region_ops.specs.Table.{marks, result as result_at, shares_actor, iso_is};
 ghost use Rattle.sw_region_ops.specs.Table.{load_ops, store_ops, closure_ops, task_ops};
 ghost use Rattle.sw_region_ops.specs.Table.{instr_ops, return_ops, last_ops, point_ops};
 ghost use Rattle.sw_region_ops.specs.Table.{block_ops};
@@ -247,8 +247,8 @@ fn closure_called(
 }
 
 /// Whether a task runs on the actor of the body that makes it.
-fn is_inside(task: Iso, body: Iso) -> bool
-    ensures { result ≡ is_inside task body }
+fn shares_actor(task: Iso, body: Iso) -> bool
+    ensures { result ≡ shares_actor task body }
 {
     match (task, body) {
         (Iso::Own, Iso::Own) => true,
@@ -259,11 +259,11 @@ fn is_inside(task: Iso, body: Iso) -> bool
 
 /// Whether a task of this function runs on the actor of the body.
 fn is_task_inside(context: &Context, function: u32) -> bool
-    ensures { result ≡ iso_is context.now (λ iso. is_inside iso context.now.body.iso) function }
+    ensures { result ≡ iso_is context.now (λ iso. shares_actor iso context.now.body.iso) function }
 {
     match context.function(function) {
         None => false,
-        Some(function) => is_inside(function.iso, context.body().iso),
+        Some(function) => shares_actor(function.iso, context.body().iso),
     }
 }
 
@@ -293,7 +293,7 @@ fn spawned(
     captures: &[Operand],
 ) -> Result<(), AllocError>
     ensures { OnOk result (ops.new ≡ ops.old
-        ++ task_ops (iso_is context.now (λ iso. is_inside iso context.now.body.iso) function)
+        ++ task_ops (iso_is context.now (λ iso. shares_actor iso context.now.body.iso) function)
         (free_code context.now.body.iso) at (marks context.now captures.now)) }
 {
     let marks = marks_of(alloc, context.table(), captures)?;

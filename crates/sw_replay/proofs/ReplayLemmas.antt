@@ -1,10 +1,12 @@
 -- Every list of items has one replay, and that of a runnable graph meets no race.
-use Rattle.std.proofs.Common.{◌≡◌, ℕ, suc, ◌<◌, List, length, take, refl, ap, sym}
+use Rattle.std.proofs.Common.{◌≡◌, ℕ, suc, ◌<◌, None, List, length, take, refl, ap, sym}
 use Rattle.std.proofs.Common.{subst, ◌∙◌, arith, inl, inr, ◌⊎◌}
 use Rattle.std.proofs.lemmas.Bool.{cases_order, cases_lt}
 use Rattle.std.proofs.lemmas.List.{take_all}
 use Rattle.sw_graph.specs.declared.graph.Graph.{Graph}
 use Rattle.sw_value.specs.declared.race.Race.{Race}
+use Rattle.sw_value.specs.declared.state.State.{State}
+use Rattle.sw_value.specs.Access.{next_access}
 use Rattle.sw_value.specs.Racing.{Racing, IsLeastRace}
 use Rattle.sw_value.specs.Reach.{reach}
 use Rattle.sw_value.specs.Runnable.{IsRunnable}
@@ -87,6 +89,19 @@ some_replay graph items =
           × IsReplay graph items replay
       by (inl (n, least)) = stop n least (least_race graph (reach graph (take n items)))
       by (inr none) = (whole_replay graph items, replays.whole (free none))
+
+-- a graph whose jobs access no location in any state never races
+accessless_never_racing : (graph : Graph)
+    → ((state : State) (job : ℕ) → next_access graph state job ≡ None) → (state : State)
+    → Racing graph state → ⊥
+accessless_never_racing graph none state (race, is) =
+    let some = sym is.first_next ∙ none state race.first.job in cc
+
+pub accessless_whole : (graph : Graph)
+    → ((state : State) (job : ℕ) → next_access graph state job ≡ None) → (items : List ℕ)
+    → IsReplay graph items (whole_replay graph items)
+accessless_whole graph none items =
+    replays.whole (λ n race. accessless_never_racing graph none (reach graph (take n items)) race)
 
 -- no prefix of items leads a runnable graph to a race
 pub never_racing : (graph : Graph) → IsRunnable graph → (items : List ℕ) (n : ℕ)

@@ -1,7 +1,7 @@
 -- One item more of a replay that is watched, and where it stops.
-use Rattle.std.proofs.Common.{◌≡◌, ℕ, zero, suc, ◌+◌, ◌-◌, ◌<◌, ◌≤◌, inl, inr, Option, Some, None, List, []}
-use Rattle.std.proofs.Common.{◌∷◌, ◌++◌, length, take, drop, replicate, get_or, refl, sym, ap, subst}
-use Rattle.std.proofs.Common.{◌∙◌, arith, append_assoc, length-append}
+use Rattle.std.proofs.Common.{◌≡◌, ℕ, zero, suc, ◌+◌, ◌-◌, ◌<◌, ◌≤◌, inl, inr, Option, Some, None}
+use Rattle.std.proofs.Common.{List, [], ◌∷◌, ◌++◌, length, take, drop, replicate, get_or, refl, sym}
+use Rattle.std.proofs.Common.{ap, subst, ◌∙◌, arith, append_assoc, length-append}
 use Rattle.std.specs.Prelude.{option_and_then, IfSome, IfNone}
 use Rattle.std.specs.List.{slice_get}
 use Rattle.std.proofs.lemmas.Bool.{cases_lt}
@@ -51,7 +51,8 @@ nothing_taken (suc n) = refl
 
 -- a replay of no item
 pub on_way_none : (graph : Graph) (progress : Progress) → progress.state ≡ start_of graph
-    → Stands graph progress.state progress.index → progress.lines.items ≡ [] → IsOnWay graph [] progress
+    → Stands graph progress.state progress.index → progress.lines.items ≡ []
+    → IsOnWay graph [] progress
 on_way_none graph progress starts stands none = record {
   played = rw (starts, none) (played_none graph);
   stands = stands;
@@ -72,7 +73,8 @@ pub record Steps (graph : Graph) (items : List ℕ) (item : ℕ) (after : Progre
   pub stands : Stands graph after.state after.index
   pub free : (n : ℕ) → IsRacingAt graph items n → ⊥
 
-pub steps : (graph : Graph) (items : List ℕ) (item : ℕ) (before after : Progress) → IsOnWay graph items before
+pub steps : (graph : Graph) (items : List ℕ) (item : ℕ) (before after : Progress)
+    → IsOnWay graph items before
     → after.state ≡ step_of graph before.state item
     → after.lines.items ≡ before.lines.items ++ line_of (event_of graph before.state item)
     → Stands graph after.state after.index → Steps graph items item after
@@ -93,7 +95,8 @@ step_on graph items item after step calm = record {
   free = λ n race. elim (cases_lt n (length items + 1)) [
     | inl less ↦
         step.free n
-        (subst (λ l. Racing graph (reach graph l)) (prefix items (item ∷ []) n (omega (arith, less)))
+        (subst (λ l. Racing graph (reach graph l))
+        (prefix items (item ∷ []) n (omega (arith, less)))
         race)
     | inr past ↦
         calm (subst (Racing graph)
@@ -117,7 +120,8 @@ step_stops graph items item after race step least =
       within = omega (arith, count);
       played = subst (λ l. IsPlayed graph l after.state after.lines.items) (sym whole) step.played;
       first = λ k less race. step.free k
-          (subst (λ l. Racing graph (reach graph l)) (prefix items (item ∷ []) k (omega (arith, less)))
+          (subst (λ l. Racing graph (reach graph l))
+          (prefix items (item ∷ []) k (omega (arith, less)))
           race);
       least = subst (λ s. IsLeastRace graph s race)
           (step.played.state_is ∙ ap (reach graph) (sym whole)) least;
@@ -164,7 +168,8 @@ stopped_before graph items more progress race is =
     record {
       n = is.n;
       within = omega (arith, within, length-append items more);
-      played = subst (λ l. IsPlayed graph l progress.state progress.lines.items) (sym same) is.played;
+      played =
+          subst (λ l. IsPlayed graph l progress.state progress.lines.items) (sym same) is.played;
       first = λ k less race. is.first k less
           (subst (λ l. Racing graph (reach graph l))
           (prefix items more k (omega (arith, less, within))) race);
@@ -235,7 +240,8 @@ pub replay_is : (graph : Graph) (items : List ℕ) (progress : Progress) (race :
       jobs = jobs_in progress.state;
     } → IsReplay graph items replay
 replay_is graph items progress None lines replay way stopped printed is =
-    subst (IsReplay graph items) (sym (is ∙ rw (printed, way.played.lines_are, way.played.state_is) refl))
+    subst (IsReplay graph items)
+    (sym (is ∙ rw (printed, way.played.lines_are, way.played.state_is) refl))
     (replays.whole way.free)
 replay_is graph items progress (Some race) lines replay way stopped printed is =
     subst (IsReplay graph items)

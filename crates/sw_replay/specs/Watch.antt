@@ -9,16 +9,17 @@ use Rattle.sw_replay.specs.declared.replaying.Progress.{Progress}
 use Rattle.sw_replay.specs.Output.{IsPlayed}
 use Rattle.sw_replay.specs.Replay.{IsRacingAt}
 
--- The items were taken, the index stands for the state after them, and none of their prefixes is
--- racing.
+-- All the items were taken, the index stands for the state after them, and none of their prefixes
+-- leads to a state that is racing, nor do all of them.
 pub record IsOnWay (graph : Graph) (items : List ℕ) (progress : Progress) : Type 0 where
   pub played : IsPlayed graph items progress.state progress.lines.items
   pub stands : Stands graph progress.state progress.index
   pub free : (n : ℕ) → ¬ IsRacingAt graph items n
 
--- The first n of the items were taken, and they are the least prefix that is racing; that is the
--- least race of their state.
-pub record IsStopped (graph : Graph) (items : List ℕ) (progress : Progress) (race : Race) : Type 0 where
+-- The first n of the items were taken, and no others. They lead to a state that is racing, and no
+-- fewer do; the race is the least one of that state.
+pub record IsStopped (graph : Graph) (items : List ℕ) (progress : Progress)
+    (race : Race) : Type 0 where
   pub n : ℕ
   pub within : n ≤ length items
   pub played : IsPlayed graph (take n items) progress.state progress.lines.items

@@ -8,8 +8,8 @@ use sw_list::ListOf;
 pub const MAX_ITEMS: usize = 1_000_000;
 
 /// The items of a schedule in order, at most [`MAX_ITEMS`]. Each is the number of a job that takes
-/// one step. Contracts see the list of the items; it is kept as runs, each a job and how often the
-/// job stands in the list, one after the other.
+/// one step. Contracts see the list of the items. It is kept as runs: each is a job and how often
+/// the job stands there, one time after the other.
 #[derive(Debug, Drop)]
 pub struct Schedule {
     runs: ListOf<(u32, u32)>,
@@ -28,7 +28,7 @@ impl Model for Schedule {
 }
 
 impl Schedule {
-    /// The schedule of runs.
+    /// The schedule whose list of items is that of the runs, written out.
     pub fn new(runs: ListOf<(u32, u32)>) -> Schedule
         requires { length (written_out runs) ≤ MAX_ITEMS }
         ensures { result ≡ written_out runs }
@@ -36,7 +36,8 @@ impl Schedule {
         Schedule { runs }
     }
 
-    /// Lends the runs: a job, and how often it stands in the list. A run may be of no item.
+    /// Lends the runs, each a job and how often it stands in the list, which is that of the runs
+    /// written out. A run may be of no item.
     pub fn runs(&self) -> &[(u32, u32)]
         ensures value { written_out result.now ≡ self.now }
         ensures few { length self.now ≤ MAX_ITEMS }

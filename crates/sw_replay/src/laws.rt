@@ -1,7 +1,9 @@
-ghost use Rattle.std.specs.Prelude.{ℕ, ◌≡◌, ◌<◌, ◌≤◌, ◌^◌, List, length, All, Result};
+ghost use Rattle.std.specs.Prelude.{ℕ, ◌≡◌, ◌<◌, ◌≤◌, ◌^◌, None, List, length, All, Result};
 ghost use Rattle.sw_graph.specs.declared.graph.Graph.{Graph};
 ghost use Rattle.sw_replay.specs.declared.text.SchedFault.{SchedFault};
 ghost use Rattle.sw_replay.specs.Items.{IsItems, IsFirstFault, HasItems, position_of};
+ghost use Rattle.sw_value.specs.declared.state.State.{State};
+ghost use Rattle.sw_value.specs.Access.{next_access};
 ghost use Rattle.sw_value.specs.Runnable.{IsRunnable};
 ghost use Rattle.sw_replay.specs.declared.output.Replay.{Replay};
 ghost use Rattle.sw_replay.specs.Replay.{whole_replay, IsReplay};
@@ -9,8 +11,8 @@ ghost use Rattle.sw_replay.specs.Replay.{whole_replay, IsReplay};
 use crate::items::MAX_ITEMS;
 use crate::text::SCHEDULE_LIMIT;
 
-/// Every text is the text of one list of items or has one first fault, and never both. A first
-/// fault is inside the text, or at its end.
+/// Every text is the text of one list of items or has one first fault, and never both. The position
+/// of a first fault is that of a byte of the text, or its end.
 pub fn schedule_texts_have_one_reading()
     ensures some_reading { (bytes : List ℕ)
         → (outcome : Result (List ℕ) SchedFault) × HasItems bytes outcome }
@@ -29,13 +31,17 @@ pub fn items_of_texts()
     ensures few { (bytes items : List ℕ) → IsItems bytes items → length items ≤ MAX_ITEMS }
 {}
 
-/// Every list of items has one replay. That of a graph whose instructions access no location takes
-/// all items.
+/// Every list of items has one replay, for every graph. That of a graph whose jobs access no
+/// location in any state takes all items. A runnable graph is one of these: it has no instructions
+/// but literals, prints, starts of tasks and returns, and the isolation of each function is `Free`.
 pub fn items_have_one_replay()
     ensures some { (graph : Graph) (items : List ℕ) →
         (replay : Replay) × IsReplay graph items replay }
     ensures one { (graph : Graph) (items : List ℕ) (a b : Replay) →
         IsReplay graph items a → IsReplay graph items b → a ≡ b }
+    ensures accesses_nothing { (graph : Graph) →
+        ((state : State) (job : ℕ) → next_access graph state job ≡ None) → (items : List ℕ) →
+        IsReplay graph items (whole_replay graph items) }
     ensures runnable { (graph : Graph) → IsRunnable graph → (items : List ℕ) →
         IsReplay graph items (whole_replay graph items) }
 {}

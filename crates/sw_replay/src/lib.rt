@@ -1,6 +1,6 @@
 //! Schedules: the items that a schedule text spells, and what a program prints when they are
-//! replayed, until two of its jobs are about to race. The crate knows nothing of source texts, and of
-//! the machine only its start, its steps, what they print and the races of its states.
+//! replayed, until two of its jobs are about to race. The crate knows nothing of source texts, and
+//! of the machine only its start, its steps, what they print and the races of its states.
 #![tactic(auto)]
 
 mod items;

@@ -14,7 +14,8 @@ use sw_race::RaceIndex;
 use sw_step::{Event, Line, step};
 use sw_value::{Job, Race, State, Status, start};
 
-/// Lets the machine take the items of a schedule from its start, until two jobs are about to race.
+/// Lets the machine take the items of a schedule from its start, up to the first state that is
+/// racing, or all of them where there is none. It answers an error only for want of memory.
 pub fn replay(alloc: Global, graph: &Graph, schedule: &Schedule) -> Result<Replay, AllocError>
     ensures { IfOk result (IsReplay graph.now schedule.now) }
 {
@@ -22,8 +23,8 @@ pub fn replay(alloc: Global, graph: &Graph, schedule: &Schedule) -> Result<Repla
     Ok(replay)
 }
 
-/// A replay under way: the state, the index of what its jobs are about to access, and the lines that
-/// were printed.
+/// A replay under way: the state, the index of what its jobs are about to access, and the lines
+/// that were printed.
 #[derive(Drop)]
 struct Progress {
     state: State,
@@ -54,7 +55,8 @@ fn begin(alloc: Global, graph: &Graph) -> Result<Progress, AllocError>
     })
 }
 
-/// Takes the items of runs from the start, until two jobs are about to race, whose race it gives.
+/// Takes the items of runs from the start, up to the first state that is racing, and gives the
+/// least race of that state.
 fn play_runs(
     alloc: Global,
     graph: &Graph,
@@ -76,7 +78,8 @@ fn play_runs(
     Ok(None)
 }
 
-/// Takes one item a number of times, after other items, until two jobs are about to race.
+/// Takes one item a number of times, after other items, up to the first state that is racing, and
+/// gives the least race of that state.
 fn play_run(
     alloc: Global,
     graph: &Graph,
@@ -101,8 +104,8 @@ fn play_run(
     Ok(None)
 }
 
-/// Takes one item after other items, adds the line that it prints, and gives the race that it leads
-/// to.
+/// Takes one item after other items, adds the line that it prints, and gives the least race of the
+/// state that it leads to, if that is racing.
 fn play_item(
     alloc: Global,
     graph: &Graph,
@@ -112,7 +115,8 @@ fn play_item(
     requires on_way { (items : List ℕ) × (length items + 1 < 4294967295)
         × IsOnWay graph.now items progress.old }
     ensures whole { IfOk result (λ race. IfNone race ((items : List ℕ)
-        → IsOnWay graph.now items progress.old → IsOnWay graph.now (items ++ job ∷ []) progress.new)) }
+        → IsOnWay graph.now items progress.old
+        → IsOnWay graph.now (items ++ job ∷ []) progress.new)) }
     ensures stopped { IfOk result (λ race. IfSome race (λ race. (items : List ℕ)
         → IsOnWay graph.now items progress.old
         → IsStopped graph.now (items ++ job ∷ []) progress.new race)) }

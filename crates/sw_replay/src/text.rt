@@ -12,19 +12,24 @@ use thiserror::Error;
 /// The most bytes of a schedule text.
 pub const SCHEDULE_LIMIT: usize = 4_194_304;
 
-/// Why a text has no items. `at` is a byte offset into it.
+/// Why a text has no items, or why none were read. `at` is a byte offset into the text; before it
+/// stand separators and runs alone, or the first bytes of the run that has the fault.
 #[derive(Clone, Copy, Debug, PartialEq, Eq, Error)]
 pub enum SchedFault {
-    /// The byte that stands here is neither a digit nor a separator.
-    #[error("byte {at} belongs to no number")]
+    /// What stands here can't: a byte that is neither a separator nor a digit where a run may
+    /// begin, neither a separator nor a star after the digits of a job, no digit directly after a
+    /// star, or no separator after the digits of a count. After a star it may also be the end of
+    /// the text.
+    #[error("byte {at} can't stand there")]
     BadItem { at: u32 },
-    /// The number that begins here is above 4,294,967,295.
+    /// The number whose first digit stands here, a job or a count, is above 4,294,967,295.
     #[error("the number at byte {at} is too big")]
     TooBig { at: u32 },
-    /// The item that begins here is one too many.
-    #[error("the item at byte {at} is one too many")]
+    /// The run whose first digit stands here has no other fault, and with it the list would have
+    /// more than [`MAX_ITEMS`] items.
+    #[error("the run at byte {at} has too many items")]
     TooMany { at: u32 },
-    /// Memory for the items ran out.
+    /// Memory for the runs ran out. Nothing is said of the text.
     #[error("out of memory")]
     Memory,
 }
@@ -42,7 +47,8 @@ impl From<AllocError> for SchedFault {
 
 /// The items of a schedule text: jobs `J`, and runs `J*C` of a job that stands in the list `C`
 /// times, with spaces, tabs, carriage returns and line feeds between them, which may also stand at
-/// both ends.
+/// both ends. Where the text has no items it answers the first fault. `Memory` alone is free: it
+/// may come of any text.
 pub fn schedule(alloc: Global, bytes: &[u8]) -> Result<Schedule, SchedFault>
     requires { length bytes.now ≤ SCHEDULE_LIMIT }
     ensures items { IfOk result (IsItems bytes.now) }

@@ -25,17 +25,18 @@ use Rattle.sw_types.specs.declared.shape.ShapeKind.TheVariants as kinds
 use Rattle.sw_types.specs.declared.ty.Ty.{Ty, fold-roll-Ty}
 use Rattle.sw_types.specs.declared.ty.Ty.TheOpen as layer
 use Rattle.sw_types.specs.declared.ty.Ty.TheVariants as types
-use Rattle.sw_resolve.specs.Evident.{Layer, Meanings, base_enum, base_layer, case_type, enum_of, evident_layer}
-use Rattle.sw_resolve.specs.Evident.{evident_type, hides, is_case, made_type, meanings_of, seen}
+use Rattle.sw_resolve.specs.Evident.{Layer, Meanings, base_enum, base_layer, case_type, enum_of}
+use Rattle.sw_resolve.specs.Evident.{evident_layer, evident_type, hides, is_case, made_type}
+use Rattle.sw_resolve.specs.Evident.{meanings_of, seen}
 use Rattle.sw_resolve.specs.Shaped.{case_of, part_of, prop_type, shape_of, shapes_from, stated_type}
 use Rattle.sw_resolve.specs.TypeWords.{named_type, type_layer, type_meaning, type_of}
-use Rattle.sw_resolve.specs.Words.{actors_made, declares, globals_made, given_meaning, meaning_at, meaning_from}
-use Rattle.sw_resolve.specs.Words.{or_else, shapes_made, top_meaning, word_of}
+use Rattle.sw_resolve.specs.Words.{actors_made, declares, globals_made, given_meaning, meaning_at}
+use Rattle.sw_resolve.specs.Words.{meaning_from, or_else, shapes_made, top_meaning, word_of}
 use Rattle.sw_resolve.specs.declared.words.Meaning.{Meaning}
 use Rattle.sw_resolve.specs.declared.words.Meaning.TheVariants as means
 
 -- a word whose shape, if it has one, is among the first n
-abbrev InRange : ℕ → Option Meaning → Type 0
+abbrev pub InRange : ℕ → Option Meaning → Type 0
 InRange n None = Unit {0}
 InRange n (Some (means.Shape kind number)) = number < n
 InRange n (Some (means.GlobalActor number)) = Unit {0}
@@ -65,12 +66,12 @@ meaning_in n (Func func) number actors globals few = tt
 meaning_in n (Global global) number actors globals few = tt
 
 -- how many shapes declarations make
-abbrev total : List Decl → ℕ
-total [] = 0
-total (decl ∷ decls) = shapes_made decl + total decls
+abbrev pub shapes_of_all : List Decl → ℕ
+shapes_of_all [] = 0
+shapes_of_all (decl ∷ decls) = shapes_made decl + shapes_of_all decls
 
-declared_in : (n : ℕ) (decls : List Decl) (number actors globals id : ℕ) → number + total decls ≤ n
-    → InRange n (meaning_from decls number actors globals id)
+declared_in : (n : ℕ) (decls : List Decl) (number actors globals id : ℕ)
+    → number + shapes_of_all decls ≤ n → InRange n (meaning_from decls number actors globals id)
 declared_in n [] number actors globals id few = tt
 declared_in n (decl ∷ decls) number actors globals id few =
     or_else_in n
@@ -82,10 +83,11 @@ declared_in n (decl ∷ decls) number actors globals id few =
     (declared_in n decls (number + shapes_made decl) (actors + actors_made decl)
     (globals + globals_made decl) id (omega arith))
 
-top_in : (decls : List Decl) (id : ℕ) → InRange (total decls) (top_meaning decls id)
-top_in decls id = or_else_in (total decls) (given_meaning id) (meaning_from decls 0 1 0 id)
-    (where_in (total decls) (nat_eq 6 id) (means.GlobalActor 0) tt)
-    (declared_in (total decls) decls 0 1 0 id (omega arith))
+-- A word that means a shape has the number of one of the shapes that declarations make.
+pub top_in : (decls : List Decl) (id : ℕ) → InRange (shapes_of_all decls) (top_meaning decls id)
+top_in decls id = or_else_in (shapes_of_all decls) (given_meaning id) (meaning_from decls 0 1 0 id)
+    (where_in (shapes_of_all decls) (nat_eq 6 id) (means.GlobalActor 0) tt)
+    (declared_in (shapes_of_all decls) decls 0 1 0 id (omega arith))
 
 int_within : (n : ℕ) → IsTrue (is_within n types.Int)
 int_within n = ap (is_within n) (sym types.rolls-Int)
@@ -116,11 +118,12 @@ func_within n sendable params result each is =
     ∙ fold-roll-Ty Bool (layer_is_within n) (layer.Func sendable params result)
     ∙ ap (λ all. all && is_within n result) each ∙ is
 
-abbrev Within : ℕ → Ty → Type 0
+-- The types that a type names are among the first n.
+abbrev pub Within : ℕ → Ty → Type 0
 Within n ty = IsTrue (is_within n ty)
 
 -- the type, or the one that stands for it where there is none
-abbrev Stands : ℕ → Option Ty → Type 0
+abbrev pub Stands : ℕ → Option Ty → Type 0
 Stands n ty = Within n (unwrap_or ty types.Unit)
 
 module _ (known : ℕ → Option Meaning) (n : ℕ) (are : (id : ℕ) → InRange n (known id)) where
@@ -169,17 +172,19 @@ module _ (known : ℕ → Option Meaning) (n : ℕ) (are : (id : ℕ) → InRang
       (func_within n _ (map (type_of known) (map (λ q. q.0) params)) (type_of known result.0)
       (each_in params) result.1)
   layer_in (tree.TaskOf at inner) =
-      subst (Within n) (sym (folds.fold-roll-TypeTree Ty (type_layer known) (tree.TaskOf at inner.0)))
+      subst (Within n)
+      (sym (folds.fold-roll-TypeTree Ty (type_layer known) (tree.TaskOf at inner.0)))
       (task_within n (type_of known inner.0) inner.1)
 
-  type_in : (written : TypeTree) → (Within n) (type_of known written)
-  type_in = folds.ind-TypeTree (λ t. (Within n) (type_of known t))
+  -- what a written type means
+  pub written_within : (written : TypeTree) → (Within n) (type_of known written)
+  written_within = folds.ind-TypeTree (λ t. (Within n) (type_of known t))
       (λ x y is. subst (λ z. (Within n) (type_of known (roll-TypeTree z))) is (layer_in y))
 
   types_are_in : (written : List TypeTree) → All (Within n) (map (type_of known) written)
   types_are_in [] = All-nil (Within n)
   types_are_in (one ∷ more) =
-      All-cons (Within n) (type_of known one) (map (type_of known) more) (type_in one)
+      All-cons (Within n) (type_of known one) (map (type_of known) more) (written_within one)
       (types_are_in more)
 
   made_in : (meaning : Option Meaning) → InRange n meaning → Stands n (made_type meaning)
@@ -201,10 +206,11 @@ module _ (known : ℕ → Option Meaning) (n : ℕ) (are : (id : ℕ) → InRang
       (flat_map (λ (case : CaseShape). case.payload) (map (case_of known) cases))
       (types_are_in one.types) (cases_in cases)
 
-  stated_in : (written : Option TypeTree) (ty : Ty) → (Within n) ty
+  -- a type that is written, or else another
+  pub stated_within : (written : Option TypeTree) (ty : Ty) → (Within n) ty
       → (Within n) (stated_type known written ty)
-  stated_in None ty is = is
-  stated_in (Some one) ty is = type_in one
+  stated_within None ty is = is
+  stated_within (Some one) ty is = written_within one
 
 module _ (known : Meanings) (n : ℕ) (are : (id : ℕ) → InRange n (known.top id)) where
   -- a number of an enum that is among the first n shapes, if there is one
@@ -263,14 +269,19 @@ module _ (known : Meanings) (n : ℕ) (are : (id : ℕ) → InRange n (known.top
   value_in owner None = void_within n
   value_in owner (Some value) = node_in owner (out-Expr value)
 
+  -- the type of a property or a global variable
+  pub prop_within : (owner : Option ℕ) (prop : PropTree) → Within n (prop_type known owner prop)
+  prop_within owner prop =
+      stated_within known.top n are prop.ty
+      (unwrap_or (evident_type known owner prop.value) types.Unit) (value_in owner prop.value)
+
   parts_in : (owner : Option ℕ) (props : List PropTree)
       → All (Within n) (map (λ (part : Part). part.ty) (map (part_of known owner) props))
   parts_in owner [] = All-nil (Within n)
   parts_in owner (prop ∷ props) =
       All-cons (Within n) (prop_type known owner prop)
       (map (λ (part : Part). part.ty) (map (part_of known owner) props))
-      (stated_in known.top n are prop.ty (unwrap_or (evident_type known owner prop.value) types.Unit)
-      (value_in owner prop.value))
+      (prop_within owner prop)
       (parts_in owner props)
 
   abbrev Holds : Shape → Type 0
@@ -305,41 +316,44 @@ module _ (known : Meanings) (n : ℕ) (are : (id : ℕ) → InRange n (known.top
       (shapes_from known (number + shapes_made decl) decls) (shape_in number decl)
       (shapes_in (number + shapes_made decl) decls)
 
-length_shape : (known : Meanings) (number : ℕ) (decl : Decl)
+-- A declaration makes as many shapes as are counted.
+pub shapes_counted : (known : Meanings) (number : ℕ) (decl : Decl)
     → length (shape_of known number decl) ≡ shapes_made decl
 unfolding shape_of
-length_shape known number (Entry word written at is_async body) = refl
-length_shape known number (Struct word conforms fields funcs) = refl
-length_shape known number (Enum word conforms cases funcs) = refl
-length_shape known number (Class written word conforms props inits funcs) = refl
-length_shape known number (Actor word props inits funcs) = refl
-length_shape known number (GlobalActor word made) = refl
-length_shape known number (Func func) = refl
-length_shape known number (Global global) = refl
+shapes_counted known number (Entry word written at is_async body) = refl
+shapes_counted known number (Struct word conforms fields funcs) = refl
+shapes_counted known number (Enum word conforms cases funcs) = refl
+shapes_counted known number (Class written word conforms props inits funcs) = refl
+shapes_counted known number (Actor word props inits funcs) = refl
+shapes_counted known number (GlobalActor word made) = refl
+shapes_counted known number (Func func) = refl
+shapes_counted known number (Global global) = refl
 
-length_shapes : (known : Meanings) (number : ℕ) (decls : List Decl)
-    → length (shapes_from known number decls) ≡ total decls
+-- There are as many shapes as declarations make.
+pub length_shapes : (known : Meanings) (number : ℕ) (decls : List Decl)
+    → length (shapes_from known number decls) ≡ shapes_of_all decls
 length_shapes known number [] = refl
 length_shapes known number (decl ∷ decls) =
     let rest = shapes_from known (number + shapes_made decl) decls in
     length-append (shape_of known number decl) rest
-    ∙ ap (λ n. n + length rest) (length_shape known number decl)
+    ∙ ap (λ n. n + length rest) (shapes_counted known number decl)
     ∙ ap (λ n. shapes_made decl + n) (length_shapes known (number + shapes_made decl) decls)
 
-made_once : (decl : Decl) → shapes_made decl ≤ 1
-made_once (Entry word written at is_async body) = omega arith
-made_once (Struct word conforms fields funcs) = omega arith
-made_once (Enum word conforms cases funcs) = omega arith
-made_once (Class written word conforms props inits funcs) = omega arith
-made_once (Actor word props inits funcs) = omega arith
-made_once (GlobalActor word made) = omega arith
-made_once (Func func) = omega arith
-made_once (Global global) = omega arith
+-- A declaration makes one shape at most.
+pub one_shape : (decl : Decl) → shapes_made decl ≤ 1
+one_shape (Entry word written at is_async body) = omega arith
+one_shape (Struct word conforms fields funcs) = omega arith
+one_shape (Enum word conforms cases funcs) = omega arith
+one_shape (Class written word conforms props inits funcs) = omega arith
+one_shape (Actor word props inits funcs) = omega arith
+one_shape (GlobalActor word made) = omega arith
+one_shape (Func func) = omega arith
+one_shape (Global global) = omega arith
 
-total_few : (decls : List Decl) → total decls ≤ length decls
+total_few : (decls : List Decl) → shapes_of_all decls ≤ length decls
 total_few [] = omega arith
 total_few (decl ∷ decls) =
-    let one = made_once decl in
+    let one = one_shape decl in
     let more = total_few decls in
     omega arith
 
@@ -352,4 +366,4 @@ pub shapes_within : (decls : List Decl) → AreWithin (shapes_from (meanings_of 
 shapes_within decls =
     subst (λ n. All (λ shape. All (λ ty. IsTrue (is_within n ty)) (types_in shape))
     (shapes_from (meanings_of decls) 0 decls)) (sym (length_shapes (meanings_of decls) 0 decls))
-    (shapes_in (meanings_of decls) (total decls) (top_in decls) 0 decls)
+    (shapes_in (meanings_of decls) (shapes_of_all decls) (top_in decls) 0 decls)

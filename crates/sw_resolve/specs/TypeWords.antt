@@ -2,13 +2,15 @@
 use Rattle.std.specs.Prelude.{ℕ, List, [], ◌∷◌, ◌++◌, Option, Some, None, flat_map, unwrap_or}
 use Rattle.std.specs.Prelude.{is_some}
 use Rattle.std.specs.Prelude.{if◌then◌else◌, ◌==◌, is_none}
+use Rattle.sw_tree.specs.Names.{int_id, bool_id, void_id}
 use Rattle.sw_tree.specs.declared.type_tree.TypeTree.{TypeTree, fold-TypeTree}
 use Rattle.sw_tree.specs.declared.type_tree.TypeTree.TheOpen as layer
 use Rattle.sw_types.specs.declared.ty.Ty.{Ty}
 use Rattle.sw_types.specs.declared.ty.Ty.TheVariants as types
 use Rattle.sw_resolve.specs.declared.placed.Placed.{Placed}
 use Rattle.sw_resolve.specs.declared.words.Meaning.{Meaning}
-use Rattle.sw_resolve.specs.declared.words.Meaning.TheVariants.{Shape, GlobalActor, Func, Global, Entry}
+use Rattle.sw_resolve.specs.declared.words.Meaning.TheVariants.{Shape, GlobalActor, Func, Global}
+use Rattle.sw_resolve.specs.declared.words.Meaning.TheVariants.{Entry}
 
 abbrev pub named_type : Option Meaning → Option Ty
 named_type None = None
@@ -23,9 +25,9 @@ module _ (known : ℕ → Option Meaning) where
   -- actors. `Never`, `Sendable`, `Task` alone and global actors name none.
   abbrev pub type_meaning : ℕ → Option Ty
   type_meaning id =
-      if id == 0 then Some types.Int
-      else (if id == 1 then Some types.Bool
-      else (if id == 2 then Some types.Unit else named_type (known id)))
+      if id == int_id then Some types.Int
+      else (if id == bool_id then Some types.Bool
+      else (if id == void_id then Some types.Unit else named_type (known id)))
 
   abbrev pub type_layer : layer.TypeTree-F Ty → Ty
   type_layer (layer.Named name) = unwrap_or (type_meaning name.id) types.Unit

@@ -1,6 +1,7 @@
 -- What words mean at top level.
 use Rattle.std.specs.Prelude.{ℕ, Bool, nat_lt, not, ◌&&◌, ◌+◌, ◌==◌, List, [], ◌∷◌, Option, Some}
 use Rattle.std.specs.Prelude.{None, if◌then◌else◌}
+use Rattle.sw_tree.specs.Names.{main_actor_id, reserved_names}
 use Rattle.sw_tree.specs.declared.decl.Decl.{Decl}
 use Rattle.sw_tree.specs.declared.decl.Decl.TheVariants.{Entry, Struct, Enum, Class, Actor}
 use Rattle.sw_tree.specs.declared.decl.Decl.TheVariants.{GlobalActor, Func, Global}
@@ -70,9 +71,9 @@ abbrev pub or_else : {A : Type 0} → Option A → Option A → Option A
 or_else None other = other
 or_else (Some x) other = Some x
 
--- the first eight words that each program has, which can't be declared
+-- whether it is one of the predeclared names that can't be declared
 abbrev pub is_reserved : ℕ → Bool
-is_reserved id = nat_lt id 8
+is_reserved id = nat_lt id reserved_names
 
 -- whether the declaration of one word gives another its meaning
 abbrev pub declares : ℕ → ℕ → Bool
@@ -89,7 +90,7 @@ meaning_from (decl ∷ decls) number actors globals id =
 
 -- what a word means before a program declares any: `MainActor` is global actor 0 (SE-0316)
 abbrev pub given_meaning : ℕ → Option Meaning
-given_meaning id = if 6 == id then Some (means.GlobalActor 0) else None
+given_meaning id = if main_actor_id == id then Some (means.GlobalActor 0) else None
 
 -- What a word means at top level. The declared global actors follow `MainActor`.
 abbrev pub top_meaning : List Decl → ℕ → Option Meaning

@@ -10,8 +10,8 @@ use Rattle.sw_scan.proofs.Agreement.{Agrees}
 
 -- the item is made of a text that is one, at the offset where it stands in the whole, and the bytes
 -- from there on are sound
-pub record StandsIn {B T F : Type 0} (form : Form B T F) (IsSound : List ℕ → Type 0) (whole : List ℕ)
-    (item : T) : Type 0 where
+pub record StandsIn {B T F : Type 0} (form : Form B T F) (IsSound : List ℕ → Type 0)
+    (whole : List ℕ) (item : T) : Type 0 where
   pub prefix : List ℕ
   pub text : List ℕ
   pub after : List ℕ

@@ -6,7 +6,7 @@ ghost use Rattle.sw_step.specs.Checked.{of_checked};
 use sw_graph::{BinOp, UnOp};
 use sw_value::{TrapKind, Value};
 
-/// What a prefix operator gives of a value, or `None` where it takes none such.
+/// What a prefix operator gives of a value, or `None` where it doesn't take such a value.
 #[tactic(auto, using(crate::proofs::ArithmeticLemmas::checks))]
 pub fn unary(op: UnOp, value: &Value) -> Option<Result<Value, TrapKind>>
     ensures { result ≡ unary op value.now }
@@ -17,7 +17,7 @@ pub fn unary(op: UnOp, value: &Value) -> Option<Result<Value, TrapKind>>
     }
 }
 
-/// What an infix operator gives of two values, or `None` where it takes none such.
+/// What an infix operator gives of two values, or `None` where it doesn't take such values.
 pub fn binary(op: BinOp, left: &Value, right: &Value) -> Option<Result<Value, TrapKind>>
     ensures { result ≡ binary op left.now right.now }
 {

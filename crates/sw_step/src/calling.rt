@@ -133,7 +133,7 @@ fn spawn_of(state: &State, next: u32, at: u32, reg: u32, frame: Frame) -> Effect
     }
 }
 
-/// The frame of a call of a closure, or `None` where the cell is none.
+/// The frame of a call of a closure, or `None` where the cell is no closure or names no function.
 fn closure_frame(
     alloc: Global,
     graph: &Graph,

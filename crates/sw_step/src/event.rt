@@ -9,7 +9,7 @@ pub enum Event {
     Dispatched,
     /// A job got the result of the job `ended`, for which it waited.
     Woken { ended: u32 },
-    /// A job executed an instruction that prints nothing.
+    /// A job executed an instruction that neither prints nor halts the machine.
     Ran,
     /// A job executed a Print. The line ends in a line feed.
     Printed { line: Line },

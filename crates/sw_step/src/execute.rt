@@ -5,8 +5,8 @@ ghost use Rattle.sw_value.specs.Effect.{instr_effect, last_effect, goto_of, effe
 use crate::calling::{call_effect, closure_call_effect, task_effect};
 use crate::computing::{binary_effect, make_effect, print_effect, unary_effect};
 use crate::memory::{
-    actor_effect, box_effect, closure_effect, field_write, global_of, object_effect, set_of,
-    store_of,
+    actor_effect, box_effect, closure_effect, field_write, global_write, object_effect, set_of,
+    slot_write,
 };
 use crate::reading::{await_effect, field_at, global_at, loaded, payload_at, tag_at, truth_at};
 use std::alloc::{AllocError, Global};
@@ -72,17 +72,17 @@ fn instr_effect(
         Instr::NewBox { r, s, .. } => box_effect(alloc, state, frame, next, *r, s),
         Instr::NewActor { r, k, ss, .. } => actor_effect(alloc, state, frame, next, *r, *k, ss),
         Instr::LoadBox { r, b, .. } => {
-            set_of(alloc, next, *r, loaded(state, frame, b, Slot::Held))
+            set_of(alloc, next, *r, loaded(state, frame, b, Slot::Content))
         }
-        Instr::StoreBox { b, s, .. } => store_of(alloc, state, frame, next, b, Slot::Held, s),
+        Instr::StoreBox { b, s, .. } => slot_write(alloc, state, frame, next, b, Slot::Content, s),
         Instr::LoadProp { r, o, i, .. } => {
             set_of(alloc, next, *r, loaded(state, frame, o, Slot::Part(*i)))
         }
         Instr::StoreProp { o, i, s, .. } => {
-            store_of(alloc, state, frame, next, o, Slot::Part(*i), s)
+            slot_write(alloc, state, frame, next, o, Slot::Part(*i), s)
         }
         Instr::LoadGlobal { r, g, .. } => set_of(alloc, next, *r, global_at(state, *g)),
-        Instr::StoreGlobal { g, s, .. } => global_of(alloc, state, frame, next, *g, s),
+        Instr::StoreGlobal { g, s, .. } => global_write(alloc, state, frame, next, *g, s),
         Instr::NewClosure { r, f, cs, .. } => {
             closure_effect(alloc, state, frame, next, *r, *f, cs)
         }

@@ -1,7 +1,7 @@
 ghost use Rattle.std.specs.Prelude.{◌≡◌, ◌<◌, IfOk, length};
 ghost use Rattle.std.specs.Option.{option_copied};
 ghost use Rattle.sw_value.specs.declared.cell.HeapCell.TheVariants.{Object, Actor, BoxOf, Closure};
-ghost use Rattle.sw_value.specs.Effect.{needs, set_of, new_of, store_of, global_of};
+ghost use Rattle.sw_value.specs.Effect.{needs, set_of, new_of, slot_write, global_write};
 ghost use Rattle.sw_value.specs.Effect.{field_write};
 ghost use Rattle.sw_value.specs.Value.{operand_value, values_at};
 
@@ -44,7 +44,7 @@ fn new_of(state: &State, next: u32, reg: u32, cell: HeapCell) -> Effect
 }
 
 /// A value is written into a slot of the cell of an operand.
-pub fn store_of(
+pub fn slot_write(
     alloc: Global,
     state: &State,
     frame: &Frame,
@@ -54,7 +54,7 @@ pub fn store_of(
     source: &Operand,
 ) -> Result<Effect, AllocError>
     ensures { IfOk result (λ effect.
-        effect ≡ store_of state.now frame.now next operand.now slot source.now) }
+        effect ≡ slot_write state.now frame.now next operand.now slot source.now) }
 {
     let Some(value) = frame.value_at(source.reg) else {
         return Ok(Effect::Stuck);
@@ -71,7 +71,7 @@ pub fn store_of(
 }
 
 /// A value is written into a global.
-pub fn global_of(
+pub fn global_write(
     alloc: Global,
     state: &State,
     frame: &Frame,
@@ -80,7 +80,7 @@ pub fn global_of(
     source: &Operand,
 ) -> Result<Effect, AllocError>
     ensures { IfOk result (λ effect.
-        effect ≡ global_of state.now frame.now next global source.now) }
+        effect ≡ global_write state.now frame.now next global source.now) }
 {
     let Some(value) = frame.value_at(source.reg) else {
         return Ok(Effect::Stuck);

@@ -85,7 +85,7 @@ pub fn global_at(state: &State, global: u32) -> Option<&Value>
     }
 }
 
-/// The job waits for that of the task that an operand refers to.
+/// The job waits for the job of the task that an operand refers to.
 pub fn await_effect(state: &State, frame: &Frame, next: u32, reg: u32, operand: &Operand) -> Effect
     ensures { result ≡ needs (option_and_then task_of (cell_at state.now frame.now operand.now))
         (λ job. Wait job reg next) }

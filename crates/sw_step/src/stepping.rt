@@ -13,7 +13,7 @@ use sw_graph::Graph;
 use sw_value::{Act, Effect, Frame, Job, State, Status};
 
 /// Does what one item of a schedule says: the job with that number is dispatched, is woken or
-/// executes one instruction. Where memory runs out it leaves the state as it was.
+/// executes one instruction, or nothing changes. Where memory runs out the state stays as it was.
 pub fn step(alloc: Global, graph: &Graph, state: &mut State, item: u32) -> Result<Event, AllocError>
     requires cells { length state.old.cells < 4294967295 }
 

@@ -225,7 +225,7 @@ closes_nothing rest none = go (comment_len 0 rest) refl where
 
 -- a comment ends in `/`
 pub comment_ends : (depth : ℕ) (comment : List ℕ) → IsComment depth comment
-    → (front : List ℕ) × (comment ≡ front ++ (47 ∷ []))
+    → (before : List ℕ) × (comment ≡ before ++ (47 ∷ []))
 comment_ends _ _ comments.last = (42 ∷ [], refl)
 comment_ends _ _ (comments.closing depth rest is) =
     let ends = comment_ends depth rest is in

@@ -61,20 +61,20 @@ run_no_literal byte more after run = elim (cases_Bool (eqb byte 45)) [
 
 -- a literal's text by itself
 
-after_zero-front : (more after : List ℕ) → after_zero (more ++ after) ≡ Decimal
+after_zero-more : (more after : List ℕ) → after_zero (more ++ after) ≡ Decimal
     → after_zero more ≡ Decimal
-after_zero-front [] after e = refl
-after_zero-front (c ∷ cs) after e = e
+after_zero-more [] after e = refl
+after_zero-more (c ∷ cs) after e = e
 
-unsigned_front : (d : ℕ) (more after : List ℕ) → unsigned_of (d ∷ (more ++ after)) ≡ Some Decimal
+unsigned_more : (d : ℕ) (more after : List ℕ) → unsigned_of (d ∷ (more ++ after)) ≡ Some Decimal
     → unsigned_of (d ∷ more) ≡ Some Decimal
 unfolding unsigned_of
-unsigned_front d more after e = elim (chosen (is_digit d) _ _ _ e) [
+unsigned_more d more after e = elim (chosen (is_digit d) _ _ _ e) [
   | inl w ↦ elim (cases_Bool (eqb d 48)) [
     | inl zero_is ↦
         let found : Some (after_zero (more ++ after)) ≡ Some Decimal = rw zero_is at w.1 in
         let same : after_zero (more ++ after) ≡ Decimal = cc in
-        rw (w.0, zero_is, after_zero-front more after same) refl
+        rw (w.0, zero_is, after_zero-more more after same) refl
     | inr other ↦ rw (w.0, other) refl
   ]
   | inr w ↦ (let none = w.1 in cc)
@@ -91,7 +91,7 @@ decimal_alone is_white [] after is are = absurd are
 decimal_alone is_white (d ∷ more) after is are =
     let minus = digit_no_minus d are.0 in
     let unsigned : unsigned_of (d ∷ (more ++ after)) ≡ Some Decimal = rw minus at is in
-    rw (minus, unsigned_front d more after unsigned) refl
+    rw (minus, unsigned_more d more after unsigned) refl
 
 negative_decimal : (unsigned : Option Literal) → negative unsigned ≡ Some Negative
     → unsigned ≡ Some Decimal
@@ -108,7 +108,7 @@ negative_alone : (is_white : Bool) (digits after : List ℕ)
 unfolding literal_of
 negative_alone is_white [] after is are = absurd are
 negative_alone true (d ∷ more) after is are =
-    rw (unsigned_front d more after (negative_decimal (unsigned_of (d ∷ (more ++ after))) is)) refl
+    rw (unsigned_more d more after (negative_decimal (unsigned_of (d ∷ (more ++ after))) is)) refl
 negative_alone false (d ∷ more) after is are = cc
 
 pub literal_alone : (form : Literal) (is_white : Bool) (digits after : List ℕ)

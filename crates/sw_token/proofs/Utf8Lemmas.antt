@@ -22,8 +22,9 @@ past_chars (c ∷ cs) after utf8 =
     (encode_utf8_all cs ++ after) c utf8
     (append_assoc (encode_utf8 c) (encode_utf8_all cs) after))
 
-pub utf8_after : (front after : List ℕ) → IsUtf8 front → IsUtf8 (front ++ after) → IsUtf8 after
-utf8_after front after is utf8 =
+pub utf8_after : (earlier after : List ℕ) → IsUtf8 earlier → IsUtf8 (earlier ++ after)
+    → IsUtf8 after
+utf8_after earlier after is utf8 =
     past_chars is.0 after (subst (λ xs. IsUtf8 (xs ++ after)) (sym is.1.1) utf8)
 
 pub all_ascii : (test : ℕ → Bool) → ((b : ℕ) → test b ≡ true → b < 128) → (bytes : List ℕ)
@@ -41,28 +42,28 @@ utf8_after_byte byte after low utf8 =
     (IsUtf8-from_ascii (byte ∷ []) (IsAscii-cons byte [] low IsAscii-nil)) utf8
 
 -- from a byte of ASCII on
-pub utf8_from_byte : (front : List ℕ) (byte : ℕ) (after : List ℕ) → byte < 128
-    → IsUtf8 (front ++ (byte ∷ after)) → IsUtf8 (byte ∷ after)
-utf8_from_byte front byte after low utf8 =
-    let there : get_or (front ++ (byte ∷ after)) (length front) 0 < 128 =
-    rw (get_or-append_seam front byte after 0) low in
-    let inside : length front < length (front ++ (byte ∷ after)) =
-    omega (arith, length-append front (byte ∷ after)) in
-    rw (drop_at front (byte ∷ after) (length front) refl) at
-    (IsUtf8-drop (front ++ (byte ∷ after)) (length front) utf8
-    (IsCharBoundary-before_ascii (front ++ (byte ∷ after)) (length front) inside there))
+pub utf8_from_byte : (earlier : List ℕ) (byte : ℕ) (after : List ℕ) → byte < 128
+    → IsUtf8 (earlier ++ (byte ∷ after)) → IsUtf8 (byte ∷ after)
+utf8_from_byte earlier byte after low utf8 =
+    let there : get_or (earlier ++ (byte ∷ after)) (length earlier) 0 < 128 =
+    rw (get_or-append_seam earlier byte after 0) low in
+    let inside : length earlier < length (earlier ++ (byte ∷ after)) =
+    omega (arith, length-append earlier (byte ∷ after)) in
+    rw (drop_at earlier (byte ∷ after) (length earlier) refl) at
+    (IsUtf8-drop (earlier ++ (byte ∷ after)) (length earlier) utf8
+    (IsCharBoundary-before_ascii (earlier ++ (byte ∷ after)) (length earlier) inside there))
 
 -- a text may be cut after a prefix of bytes of ASCII
 pub boundary_after_prefix : (test : ℕ → Bool) → ((b : ℕ) → test b ≡ true → b < 128)
     → (bytes : List ℕ) (n : ℕ) → IsUtf8 bytes → n ≡ prefix_len test bytes → IsCharBoundary bytes n
 boundary_after_prefix test low bytes n utf8 e =
     let long = prefix_len-le-length test bytes in
-    let front = IsUtf8-from_ascii (take (prefix_len test bytes) bytes)
+    let earlier = IsUtf8-from_ascii (take (prefix_len test bytes) bytes)
     (all_ascii test low (take (prefix_len test bytes) bytes) (prefix_passes test bytes)) in
     let whole : IsUtf8 (take (prefix_len test bytes) bytes ++ drop (prefix_len test bytes) bytes) =
     rw take-append-drop utf8 in
     let after = utf8_after (take (prefix_len test bytes) bytes) (drop (prefix_len test bytes) bytes)
-    front whole in
+    earlier whole in
     rw e (IsCharBoundary-from_drop bytes (prefix_len test bytes) long after)
 
 -- and after one byte of ASCII

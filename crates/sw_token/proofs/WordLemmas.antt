@@ -164,15 +164,15 @@ IsWord-word_len bytes utf8 begins = go (chars bytes) refl where
       let long : n ≡ suc (prefix_len is_word_char more) =
       ap (prefix_len is_word_char) e
       ∙ prefix_len-yes is_word_char start more (start_goes_on start starts) in
-      let front : take n (chars bytes) ≡ start ∷ take (prefix_len is_word_char more) more =
+      let cut : take n (chars bytes) ≡ start ∷ take (prefix_len is_word_char more) more =
       rw (long, e) refl in
       let scalars : all_scalars (start ∷ take (prefix_len is_word_char more) more) ≡ true =
-      rw front at scalar_parts.0 in
+      rw cut at scalar_parts.0 in
       let is =
       words.word start (take (prefix_len is_word_char more) more)
       (encode_utf8_all (drop n (chars bytes))) scalars starts
       (prefix_passes is_word_char more) after_ends in
-      rw (taken, left, front) is
+      rw (taken, left, cut) is
 
 not_true : (b : Bool) → not b ≡ true → b ≡ false
 not_true true e = cc

@@ -1,5 +1,5 @@
--- Where the words of the cases of enums stand. They are no nodes, so the keys of a program have none of
--- them.
+-- Where the words of the cases of enums stand. They are no nodes, so the keys of a program have
+-- none of them.
 use Rattle.std.specs.Prelude.{ℕ, List, [], flat_map, map, nat_eq}
 use Rattle.std.specs.List.{IsDistinct}
 use Rattle.sw_tree.specs.declared.decl.CaseTree.{CaseTree}

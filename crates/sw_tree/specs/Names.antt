@@ -9,6 +9,33 @@ predeclared =
     ∷ codes "MainActor" ∷ codes "print" ∷ codes "value" ∷ codes "shared" ∷ codes "main"
     ∷ codes "detached" ∷ codes "yield" ∷ []
 
+-- The ids of those that the rules know of, by their places in the list.
+
+abbrev pub int_id : ℕ
+int_id = 0
+
+abbrev pub bool_id : ℕ
+bool_id = 1
+
+abbrev pub void_id : ℕ
+void_id = 2
+
+abbrev pub main_actor_id : ℕ
+main_actor_id = 6
+
+abbrev pub print_id : ℕ
+print_id = 7
+
+abbrev pub value_id : ℕ
+value_id = 8
+
+abbrev pub main_id : ℕ
+main_id = 10
+
+-- how many of them, the first ones, no program may declare: those up to `print`
+abbrev pub reserved_names : ℕ
+reserved_names = 8
+
 -- the index of a text, or the number of texts where it isn't there
 unfoldable pub id_in : List (List ℕ) → List ℕ → ℕ
 id_in texts text = position_or_len (bytes_eq text) texts

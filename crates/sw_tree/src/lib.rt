@@ -1,6 +1,6 @@
 //! Programs as trees: expressions, statements, types and declarations as they are written, the
-//! names in them, and the key of each node. It knows nothing of tokens, of how trees are spelled and
-//! of what names mean.
+//! names in them, and the key of each node. It knows nothing of tokens, of how trees are spelled
+//! and of what names mean.
 #![tactic(auto)]
 
 mod decl;

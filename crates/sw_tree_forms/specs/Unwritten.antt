@@ -1,5 +1,6 @@
--- What a tree has that no text writes: the keys of the parameters of the bodies of tasks; and, for
--- each chain without an operator, one key more. Such a chain has no key of its own, so this is 0.
+-- What is in a tree and can't be written, as a list of keys, which is empty for the tree of a text:
+-- the key of each parameter of the body of a task, since a task takes nothing; and a 0 for each
+-- chain without an operator, which has no key of its own.
 use Rattle.std.specs.Prelude.{◌≡◌, List, [], ◌∷◌, ◌++◌, map, flat_map, option_map, unwrap_or}
 use Rattle.sw_tree.specs.Folds.{Steps, fold_block, fold_expr}
 use Rattle.sw_tree.specs.Keys.{Keys, joined}
@@ -13,12 +14,12 @@ use Rattle.sw_tree.specs.declared.expr.Expr.{Expr}
 use Rattle.sw_tree.specs.declared.expr.Expr.TheOpen as layer
 use Rattle.sw_tree.specs.declared.stmt.Block.{Block}
 
--- a closure or the body of a task: the keys of its parameters, and what no text writes in it
+-- a closure or the body of a task: the keys of its parameters, and what can't be written in it
 pub record Body : Type 0 where
   pub params : Keys
   pub inside : Keys
 
--- the operators of a chain, or their absence
+-- what can't be written of a chain with these operators: a 0 where there are none
 abbrev pub bare : List Keys → Keys
 bare [] = 0 ∷ []
 bare (link ∷ more) = []

@@ -102,8 +102,8 @@ path_returns edges walk visit b is leads opened =
     subst (λ a. Path edges a b) there.2
     (leads_on edges (numbers_on walk.path) visit.number b linked leads there.0 b there.1)
 
-all_front : {A : Type 0} (P : A → Type 0) (xs : List A) (x : A) → All P (xs ++ x ∷ []) → All P xs
-all_front P xs x all k d lt = subst P (get_or_append_left xs (x ∷ []) d k lt)
+all_first : {A : Type 0} (P : A → Type 0) (xs : List A) (x : A) → All P (xs ++ x ∷ []) → All P xs
+all_first P xs x all k d lt = subst P (get_or_append_left xs (x ∷ []) d k lt)
     (all k d (omega (arith, length_push xs x)))
 
 -- the last visit goes on to a later place
@@ -123,7 +123,7 @@ moved_walk edges walk visit place is passed =
       linked = subst (AllPairs (Path edges)) same is.linked;
       passed = All-push (λ (v : Visit). ArePassed edges walk.progress v.number v.from)
           walk.path next
-          (all_front (λ (v : Visit). ArePassed edges walk.progress v.number v.from) walk.path visit
+          (all_first (λ (v : Visit). ArePassed edges walk.progress v.number v.from) walk.path visit
           is.passed) passed;
       settled = is.settled;
       ordered = is.ordered;
@@ -233,7 +233,7 @@ settled_walk edges walk visit is all =
       touched = All-weaker (λ k. is_fresh (progress_at walk.progress k) ≡ false)
           (λ k. is_fresh (progress_at (set walk.progress visit.number Settled) k) ≡ false)
           (touched_stays walk.progress visit.number Settled lt refl) (numbers_on walk.path)
-          (all_front (λ k. is_fresh (progress_at walk.progress k) ≡ false) (numbers_on walk.path)
+          (all_first (λ k. is_fresh (progress_at walk.progress k) ≡ false) (numbers_on walk.path)
           visit.number touched);
       linked = λ i j d under within. subst (λ k. Path edges k (get_or (numbers_on walk.path) j d))
           (get_or_append_left (numbers_on walk.path) (visit.number ∷ []) d i (omega arith))
@@ -244,7 +244,7 @@ settled_walk edges walk visit is all =
       passed = All-weaker (λ (v : Visit). ArePassed edges walk.progress v.number v.from)
           (λ (v : Visit). ArePassed edges (set walk.progress visit.number Settled) v.number v.from)
           (λ v passed k under. settled_before _ (passed k under)) walk.path
-          (all_front (λ (v : Visit). ArePassed edges walk.progress v.number v.from) walk.path visit
+          (all_first (λ (v : Visit). ArePassed edges walk.progress v.number v.from) walk.path visit
           is.passed);
       settled = λ k settled. elim (cases_eq k visit.number) [
         | inl e ↦ subst (Contains (walk.order ++ visit.number ∷ [])) (sym e)

@@ -50,7 +50,7 @@ pub record IsWalk (edges : List (List ℕ)) (walk : Walk) : Type 0 where
 abbrev pub with_visit : Walk → Visit → Walk
 with_visit walk visit = record walk { path = walk.path ++ visit ∷ [] }
 
--- the walk that came to one more number
+-- the walk that reached one more number
 abbrev pub with_open : Walk → ℕ → Walk
 with_open walk number = record walk {
   progress = slice_set walk.progress number Open;

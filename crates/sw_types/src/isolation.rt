@@ -14,15 +14,15 @@ pub enum Iso {
 /// How a call crosses between isolations (SE-0306, SE-0338).
 #[derive(Clone, Copy, Debug, PartialEq, Eq)]
 pub enum CallKind {
-    /// A synchronous callee that is isolated to no actor, or an asynchronous one from a body that
-    /// is isolated to none.
+    /// A callee whose isolation is `Caller`; or one whose isolation is `Free`, if it is synchronous
+    /// or the body that calls it is `Free` too.
     Plain,
-    /// A callee of the caller's own isolation.
+    /// A callee of the caller's own isolation: to the same `self` or the same global actor.
     Same,
-    /// An asynchronous callee that is isolated to no actor, from an isolated body: it leaves the
-    /// actor.
+    /// An asynchronous callee whose isolation is `Free`, from a body that isn't `Free`: it leaves
+    /// the actor on which the body may run.
     Weak,
-    /// A callee of another isolation: it hops to that actor.
+    /// Any other callee that is isolated to an actor: it hops to that actor.
     Strong,
     /// An actor's initialiser.
     Make,

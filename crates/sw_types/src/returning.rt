@@ -72,8 +72,8 @@ fn returns(alloc: Global, edges: &[ListOf<u32>], number: u32) -> Result<bool, Al
     Ok(search.has(number))
 }
 
-/// Which numbers lead back to themselves. It looks from each number alone, so its time may be as
-/// the square of the numbers.
+/// Which numbers lead back to themselves. It looks from each number alone, so its time may grow
+/// as the numbers times the edges.
 pub fn returning(alloc: Global, edges: &[ListOf<u32>]) -> Result<ListOf<bool>, AllocError>
     requires edges { AreInRange edges.now }
     requires small { length edges.now < 2 ^ 32 }

@@ -1,6 +1,6 @@
 -- What one more row says of a key: it counts where those before it say nothing.
-use Rattle.std.proofs.Common.{◌≡◌, ◌==◌, ℕ, Bool, true, false, List, [], ◌∷◌, ◌++◌, Option, Some, None}
-use Rattle.std.proofs.Common.{refl, if◌then◌else◌}
+use Rattle.std.proofs.Common.{◌≡◌, ◌==◌, ℕ, Bool, true, false, List, [], ◌∷◌, ◌++◌, Option, Some}
+use Rattle.std.proofs.Common.{None, refl, if◌then◌else◌}
 use Rattle.sw_resolve.specs.Words.{or_else}
 use Rattle.sw_types.specs.declared.ty.Ty.{Ty}
 use Rattle.sw_typing_rules.specs.declared.row.Meaning.{Meaning}

@@ -1,6 +1,6 @@
 -- What is noted of a body by a table that begins with its parameters.
-use Rattle.std.proofs.Common.{◌≡◌, ◌++◌, ◌&&◌, ℕ, Bool, List, Option, append_assoc, ap, drop, length}
-use Rattle.std.proofs.Common.{map, not, refl, sym, ◌∙◌}
+use Rattle.std.proofs.Common.{◌≡◌, ◌++◌, ◌&&◌, ℕ, Bool, List, Option, append_assoc, ap, drop}
+use Rattle.std.proofs.Common.{length, map, not, refl, sym, ◌∙◌}
 use Rattle.std.proofs.lemmas.List.{drop_at}
 use Rattle.sw_tree.specs.declared.decl.ParamTree.{ParamTree}
 use Rattle.sw_tree.specs.declared.stmt.Block.{Block}

@@ -1,8 +1,8 @@
--- The ends of the arms of the walk over statements: what a step leaves after what its parts noted is
--- what the whole leaves.
-use Rattle.std.proofs.Common.{◌≡◌, ◌++◌, ◌&&◌, ◌||◌, ◌+◌, ℕ, Bool, true, false, List, [], ◌∷◌, Option}
-use Rattle.std.proofs.Common.{Some, Result, append_assoc, ap, drop, is_some, length, map, sym, subst}
-use Rattle.std.proofs.Common.{take, ◌∙◌, IfOk, OnOk}
+-- The ends of the arms of the walk over statements: what a step leaves after what its parts noted
+-- is what the whole leaves.
+use Rattle.std.proofs.Common.{◌≡◌, ◌++◌, ◌&&◌, ◌||◌, ◌+◌, ℕ, Bool, true, false, List, [], ◌∷◌}
+use Rattle.std.proofs.Common.{Option, Some, Result, append_assoc, ap, drop, is_some, length, map}
+use Rattle.std.proofs.Common.{sym, subst, take, ◌∙◌, IfOk, OnOk}
 use Rattle.std.proofs.lemmas.Result.{on_ok_weaker}
 use Rattle.sw_tree.proofs.FoldEquations as eq
 use Rattle.sw_tree.specs.Folds.{fold_block}
@@ -103,7 +103,8 @@ module _ (world : World) where
       (o1 : one ≡ went_of (case_arms_left world slice cases within (state_of mid)).left)
       (r2 : arms_done.rows ≡ mid.rows
       ++ (case_arms_left world slice cases within (state_of mid)).left.rows)
-      (s2 : state_of arms_done ≡ (case_arms_left world slice cases within (state_of mid)).left.state)
+      (s2 : state_of arms_done
+      ≡ (case_arms_left world slice cases within (state_of mid)).left.state)
       (o2 : other ≡ went_of (otherwise_left world last true within (state_of arms_done)))
       (r3 : done.rows ≡ arms_done.rows
       ++ (otherwise_left world last true within (state_of arms_done)).rows)

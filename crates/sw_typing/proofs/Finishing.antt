@@ -1,7 +1,7 @@
--- The ends of the arms of the walk over expressions: what a step notes after what its parts noted is
--- what is known of the whole.
-use Rattle.std.proofs.Common.{◌≡◌, ◌++◌, ◌||◌, ℕ, Bool, false, List, [], Option, Result, append_assoc}
-use Rattle.std.proofs.Common.{ap, length, subst, sym, take, ◌∙◌, IfOk, OnOk}
+-- The ends of the arms of the walk over expressions: what a step notes after what its parts noted
+-- is what is known of the whole.
+use Rattle.std.proofs.Common.{◌≡◌, ◌++◌, ◌||◌, ℕ, Bool, false, List, [], Option, Result}
+use Rattle.std.proofs.Common.{append_assoc, ap, length, subst, sym, take, ◌∙◌, IfOk, OnOk}
 use Rattle.std.proofs.lemmas.Result.{on_ok_weaker}
 use Rattle.sw_tree.proofs.FoldEquations as eq
 use Rattle.sw_tree.specs.declared.expr.Arg.{Arg}
@@ -14,8 +14,8 @@ use Rattle.sw_tree.specs.declared.operator.PrefixOp.{PrefixOp}
 use Rattle.sw_tree.specs.declared.stmt.Block.{Block, out-Block}
 use Rattle.sw_tree.specs.declared.stmt.Stmt.{Stmt}
 use Rattle.sw_typing_rules.specs.Calls.{Callee, call_types, callee_meaning, slots_of}
-use Rattle.sw_typing_rules.specs.Expressions.{Judged, Passed, base_rows, call_judged, fun_types, noted}
-use Rattle.sw_typing_rules.specs.Expressions.{task_types}
+use Rattle.sw_typing_rules.specs.Expressions.{Judged, Passed, base_rows, call_judged, fun_types}
+use Rattle.sw_typing_rules.specs.Expressions.{noted, task_types}
 use Rattle.sw_typing_rules.specs.Judging.{OfExpr, typing_steps}
 use Rattle.sw_typing_rules.specs.Operators.{prefix_types}
 use Rattle.sw_typing_rules.specs.Statements.{State, is_one, with_only}
@@ -34,8 +34,8 @@ use Rattle.sw_typing_forms.specs.declared.table.Table.{Table}
 use Rattle.sw_typing.proofs.Forms.{fun_is, method_is, spawn_is}
 use Rattle.sw_typing.proofs.Keeping.{stmts_keep}
 use Rattle.sw_typing.proofs.Since.{chain_is, take_is}
-use Rattle.sw_typing.specs.Walked.{args_passed, called_member, closure_known, expr_known, links_known}
-use Rattle.sw_typing.specs.Walked.{stmts_left}
+use Rattle.sw_typing.specs.Walked.{args_passed, called_member, closure_known, expr_known}
+use Rattle.sw_typing.specs.Walked.{links_known, stmts_left}
 
 -- a step that notes its own rows after those of the parts
 pub noted_rows : {X E : Type 0} (r : Result X E) (now mid old : Table) (own inner whole : List Row)
@@ -59,7 +59,8 @@ module _ (world : World) where
       ≡ (expr_known world get s false).rows ++ rows_of at (prefix_types op inner.ty)
   prefix_whole tree part get op at s expected inner p g q =
       ap (λ t. (expr_known world t s expected).rows) p
-      ∙ ap (λ (f : OfExpr). (f s expected).rows) (eq.fold_expr-Prefix (typing_steps world) op at part)
+      ∙ ap (λ (f : OfExpr). (f s expected).rows)
+      (eq.fold_expr-Prefix (typing_steps world) op at part)
       ∙ ap (λ x. (expr_known world x s false).rows
       ++ rows_of at (prefix_types op (expr_known world x s false).ty)) (sym g)
       ∙ ap (λ (k : Known). (expr_known world get s false).rows ++ rows_of at (prefix_types op k.ty))

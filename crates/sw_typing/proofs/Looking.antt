@@ -1,7 +1,7 @@
 -- What is looked up by a key is what a row says of it.
-use Rattle.std.proofs.Common.{◌≡◌, ◌==◌, ℕ, suc, zero, Bool, true, false, List, [], ◌∷◌, Option, Some}
-use Rattle.std.proofs.Common.{None, Contains, ap, arith, inl, inr, is_some, refl, subst, sym, ◌∙◌}
-use Rattle.std.proofs.Common.{if◌then◌else◌, nat_eq}
+use Rattle.std.proofs.Common.{◌≡◌, ◌==◌, ℕ, suc, zero, Bool, true, false, List, [], ◌∷◌, Option}
+use Rattle.std.proofs.Common.{Some, None, Contains, ap, arith, inl, inr, is_some, refl, subst, sym}
+use Rattle.std.proofs.Common.{◌∙◌, if◌then◌else◌, nat_eq}
 use Rattle.indexmap.specs.IndexMap.{get}
 use Rattle.std.proofs.lemmas.Bool.{eqb-true, false≢true}
 use Rattle.std.proofs.lemmas.Grind.{common_steps}
@@ -137,7 +137,8 @@ no_meaning (Ill key code ∷ rows) at meaning has p = elim (Contains-append_case
       | inr there ↦ no_meaning rows at meaning there p
     ]
 
-module _ (world : World) (decls : List Decl) (typed : answers.Typed) (is : IsTyped world decls typed)
+module _ (world : World) (decls : List Decl) (typed : answers.Typed)
+    (is : IsTyped world decls typed)
   where
     pub type_is : (at : ℕ) (ty : Ty) → get nat_eq typed.types at ≡ Some ty
         → HasType world decls at ty

@@ -1,6 +1,6 @@
 -- What a step notes after what was noted of a part since the table had `start` rows.
-use Rattle.std.proofs.Common.{◌≡◌, ◌++◌, ℕ, Bool, List, [], ◌∷◌, Option, append_assoc, ap, drop, length}
-use Rattle.std.proofs.Common.{refl, take, ◌∙◌}
+use Rattle.std.proofs.Common.{◌≡◌, ◌++◌, ℕ, Bool, List, [], ◌∷◌, Option, append_assoc, ap, drop}
+use Rattle.std.proofs.Common.{length, refl, take, ◌∙◌}
 use Rattle.std.proofs.lemmas.List.{drop_at, take_at}
 use Rattle.sw_tree.specs.declared.expr.Link.{Link}
 use Rattle.sw_tree.specs.declared.name.Name.{Name}

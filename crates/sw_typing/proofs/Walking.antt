@@ -1,6 +1,6 @@
 -- What a walk needs of the definitions where it goes over the parts of a tree.
-use Rattle.std.proofs.Common.{◌≡◌, ◌+◌, ℕ, suc, zero, arith, Bool, List, [], ◌∷◌, Option, map, drop, refl, ap}
-use Rattle.std.proofs.Common.{◌++◌, ◌∙◌, append_assoc, sym}
+use Rattle.std.proofs.Common.{◌≡◌, ◌+◌, ℕ, suc, zero, arith, Bool, List, [], ◌∷◌, Option, map, drop}
+use Rattle.std.proofs.Common.{refl, ap, ◌++◌, ◌∙◌, append_assoc, sym}
 use Rattle.sw_tree.proofs.FoldEquations as eq
 use Rattle.sw_tree.specs.Folds.{fold_case_arm, fold_stmt}
 use Rattle.sw_decls.specs.Signatures.{label_id}

@@ -1,5 +1,6 @@
 -- The types and meanings of a program's nodes, or its first ill node.
-use Rattle.std.specs.Prelude.{◌≡◌, ◌==◌, ℕ, List, [], ◌∷◌, Option, Some, None, nat_eq, if◌then◌else◌}
+use Rattle.std.specs.Prelude.{◌≡◌, ◌==◌, ℕ, List, [], ◌∷◌, Option, Some, None, nat_eq}
+use Rattle.std.specs.Prelude.{if◌then◌else◌}
 use Rattle.indexmap.specs.IndexMap.{get}
 use Rattle.sw_tree.specs.declared.decl.Decl.{Decl}
 use Rattle.sw_types.specs.declared.ty.Ty.{Ty}

@@ -1,7 +1,7 @@
 //! Where statements stand, and how several go.
 ghost use Rattle.std.specs.Prelude.{◌≡◌, ◌&&◌, ◌||◌, false, None};
 ghost use Rattle.sw_decls.specs.Signatures.{label_id};
-ghost use Rattle.sw_typing_rules.specs.Statements.{in_body, in_loop, in_switch, is_one, part_of};
+ghost use Rattle.sw_typing_rules.specs.Statements.{in_body, in_loop, in_switch, is_one, in_branch};
 ghost use Rattle.sw_typing_rules.specs.Statements.{with_only};
 
 use sw_tree::{Name, Stmt};
@@ -18,9 +18,9 @@ pub fn label_id(label: Option<Name>) -> Option<u32>
     }
 }
 
-/// In a part of a statement.
-pub fn part_of(inside: Inside) -> Inside
-    ensures { result ≡ part_of inside }
+/// In a block of an `if` or a `switch`.
+pub fn in_branch(inside: Inside) -> Inside
+    ensures { result ≡ in_branch inside }
 {
     Inside {
         only: false,

@@ -20,7 +20,7 @@ use Rattle.sw_typing_rules.specs.Expressions.{member_judged, call_callee, method
 use Rattle.sw_typing_rules.specs.Statements.{State, Left, Head, Armed, setting_of, scoped}
 use Rattle.sw_typing_rules.specs.declared.scope.Inside.{Inside}
 use Rattle.sw_typing_rules.specs.Statements.{then_left, beside}
-use Rattle.sw_typing_rules.specs.Statements.{more_arms, part_of, in_loop, in_switch, in_body}
+use Rattle.sw_typing_rules.specs.Statements.{more_arms, in_branch, in_loop, in_switch, in_body}
 use Rattle.sw_typing_rules.specs.Statements.{is_one}
 use Rattle.sw_typing_rules.specs.Statements.{with_only, marked_type, bind_left, place_type}
 use Rattle.sw_typing_rules.specs.Statements.{assign_left, discard_left, arm_left, while_left}
@@ -50,7 +50,7 @@ is_some-map f None = refl
 is_some-map f (Some x) = refl
 
 pub otherwise_some : (ends : Bool) (inside : Inside) (state : State) (body : OfStmt)
-    → do_otherwise ends inside state (Some body) ≡ scoped state (body (part_of inside) state)
+    → do_otherwise ends inside state (Some body) ≡ scoped state (body (in_branch inside) state)
 otherwise_some true inside state body = refl
 otherwise_some false inside state body = refl
 
@@ -241,9 +241,9 @@ module _ (world : World) where
         (map (fold_if_arm (typing_steps world)) more)))
         (eq.fold_if_arm-roll (typing_steps world) at cond body)
         ∙ ap (λ c. beside_arms world i (arm_left s c (fold_block (typing_steps world) body
-        (part_of i) s)) more) (judged_is (setting_of i s) false cond judged of_cond)
+        (in_branch i) s)) more) (judged_is (setting_of i s) false cond judged of_cond)
         ∙ ap (λ b. beside_arms world i (arm_left s judged b) more)
-        (block_is (part_of i) s body left of_body)
+        (block_is (in_branch i) s body left of_body)
         ∙ ap (beside (arm_left s judged left))
         (arms_is i (arm_left s judged left).state more last of_more)
 
@@ -255,7 +255,7 @@ module _ (world : World) where
     otherwise_is ends i s o l (is.absent_default _ _) = refl
     otherwise_is ends i s o l (is.present _ _ _ body left given) =
         otherwise_some ends i s (fold_block (typing_steps world) body)
-        ∙ ap (scoped s) (block_is (part_of i) s body left given)
+        ∙ ap (scoped s) (block_is (in_branch i) s body left given)
 
     pub cases_is : (inside : Inside) (cases : Option (List CaseShape)) (state : State)
         (arms : List CaseArm) (armed : Armed)
@@ -270,6 +270,6 @@ module _ (world : World) where
         (eq.fold_case_arm-roll (typing_steps world) name patterns body)
         ∙ ap (λ b. more_cases world i cases (head_of name patterns)
         (case_of cases s (head_of name patterns) b) more)
-        (block_is (part_of i) (arm_state cases s (head_of name patterns)) body left of_body)
+        (block_is (in_branch i) (arm_state cases s (head_of name patterns)) body left of_body)
         ∙ ap (more_arms (head_of name patterns) (case_of cases s (head_of name patterns) left))
         (cases_is i cases (case_of cases s (head_of name patterns) left).state more armed of_more)

@@ -46,7 +46,7 @@ use Rattle.sw_typing_rules.specs.Operators as operators
 use Rattle.sw_typing_rules.specs.Programs.{IsIll, Says, of_body, of_value, params_of, body_noted}
 use Rattle.sw_typing_rules.specs.Programs.{body_state, value_noted, value_setting}
 use Rattle.sw_typing_rules.specs.Statements as left
-use Rattle.sw_typing_rules.specs.Statements.{State, Left, Armed, setting_of, part_of, in_loop}
+use Rattle.sw_typing_rules.specs.Statements.{State, Left, Armed, setting_of, in_branch, in_loop}
 use Rattle.sw_typing_rules.specs.Statements.{in_switch, in_body, with_only, is_one, written}
 use Rattle.sw_typing_rules.specs.Statements.{marked_type, place_type, marked_result, expects}
 use Rattle.sw_typing_rules.specs.Statements.{cases_of, arm_payload, closure_state, beside}
@@ -175,7 +175,8 @@ infix_types op (Some l) (Some r) =
 prefix_types : (op : PrefixOp) (ty : Option Ty) → FailsCoded (operators.prefix_types op ty)
 prefix_types op None = tt
 prefix_types prefix_of.Not (Some ty) = either (is_bool ty) (Has types.Bool) (Fails 402) tt type_code
-prefix_types prefix_of.Negate (Some ty) = either (is_int ty) (Has types.Int) (Fails 402) tt type_code
+prefix_types prefix_of.Negate (Some ty) =
+    either (is_int ty) (Has types.Int) (Fails 402) tt type_code
 
 var_types : (ty : Option Ty) → FailsCoded (senses.var_types ty)
 var_types None = tt
@@ -617,7 +618,7 @@ module _ (world : World) where
         join one.rows last.rows
         (join (left.condition_rows judged) inner.rows
         (condition judged (coded_expr (setting_of i s) false cond judged of_cond))
-        (coded_block (part_of i) s block inner d))
+        (coded_block (in_branch i) s block inner d))
         (coded_arms i one.state more last rest)
 
     coded_otherwise : (ends : Bool) (i : Inside) (s : State) (o : Option Block) (l : Left)
@@ -625,7 +626,7 @@ module _ (world : World) where
     coded_otherwise ends i s o l (is.absent _ _) = tt
     coded_otherwise ends i s o l (is.absent_default _ _) = tt
     coded_otherwise ends i s o l (is.present _ _ _ block inner d) =
-        coded_block (part_of i) s block inner d
+        coded_block (in_branch i) s block inner d
 
     coded_cases : (i : Inside) (cases : Option (List CaseShape)) (s : State) (arms : List CaseArm)
         (a : Armed) → is.LeavesCases world i cases s arms a → AreCoded a.left.rows
@@ -637,7 +638,7 @@ module _ (world : World) where
         let one = case_of cases s head inner in
         join one.rows armed.left.rows
         (join own inner.rows (vars (left.arm_vars head (arm_payload cases name.id)))
-        (coded_block (part_of i) (arm_state cases s head) block inner d))
+        (coded_block (in_branch i) (arm_state cases s head) block inner d))
         (coded_cases i cases one.state more armed rest)
 
   is_coded : (rows : List Row) (row : Row) → AreCoded rows → Contains rows row → IsCoded row

@@ -41,8 +41,6 @@ use Rattle.sw_decls.specs.declared.signature.AsyncDefault.{AsyncDefault}
 use Rattle.sw_decls.specs.declared.signature.Signature.{Signature}
 use Rattle.sw_typing_rules.specs.Worlds.{IsWorldOf, World, world_of}
 
--- offsets that differ stand in their list once at most
-
 unlike : (at : ℕ) (ats : List ℕ) → AllByRecursion (λ other. nat_eq at other ≡ false) ats
     → in_all hits ats at ≡ 0
 unfolding in_all hits
@@ -52,7 +50,8 @@ unlike at (other ∷ ats) differ =
     let more = unlike at ats differ.1 in
     grind (arith, common_steps)
 
-distinct_once : (ats : List ℕ) → IsDistinct nat_eq ats → (k : ℕ) → in_all hits ats k ≤ 1
+-- Each number stands once at most in a list without repeats.
+pub distinct_once : (ats : List ℕ) → IsDistinct nat_eq ats → (k : ℕ) → in_all hits ats k ≤ 1
 unfolding in_all hits IsDistinct
 distinct_once [] differ k = omega arith
 distinct_once (at ∷ ats) differ k =
@@ -68,7 +67,8 @@ distinct_once (at ∷ ats) differ k =
 
 -- lists of one key each, in order
 
-abbrev keyed : Signature → Weight
+-- the key of a function
+abbrev pub keyed : Signature → Weight
 keyed func = hits (key_place func)
 
 contained_once : (funcs : List Signature) (func : Signature) → Contains funcs func
@@ -95,7 +95,8 @@ once_more func funcs once k =
 
 order_more : (func : Signature) (funcs : List Signature)
     → IsNonDecreasingBy key_place (func ∷ funcs) → IsNonDecreasingBy key_place funcs
-order_more func funcs order i j d le lt = order (suc i) (suc j) d (omega (arith, le)) (omega (arith, lt))
+order_more func funcs order i j d le lt =
+    order (suc i) (suc j) d (omega (arith, le)) (omega (arith, lt))
 
 first_least : (func : Signature) (funcs : List Signature) (other : Signature)
     → IsNonDecreasingBy key_place (func ∷ funcs) → Contains (func ∷ funcs) other
@@ -160,6 +161,17 @@ one_order (func ∷ funcs) (other ∷ others) up down once single there back =
 
 -- the functions of a program have keys of their own
 
+-- the word of a struct or an enum
+abbrev pub value_word : Decl → Weight
+value_word (Entry word written at is_async body) k = 0
+value_word (Struct word conforms fields funcs) k = hits word.at k
+value_word (Enum word conforms cases funcs) k = hits word.at k
+value_word (Class written word conforms props inits funcs) k = 0
+value_word (Actor word props inits funcs) k = 0
+value_word (GlobalActor word made) k = 0
+value_word (Func func) k = 0
+value_word (Global global) k = 0
+
 one_if : (test : Bool) (func : Signature) (k : ℕ)
     → in_all keyed (if test then func ∷ [] else []) k ≤ keyed func k
 unfolding in_all
@@ -216,7 +228,7 @@ module _ (known : ℕ → Option Meaning) where
       )
 
   keyed_of : (rule : AsyncDefault) (number : ℕ) (decl : Decl) (k : ℕ)
-      → in_all keyed (funcs_of known rule number decl) k ≤ in_decl decl k
+      → in_all keyed (funcs_of known rule number decl) k + value_word decl k ≤ in_decl decl k
   unfolding funcs_of in_all
   keyed_of rule number (Entry word written at is_async body) k =
       omega (arith, counts.in_decl-Entry word written at is_async body k)
@@ -249,8 +261,10 @@ module _ (known : ℕ → Option Meaning) where
       omega (arith, counts.in_decl-Func func k, counts.in_func-is func k)
   keyed_of rule number (Global global) k = omega arith
 
-  keyed_from : (rule : AsyncDefault) (number : ℕ) (decls : List Decl) (k : ℕ)
-      → in_all keyed (funcs_from known rule number decls) k ≤ in_all in_decl decls k
+  -- The keys of the functions, and the words of the structs and enums, are keys of the program.
+  pub keyed_from : (rule : AsyncDefault) (number : ℕ) (decls : List Decl) (k : ℕ)
+      → in_all keyed (funcs_from known rule number decls) k + in_all value_word decls k
+      ≤ in_all in_decl decls k
   unfolding in_all
   keyed_from rule number [] k = omega arith
   keyed_from rule number (decl ∷ decls) k =

@@ -20,7 +20,7 @@ use Rattle.sw_typing_rules.specs.Expressions.{call_callee, method_callee}
 use Rattle.sw_typing_rules.specs.Statements.{State, Left, Armed, setting_of}
 use Rattle.sw_typing_rules.specs.declared.scope.Inside.{Inside}
 use Rattle.sw_typing_rules.specs.Statements.{beside}
-use Rattle.sw_typing_rules.specs.Statements.{more_arms, part_of, in_loop, in_switch, in_body}
+use Rattle.sw_typing_rules.specs.Statements.{more_arms, in_branch, in_loop, in_switch, in_body}
 use Rattle.sw_typing_rules.specs.Statements.{is_one}
 use Rattle.sw_typing_rules.specs.Statements.{with_only, marked_type, place_type}
 use Rattle.sw_typing_rules.specs.Statements.{expects, marked_result, switch_left}
@@ -121,8 +121,8 @@ module _ (world : World) where
       (do_otherwise ends i s (option_map (fold_block (typing_steps world)) otherwise))
   otherwise_leaves true i s None given = is.absent_default i s
   otherwise_leaves false i s None given = is.absent i s
-  otherwise_leaves true i s (Some body) given = is.present true i s body _ (given (part_of i) s)
-  otherwise_leaves false i s (Some body) given = is.present false i s body _ (given (part_of i) s)
+  otherwise_leaves true i s (Some body) given = is.present true i s body _ (given (in_branch i) s)
+  otherwise_leaves false i s (Some body) given = is.present false i s body _ (given (in_branch i) s)
 
   abbrev pub at_expr : Expr → Setting → Bool → OfExpr → Type 0
   at_expr e s m f = is.Judges world s m e (f s m)
@@ -254,14 +254,14 @@ module _ (world : World) where
         (more_arms f.head (do_case i cases s f) armed))
         (sym (eq.fold_case_arm-roll (typing_steps world) name patterns body))
         (is.one_case i cases s name patterns body arms _ armed
-        (given (part_of i) (arm_state cases s (head_of name patterns))));
+        (given (in_branch i) (arm_state cases s (head_of name patterns))));
     if_arm = λ at cond body of_cond given i s arms l.
         subst (λ (f : OfIfArm). is.LeavesArms world i (do_arm i s f).state arms l
         → is.LeavesArms world i s (roll-IfArm (record { at = at; cond = cond; body = body }) ∷ arms)
         (beside (do_arm i s f) l))
         (sym (eq.fold_if_arm-roll (typing_steps world) at cond body))
         (is.one_arm i s at cond body arms _ _ l (of_cond (setting_of i s) false)
-        (given (part_of i) s));
+        (given (in_branch i) s));
   }
 
   pub judges : (setting : Setting) (expected : Bool) (expr : Expr)

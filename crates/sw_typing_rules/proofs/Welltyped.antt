@@ -26,7 +26,7 @@ use Rattle.sw_typing_rules.specs.Expressions.{member_judged, call_callee, method
 use Rattle.sw_typing_rules.specs.Statements.{State, Left, Head, Armed, setting_of, scoped}
 use Rattle.sw_typing_rules.specs.declared.scope.Inside.{Inside}
 use Rattle.sw_typing_rules.specs.Statements.{goes_on, then_left, beside, no_branch, no_arms}
-use Rattle.sw_typing_rules.specs.Statements.{more_arms, part_of, in_loop, in_switch, in_body}
+use Rattle.sw_typing_rules.specs.Statements.{more_arms, in_branch, in_loop, in_switch, in_body}
 use Rattle.sw_typing_rules.specs.Statements.{is_one}
 use Rattle.sw_typing_rules.specs.Statements.{with_only, marked_type, bind_left, place_type}
 use Rattle.sw_typing_rules.specs.Statements.{assign_left, discard_left, arm_left, while_left}
@@ -455,7 +455,7 @@ module _ (world : World) where
         let one = arm_left s judged inner in
         let good = arm_fine s judged inner t
         (typed_expr (setting_of i s) false cond judged of_cond (vars_of s t))
-        (fine_block (part_of i) s body inner d t) (well_left one.rows _ w) in
+        (fine_block (in_branch i) s body inner d t) (well_left one.rows _ w) in
         beside_good one last good
         (fine_arms i one.state more last rest good.1 (well_right one.rows _ w))
 
@@ -465,7 +465,7 @@ module _ (world : World) where
     fine_otherwise ends i s o l (is.absent _ _) t w = (refl, t)
     fine_otherwise ends i s o l (is.absent_default _ _) t w = (refl, t)
     fine_otherwise ends i s o l (is.present _ _ _ body inner d) t w =
-        let good = fine_block (part_of i) s body inner d t w in
+        let good = fine_block (in_branch i) s body inner d t w in
         (good.0, restored_typed s inner.state t good.1)
 
     fine_cases : (i : Inside) (cases : Option (List CaseShape)) (s : State) (arms : List CaseArm)
@@ -483,7 +483,7 @@ module _ (world : World) where
         let all = well_left one.rows _ w in
         let begins = and_both _ _ (step.vars_append s.vars _ (vars_of s t)
         (step.arms_typed patterns payload fits)) (returned_of s t) in
-        let good = fine_block (part_of i) (arm_state cases s head) body inner d begins
+        let good = fine_block (in_branch i) (arm_state cases s head) body inner d begins
         (well_right (left.vars_rows (arm_vars head payload)) _ all) in
         let done : Good one = (
           and_both _ inner.fine fits good.0,

@@ -29,7 +29,7 @@ use Rattle.sw_typing_rules.specs.Expressions.{member_judged, call_callee, method
 use Rattle.sw_typing_rules.specs.Statements.{State, Left, Head, Armed, setting_of, scoped}
 use Rattle.sw_typing_rules.specs.declared.scope.Inside.{Inside}
 use Rattle.sw_typing_rules.specs.Statements.{goes_on, then_left, beside, no_branch, no_arms}
-use Rattle.sw_typing_rules.specs.Statements.{more_arms, part_of, in_loop, in_switch, in_body}
+use Rattle.sw_typing_rules.specs.Statements.{more_arms, in_branch, in_loop, in_switch, in_body}
 use Rattle.sw_typing_rules.specs.Statements.{is_one}
 use Rattle.sw_typing_rules.specs.Statements.{with_only, marked_type, bind_left, place_type}
 use Rattle.sw_typing_rules.specs.Statements.{assign_left, discard_left, arm_left, while_left}
@@ -63,6 +63,7 @@ case_of cases state head left = case_left state head (arm_payload cases head.nam
 
 module _ (world : World) where
   mutual
+    -- what is known of an expression where it stands, by whether a `@Sendable` function is expected
     pub data Judges : Setting → Bool → Expr → Judged → Type 0 where
       int : (setting : Setting) (expected : Bool) (at : ℕ) (value : ℤ)
           → Judges setting expected (exprs.Int at value) (int_judged at)
@@ -110,6 +111,7 @@ module _ (world : World) where
       yield : (setting : Setting) (expected : Bool) (at : ℕ)
           → Judges setting expected (exprs.Yield at) (yield_judged at)
 
+    -- what is known of arguments, each with the parameter that takes it
     pub data Passes : Setting → List Slot → List Arg → Passed → Type 0 where
       passes_none : (setting : Setting) (slots : List Slot)
           → Passes setting slots [] none_passed
@@ -120,6 +122,7 @@ module _ (world : World) where
           → Passes setting slots (roll-Arg (record { label = label; value = value }) ∷ args)
           (one_passed label judged passed)
 
+    -- what is known of a chain after its operators, by what is known of what stands before them
     pub data Links : Setting → Judged → List Link → Judged → Type 0 where
       no_link : (setting : Setting) (left : Judged)
           → Links setting left [] left
@@ -130,6 +133,7 @@ module _ (world : World) where
           → Links setting left (roll-Link (record { op = op; at = at; operand = operand }) ∷ links)
           judged
 
+    -- what is known of a closure or of the body of a task
     pub data Closes : Setting → Closure → Closed → Type 0 where
       closes : (setting : Setting) (at : ℕ) (mark : Option Name) (captures : List Name)
           (params : List ClosureParam) (result : Option TypeTree) (body : Block) (left : Left)
@@ -138,6 +142,7 @@ module _ (world : World) where
           → Closes setting (closure_of at mark captures params result body)
           (closed world setting at mark captures params left)
 
+    -- what a statement leaves
     pub data Leaves : Inside → State → Stmt → Left → Type 0 where
       bind : (inside : Inside) (state : State) (mutable : Bool) (name : Name) (ty : Option TypeTree)
           (value : Expr) (judged : Judged)
@@ -186,6 +191,7 @@ module _ (world : World) where
           → Judges (setting_of inside state) (expects inside.only state) value judged
           → Leaves inside state (stmts.Plain value) (plain_left inside.only state judged)
 
+    -- what statements in order leave
     pub data LeavesAll : Inside → State → List Stmt → Left → Type 0 where
       no_stmt : (inside : Inside) (state : State)
           → LeavesAll inside state [] (goes_on state [] true)
@@ -195,11 +201,13 @@ module _ (world : World) where
           → LeavesAll inside left.state stmts last
           → LeavesAll inside state (stmt ∷ stmts) (then_left left last)
 
+    -- what the statements of a block leave
     pub data LeavesBlock : Inside → State → Block → Left → Type 0 where
       block : (inside : Inside) (state : State) (stmts : List Stmt) (left : Left)
           → LeavesAll (with_only inside (is_one stmts)) state stmts left
           → LeavesBlock inside state (roll-Block (record { stmts = stmts })) left
 
+    -- what the arms of an `if` leave
     pub data LeavesArms : Inside → State → List IfArm → Left → Type 0 where
       no_arm : (inside : Inside) (state : State)
           → LeavesArms inside state [] (no_branch state)
@@ -207,22 +215,25 @@ module _ (world : World) where
           (arms : List IfArm)
           (judged : Judged) (left last : Left)
           → Judges (setting_of inside state) false cond judged
-          → LeavesBlock (part_of inside) state body left
+          → LeavesBlock (in_branch inside) state body left
           → LeavesArms inside (arm_left state judged left).state arms last
           → LeavesArms inside state
           (roll-IfArm (record { at = at; cond = cond; body = body }) ∷ arms)
           (beside (arm_left state judged left) last)
 
+    -- What an `else` leaves, or a `default`, for which the first argument is true, if there is one.
     pub data LeavesOtherwise : Bool → Inside → State → Option Block → Left → Type 0 where
       -- without an `else` the ways of an `if` go on
       absent : (inside : Inside) (state : State)
           → LeavesOtherwise false inside state None (goes_on state [] true)
+      -- without a `default` a `switch` has no way but those of its cases
       absent_default : (inside : Inside) (state : State)
           → LeavesOtherwise true inside state None (no_branch state)
       present : (ends : Bool) (inside : Inside) (state : State) (body : Block) (left : Left)
-          → LeavesBlock (part_of inside) state body left
+          → LeavesBlock (in_branch inside) state body left
           → LeavesOtherwise ends inside state (Some body) (scoped state left)
 
+    -- what the arms of a `switch` leave, where its subject has these cases
     pub data LeavesCases : Inside → Option (List CaseShape) → State → List CaseArm → Armed
         → Type 0 where
       no_case : (inside : Inside) (cases : Option (List CaseShape)) (state : State)
@@ -230,7 +241,7 @@ module _ (world : World) where
       one_case : (inside : Inside) (cases : Option (List CaseShape)) (state : State)
           (name : Name) (patterns : List Pattern) (body : Block) (arms : List CaseArm) (left : Left)
           (armed : Armed)
-          → LeavesBlock (part_of inside) (arm_state cases state (head_of name patterns)) body left
+          → LeavesBlock (in_branch inside) (arm_state cases state (head_of name patterns)) body left
           → LeavesCases inside cases (case_of cases state (head_of name patterns) left).state arms
           armed
           → LeavesCases inside cases state

@@ -20,7 +20,7 @@ use Rattle.sw_typing_rules.specs.Expressions.{member_judged, call_callee, method
 use Rattle.sw_typing_rules.specs.Statements.{State, Left, Head, Armed, setting_of, scoped}
 use Rattle.sw_typing_rules.specs.declared.scope.Inside.{Inside}
 use Rattle.sw_typing_rules.specs.Statements.{goes_on, then_left, beside, no_branch, no_arms}
-use Rattle.sw_typing_rules.specs.Statements.{more_arms, part_of, in_loop, in_switch, in_body}
+use Rattle.sw_typing_rules.specs.Statements.{more_arms, in_branch, in_loop, in_switch, in_body}
 use Rattle.sw_typing_rules.specs.Statements.{is_one}
 use Rattle.sw_typing_rules.specs.Statements.{with_only, marked_type, bind_left, place_type}
 use Rattle.sw_typing_rules.specs.Statements.{assign_left, discard_left, arm_left, while_left}
@@ -35,9 +35,11 @@ use Rattle.sw_typing_rules.specs.Worlds.{World}
 abbrev pub OfExpr : Type 0
 OfExpr = Setting → Bool → Judged
 
+-- what a statement leaves, by where it stands and by the state before it
 abbrev pub OfStmt : Type 0
 OfStmt = Inside → State → Left
 
+-- an argument, an operator with its right operand, and an arm, each with what its parts give
 pub record OfArg : Type 0 where
   pub label : Option Name
   pub value : OfExpr
@@ -75,23 +77,24 @@ do_all inside state (stmt ∷ stmts) =
 
 abbrev pub do_arm : Inside → State → OfIfArm → Left
 do_arm inside state arm =
-    arm_left state (arm.cond (setting_of inside state) false) (arm.body (part_of inside) state)
+    arm_left state (arm.cond (setting_of inside state) false) (arm.body (in_branch inside) state)
 
 abbrev pub do_arms : Inside → State → List OfIfArm → Left
 do_arms inside state [] = no_branch state
 do_arms inside state (arm ∷ arms) =
     beside (do_arm inside state arm) (do_arms inside (do_arm inside state arm).state arms)
 
--- an `else` or a `default`; where there is none the ways end or don't
+-- An `else` or a `default`, if there is one. The first argument is true for a `switch`: one without
+-- a `default` has no way but those of its cases, while an `if` without an `else` may go on.
 abbrev pub do_otherwise : Bool → Inside → State → Option OfStmt → Left
 do_otherwise true inside state None = no_branch state
 do_otherwise false inside state None = goes_on state [] true
-do_otherwise ends inside state (Some body) = scoped state (body (part_of inside) state)
+do_otherwise ends inside state (Some body) = scoped state (body (in_branch inside) state)
 
 abbrev pub do_case : Inside → Option (List CaseShape) → State → OfCaseArm → Left
 do_case inside cases state arm =
     case_left state arm.head (arm_payload cases arm.head.name)
-    (arm.body (part_of inside)
+    (arm.body (in_branch inside)
     (with_vars state (arm_vars arm.head (arm_payload cases arm.head.name))))
 
 abbrev pub do_cases : Inside → Option (List CaseShape) → State → List OfCaseArm → Armed

@@ -38,22 +38,29 @@ pub record State : Type 0 where
   pub vars : List Var
   pub returned : Returned
 
--- What a statement leaves: the state after it, what is noted inside, whether all that it holds has
--- a type, whether its ways end in `return`, and whether a `break` leaves what holds it.
+-- what a statement leaves
 pub record Left : Type 0 where
+  -- the state after it
   pub state : State
+  -- what is noted inside
   pub rows : List Row
+  -- whether nothing in it is ill or held
   pub fine : Bool
+  -- whether each way through it ends in a `return` or in a loop that nothing leaves
   pub ends : Bool
+  -- whether a `break` in it leaves the loop or the `switch` around
   pub breaks : Bool
 
+-- where the expressions of a statement stand
 abbrev pub setting_of : Inside → State → Setting
 setting_of inside state = record { owner = inside.owner; vars = state.vars }
 
+-- what a statement leaves some of whose ways don't end
 abbrev pub goes_on : State → List Row → Bool → Left
 goes_on state rows fine =
     record { state = state; rows = rows; fine = fine; ends = false; breaks = false }
 
+-- what a statement leaves each of whose ways ends
 abbrev pub ended : State → List Row → Bool → Left
 ended state rows fine =
     record { state = state; rows = rows; fine = fine; ends = true; breaks = false }
@@ -88,12 +95,15 @@ restored state inner = record { vars = state.vars; returned = inner.returned }
 abbrev pub scoped : State → Left → Left
 scoped state left = record left { state = restored state left.state }
 
-abbrev pub part_of : Inside → Inside
-part_of inside = record inside { only = false }
+-- in a block of an `if` or a `switch`: no statement there is the one statement of the body
+abbrev pub in_branch : Inside → Inside
+in_branch inside = record inside { only = false }
 
+-- in the block of a loop, where `continue` and `break` may stand
 abbrev pub in_loop : Inside → Inside
 in_loop inside = record inside { only = false; loops = true; leaves = true }
 
+-- in a `switch`, where `break` may stand
 abbrev pub in_switch : Inside → Inside
 in_switch inside = record inside { only = false; leaves = true }
 

@@ -5,6 +5,7 @@ use Rattle.sw_types.specs.declared.shape.Part.{Part}
 use Rattle.sw_types.specs.declared.ty.Ty.{Ty, out-Ty}
 use Rattle.sw_types.specs.declared.ty.Ty.TheOpen as layer
 use Rattle.sw_types.specs.declared.ty.Ty.TheVariants as types
+use Rattle.sw_tree.specs.Names.{print_id, value_id}
 use Rattle.sw_resolve.specs.Evident.{enum_of}
 use Rattle.sw_resolve.specs.declared.members.Member.{Member}
 use Rattle.sw_resolve.specs.declared.members.Role.{Role}
@@ -16,7 +17,8 @@ use Rattle.sw_typing_rules.specs.declared.verdict.Verdict.{Verdict}
 use Rattle.sw_typing_rules.specs.declared.verdict.Verdict.TheVariants.{Has, Fails, Held}
 use Rattle.sw_typing_rules.specs.Worlds.{World, part_at, is_object}
 use Rattle.sw_typing_rules.specs.declared.found.Found.{Found}
-use Rattle.sw_typing_rules.specs.declared.found.Found.TheVariants.{Property, Method, Result, NoMember}
+use Rattle.sw_typing_rules.specs.declared.found.Found.TheVariants.{Property, Method, Result}
+use Rattle.sw_typing_rules.specs.declared.found.Found.TheVariants.{NoMember}
 use Rattle.sw_typing_rules.specs.declared.row.Meaning.{Meaning}
 use Rattle.sw_typing_rules.specs.declared.row.Meaning.TheVariants as means
 use Rattle.sw_typing_rules.specs.declared.scope.Var.{Var}
@@ -53,8 +55,9 @@ role_sense shape at role.Method = OwnMethod at
 abbrev pub own_sense : ℕ → Member → Sense
 own_sense shape member = role_sense shape member.word.at member.role
 
+-- a word with no other sense: what its name means at top level, or `print`
 abbrev pub top_sense : Option words.Meaning → ℕ → Sense
-top_sense None id = if id == 7 then Printing else Nothing
+top_sense None id = if id == print_id then Printing else Nothing
 top_sense (Some meaning) id = Top meaning
 
 abbrev pub member_sense : Option ℕ → Option Member → Sense → Sense
@@ -100,18 +103,21 @@ me_types None = Fails 401
 me_types (Some shape) = Has (types.Named shape)
 
 module _ (world : World) where
-  -- A word means the innermost visible variable of its name, or a member of the type around, or
-  -- what it means at top level, or `print`.
+  -- the member with this name of the type around, if there is such a type and such a member
   abbrev pub owned : Option ℕ → ℕ → Option Member
   owned None id = None
   owned (Some shape) id = world.known.members shape id
 
+  -- The sense of a word: the innermost visible variable of its name; else the member of that name
+  -- of the type around; else what the name means at top level; else `print`, where that is the
+  -- name.
   abbrev pub sense : Setting → ℕ → Sense
   sense setting id =
       local_sense (local setting.vars id)
       (member_sense setting.owner (owned setting.owner id) (top_sense (world.known.top id) id))
 
-  -- the type of a word
+  -- The type of a word that means something at top level. Only a global variable has one: a type, a
+  -- function or an entry is no value (E401).
   abbrev pub top_types : words.Meaning → Verdict
   top_types (word.Shape kind number) = Fails 401
   top_types (word.GlobalActor number) = Fails 401
@@ -119,6 +125,8 @@ module _ (world : World) where
   top_types (word.Global number) = global_types (slice_get world.globals number)
   top_types word.Entry = Fails 401
 
+  -- The type of a word by its sense. What is no variable, property or global variable is no value
+  -- (E401).
   abbrev pub word_types : Sense → Verdict
   word_types (Variable variable) = var_types variable.ty
   word_types (OwnProperty shape number) = part_types (part_at world shape number) 401
@@ -128,8 +136,7 @@ module _ (world : World) where
   word_types Printing = Fails 401
   word_types Nothing = Fails 401
 
-  -- `self.` is left out before a property, which can be assigned in a class or an actor; `self` is
-  -- no variable.
+  -- whether what a word means at top level can be assigned: a global `var`
   abbrev pub top_settable : words.Meaning → Bool
   top_settable (word.Shape kind number) = false
   top_settable (word.GlobalActor number) = false
@@ -137,6 +144,9 @@ module _ (world : World) where
   top_settable (word.Global number) = is_var_global (slice_get world.globals number)
   top_settable word.Entry = false
 
+  -- Whether a word can be assigned, by its sense: a variable that is a `var`, a global `var`, or a
+  -- `var` of the class or actor around. One of the struct around can't, since `self` is no
+  -- variable.
   abbrev pub word_settable : Sense → Bool
   word_settable (Variable variable) = variable.mutable
   word_settable (OwnProperty shape number) =
@@ -147,14 +157,15 @@ module _ (world : World) where
   word_settable Printing = false
   word_settable Nothing = false
 
-  -- the members of a value
+  -- What a name means after the `.` of a value, by the outermost form of the value's type: a member
+  -- of a declared type, or `value` of a task.
   abbrev pub found_layer : layer.Ty-F Ty → ℕ → Found
   found_layer layer.Int id = NoMember
   found_layer layer.Bool id = NoMember
   found_layer layer.Unit id = NoMember
   found_layer (layer.Named shape) id = member_found shape (world.known.members shape id)
   found_layer (layer.Func marked params result) id = NoMember
-  found_layer (layer.Task inner) id = if id == 8 then Result inner else NoMember
+  found_layer (layer.Task inner) id = if id == value_id then Result inner else NoMember
 
   abbrev pub found_in : Ty → ℕ → Found
   found_in ty id = found_layer (out-Ty ty) id
@@ -173,7 +184,7 @@ module _ (world : World) where
   found_settable base (Result ty) = false
   found_settable base NoMember = false
 
--- what a word that is read means
+-- the meaning of a word that is read and means something at top level: a global variable has one
 abbrev pub top_meaning : words.Meaning → Option Meaning
 top_meaning (word.Shape kind number) = None
 top_meaning (word.GlobalActor number) = None
@@ -181,6 +192,7 @@ top_meaning (word.Func key) = None
 top_meaning (word.Global number) = Some (means.GlobalOf number)
 top_meaning word.Entry = None
 
+-- the meaning of a word that is read, by its sense; none where it is no value
 abbrev pub word_meaning : Sense → Option Meaning
 word_meaning (Variable variable) = Some (means.Local variable.at)
 word_meaning (OwnProperty shape number) = Some (means.OwnPart number)

@@ -71,7 +71,8 @@ pub labels_here : (slots : List Slot) (given : List Given) (i : ℕ) (one : Give
     ≡ (wants_label (slice_get slots i) one.label
     && labels_fit (drop (i + 1) slots) (drop (i + 1) given))
 labels_here slots given i one within is =
-    rw add-one (labels_at slots given i one (slice_get_read given (length given) i one refl within is))
+    rw add-one
+    (labels_at slots given i one (slice_get_read given (length given) i one refl within is))
 
 -- the types from an index on: that of the argument there, and those after it
 pub types_here : (slots : List Slot) (given : List Given) (i : ℕ) (one : Given)
@@ -79,7 +80,8 @@ pub types_here : (slots : List Slot) (given : List Given) (i : ℕ) (one : Given
     ≡ (takes_type (slice_get slots i) one.ty
     && types_fit (drop (i + 1) slots) (drop (i + 1) given))
 types_here slots given i one within is =
-    rw add-one (types_at slots given i one (slice_get_read given (length given) i one refl within is))
+    rw add-one
+    (types_at slots given i one (slice_get_read given (length given) i one refl within is))
 
 drop_all : {A : Type 0} (xs : List A) (i : ℕ) → length xs ≤ i → drop i xs ≡ []
 drop_all [] i past = drop_none i

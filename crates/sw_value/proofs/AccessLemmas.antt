@@ -90,9 +90,11 @@ names_map j f names (Some p) a h = sym (ap (λ x. x.job) (some_injective h)) ∙
 instr_names : (graph : Graph) (state : State) (j : ℕ) (frame : Frame) (i : Instr)
     → Names j (access_of graph state j frame i)
 instr_names graph state j frame (instr.LoadBox at r b) =
-    names_map j (read_by j at) (λ p. refl) (option_and_then (box_at state) (reference_at frame.regs b))
+    names_map j (read_by j at) (λ p. refl)
+    (option_and_then (box_at state) (reference_at frame.regs b))
 instr_names graph state j frame (instr.StoreBox at b s) =
-    names_map j (write_by j at) (λ p. refl) (option_and_then (box_at state) (reference_at frame.regs b))
+    names_map j (write_by j at) (λ p. refl)
+    (option_and_then (box_at state) (reference_at frame.regs b))
 instr_names graph state j frame (instr.LoadProp at r o i) =
     names_map j (read_by j at) (λ p. refl)
     (option_and_then (part_at graph state i) (reference_at frame.regs o))

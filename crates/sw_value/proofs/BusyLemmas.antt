@@ -1,7 +1,7 @@
 -- Lemmas on the executors that are taken.
-use Rattle.std.proofs.Common.{◌≡◌, ℕ, ◌+◌, ◌-◌, ◌<◌, ◌≤◌, zero, suc, Bool, true, false, cond, not, Option}
-use Rattle.std.proofs.Common.{Some, None, List, [], ◌∷◌, ◌++◌, length, take, get_or, count_by, eqb, refl, ap, sym, subst, ◌∙◌, arith}
-use Rattle.std.proofs.Common.{length-append}
+use Rattle.std.proofs.Common.{◌≡◌, ℕ, ◌+◌, ◌-◌, ◌<◌, ◌≤◌, zero, suc, Bool, true, false, cond, not}
+use Rattle.std.proofs.Common.{Option, Some, None, List, [], ◌∷◌, ◌++◌, length, take, get_or}
+use Rattle.std.proofs.Common.{count_by, eqb, refl, ap, sym, subst, ◌∙◌, arith, length-append}
 use Rattle.std.proofs.lemmas.List.{length-set, length-take-le}
 use Rattle.std.specs.Prelude.{◌&&◌, ◌||◌, nat_lt, option_and_then}
 use Rattle.std.specs.List.{slice_get, slice_set, list_any}
@@ -179,29 +179,30 @@ busy_next before after jobs i job o inside here agrees holds replaced =
     (subst (λ p. IsReplaced None p before after) holds replaced))
 
 -- an executor is taken out by its place, which the last one takes
-pub removed_within : (old front : List Executor) (last b : Executor) (i : ℕ)
-    → old ≡ front ++ last ∷ [] → i < length front → slice_get old i ≡ Some b
-    → IsReplaced (Some b) None old (slice_set front i last)
-removed_within old front last b i e inside there = record {
+pub removed_within : (old earlier : List Executor) (last b : Executor) (i : ℕ)
+    → old ≡ earlier ++ last ∷ [] → i < length earlier → slice_get old i ≡ Some b
+    → IsReplaced (Some b) None old (slice_set earlier i last)
+removed_within old earlier last b i e inside there = record {
   each = λ x.
-      let here = get_before front i b last (ap (λ l. slice_get l i) (sym e) ∙ there) inside in
-      let moved = count_set (λ y. is_same y x) front i b last here in
-      let all = ap (times x) e ∙ count_push (λ y. is_same y x) front last in
+      let here = get_before earlier i b last (ap (λ l. slice_get l i) (sym e) ∙ there) inside in
+      let moved = count_set (λ y. is_same y x) earlier i b last here in
+      let all = ap (times x) e ∙ count_push (λ y. is_same y x) earlier last in
       omega (arith, moved, all);
 }
 
-pub removed_last : (old front : List Executor) (last b : Executor) (i : ℕ)
-    → old ≡ front ++ last ∷ [] → length front ≤ i → i < length old → slice_get old i ≡ Some b
-    → IsReplaced (Some b) None old front
-removed_last old front last b i e past inside there = record {
+pub removed_last : (old earlier : List Executor) (last b : Executor) (i : ℕ)
+    → old ≡ earlier ++ last ∷ [] → length earlier ≤ i → i < length old → slice_get old i ≡ Some b
+    → IsReplaced (Some b) None old earlier
+removed_last old earlier last b i e past inside there = record {
   each = λ x.
-      let count = ap length e ∙ length-append front (last ∷ []) in
-      let place : i ≡ length front = omega (arith, count) in
+      let count = ap length e ∙ length-append earlier (last ∷ []) in
+      let place : i ≡ length earlier = omega (arith, count) in
       let end = ap (slice_get old) (sym place) ∙ there in
       let same : last ≡ b =
-      some_injective (sym (slice_get_end front last) ∙ ap (λ l. slice_get l (length front)) (sym e)
+      some_injective
+      (sym (slice_get_end earlier last) ∙ ap (λ l. slice_get l (length earlier)) (sym e)
       ∙ end) in
-      let all = ap (times x) e ∙ count_push (λ y. is_same y x) front last in
+      let all = ap (times x) e ∙ count_push (λ y. is_same y x) earlier last in
       let one_of = ap (λ y. time x (Some y)) same in
       omega (arith, all, one_of);
 }
@@ -456,17 +457,19 @@ pub held_left : (v : Value) (job : Job) (above below : Frame)
     ≡ cond (above.crossing || not (is_running job)) None (exclusive below.executor)
 unfolding held is_running leave top_frame
 held_left v job above below top second more =
-    let front = take (length job.frames - 1) job.frames in
-    let count : length front ≡ length job.frames - 1 =
+    let earlier = take (length job.frames - 1) job.frames in
+    let count : length earlier ≡ length job.frames - 1 =
     length-take-le (length job.frames - 1) job.frames (omega arith) in
-    let place : length front - 1 ≡ length job.frames - 2 = omega (arith, count) in
-    let there : slice_get front (length front - 1) ≡ Some below =
-    rw place (get_take job.frames (length job.frames - 1) (length job.frames - 2) below (omega arith) second) in
+    let place : length earlier - 1 ≡ length job.frames - 2 = omega (arith, count) in
+    let there : slice_get earlier (length earlier - 1) ≡ Some below =
+    rw place (get_take job.frames (length job.frames - 1) (length job.frames - 2) below
+    (omega arith) second) in
     let y = take_result above.result v below in
     ap (λ o. held (return_from o v job)) top
-    ∙ ap held (return_to_there front above below v job.status there)
-    ∙ ap (λ o. cond (is_running_status (cond above.crossing Ready job.status)) (executor_held o) None)
-    (last_set front below y there)
+    ∙ ap held (return_to_there earlier above below v job.status there)
+    ∙ ap (λ o.
+    cond (is_running_status (cond above.crossing Ready job.status)) (executor_held o) None)
+    (last_set earlier below y there)
     ∙ ap (λ e. cond (is_running_status (cond above.crossing Ready job.status)) (exclusive e) None)
     (take_result_stays above.result v below)
     ∙ going above.crossing job.status (exclusive below.executor)
@@ -479,7 +482,8 @@ held_ended v job few = by job.frames refl few where
   by [] e few =
       ap held (leave_none v job e)
       ∙ ap (λ (l : List Frame). cond (is_running_status job.status)
-      (executor_held (slice_get l (length l - 1))) None) e ∙ none (is_running_status job.status) where
+      (executor_held (slice_get l (length l - 1))) None) e
+      ∙ none (is_running_status job.status) where
         none : (b : Bool) → cond b (executor_held None) None ≡ None
         none true = refl
         none false = refl

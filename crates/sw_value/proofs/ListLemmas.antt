@@ -168,7 +168,8 @@ pub mapped_some : {A : Type 0} (g : A → A) (i : ℕ) (xs : List (Option A)) (x
     → slice_get xs i ≡ Some (Some x) → y ≡ g x
     → slice_set xs i (Some y) ≡ changed_at (option_map g) i xs
 mapped_some g i xs x y e h =
-    sym (changed_at_there (option_map g) i xs (Some x) e ∙ ap (λ z. slice_set xs i (Some z)) (sym h))
+    sym (changed_at_there (option_map g) i xs (Some x) e
+    ∙ ap (λ z. slice_set xs i (Some z)) (sym h))
 
 pub mapped_none : {A : Type 0} (g : A → A) (i : ℕ) (xs : List (Option A)) (o : Option A)
     → slice_get xs i ≡ Some o → o ≡ None → slice_set xs i o ≡ changed_at (option_map g) i xs

@@ -88,13 +88,15 @@ race_decided graph state i j =
           → next_access graph state j ≡ Some b → Decided (IsConflict a b)
           → Decided (IsRaceOf graph state i j)
       by_conflict less a e b f (inl c) =
-          inl (record { one = a; other = b; order = less; one_next = e; other_next = f; conflict = c })
+          inl
+          (record { one = a; other = b; order = less; one_next = e; other_next = f; conflict = c })
       by_conflict less a e b f (inr n) = inr (λ r.
           let one : r.one ≡ a = some_injective (sym r.one_next ∙ e) in
           let other : r.other ≡ b = some_injective (sym r.other_next ∙ f) in
           n (subst (λ x. IsConflict x b) one (subst (IsConflict r.one) other r.conflict)))
 
-      by : (i < j) ⊎ (j ≤ i) → (o : Option Access) → next_access graph state i ≡ o → (p : Option Access)
+      by : (i < j) ⊎ (j ≤ i) → (o : Option Access) → next_access graph state i ≡ o
+          → (p : Option Access)
           → next_access graph state j ≡ p → Decided (IsRaceOf graph state i j)
       by (inr more) _ _ _ _ = inr (λ r. let less = r.order in absurd (omega (arith, less, more)))
       by (inl less) None e _ _ = inr (λ r. let some = r.one_next in cc)
@@ -174,7 +176,8 @@ least_race graph state = by
     (races_decided graph state) (length state.jobs)) where
       no_later : (i j : ℕ) → ((k : ℕ) → k < i
           → ((l : ℕ) × IsLeast (IsRaceOf graph state k) (length state.jobs) l) → ⊥)
-          → ((l : ℕ) → l < j → IsRaceOf graph state i l → ⊥) → (race other : Race) → race.first.job ≡ i
+          → ((l : ℕ) → l < j → IsRaceOf graph state i l → ⊥) → (race other : Race)
+          → race.first.job ≡ i
           → race.second.job ≡ j → IsRace graph state other → IsNoLater race other
       no_later i j first second race other one two is = elim (cases_order i other.first.job) [
         | inl e ↦ inr (
@@ -189,10 +192,12 @@ least_race graph state = by
         | inr (inl less) ↦ inl (omega (arith, one, less))
         | inr (inr more) ↦ absurd
             (first other.first.job more
-            (least_second graph state other.first.job other.second.job (of_race graph state other is)))
+            (least_second graph state other.first.job other.second.job
+            (of_race graph state other is)))
       ]
 
-      by : ((i : ℕ) × IsLeast (λ i. (j : ℕ) × IsLeast (IsRaceOf graph state i) (length state.jobs) j)
+      by : ((i : ℕ)
+          × IsLeast (λ i. (j : ℕ) × IsLeast (IsRaceOf graph state i) (length state.jobs) j)
           (length state.jobs) i)
           ⊎ ((i : ℕ) → i < length state.jobs
           → ((j : ℕ) × IsLeast (IsRaceOf graph state i) (length state.jobs) j) → ⊥)
@@ -207,7 +212,8 @@ least_race graph state = by
             record {
               is_race = is.2;
               least =
-                  λ other other_is. no_later i j least.first least.holds.1.first race other is.0 is.1
+                  λ other other_is.
+                  no_later i j least.first least.holds.1.first race other is.0 is.1
                   other_is;
             },
           )

@@ -25,7 +25,7 @@ use Rattle.sw_value.specs.declared.state.TrapKind.TheVariants.{Frames, Jobs}
 use Rattle.sw_value.specs.declared.frame.TheConstants.{MAX_FRAMES}
 use Rattle.sw_value.specs.declared.cell.HeapCell.{HeapCell}
 use Rattle.sw_value.specs.declared.cell.Slot.{Slot}
-use Rattle.sw_value.specs.declared.cell.Slot.TheVariants.{Part, Held}
+use Rattle.sw_value.specs.declared.cell.Slot.TheVariants.{Part, Content}
 use Rattle.sw_value.specs.Cell.{with_slot, task_of}
 use Rattle.sw_value.specs.Arithmetic.{unary, binary}
 use Rattle.sw_value.specs.Call.{called_frame, closure_frame}
@@ -41,7 +41,7 @@ use Rattle.sw_graph.specs.Points.{Point, Middle, End}
 use Rattle.sw_value.specs.Frame.{point_at}
 use Rattle.sw_value.specs.Printed.{printed_line}
 use Rattle.sw_value.specs.Effect.{needs, set_of, computed_of, new_of, cell_at, loaded, slot_at}
-use Rattle.sw_value.specs.Effect.{store_of, enter_of, spawn_of, instr_effect, goto_of}
+use Rattle.sw_value.specs.Effect.{slot_write, enter_of, spawn_of, instr_effect, goto_of}
 use Rattle.sw_value.specs.Effect.{returned_value, last_effect, point_effect, effect_of}
 use Rattle.sw_value.specs.declared.effect.Act.{Act}
 use Rattle.sw_value.specs.declared.effect.Act.TheVariants.{Dispatch, Wake}
@@ -75,7 +75,7 @@ computed_room state next at r (Ok v) = tt
 computed_room state next at r (Err kind) = tt
 
 store_room : (state : State) (frame : Frame) (next : ℕ) (o : Operand) (slot : Slot) (s : Operand)
-    → HasRoom state (store_of state frame next o slot s)
+    → HasRoom state (slot_write state frame next o slot s)
 unfolding HasRoom
 store_room state frame next o slot s =
     room state (λ v. needs (slot_at state frame o slot) (λ c. effect.Write c slot v next))
@@ -109,7 +109,8 @@ instr_has_room graph state depth frame next (instr.Un at r op s) =
     (option_and_then (unary op) (operand_value frame.regs s))
 instr_has_room graph state depth frame next (instr.Bin at r op s t) =
     room state
-    (λ v. needs (option_and_then (binary op v) (operand_value frame.regs t)) (computed_of next at r))
+    (λ v.
+    needs (option_and_then (binary op v) (operand_value frame.regs t)) (computed_of next at r))
     (λ v. room state (computed_of next at r) (computed_room state next at r)
     (option_and_then (binary op v) (operand_value frame.regs t))) (operand_value frame.regs s)
 instr_has_room graph state depth frame next (instr.Print at r ss) =
@@ -138,9 +139,9 @@ instr_has_room graph state depth frame next (instr.NewActor at r k ss) =
     room state (λ parts. new_of state next r (cell.Actor k parts)) (λ parts. tt)
     (values_at frame.regs ss)
 instr_has_room graph state depth frame next (instr.LoadBox at r b) =
-    set_room state next r (loaded state frame b Held)
+    set_room state next r (loaded state frame b Content)
 instr_has_room graph state depth frame next (instr.StoreBox at b s) =
-    store_room state frame next b Held s
+    store_room state frame next b Content s
 instr_has_room graph state depth frame next (instr.LoadProp at r o i) =
     set_room state next r (loaded state frame o (Part i))
 instr_has_room graph state depth frame next (instr.StoreProp at o i s) =

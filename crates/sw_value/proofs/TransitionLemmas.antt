@@ -34,7 +34,8 @@ use Rattle.sw_value.specs.Effect.{effect_of}
 use Rattle.sw_value.specs.Act.{execution_of, dispatch_of, act_by, act_of}
 use Rattle.sw_value.specs.Transition.{Transition, is_last_frame, entered_by, left_by, made_by}
 use Rattle.sw_value.specs.Transition.{followed_by, ends_by, transition_by, transition_of}
-use Rattle.sw_value.specs.Transition.{executor_of_top, executor_in, runs_at, awaited_by, gained, Describes}
+use Rattle.sw_value.specs.Transition.{executor_of_top, executor_in, runs_at, awaited_by, gained}
+use Rattle.sw_value.specs.Transition.{Describes}
 use Rattle.sw_value.specs.Reach.{after_act, step_of}
 use Rattle.sw_value.proofs.ListLemmas.{some_injective, length-changed_at, changed_at_found}
 use Rattle.sw_value.proofs.ListLemmas.{slice_get_end}

@@ -1,8 +1,8 @@
 -- What operators compute. A result outside 64 bits and a zero divisor are traps.
 use Rattle.std.specs.Prelude.{◌^◌, nat_lt, Bool, true, false, Option, Some, None}
 use Rattle.std.specs.Prelude.{if◌then◌else◌, not, option_map}
-use Rattle.std.specs.Prelude.{ℤ, pos, negsuc, ◌+ℤ◌, ◌-ℤ◌, ◌*ℤ◌, neg_ℤ, int_lt, int_le, int_div, int_rem}
-use Rattle.std.specs.Prelude.{Result, Ok, Err}
+use Rattle.std.specs.Prelude.{ℤ, pos, negsuc, ◌+ℤ◌, ◌-ℤ◌, ◌*ℤ◌, neg_ℤ, int_lt, int_le, int_div}
+use Rattle.std.specs.Prelude.{int_rem, Result, Ok, Err}
 use Rattle.std.specs.Ordering.{int_eq}
 use Rattle.sw_graph.specs.declared.instr.UnOp.{UnOp}
 use Rattle.sw_graph.specs.declared.instr.UnOp.TheVariants.{Not, Neg}

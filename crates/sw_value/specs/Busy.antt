@@ -1,4 +1,5 @@
--- The executors that are taken: what a state keeps of its jobs, to find whether an executor is free.
+-- The executors that are taken: what a state keeps of its jobs, to find whether an executor is
+-- free.
 use Rattle.std.specs.Prelude.{◌≡◌, ℕ, ◌+◌, Bool, true, false, Option, Some, None, List, count_by}
 use Rattle.std.specs.Prelude.{if◌then◌else◌, option_and_then}
 use Rattle.sw_value.specs.declared.executor.Executor.{Executor}

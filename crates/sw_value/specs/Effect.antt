@@ -16,7 +16,7 @@ use Rattle.sw_value.specs.declared.value.Value.TheVariants as value
 use Rattle.sw_value.specs.declared.cell.HeapCell.{HeapCell}
 use Rattle.sw_value.specs.declared.cell.HeapCell.TheVariants.{Object, Actor, BoxOf, Closure}
 use Rattle.sw_value.specs.declared.cell.Slot.{Slot}
-use Rattle.sw_value.specs.declared.cell.Slot.TheVariants.{Part, Held}
+use Rattle.sw_value.specs.declared.cell.Slot.TheVariants.{Part, Content}
 use Rattle.sw_value.specs.declared.frame.Frame.{Frame}
 use Rattle.sw_value.specs.declared.state.State.{State}
 use Rattle.sw_value.specs.declared.state.TrapKind.{TrapKind}
@@ -71,14 +71,14 @@ slot_at state frame o slot =
     (reference_at frame.regs o)
 
 -- a value is written into a slot of the cell of an operand
-abbrev pub store_of : State → Frame → ℕ → Operand → Slot → Operand → Effect
-store_of state frame next o slot s =
+abbrev pub slot_write : State → Frame → ℕ → Operand → Slot → Operand → Effect
+slot_write state frame next o slot s =
     needs (operand_value frame.regs s)
     (λ v. needs (slot_at state frame o slot) (λ c. Write c slot v next))
 
 -- a value is written into a global, if there is one with that number
-abbrev pub global_of : State → Frame → ℕ → ℕ → Operand → Effect
-global_of state frame next g s =
+abbrev pub global_write : State → Frame → ℕ → ℕ → Operand → Effect
+global_write state frame next g s =
     needs (operand_value frame.regs s)
     (λ v. needs (slice_get state.globals g) (λ old. WriteGlobal g v next))
 
@@ -128,17 +128,17 @@ instr_effect graph state depth frame next (instr.NewBox at r s) =
 instr_effect graph state depth frame next (instr.NewActor at r k ss) =
     needs (values_at frame.regs ss) (λ parts. new_of state next r (Actor k parts))
 instr_effect graph state depth frame next (instr.LoadBox at r b) =
-    set_of next r (loaded state frame b Held)
+    set_of next r (loaded state frame b Content)
 instr_effect graph state depth frame next (instr.StoreBox at b s) =
-    store_of state frame next b Held s
+    slot_write state frame next b Content s
 instr_effect graph state depth frame next (instr.LoadProp at r o i) =
     set_of next r (loaded state frame o (Part i))
 instr_effect graph state depth frame next (instr.StoreProp at o i s) =
-    store_of state frame next o (Part i) s
+    slot_write state frame next o (Part i) s
 instr_effect graph state depth frame next (instr.LoadGlobal at r g) =
     set_of next r (value_at state.globals g)
 instr_effect graph state depth frame next (instr.StoreGlobal at g s) =
-    global_of state frame next g s
+    global_write state frame next g s
 instr_effect graph state depth frame next (instr.NewClosure at r f cs) =
     needs (values_at frame.regs cs) (λ captures. new_of state next r (Closure f captures))
 instr_effect graph state depth frame next (instr.Call at r kind f ss) =

@@ -70,7 +70,8 @@ wait on r next job =
           Waiting on r;
     }
 
--- the job gives its executor up, to any other job that is ready; register r gets the value of `Void`
+-- the job gives its executor up, to any other job that is ready; register r gets the value of
+-- `Void`
 unfoldable pub rest : ℕ → ℕ → Job → Job
 rest r next job =
     record {

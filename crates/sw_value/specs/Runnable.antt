@@ -21,5 +21,6 @@ pub record IsRunnableFunction (function : Function) : Type 0 where
   pub points : All IsRunnablePoint (points_of function.blocks)
   pub numbered : IsNumbered function
 
+-- each function of the graph is such
 pub record IsRunnable (graph : Graph) : Type 0 where
   pub functions : All IsRunnableFunction graph.functions

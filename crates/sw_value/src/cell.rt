@@ -1,6 +1,6 @@
 ghost use Rattle.std.specs.Prelude.{◌≡◌};
 ghost use Rattle.std.specs.Option.{option_copied};
-ghost use Rattle.sw_value.specs.declared.cell.Slot.TheVariants.{Part, Held};
+ghost use Rattle.sw_value.specs.declared.cell.Slot.TheVariants.{Part, Content};
 ghost use Rattle.sw_value.specs.Cell.{slot_of, with_slot, task_of};
 
 use crate::value::{Value, ValueList, set_at};
@@ -30,7 +30,7 @@ pub enum Slot {
     /// A part of an object or an actor, by its index.
     Part(u32),
     /// What a box holds.
-    Held,
+    Content,
 }
 
 impl HeapCell {
@@ -41,11 +41,11 @@ impl HeapCell {
         match self {
             HeapCell::Object { parts, .. } | HeapCell::Actor { parts, .. } => match slot {
                 Slot::Part(part) => parts.get(part as usize),
-                Slot::Held => None,
+                Slot::Content => None,
             },
             HeapCell::BoxOf { value } => match slot {
                 Slot::Part(_) => None,
-                Slot::Held => Some(value),
+                Slot::Content => Some(value),
             },
             HeapCell::Closure { .. } | HeapCell::TaskOf { .. } => None,
         }
@@ -57,12 +57,12 @@ impl HeapCell {
     {
         match slot {
             Slot::Part(part) => self.set_part(part, value),
-            Slot::Held => self.set_held(value),
+            Slot::Content => self.set_content(value),
         }
     }
 
-    fn set_held(&mut self, value: Value)
-        ensures { self.new ≡ with_slot Held value self.old }
+    fn set_content(&mut self, value: Value)
+        ensures { self.new ≡ with_slot Content value self.old }
     {
         match self {
             HeapCell::BoxOf { value: held } => *held = value,

@@ -172,7 +172,7 @@ impl Job {
         }
     }
 
-    /// Gives the frames below a frame that has left them its value.
+    /// Hands the value of a frame that was taken off to the one below, or ends the job with it.
     #[tactic(auto, using(crate::proofs::JobLemmas::returns))]
     fn return_to(&mut self, frame: &Frame, value: Value)
         ensures { self.new ≡ return_to self.old.frames frame.now value self.old.status }

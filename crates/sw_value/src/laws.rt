@@ -29,7 +29,7 @@ pub fn states_stay_in_bounds()
         length (reach graph items).cells ≤ length items }
 {}
 
-/// A job that an item lets do nothing accesses nothing: one that is stuck, one that isn't running,
+/// A job whose item does nothing accesses nothing, such as a job that is stuck, one that has ended,
 /// and every job of a machine that is halted.
 pub fn idle_jobs_access_nothing()
     ensures idle { (graph : Graph) (state : State) (job : ℕ) →

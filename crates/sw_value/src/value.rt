@@ -1,7 +1,7 @@
 ghost use Rattle.std.specs.Prelude.{◌≡◌, IfOk, slice_set};
 ghost use Rattle.std.specs.Option.{option_copied};
-ghost use Rattle.sw_value.specs.Value.{value_of, reference_of, integer_of, truth_of, tag_of, field_of};
-ghost use Rattle.sw_value.specs.Value.{with_field, payload_of, made};
+ghost use Rattle.sw_value.specs.Value.{value_of, reference_of, integer_of, truth_of, tag_of};
+ghost use Rattle.sw_value.specs.Value.{field_of, with_field, payload_of, made};
 
 use std::alloc::{AllocError, Global};
 use sw_graph::Literal;

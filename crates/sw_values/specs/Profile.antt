@@ -1,5 +1,8 @@
--- First values and initialisers outside the profile (E306).
-use Rattle.std.specs.Prelude.{ℕ, Bool, false, ◌&&◌, ◌||◌, ◌==◌, ◌+◌, List, [], ◌∷◌, ◌++◌, Option, Some}
+-- The values of declarations that the language doesn't have (E306): first values that aren't
+-- simple, or that leave a type unknown, and statements of an initialiser that don't give one
+-- property its simple value.
+use Rattle.std.specs.Prelude.{ℕ, Bool, false, ◌&&◌, ◌||◌, ◌==◌, ◌+◌, List, [], ◌∷◌, ◌++◌, Option}
+use Rattle.std.specs.Prelude.{Some}
 use Rattle.std.specs.Prelude.{None, map, flat_map, is_some, is_none, if◌then◌else◌}
 use Rattle.sw_tree.specs.NodeKey.{expr_key, stmt_key}
 use Rattle.sw_tree.specs.declared.decl.Decl.{Decl}
@@ -23,9 +26,11 @@ use Rattle.sw_values.specs.Simple.{is_simple}
 use Rattle.sw_values.specs.Values.{StmtLayer, set_by, set_in, without_value}
 use Rattle.sw_values.specs.declared.counts.Times.{Times}
 
+-- the breach of a value or a statement outside the profile
 abbrev pub outside : ℕ → List Placed
 outside at = record { at = at; code = 306 } ∷ []
 
+-- no name is that of a parameter
 abbrev pub no_params : ℕ → Option ℕ
 no_params = first_place []
 

@@ -36,7 +36,8 @@ fn named_enum(
     base: &Expr,
 ) -> Option<u32>
     ensures { result
-        ≡ (worth (tabled words.now members.now) owner (get nat_eq params.now.places) base.now).enum }
+        ≡ (worth (tabled words.now members.now) owner (get nat_eq params.now.places)
+        base.now).enum }
 {
     match base {
         Expr::Use { name } => enum_of(read(words, members, owner, params, name.id)),

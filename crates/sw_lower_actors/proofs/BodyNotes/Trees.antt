@@ -1,5 +1,5 @@
--- What is noted of a tree: where its context is isolated to `self`, bodies of its own keys, and else
--- no body that is isolated to `self`.
+-- What is noted of a tree: where its context is isolated to `self`, bodies of its own keys, and
+-- else no body that is isolated to `self`.
 use Rattle.std.proofs.Common.{◌≡◌, ℕ, Bool, true, List, [], ◌∷◌, map, Option, Some}
 use Rattle.std.proofs.Common.{None, option_map, unwrap_or, sym, subst, arith}
 use Rattle.std.specs.List.{AllByRecursion}
@@ -23,7 +23,7 @@ use Rattle.sw_tree.specs.declared.stmt.Stmt.TheVariants as stmts
 use Rattle.sw_tree.proofs.Counting.{count, in_all, in_option, in_all-cons}
 use Rattle.sw_tree.proofs.FoldEquations as eq
 use Rattle.sw_tree.proofs.KeyCounts as keys
-use Rattle.sw_tree.proofs.KeyCounts.{in_arg, in_block, in_expr, in_link}
+use Rattle.sw_tree.proofs.KeyCounts.{in_block, in_expr, in_link}
 use Rattle.sw_tree.proofs.TreeInduction.{Claims, Cases, Given, every_block}
 use Rattle.sw_tree.proofs.TreeInduction.{every_expr}
 use Rattle.sw_typing_rules.specs.Judges.{closure_of}
@@ -47,8 +47,10 @@ use Rattle.std.proofs.Common.{◌≤◌, ◌++◌}
 use Rattle.sw_tree.proofs.Counting.{hits_same}
 use Rattle.sw_isolation_rules.specs.Kinds.{is_own}
 use Rattle.sw_lower_total.proofs.Closures.Isolated.{closure_own, task_own}
+use Rattle.sw_isolation_rules.proofs.NotedUses as uses
+use Rattle.sw_lower_actors.specs.Owning.{NoteOwn}
 use Rattle.sw_lower_actors.proofs.BodyNotes.Noted as noted
-use Rattle.sw_lower_actors.proofs.BodyNotes.Noted.{AllOwn}
+use Rattle.sw_lower_actors.proofs.BodyNotes.Noted.{AllOwn, leaf_own}
 
 module _ (world : World) (answers : Answers) (Good : ℕ → Type 0) where
   abbrev pub steps : Steps
@@ -59,15 +61,15 @@ module _ (world : World) (answers : Answers) (Good : ℕ → Type 0) where
   join = noted.join Good
 
   abbrev of_mentions : (mentions : List Mention) → AllOwn Good (map Mentioned mentions)
-  of_mentions = noted.of_mentions Good
+  of_mentions = uses.of_mentions (NoteOwn Good) (leaf_own Good)
 
   abbrev of_store : (context : Context) (at : ℕ) (used : Used) (inside : List Note)
       → AllOwn Good inside → AllOwn Good (store_notes context at used inside)
-  of_store = noted.of_store Good
+  of_store = uses.of_store (NoteOwn Good) (leaf_own Good)
 
   abbrev of_await : (context : Context) (at : ℕ) (is_async : Bool)
       → AllOwn Good (await_notes context at is_async)
-  of_await = noted.of_await Good
+  of_await = uses.of_await (NoteOwn Good) (leaf_own Good)
 
   abbrev of_task : (at : ℕ) → AllOwn Good (task_races world answers at)
   of_task = noted.of_task Good world answers
@@ -77,7 +79,7 @@ module _ (world : World) (answers : Answers) (Good : ℕ → Type 0) where
 
   abbrev of_closed : (closure : ℕ) (context : Context) (listed : List ℕ) (inner : List Note)
       → AllOwn Good inner → AllOwn Good (closed world context closure listed inner)
-  of_closed = noted.of_closed Good world answers
+  of_closed closure = uses.of_closed (NoteOwn Good) (leaf_own Good) closure world
 
   -- Where a context is isolated to `self`, the keys that are counted are good.
   abbrev AreGood : Context → Keys → Type 0
@@ -123,13 +125,14 @@ module _ (world : World) (answers : Answers) (Good : ℕ → Type 0) where
   word_own at context =
       join (mention_notes world answers context at) _
       (of_mentions (word_mentions world answers context.owner at))
-      (noted.of_use Good context at (used_at world answers context no_base at))
+      (uses.of_use (NoteOwn Good) (leaf_own Good) context at
+      (used_at world answers context no_base at) (λ kind. tt))
 
   member_own : (base : Seen) (at : ℕ) (context : Context)
       → AllOwn Good (member_notes world answers base at context)
   member_own base at context =
-      noted.of_use Good context at
-      (used_at world answers context (base_of answers base.key base.is_self) at)
+      uses.of_use (NoteOwn Good) (leaf_own Good) context at
+      (used_at world answers context (base_of answers base.key base.is_self) at) (λ kind. tt)
 
   place_own : (op : AssignOp) (place : Seen) (keys : Keys) → SeenOwn place keys
       → NotesOwn (place_notes world answers op place) keys
@@ -254,11 +257,13 @@ module _ (world : World) (answers : Answers) (Good : ℕ → Type 0) where
           notes = λ context listed good.
               join _ _
               (of_base.notes context listed
-              (λ key own some. good key own (omega (arith, some, keys.in_expr-Member base name key))))
+              (λ key own some.
+              good key own (omega (arith, some, keys.in_expr-Member base name key))))
               (member_own (fold_expr steps base) name.at context);
           before = λ context listed good.
               of_base.notes context listed
-              (λ key own some. good key own (omega (arith, some, keys.in_expr-Member base name key)));
+              (λ key own some.
+              good key own (omega (arith, some, keys.in_expr-Member base name key)));
           stores = λ context place.
               of_store context place (used_at world answers context
               (base_of answers (fold_expr steps base).key (fold_expr steps base).is_self) name.at)
@@ -276,15 +281,19 @@ module _ (world : World) (answers : Answers) (Good : ℕ → Type 0) where
         (value_own name.at _ _ (λ context listed good.
         let split = keys.in_expr-Method base name args in
         join _ _
-        (join _ _ (of_base.notes context listed (λ key own some. good key own (omega (arith, some, split key))))
+        (join _ _ (of_base.notes context listed
+        (λ key own some. good key own (omega (arith, some, split key))))
         (member_own (fold_expr steps base) name.at context))
-        (many (fold_arg steps) arg_keys args all context listed (λ key own some. good key own (omega (arith, some, split key))))));
+        (many (fold_arg steps) arg_keys args all context listed
+        (λ key own some. good key own (omega (arith, some, split key))))));
     chain = λ first rest of_first all.
         expr_at (exprs.Chain first rest) _ (eq.fold_expr-Chain steps first rest)
         (value_own _ _ _ (λ context listed good.
         let split = keys.in_expr-Chain first rest in
-        join _ _ (of_first.notes context listed (λ key own some. good key own (omega (arith, some, split key))))
-        (operands rest all context listed (λ key own some. good key own (omega (arith, some, split key))))));
+        join _ _ (of_first.notes context listed
+        (λ key own some. good key own (omega (arith, some, split key))))
+        (operands rest all context listed
+        (λ key own some. good key own (omega (arith, some, split key))))));
     prefix = λ op at inner of_inner.
         expr_at (exprs.Prefix op at inner) _ (eq.fold_expr-Prefix steps op at inner)
         (value_own at _ _ (λ context listed good.
@@ -334,7 +343,8 @@ module _ (world : World) (answers : Answers) (Good : ℕ → Type 0) where
         (λ context listed good.
         let split = keys.in_stmt-Bind mutable name ty value in
         join _ _ (var_own mutable name.at)
-        (of_value.notes context listed (λ key own some. good key own (omega (arith, some, split key)))));
+        (of_value.notes context listed
+        (λ key own some. good key own (omega (arith, some, split key)))));
     assign = λ at op place value of_place of_value.
         stmt_at (stmts.Assign at op place value) _ (eq.fold_stmt-Assign steps at op place value)
         (λ context listed good.
@@ -342,7 +352,8 @@ module _ (world : World) (answers : Answers) (Good : ℕ → Type 0) where
         join _ _
         (place_own op (fold_expr steps place) (expr_keys place) of_place context listed
         (λ key own some. good key own (omega (arith, some, split key))))
-        (of_value.notes context listed (λ key own some. good key own (omega (arith, some, split key)))));
+        (of_value.notes context listed
+        (λ key own some. good key own (omega (arith, some, split key)))));
     discard = λ at value of_value.
         stmt_at (stmts.Discard at value) _ (eq.fold_stmt-Discard steps at value)
         (λ context listed good.
@@ -355,12 +366,14 @@ module _ (world : World) (answers : Answers) (Good : ℕ → Type 0) where
         join _ _
         (many (fold_if_arm steps) if_arm_keys arms all context listed
         (λ key own some. good key own (omega (arith, some, split key))))
-        (otherwise_own otherwise last context listed (λ key own some. good key own (omega (arith, some, split key)))));
+        (otherwise_own otherwise last context listed
+        (λ key own some. good key own (omega (arith, some, split key)))));
     while_of = λ at cond body of_cond of_body.
         stmt_at (stmts.While at cond body) _ (eq.fold_stmt-While steps at cond body)
         (λ context listed good.
         let split = keys.in_stmt-While at cond body in
-        join _ _ (of_cond.notes context listed (λ key own some. good key own (omega (arith, some, split key))))
+        join _ _ (of_cond.notes context listed
+        (λ key own some. good key own (omega (arith, some, split key))))
         (of_body context listed (λ key own some. good key own (omega (arith, some, split key)))));
     switch = λ at subject arms otherwise of_subject all last.
         stmt_at (stmts.Switch at subject arms otherwise) _
@@ -368,10 +381,12 @@ module _ (world : World) (answers : Answers) (Good : ℕ → Type 0) where
         (λ context listed good.
         let split = keys.in_stmt-Switch at subject arms otherwise in
         join _ _
-        (join _ _ (of_subject.notes context listed (λ key own some. good key own (omega (arith, some, split key))))
+        (join _ _ (of_subject.notes context listed
+        (λ key own some. good key own (omega (arith, some, split key))))
         (many (fold_case_arm steps) case_arm_keys arms all context listed
         (λ key own some. good key own (omega (arith, some, split key)))))
-        (otherwise_own otherwise last context listed (λ key own some. good key own (omega (arith, some, split key)))));
+        (otherwise_own otherwise last context listed
+        (λ key own some. good key own (omega (arith, some, split key)))));
     return_of = λ at value given.
         stmt_at (stmts.Return at value) _ (eq.fold_stmt-Return steps at value)
         (λ context listed good.
@@ -386,12 +401,14 @@ module _ (world : World) (answers : Answers) (Good : ℕ → Type 0) where
     plain = λ value of_value.
         stmt_at (stmts.Plain value) _ (eq.fold_stmt-Plain steps value)
         (λ context listed good.
-        of_value.notes context listed (λ key own some. good key own (omega (arith, some, keys.in_stmt-Plain value key))));
+        of_value.notes context listed
+        (λ key own some. good key own (omega (arith, some, keys.in_stmt-Plain value key))));
     arg = λ label value of_value.
         arg_at (roll-Arg (record { label = label; value = value })) _
         (eq.fold_arg-roll steps label value)
         (λ context listed good.
-        of_value.notes context listed (λ key own some. good key own (omega (arith, some, keys.in_arg-roll label value key))));
+        of_value.notes context listed
+        (λ key own some. good key own (omega (arith, some, keys.in_arg-roll label value key))));
     closure = λ at mark captures params result body of_body.
         let split = keys.in_closure-roll at mark captures params result body in
         closure_at (closure_of at mark captures params result body) _
@@ -422,13 +439,15 @@ module _ (world : World) (answers : Answers) (Good : ℕ → Type 0) where
         (eq.fold_case_arm-roll steps name patterns body)
         (λ context listed good.
         of_body context listed
-        (λ key own some. good key own (omega (arith, some, keys.in_case_arm-roll name patterns body key))));
+        (λ key own some.
+        good key own (omega (arith, some, keys.in_case_arm-roll name patterns body key))));
     if_arm = λ at cond body of_cond of_body.
         if_arm_at (roll-IfArm (record { at = at; cond = cond; body = body })) _
         (eq.fold_if_arm-roll steps at cond body)
         (λ context listed good.
         let split = keys.in_if_arm-roll at cond body in
-        join _ _ (of_cond.notes context listed (λ key own some. good key own (omega (arith, some, split key))))
+        join _ _ (of_cond.notes context listed
+        (λ key own some. good key own (omega (arith, some, split key))))
         (of_body context listed (λ key own some. good key own (omega (arith, some, split key)))));
   }
 

@@ -30,8 +30,8 @@ use Rattle.sw_lower_code.specs.declared.taken.Taken.{Taken}
 use Rattle.sw_lower_table.specs.Bodies.{default_bodies, first_values}
 use Rattle.sw_lower_table.specs.Bodies.{func_bodies, func_signed, func_tree_bodies, getter}
 use Rattle.sw_lower_table.specs.Bodies.{give_value, global_bodies, global_getter}
-use Rattle.sw_lower_table.specs.Bodies.{init_bodies, init_code, init_signed, inits_bodies, made_instr}
-use Rattle.sw_lower_table.specs.Bodies.{prop_getters, prop_given, shape_getters}
+use Rattle.sw_lower_table.specs.Bodies.{init_bodies, init_code, init_signed, inits_bodies}
+use Rattle.sw_lower_table.specs.Bodies.{made_instr, prop_getters, prop_given, shape_getters}
 use Rattle.sw_lower_table.specs.Bodies.{value_bodies}
 use Rattle.sw_lower_table.specs.Carriers.{Given}
 use Rattle.sw_lower_table.specs.Expressions.{iso_of}
@@ -108,7 +108,10 @@ module _ (tables : Tables) (numbers : Numbers) (bodies : List Body) where
       let code = block_code tables func.owner block in
       let so = block_code_calls tables numbers bodies func.owner block are in
       All-cons Bodies _ code.inside
-      (record { code = body_code_calls tables numbers bodies func.result code so; isolated = λ is. cc }) so.inside
+      (record {
+        code = body_code_calls tables numbers bodies func.result code so;
+        isolated = λ is. cc;
+      }) so.inside
 
   pub func_goes : (key : ℕ) (params : List ParamTree) (block : Block)
       → Goes (func_bodies tables key params block)

@@ -67,7 +67,8 @@ module _ (tables : Tables) (numbers : Numbers) (bodies : List Body) where
   pub prefix_calls : (op : PrefixOp) (at : ℕ) (inner : ExprCode) → ExprSo inner
       → ExprSo (value at (andthen inner.read (prefixed op at)) inner.inside)
   prefix_calls op at inner so =
-      value_calls at _ inner.inside (writes_then inner.read _ so.read (writes_prefixed tables numbers bodies op at))
+      value_calls at _ inner.inside
+      (writes_then inner.read _ so.read (writes_prefixed tables numbers bodies op at))
       so.inside
 
   pub await_calls : (owner : Option ℕ) (at : ℕ) (inner : ExprCode)
@@ -82,7 +83,8 @@ module _ (tables : Tables) (numbers : Numbers) (bodies : List Body) where
         → ExprSo (chain_code tables owner first rest)
     chain_calls first rest so all inside =
         value_calls _ _ _
-        (writes_then first.read _ so.read (λ given. writes_links tables numbers bodies rest given all))
+        (writes_then first.read _ so.read
+        (λ given. writes_links tables numbers bodies rest given all))
         (All-append Bodies first.inside _ so.inside inside)
 
     -- closures and tasks
@@ -221,10 +223,12 @@ module _ (tables : Tables) (numbers : Numbers) (bodies : List Body) where
         → ArgsSo args → Here (closure_called tables owner at read args)
     writes_called at read args so all =
         writes_then read _ so (λ closure.
-        writes_then _ _ (writes_args tables numbers bodies args all) (writes_call_closure at closure))
+        writes_then _ _ (writes_args tables numbers bodies args all)
+        (writes_call_closure at closure))
 
     writes_call : (at : ℕ) (args : List ArgCode) (meaning : Option Meaning)
-        → tables.answers.meaning_at at ≡ meaning → ArgsSo args → Here (call_read tables owner at args meaning)
+        → tables.answers.meaning_at at ≡ meaning → ArgsSo args
+        → Here (call_read tables owner at args meaning)
     writes_call at args None is all = writes_unknown
     writes_call at args (Some (means.Local variable)) is all =
         writes_called at _ args (writes_read_var at variable) all
@@ -245,7 +249,8 @@ module _ (tables : Tables) (numbers : Numbers) (bodies : List Body) where
     writes_call at args (Some (means.CaseOf shape number)) is all = writes_unknown
     writes_call at args (Some (means.PartOf number)) is all = writes_unknown
     writes_call at args (Some means.Print) is all =
-        writes_then _ _ (writes_args tables numbers bodies args all) (λ operands. writes_give at types.Unit _ (λ r. tt))
+        writes_then _ _ (writes_args tables numbers bodies args all)
+        (λ operands. writes_give at types.Unit _ (λ r. tt))
     writes_call at args (Some means.TaskValue) is all = writes_unknown
 
     pub call_calls : (at : ℕ) (args : List ArgCode) (inside : List Body)
@@ -268,7 +273,8 @@ module _ (tables : Tables) (numbers : Numbers) (bodies : List Body) where
         writes_call_func at number (receiver ∷ operands) (inl is)))
     writes_method at base args (Some (means.MakeOf shape)) is so all = writes_unknown
     writes_method at base args (Some (means.CaseOf shape number)) is so all =
-        writes_then _ _ (writes_args tables numbers bodies args all) (writes_make_value at shape (Some number))
+        writes_then _ _ (writes_args tables numbers bodies args all)
+        (writes_make_value at shape (Some number))
     writes_method at base args (Some (means.PartOf number)) is so all =
         writes_called at _ args (writes_of_base at base number so) all
     writes_method at base args (Some means.Print) is so all = writes_unknown

@@ -200,16 +200,16 @@ module _ (tables : Tables) (numbers : Numbers) (bodies : List Body) where
         → SomeGoes otherwise → StmtGoes (steps.stmt (layer.Switch at subject arms otherwise))
     switch_goes at subject arms otherwise of_subject goes last are =
         let inside = flat_map (λ (arm : CaseCode). arm.body.inside) arms in
-        let front = subject.inside ++ inside in
-        let first = in_left tables numbers bodies front (inside_of otherwise) are in
+        let before = subject.inside ++ inside in
+        let first = in_left tables numbers bodies before (inside_of otherwise) are in
         let from = of_subject (in_left tables numbers bodies subject.inside inside first) in
         let all = each_so tables numbers bodies (λ (arm : CaseCode). arm.body.inside)
         (λ arm. BlockCalls tables numbers bodies arm.body) arms goes
         (in_right tables numbers bodies subject.inside inside first) in
-        let so = last (in_right tables numbers bodies front (inside_of otherwise) are) in
+        let so = last (in_right tables numbers bodies before (inside_of otherwise) are) in
         stmt_calls _ _
         (λ targets. switch_calls tables numbers bodies subject arms otherwise targets from all so.0)
-        (All-append Bodies front (inside_of otherwise)
+        (All-append Bodies before (inside_of otherwise)
         (All-append Bodies subject.inside inside from.inside
         (each_inside tables numbers bodies (λ (arm : CaseCode). arm.body.inside)
         (λ arm. BlockCalls tables numbers bodies arm.body) (λ arm one. one.inside) arms all)) so.1)

@@ -34,11 +34,11 @@ use Rattle.sw_lower_actors.proofs.Calls.Operators.{writes_jump}
 use Rattle.sw_lower_actors.proofs.Calls.Uses.{writes_give, writes_shape_at, writes_shape_of}
 use Rattle.sw_lower_actors.proofs.Calls.Uses.{writes_typed}
 use Rattle.sw_lower_actors.proofs.Writing.Joining.{Gives, gives_after, gives_done, gives_each}
-use Rattle.sw_lower_actors.proofs.Writing.Joining.{writes_all, writes_done, writes_each_of, writes_with}
-use Rattle.sw_lower_actors.proofs.Writing.Joining.{writes_scope, writes_then}
-use Rattle.sw_lower_actors.proofs.Writing.Steps.{writes_bind, writes_block, writes_close, writes_emit}
-use Rattle.sw_lower_actors.proofs.Writing.Steps.{writes_front, writes_known, writes_reg}
-use Rattle.sw_lower_actors.proofs.Writing.Steps.{writes_resume}
+use Rattle.sw_lower_actors.proofs.Writing.Joining.{writes_all, writes_done, writes_each_of}
+use Rattle.sw_lower_actors.proofs.Writing.Joining.{writes_with, writes_scope, writes_then}
+use Rattle.sw_lower_actors.proofs.Writing.Steps.{writes_bind, writes_block, writes_close}
+use Rattle.sw_lower_actors.proofs.Writing.Steps.{writes_emit, writes_front, writes_known}
+use Rattle.sw_lower_actors.proofs.Writing.Steps.{writes_reg, writes_resume}
 
 -- one of two codes that take a value
 choice : {A B : Type 0} (P : Code B → Type 0) (is : Bool) (one other : A → Code B) (x : A)

@@ -43,7 +43,8 @@ module _ {tables : Tables} {numbers : Numbers} {bodies : List Body} where
 
   -- a value in a register that is made for it
   pub writes_give : (at : ℕ) (ty : Ty) (instr : ℕ → Instr)
-      → ((r : ℕ) → IsOf tables numbers bodies (instr r)) → IsCode tables numbers bodies (give at ty instr)
+      → ((r : ℕ) → IsOf tables numbers bodies (instr r))
+      → IsCode tables numbers bodies (give at ty instr)
   writes_give at ty instr so =
       writes_then _ _ (writes_reg (Plain ty)) (λ r.
       writes_then _ _ (writes_emit (instr r) (so r)) (λ value. writes_done (operand r at)))
@@ -51,7 +52,8 @@ module _ {tables : Tables} {numbers : Numbers} {bodies : List Body} where
   pub writes_write_bound : (at : ℕ) (given : Operand) (bound : Bound)
       → IsCode tables numbers bodies (write_bound at given bound)
   unfolding write_bound
-  writes_write_bound at given bound = writes_if bound.boxed _ _ (writes_emit _ tt) (writes_emit _ tt)
+  writes_write_bound at given bound =
+      writes_if bound.boxed _ _ (writes_emit _ tt) (writes_emit _ tt)
 
   pub writes_make_value : (at shape : ℕ) (tag : Option ℕ) (operands : List Operand)
       → IsCode tables numbers bodies (make_value at shape tag operands)
@@ -71,11 +73,13 @@ module _ {tables : Tables} {numbers : Numbers} {bodies : List Body} where
   writes_shape_of key = writes_known _ _
 
   -- variables
-  writes_from_box : (at : ℕ) (bound : Bound) → IsCode tables numbers bodies (from_box tables at bound)
+  writes_from_box : (at : ℕ) (bound : Bound)
+      → IsCode tables numbers bodies (from_box tables at bound)
   writes_from_box at bound =
       writes_then _ _ (writes_typed bound.key) (λ ty. writes_give at ty _ (λ r. tt))
 
-  writes_read_bound : (at : ℕ) (bound : Bound) → IsCode tables numbers bodies (read_bound tables at bound)
+  writes_read_bound : (at : ℕ) (bound : Bound)
+      → IsCode tables numbers bodies (read_bound tables at bound)
   unfolding read_bound
   writes_read_bound at bound =
       writes_if bound.boxed _ _ (writes_from_box at bound) (writes_done _)
@@ -84,7 +88,8 @@ module _ {tables : Tables} {numbers : Numbers} {bodies : List Body} where
   unfolding read_var
   writes_read_var at key = writes_then _ _ (writes_var key) (writes_read_bound at)
 
-  pub writes_write_var : (at key : ℕ) (given : Operand) → IsCode tables numbers bodies (write_var tables at key given)
+  pub writes_write_var : (at key : ℕ) (given : Operand)
+      → IsCode tables numbers bodies (write_var tables at key given)
   unfolding write_var
   writes_write_var at key given = writes_then _ _ (writes_var key) (writes_write_bound at given)
 
@@ -111,7 +116,8 @@ module _ {tables : Tables} {numbers : Numbers} {bodies : List Body} where
   writes_part_in shapes.Actor at shape number ty base =
       writes_part_by (tables.isolation.kind_at at) at shape number ty base
 
-  writes_part_at : (number : ℕ) (shape : Shape) → IsCode tables numbers bodies (part_at tables number shape)
+  writes_part_at : (number : ℕ) (shape : Shape)
+      → IsCode tables numbers bodies (part_at tables number shape)
   unfolding part_at
   writes_part_at number shape = writes_known _ _
 
@@ -130,7 +136,8 @@ module _ {tables : Tables} {numbers : Numbers} {bodies : List Body} where
   writes_global_by (Some kind) at number global =
       writes_call_getter at kind global.ty global.key.at []
 
-  pub writes_read_global : (at number : ℕ) → IsCode tables numbers bodies (read_global tables at number)
+  pub writes_read_global : (at number : ℕ)
+      → IsCode tables numbers bodies (read_global tables at number)
   unfolding read_global
   writes_read_global at number =
       writes_then _ _ (writes_known _ _) (writes_global_by (tables.isolation.kind_at at) at number)
@@ -200,7 +207,8 @@ module _ {tables : Tables} {numbers : Numbers} {bodies : List Body} where
       writes_if one.by_ref _ _ (writes_if bound.boxed _ _ (writes_done _) writes_unknown)
       (writes_if bound.boxed _ _ (writes_listed at one bound) (writes_done _))
 
-  pub writes_capture : (at : ℕ) (one : Capture) → IsCode tables numbers bodies (capture tables at one)
+  pub writes_capture : (at : ℕ) (one : Capture)
+      → IsCode tables numbers bodies (capture tables at one)
   unfolding capture
   writes_capture at one =
       writes_then _ _ (writes_var one.variable) (writes_capture_bound at one)
@@ -212,7 +220,8 @@ module _ {tables : Tables} {numbers : Numbers} {bodies : List Body} where
     writes_read_self at =
         writes_then _ _ (writes_known _ _) (λ key. writes_read_var at key)
 
-    pub writes_read_own : (at number : ℕ) → IsCode tables numbers bodies (read_own tables owner at number)
+    pub writes_read_own : (at number : ℕ)
+        → IsCode tables numbers bodies (read_own tables owner at number)
     unfolding read_own
     writes_read_own at number =
         writes_then _ _ (writes_read_self at) (λ me.

@@ -146,7 +146,8 @@ module _ (tables : Tables) (decls : List Decl) (rule : AsyncDefault) (keyed : Ar
       cc (other_kind k g (Actor word props inits funcs) shape _ stands there refl, class)
   by_decl k g (GlobalActor word given) key shape func f function stands makes there class made
       found here own = cc
-  by_decl k g (Func tree) key shape func f function stands makes there class made found here own = cc
+  by_decl k g (Func tree) key shape func f function stands makes there class made found here own =
+      cc
   by_decl k g (Global prop) key shape func f function stands makes there class made found here own =
       cc
 

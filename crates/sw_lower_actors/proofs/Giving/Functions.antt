@@ -50,8 +50,8 @@ module _ (decls : List Decl) (rule : AsyncDefault) (world : World) (keyed : AreK
         absurd never
     maker_gives at k f shape func meant there made noted found kinds.Class same any function here
         own =
-        absurd (class_maker_free tables decls rule keyed is_world ordered are numbered k f shape func
-        function there same made found here own)
+        absurd (class_maker_free tables decls rule keyed is_world ordered are numbered k f shape
+        func function there same made found here own)
     maker_gives at k f shape func meant there made noted found kinds.Actor same any function here
         own =
         cc (makes_by_kind world (answers_in (said world decls)) decls at kind.Strong noted k shape
@@ -69,7 +69,7 @@ module _ (decls : List Decl) (rule : AsyncDefault) (world : World) (keyed : AreK
         (func_is_meant world decls at n meant) there found here own
     call_gives at f getters (of_maker k shape func meant there made maker noted found) function here
         own =
-        maker_gives at k f shape func meant there maker noted found shape.kind refl made function here
-        own
+        maker_gives at k f shape func meant there maker noted found shape.kind refl made function
+        here own
     call_gives at f getters (of_getter key found) function here own =
         getters key found function here own

@@ -20,6 +20,7 @@ use Rattle.sw_tree.proofs.KeyCounts as keys
 use Rattle.sw_tree.proofs.KeyCounts.{in_block, in_decl, in_expr, in_func, in_init, in_prop}
 use Rattle.sw_decls.specs.declared.signature.AsyncDefault.{AsyncDefault}
 use Rattle.sw_decls.specs.declared.signature.Signature.{Signature}
+use Rattle.sw_typing_rules.proofs.OneWorld.{distinct_once}
 use Rattle.sw_typing_rules.specs.Programs.{said}
 use Rattle.sw_typing_rules.specs.Worlds.{World}
 use Rattle.sw_typing_rules.proofs.Saying.{none_in}
@@ -38,7 +39,7 @@ use Rattle.sw_lower_total.specs.Noted as noted
 use Rattle.sw_lower_total.specs.Noted.{held_of}
 use Rattle.sw_lower_total.specs.Programs.{IsWelltyped, notes_of}
 use Rattle.sw_lower_total.proofs.Programs.Found.{key_found}
-use Rattle.sw_lower_total.proofs.Standing.Keys.{contained, distinct_once}
+use Rattle.sw_lower_total.proofs.Standing.Keys.{contained}
 use Rattle.sw_lower_total.proofs.Standing.Ordered.{owner_of, self_words}
 use Rattle.sw_lower_total.proofs.Standing.Orders.{IsBefore}
 use Rattle.sw_lower_total.proofs.Standing.Owners.{func_owner, init_owner}

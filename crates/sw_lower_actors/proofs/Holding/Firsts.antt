@@ -6,7 +6,8 @@ use Rattle.std.proofs.lemmas.List.Elements.{Contains-append_cases}
 use Rattle.std.specs.List.{filter}
 use Rattle.sw_typing_rules.specs.Worlds.{World}
 use Rattle.sw_typing_rules.proofs.Saying.{none_in}
-use Rattle.sw_isolation_rules.specs.Captures.{firsts, held, is_among, mentioned, outer, self_of}
+use Rattle.sw_isolation_rules.specs.Captures.{firsts, held_self, is_among, mentioned, outer}
+use Rattle.sw_isolation_rules.specs.Captures.{self_of}
 use Rattle.sw_isolation_rules.specs.Captures.{taken}
 use Rattle.sw_isolation_rules.specs.Kinds.{is_own}
 use Rattle.sw_isolation_rules.specs.declared.note.Mention.{Mention}
@@ -60,7 +61,7 @@ taken_begins world context closure inner me own selves before =
       others other = not (is_among (self_of world context.owner) other.variable)
 
       all : List Mention
-      all = firsts (outer closure (flat_map mentioned inner ++ held world context closure))
+      all = firsts (outer closure (flat_map mentioned inner ++ held_self world context closure))
 
       by : (one : Mention) → one.variable ≡ me
           → Contains (filter mine all) one ⊎ Contains (filter others all) one

@@ -18,6 +18,8 @@ use Rattle.sw_lower_total.specs.Noted.{held_of}
 use Rattle.sw_lower_total.proofs.Closures.Noted.{held_as, held_of_closed}
 use Rattle.sw_lower_total.proofs.Standing.Closing.{alike_closed}
 use Rattle.sw_lower_total.proofs.Standing.Noting.{AreBare, alike_body, bare_lacks, held_join}
+use Rattle.sw_isolation_rules.proofs.NotedUses.{of_closed}
+use Rattle.sw_lower_actors.specs.Owning.{NoteOwn}
 use Rattle.sw_lower_actors.proofs.BodyNotes.Noted as noted
 use Rattle.sw_lower_actors.proofs.BodyNotes.Noted.{AllOwn}
 use Rattle.sw_lower_actors.proofs.Holding.Firsts.{taken_begins}
@@ -163,7 +165,7 @@ module _ (c me : ℕ) where
       of_inner G own are = (
         own,
         noted.join G races shut (any_body G races all)
-            (noted.of_closed G world answers closure context listed inner are),
+            (of_closed (NoteOwn G) (noted.leaf_own G) closure world context listed inner are),
       )
 
       other_key : hits closure c ≡ 0 → IsOther closure

@@ -231,14 +231,14 @@ module _ (c : ℕ) where
         );
     switch = λ at subject arms otherwise of_subject all last.
         let arms_order = joined (map (fold_case_arm order_steps) arms) in
-        let front = fold_expr order_steps subject in
+        let before = fold_expr order_steps subject in
         omega (
           arith,
           by _ _ (eq.fold_stmt-Switch order_steps at subject arms otherwise),
           keys.in_stmt-Switch at subject arms otherwise c,
-          con at (front ++ arms_order ++ other_of otherwise),
-          app (front ++ arms_order) (other_of otherwise),
-          app front arms_order,
+          con at (before ++ arms_order ++ other_of otherwise),
+          app (before ++ arms_order) (other_of otherwise),
+          app before arms_order,
           of_subject,
           parts (fold_case_arm order_steps) in_case_arm arms all,
           other_few otherwise last,

@@ -54,10 +54,12 @@ use Rattle.sw_lower_total.proofs.Closures.Isolated.{closure_own, task_own}
 use Rattle.sw_lower_total.proofs.Standing.Covering.{bare_task}
 use Rattle.sw_lower_total.proofs.Standing.Noting.{AreBare, bare_await, bare_mentions, bare_nothing}
 use Rattle.sw_lower_total.proofs.Standing.Noting.{bare_store, lacks_use, lacks_var}
+use Rattle.sw_isolation_rules.proofs.NotedUses as uses
+use Rattle.sw_lower_actors.specs.Owning.{NoteOwn}
 use Rattle.sw_lower_actors.proofs.Holding.Noted.{Fits, Holding, Never, NoBody, bare, both}
 use Rattle.sw_lower_actors.proofs.Holding.Noted.{closing, leaf, up}
 use Rattle.sw_lower_actors.proofs.BodyNotes.Noted as noted
-use Rattle.sw_lower_actors.proofs.BodyNotes.Noted.{AllOwn}
+use Rattle.sw_lower_actors.proofs.BodyNotes.Noted.{leaf_own}
 
 module _ (world : World) (answers : Answers) (c me : ℕ) (earlier : me < c) where
   abbrev pub steps : Steps
@@ -75,21 +77,21 @@ module _ (world : World) (answers : Answers) (c me : ℕ) (earlier : me < c) whe
   of_mentions : (mentions : List Mention) → Has (map Mentioned mentions) 0
   of_mentions mentions =
       bare c me (map Mentioned mentions) 0 (bare_mentions mentions)
-      (noted.of_mentions Never mentions)
+      (uses.of_mentions (NoteOwn Never) (leaf_own Never) mentions)
 
   of_use : (context : Context) (at : ℕ) (used : Used)
       → Has (use_notes context at used) (hits at c)
   of_use context at used =
       leaf c me (use_notes context at used) (hits at c)
       (λ is. (lacks_use context at used c is).held)
-      (noted.of_use Never context at used)
+      (uses.of_use (NoteOwn Never) (leaf_own Never) context at used (λ kind. tt))
 
   of_store : (context : Context) (at : ℕ) (used : Used) (inside : List Note) → Has inside 0
       → Has (store_notes context at used inside) 0
   of_store context at (Called callee sends) inside are = nothing 0
   of_store context at (Stored storage) inside are =
       bare c me _ 0 (bare_store context at (Stored storage) [] bare_nothing)
-      (noted.of_store Never context at (Stored storage) [] tt)
+      (uses.of_store (NoteOwn Never) (leaf_own Never) context at (Stored storage) [] tt)
   of_store context at Field inside are = are
   of_store context at Waited inside are = nothing 0
   of_store context at Nothing inside are = nothing 0
@@ -348,7 +350,8 @@ module _ (world : World) (answers : Answers) (c me : ℕ) (earlier : me < c) whe
         (omega (arith, keys.in_expr-Spawn at detached body c))));
     yield = λ at. expr_at (exprs.Yield at) _ (eq.fold_expr-Yield steps at)
         (value_holds at _ _ (λ context listed fits.
-        bare c me _ _ (bare_await context at true) (noted.of_await Never context at true)));
+        bare c me _ _ (bare_await context at true)
+        (uses.of_await (NoteOwn Never) (leaf_own Never) context at true)));
     bind = λ mutable name ty value of_value.
         stmt_at (stmts.Bind mutable name ty value) _ (eq.fold_stmt-Bind steps mutable name ty value)
         (λ context listed fits.

@@ -18,6 +18,7 @@ use Rattle.sw_resolve.specs.Words.{shapes_made}
 use Rattle.sw_decls.specs.Signatures.{actor_iso}
 use Rattle.sw_decls.specs.declared.signature.Signature.{Signature}
 use Rattle.sw_typing_rules.specs.Worlds.{World}
+use Rattle.sw_isolation_rules.proofs.Each.{each_made, each_some}
 use Rattle.sw_isolation_rules.specs.Answers.{Answers}
 use Rattle.sw_isolation_rules.specs.Kinds.{shape_iso, is_isolated}
 use Rattle.sw_isolation_rules.specs.Noting.{body_note}
@@ -35,7 +36,6 @@ use Rattle.std.proofs.lemmas.Bool.{eqb-true}
 use Rattle.sw_types.specs.declared.isolation.CallKind.{CallKind}
 use Rattle.sw_isolation_rules.specs.Lists.{kinds_in}
 use Rattle.sw_isolation_rules.specs.declared.note.Kinded.{Kinded}
-use Rattle.sw_lower_actors.proofs.Every.{every_made, every_some}
 use Rattle.sw_lower_table.specs.Tables.{kind_with}
 use Rattle.sw_lower_actors.specs.Making.{KindMakes, NoteMakes}
 use Rattle.sw_lower_actors.proofs.KindNotes.Noted.{AllMake, join}
@@ -48,27 +48,28 @@ module _ (world : World) (answers : Answers) where
     by true = (tt, tt)
     by false = tt
 
-  make_body : (body : Block) (func : Signature) → AllMake world answers (declared_body world answers body func)
+  make_body : (body : Block) (func : Signature)
+      → AllMake world answers (declared_body world answers body func)
   make_body body func = (tt, block_makes world answers body (func_context func) [])
 
   make_func : (key : ℕ) (body : Block) → AllMake world answers (body_notes world answers key body)
   unfolding body_notes
   make_func key body =
-      every_some (NoteMakes world answers) (declared_body world answers body) (make_body body)
+      each_some (NoteMakes world answers) (declared_body world answers body) (make_body body)
       (func_at world answers key)
 
   make_default : (key : ℕ) → AllMake world answers (default_notes world answers key)
   unfolding default_notes
   make_default key =
-      every_some (NoteMakes world answers) (λ func. func_note world answers func ∷ []) (λ func. (tt, tt))
-      (func_at world answers key)
+      each_some (NoteMakes world answers) (λ func. func_note world answers func ∷ [])
+      (λ func. (tt, tt)) (func_at world answers key)
 
   make_inits : (word : Name) (inits : List InitTree)
       → AllMake world answers (inits_notes world answers word inits)
   make_inits word [] = make_default word.at
   make_inits word (init ∷ inits) =
-      every_made (NoteMakes world answers) (init_notes world answers) (λ one. make_func one.at one.body)
-      (init ∷ inits)
+      each_made (NoteMakes world answers) (init_notes world answers)
+      (λ one. make_func one.at one.body) (init ∷ inits)
 
   make_value : (iso : Iso) (owner : Option ℕ) (value : Option Expr)
       → AllMake world answers (value_notes world answers iso owner value)
@@ -79,14 +80,16 @@ module _ (world : World) (answers : Answers) where
   make_shape_prop : (number : ℕ) (prop : PropTree) (shape : Shape)
       → AllMake world answers (shape_prop world answers number prop shape)
   make_shape_prop number prop shape =
-      join world answers (getter_notes prop (shape_iso shape)) _ (make_getter prop (shape_iso shape))
+      join world answers (getter_notes prop (shape_iso shape)) _
+      (make_getter prop (shape_iso shape))
       (make_value (shape_iso shape) (Some number) prop.value)
 
-  make_prop : (number : ℕ) (prop : PropTree) → AllMake world answers (prop_notes world answers number prop)
+  make_prop : (number : ℕ) (prop : PropTree)
+      → AllMake world answers (prop_notes world answers number prop)
   unfolding prop_notes
   make_prop number prop =
-      every_some (NoteMakes world answers) (shape_prop world answers number prop) (make_shape_prop number prop)
-      (slice_get world.shapes number)
+      each_some (NoteMakes world answers) (shape_prop world answers number prop)
+      (make_shape_prop number prop) (slice_get world.shapes number)
 
   make_global : (prop : PropTree) → AllMake world answers (global_notes world answers prop)
   unfolding global_notes
@@ -105,18 +108,22 @@ module _ (world : World) (answers : Answers) where
       join world answers _ (flat_map (func_notes world answers) funcs)
       (join world answers (flat_map (prop_notes world answers number) props)
       (inits_notes world answers word inits)
-      (every_made (NoteMakes world answers) (prop_notes world answers number) (make_prop number) props)
-      (make_inits word inits))
-      (every_made (NoteMakes world answers) (func_notes world answers) (λ func. make_func func.word.at func.body)
+      (each_made (NoteMakes world answers) (prop_notes world answers number) (make_prop number)
+      props) (make_inits word inits))
+      (each_made (NoteMakes world answers) (func_notes world answers)
+      (λ func. make_func func.word.at func.body)
       funcs)
 
-  make_decl : (number : ℕ) (decl : Decl) → AllMake world answers (decl_notes world answers number decl)
+  make_decl : (number : ℕ) (decl : Decl)
+      → AllMake world answers (decl_notes world answers number decl)
   unfolding decl_notes
   make_decl number (Entry word written at is_async body) = make_func at body
   make_decl number (Struct word conforms fields funcs) =
-      every_made (NoteMakes world answers) (func_notes world answers) (λ func. make_func func.word.at func.body) funcs
+      each_made (NoteMakes world answers) (func_notes world answers)
+      (λ func. make_func func.word.at func.body) funcs
   make_decl number (Enum word conforms cases funcs) =
-      every_made (NoteMakes world answers) (func_notes world answers) (λ func. make_func func.word.at func.body) funcs
+      each_made (NoteMakes world answers) (func_notes world answers)
+      (λ func. make_func func.word.at func.body) funcs
   make_decl number (Class written word conforms props inits funcs) =
       make_type number word props inits funcs
   make_decl number (Actor word props inits funcs) = make_type number word props inits funcs
@@ -124,7 +131,8 @@ module _ (world : World) (answers : Answers) where
   make_decl number (Func func) = make_func func.word.at func.body
   make_decl number (Global prop) = make_global prop
 
-  make_decls : (decls : List Decl) (number : ℕ) → AllMake world answers (notes_from world answers number decls)
+  make_decls : (decls : List Decl) (number : ℕ)
+      → AllMake world answers (notes_from world answers number decls)
   make_decls [] number = tt
   make_decls (decl ∷ decls) number =
       join world answers (decl_notes world answers number decl) _ (make_decl number decl)

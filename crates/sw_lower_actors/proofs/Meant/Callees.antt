@@ -153,7 +153,8 @@ module _ (world : World) where
   of_local (Some variable) other so =
       variable_callee (means.Local variable.at) variable.ty tt
 
-  pub word_called : (s : Setting) (id : ℕ) → CalleeSo (calls.word_callee world (senses.sense world s id))
+  pub word_called : (s : Setting) (id : ℕ)
+      → CalleeSo (calls.word_callee world (senses.sense world s id))
   word_called s id =
       of_local (senses.local s.vars id) _
       (of_member s.owner id (senses.owned world s.owner id) _ refl

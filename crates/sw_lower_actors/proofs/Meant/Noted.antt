@@ -1,4 +1,5 @@
--- What is noted of nodes, where the functions that are meant are those of the top level and methods.
+-- What is noted of nodes, where the functions that are meant are those of the top level and
+-- methods.
 use Rattle.std.proofs.Common.{ℕ, Bool, true, false, List, [], ◌∷◌, ◌++◌, Option, Some, None}
 use Rattle.std.proofs.Common.{flat_map, not}
 use Rattle.std.specs.List.{AllByRecursion}
@@ -12,7 +13,7 @@ use Rattle.sw_typing_rules.specs.Expressions.{call_callee, method_callee, base_r
 use Rattle.sw_typing_rules.specs.Expressions.{first_marked}
 use Rattle.sw_typing_rules.specs.Fits.{fits}
 use Rattle.sw_typing_rules.specs.Statements as left
-use Rattle.sw_typing_rules.specs.Statements.{State, Left, Armed, setting_of, part_of, in_loop}
+use Rattle.sw_typing_rules.specs.Statements.{State, Left, Armed, setting_of, in_branch, in_loop}
 use Rattle.sw_typing_rules.specs.Statements.{in_switch, in_body, with_only, is_one, written}
 use Rattle.sw_typing_rules.specs.Statements.{marked_type, place_type, marked_result, expects}
 use Rattle.sw_typing_rules.specs.Statements.{cases_of, arm_payload, closure_state, beside}

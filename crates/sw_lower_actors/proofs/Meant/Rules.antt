@@ -31,7 +31,7 @@ use Rattle.sw_typing_rules.specs.Operators as operators
 use Rattle.sw_typing_rules.specs.Programs.{Says, of_body, of_value, params_of, body_noted}
 use Rattle.sw_typing_rules.specs.Programs.{body_state, value_noted, value_setting}
 use Rattle.sw_typing_rules.specs.Statements as left
-use Rattle.sw_typing_rules.specs.Statements.{State, Left, Armed, setting_of, part_of, in_loop}
+use Rattle.sw_typing_rules.specs.Statements.{State, Left, Armed, setting_of, in_branch, in_loop}
 use Rattle.sw_typing_rules.specs.Statements.{in_switch, in_body, with_only, is_one, written}
 use Rattle.sw_typing_rules.specs.Statements.{marked_type, place_type, marked_result, expects}
 use Rattle.sw_typing_rules.specs.Statements.{cases_of, arm_payload, closure_state, beside}
@@ -51,15 +51,16 @@ use Rattle.sw_typing_rules.specs.declared.verdict.Verdict.TheVariants.{Held}
 use Rattle.sw_lower_actors.specs.Meant.{RowSo}
 use Rattle.sw_lower_actors.proofs.Meant.Noted.{RowsSo, call, each, ill, join, meanings, noted}
 use Rattle.sw_lower_actors.proofs.Meant.Noted.{refused, rows_by, variables, vars}
-use Rattle.sw_lower_actors.proofs.Meant.Callees.{case_meant, found_meant, method_called, word_called}
-use Rattle.sw_lower_actors.proofs.Meant.Callees.{word_meant}
+use Rattle.sw_lower_actors.proofs.Meant.Callees.{case_meant, found_meant, method_called}
+use Rattle.sw_lower_actors.proofs.Meant.Callees.{word_called, word_meant}
 
 module _ (world : World) where
   -- statements
 
   bind : (state : State) (mutable : Bool) (name : Name) (ty : Option Ty) (value : Judged)
       → RowsSo world value.rows → RowsSo world (left.bind_left state mutable name ty value).rows
-  bind state mutable name None value are = join world value.rows _ are (variables world name.at value.ty)
+  bind state mutable name None value are =
+      join world value.rows _ are (variables world name.at value.ty)
   bind state mutable name (Some ty) value are =
       join world value.rows _ are
       (join world (left.refused name.at value.ty ty) _ (refused world name.at value.ty ty)
@@ -114,7 +115,8 @@ module _ (world : World) where
       → RowsSo world (left.first_value_left state places value).rows
   first_value state places value are = join world value.rows _ are (bare places value.ty)
 
-  value_of : (returned : Returned) (state : State) (at : ℕ) (value : Judged) → RowsSo world value.rows
+  value_of : (returned : Returned) (state : State) (at : ℕ) (value : Judged)
+      → RowsSo world value.rows
       → RowsSo world (left.return_value returned state at value).rows
   value_of (Wants ty) state at value are = accepted state at value ty are
   value_of (Open places) state at value are = first_value state places value are
@@ -277,7 +279,8 @@ module _ (world : World) where
         → RowsSo world l.rows
     meant_all i s xs l (is.no_stmt _ _) = tt
     meant_all i s xs l (is.one_stmt _ _ stmt stmts one last d rest) =
-        join world one.rows last.rows (meant_stmt i s stmt one d) (meant_all i one.state stmts last rest)
+        join world one.rows last.rows (meant_stmt i s stmt one d)
+        (meant_all i one.state stmts last rest)
 
     meant_block : (i : Inside) (s : State) (b : Block) (l : Left) → is.LeavesBlock world i s b l
         → RowsSo world l.rows
@@ -292,7 +295,7 @@ module _ (world : World) where
         join world one.rows last.rows
         (join world (left.condition_rows judged) inner.rows
         (condition judged (meant_expr (setting_of i s) false cond judged of_cond))
-        (meant_block (part_of i) s block inner d))
+        (meant_block (in_branch i) s block inner d))
         (meant_arms i one.state more last rest)
 
     meant_otherwise : (ends : Bool) (i : Inside) (s : State) (o : Option Block) (l : Left)
@@ -300,7 +303,7 @@ module _ (world : World) where
     meant_otherwise ends i s o l (is.absent _ _) = tt
     meant_otherwise ends i s o l (is.absent_default _ _) = tt
     meant_otherwise ends i s o l (is.present _ _ _ block inner d) =
-        meant_block (part_of i) s block inner d
+        meant_block (in_branch i) s block inner d
 
     meant_cases : (i : Inside) (cases : Option (List CaseShape)) (s : State) (arms : List CaseArm)
         (a : Armed) → is.LeavesCases world i cases s arms a → RowsSo world a.left.rows
@@ -312,7 +315,7 @@ module _ (world : World) where
         let one = case_of cases s head inner in
         join world one.rows armed.left.rows
         (join world own inner.rows (vars world (left.arm_vars head (arm_payload cases name.id)))
-        (meant_block (part_of i) (arm_state cases s head) block inner d))
+        (meant_block (in_branch i) (arm_state cases s head) block inner d))
         (meant_cases i cases one.state more armed rest)
 
   row_in : (rows : List Row) (row : Row) → RowsSo world rows → Contains rows row → RowSo world row

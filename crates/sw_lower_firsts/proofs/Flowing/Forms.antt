@@ -46,7 +46,8 @@ flows_op infix_of.Multiply at right left flows = flows_binary at _ _ right left 
 flows_op infix_of.Divide at right left flows = flows_binary at _ _ right left flows
 flows_op infix_of.Remainder at right left flows = flows_binary at _ _ right left flows
 
-pub flows_links : (links : List LinkCode) → AllByRecursion (λ (link : LinkCode). Flows link.read) links
+pub flows_links : (links : List LinkCode)
+    → AllByRecursion (λ (link : LinkCode). Flows link.read) links
     → (left : Operand) → Flows (links_read links left)
 unfolding links_read
 flows_links [] all left = flows_done left

@@ -1,5 +1,5 @@
--- `&&` and `||` go on in a block that they make: where they begin, and where the right value goes on,
--- a block ends.
+-- `&&` and `||` go on in a block that they make: where they begin, and where the right value goes
+-- on, a block ends.
 use Rattle.std.proofs.Common.{◌≡◌, ℕ, suc, ◌+◌, ◌≤◌, ◌<◌, ◌==◌, inl, inr, Bool, true, false, ◌||◌}
 use Rattle.std.proofs.Common.{List, [], ◌∷◌, ◌++◌, length, refl, sym, subst, ◌∙◌, arith, ap}
 use Rattle.std.proofs.lemmas.Bool.{cases_lt, eq-eqb}

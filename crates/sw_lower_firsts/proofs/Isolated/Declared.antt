@@ -43,7 +43,8 @@ use Rattle.sw_lower_firsts.specs.Isolated.{BodiesAre}
 use Rattle.sw_lower_firsts.proofs.Isolated.Noting.{bodies_join, one_of}
 use Rattle.sw_lower_firsts.proofs.Isolated.Trees.{block_apart, expr_apart}
 
-module _ (P : BodyIso → Type 0) (key : ℕ) (other : (body : BodyIso) → hits body.key key ≡ 0 → P body)
+module _ (P : BodyIso → Type 0) (key : ℕ)
+    (other : (body : BodyIso) → hits body.key key ≡ 0 → P body)
     (decls : List Decl) (rule : AsyncDefault) (world : World) (is : IsWorldOf decls rule world)
     (answers : Answers) where
   -- what is made of each item of a list

@@ -16,6 +16,7 @@ use Rattle.sw_graph.specs.Placed.{FunctionAt, IsFirst, IsFreeOrGlobal}
 use Rattle.sw_graph.specs.declared.graph.Graph.{Graph}
 use Rattle.sw_decls.specs.Signatures.{actor_iso}
 use Rattle.sw_decls.specs.declared.signature.AsyncDefault.{AsyncDefault}
+use Rattle.sw_typing_rules.proofs.OneWorld.{distinct_once}
 use Rattle.sw_typing_rules.specs.Worlds.{IsWorldOf, World}
 use Rattle.sw_isolation_rules.specs.Answers.{Answers}
 use Rattle.sw_isolation_rules.specs.Lists.{bodies_in}
@@ -32,7 +33,6 @@ use Rattle.sw_lower_table.specs.Tables.{body_with}
 use Rattle.sw_lower_safe.proofs.Lists.Listed.{place_in}
 use Rattle.sw_lower_safe.proofs.Programs.Standing.{Stands}
 use Rattle.sw_lower_total.specs.Programs.{IsWelltyped, noted_tables}
-use Rattle.sw_lower_total.proofs.Standing.Keys.{distinct_once}
 use Rattle.sw_lower_firsts.specs.Isolated.{BodiesAre}
 use Rattle.sw_lower_firsts.specs.Programs.{IsGraph}
 use Rattle.sw_lower_firsts.proofs.Isolated.Declared.{decl_counts, from_noted}

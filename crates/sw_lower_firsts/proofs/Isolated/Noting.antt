@@ -60,12 +60,13 @@ module _ (P : BodyIso → Type 0) where
       → BodiesAre P (read_notes context at storage)
   read_bodies context at storage =
       one_of (is_outside context storage) _ _
-      (one_of storage.mutable (call_notes context at (accessor storage) storage.sends)
-      (race_if (not storage.sends) at 606)
-      (call_bodies context at (accessor storage) storage.sends)
-      (race_bodies (not storage.sends) at 606)) tt
+      (one_of storage.mutable (call_notes context at (accessor storage) storage.may_cross)
+      (race_if (not storage.may_cross) at 606)
+      (call_bodies context at (accessor storage) storage.may_cross)
+      (race_bodies (not storage.may_cross) at 606)) tt
 
-  pub use_bodies : (context : Context) (at : ℕ) (used : Used) → BodiesAre P (use_notes context at used)
+  pub use_bodies : (context : Context) (at : ℕ) (used : Used)
+      → BodiesAre P (use_notes context at used)
   use_bodies context at (Called callee sends) = call_bodies context at callee sends
   use_bodies context at (Stored storage) = read_bodies context at storage
   use_bodies context at Field = tt

@@ -44,7 +44,8 @@ use Rattle.sw_lower_firsts.proofs.Isolated.Noting.{await_bodies, bodies_join, cl
 use Rattle.sw_lower_firsts.proofs.Isolated.Noting.{mention_bodies, race_bodies, store_bodies}
 use Rattle.sw_lower_firsts.proofs.Isolated.Noting.{use_bodies}
 
-module _ (P : BodyIso → Type 0) (key : ℕ) (other : (body : BodyIso) → hits body.key key ≡ 0 → P body)
+module _ (P : BodyIso → Type 0) (key : ℕ)
+    (other : (body : BodyIso) → hits body.key key ≡ 0 → P body)
   where
     -- what is noted, where the key is none of these
     abbrev pub Apart : Notes → Keys → Type 0
@@ -98,7 +99,8 @@ module _ (P : BodyIso → Type 0) (key : ℕ) (other : (body : BodyIso) → hits
           use_bodies P context at
           (used_at world answers context (base_of answers base.key base.is_self) at)
 
-      result_apart : (at : ℕ) (result : Option Ty) → BodiesAre P (result_races world answers at result)
+      result_apart : (at : ℕ) (result : Option Ty)
+          → BodiesAre P (result_races world answers at result)
       result_apart at None = tt
       result_apart at (Some ty) = race_bodies P (not (is_sendable world.shapes ty)) at 605
 
@@ -159,7 +161,8 @@ module _ (P : BodyIso → Type 0) (key : ℕ) (other : (body : BodyIso) → hits
 
       otherwise_apart : (otherwise : Option Block) → Given claims.block otherwise
           → in_option in_block otherwise key ≡ 0 → (context : Context) (listed : List ℕ)
-          → BodiesAre P (unwrap_or (option_map (fold_block steps) otherwise) no_notes context listed)
+          → BodiesAre P
+          (unwrap_or (option_map (fold_block steps) otherwise) no_notes context listed)
       unfolding in_option
       otherwise_apart None apart none context listed = tt
       otherwise_apart (Some block) apart none context listed = apart none context listed
@@ -184,7 +187,8 @@ module _ (P : BodyIso → Type 0) (key : ℕ) (other : (body : BodyIso) → hits
               before = λ none context listed.
                   mention_bodies P (word_mentions world answers context.owner name.at);
               stores = λ none context place.
-                  store_bodies P context place (used_at world answers context no_base name.at) [] tt;
+                  store_bodies P context place (used_at world answers context no_base name.at)
+                  [] tt;
             });
         me = λ at. expr_at (exprs.Me at) _ (eq.fold_expr-Me steps at)
             (record {
@@ -203,8 +207,8 @@ module _ (P : BodyIso → Type 0) (key : ℕ) (other : (body : BodyIso) → hits
                   of_base.notes (omega (arith, none, keys.in_expr-Member base name key));
               stores = λ none context place.
                   store_bodies P context place (used_at world answers context
-                  (base_of answers (fold_expr steps base).key (fold_expr steps base).is_self) name.at)
-                  ((fold_expr steps base).stores context place)
+                  (base_of answers (fold_expr steps base).key (fold_expr steps base).is_self)
+                  name.at) ((fold_expr steps base).stores context place)
                   (of_base.stores (omega (arith, none, keys.in_expr-Member base name key)) context
                   place);
             });

@@ -191,7 +191,8 @@ module _ (decls : List Decl) (rule : AsyncDefault) (world : World) (graph : Grap
         quiet = elim (getter_so tables numbers made.n made.g made.decl one.body made.has
             (ap (λ (name : FunctionName). name.getter) one.named)) [
               | inl quiet ↦ quiet
-              | inr none ↦ absurd (let never : [] ≡ Plain (types.Named k) ∷ [] = sym none ∙ kinds in cc)
+              | inr none ↦
+                  absurd (let never : [] ≡ Plain (types.Named k) ∷ [] = sym none ∙ kinds in cc)
             ];
       }
 

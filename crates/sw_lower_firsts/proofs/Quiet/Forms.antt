@@ -14,8 +14,8 @@ use Rattle.sw_lower_run.specs.Plan.{Numbers}
 use Rattle.sw_lower_code.specs.Code.{Code, close, emit, reg, resume}
 use Rattle.sw_lower_table.specs.Carriers.{ArgCode, ExprCode, LinkCode}
 use Rattle.sw_lower_table.specs.Expressions.{args_read, binary, block_made, both, by_op, copied}
-use Rattle.sw_lower_table.specs.Expressions.{either, links_read, member_read, prefixed, read_of_base}
-use Rattle.sw_lower_table.specs.Expressions.{right_in}
+use Rattle.sw_lower_table.specs.Expressions.{either, links_read, member_read, prefixed}
+use Rattle.sw_lower_table.specs.Expressions.{read_of_base, right_in}
 use Rattle.sw_lower_table.specs.Tables.{Tables}
 use Rattle.sw_lower_table.specs.Uses.{shape_of}
 use Rattle.sw_lower_firsts.specs.Quiet.{Writes}

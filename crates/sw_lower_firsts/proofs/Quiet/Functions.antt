@@ -7,7 +7,7 @@ use Rattle.std.proofs.lemmas.Bool.{cases_lt}
 use Rattle.std.proofs.lemmas.Option.{none-some, same_Some}
 use Rattle.std.specs.List.{AllByRecursion}
 use Rattle.std.specs.Prelude.{Err, Ok, Result, if◌then◌else◌}
-use Rattle.sw_graph.proofs.ListLemmas.{slice_get_front, slice_get_after}
+use Rattle.sw_graph.proofs.ListLemmas.{slice_get_first, slice_get_after}
 use Rattle.sw_graph.specs.Limits.{IsWithinLimits, excess_of}
 use Rattle.sw_graph.specs.Points.{Middle, point_in, points_of, points_of_block}
 use Rattle.sw_graph.specs.declared.function.Excess.TheVariants.{Registers, Points}
@@ -61,7 +61,7 @@ module _ (P : Instr → Type 0) where
         | inl below ↦
             written_so number p piece.writes instr all
             (middle_at block.instrs block.last p instr
-            (sym (slice_get_front own rest p below) ∙ found))
+            (sym (slice_get_first own rest p below) ∙ found))
         | inr above ↦
             let i : ℕ = p - length own in
             let split : p ≡ length own + i = omega (arith, above) in

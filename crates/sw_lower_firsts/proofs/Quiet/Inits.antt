@@ -32,8 +32,8 @@ use Rattle.sw_lower_safe.proofs.Programs.OwnAssigns.{OwnAssign}
 use Rattle.sw_lower_safe.proofs.Said.Rows.{rows_left, rows_right}
 use Rattle.sw_lower_firsts.specs.Quiet.{IsQuiet, Writes}
 use Rattle.sw_lower_firsts.proofs.Flowing.Joining.{all_joined}
-use Rattle.sw_lower_firsts.proofs.Quiet.Joining.{writes_close, writes_done, writes_each, writes_give}
-use Rattle.sw_lower_firsts.proofs.Quiet.Joining.{writes_then}
+use Rattle.sw_lower_firsts.proofs.Quiet.Joining.{writes_close, writes_done, writes_each}
+use Rattle.sw_lower_firsts.proofs.Quiet.Joining.{writes_give, writes_then}
 use Rattle.sw_lower_firsts.proofs.Quiet.Simple.{simple_quiet}
 
 module _ (tables : Tables) (numbers : Numbers) where

@@ -22,8 +22,8 @@ use Rattle.sw_decls.specs.Declaring.{init_key, maker_keys}
 use Rattle.sw_decls.specs.declared.signature.AsyncDefault.{AsyncDefault}
 use Rattle.sw_decls.specs.declared.signature.Signature.{Signature}
 use Rattle.sw_typing_rules.specs.Judging.{leave_block}
-use Rattle.sw_typing_rules.specs.Programs.{ValueOf, bodies_from, bodies_of, body_state, func_body, init_body}
-use Rattle.sw_typing_rules.specs.Programs.{prop_value, values_of}
+use Rattle.sw_typing_rules.specs.Programs.{ValueOf, bodies_from, bodies_of, body_state, func_body}
+use Rattle.sw_typing_rules.specs.Programs.{init_body, prop_value, values_of}
 use Rattle.sw_typing_rules.specs.Statements.{Left, State, in_body}
 use Rattle.sw_typing_rules.specs.Worlds.{World}
 use Rattle.sw_typing_rules.specs.declared.scope.Inside.{Inside}

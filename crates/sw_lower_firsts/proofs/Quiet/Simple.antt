@@ -32,13 +32,13 @@ use Rattle.sw_lower_safe.proofs.Bodies.ClosureRows.{vars_are_typed}
 use Rattle.sw_lower_safe.proofs.Expressions.Arguments.{HaveTypes}
 use Rattle.sw_lower_safe.proofs.Said.Rows.{rows_left, rows_right, rows_well}
 use Rattle.sw_lower_safe.proofs.Expressions.Typed.{some_type}
+use Rattle.sw_lower_total.proofs.Bodies.SimpleWords.{call_makes, enum_named, param_means}
 use Rattle.sw_lower_firsts.specs.Quiet.{Writes}
 use Rattle.sw_lower_firsts.proofs.Quiet.Cases.{case_means, method_means, value_rows}
 use Rattle.sw_lower_firsts.proofs.Quiet.Forms.{writes_args, writes_links, writes_member}
 use Rattle.sw_lower_firsts.proofs.Quiet.Forms.{writes_prefixed}
 use Rattle.sw_lower_firsts.proofs.Quiet.Joining.{writes_give, writes_then}
 use Rattle.sw_lower_firsts.proofs.Quiet.Uses.{writes_make, writes_make_value, writes_var_read}
-use Rattle.sw_lower_firsts.proofs.Quiet.Words.{call_makes, enum_named, param_means}
 
 -- the enum of a case
 named_case : (found : Option ℕ) (type_of : Option ℕ → Option Ty) → type_of None ≡ None
@@ -228,7 +228,8 @@ module _ (tables : Tables) (numbers : Numbers) (setting : Setting) (params : ℕ
         let (k, named) = named_case (worth_of base).enum
         (λ enum. case_type world.known enum name.id) refl
         (and_left cased (all_simple (map (fold_arg worths) args)) is_simple) in
-        let (i, means_it) = method_means world tables.answers one k (names_enum false base one of_base k named) name
+        let (i, means_it) =
+        method_means world tables.answers one k (names_enum false base one of_base k named) name
         passed have.0 have.1 rows in
         quiet_by expr _ (eq.fold_expr-Method steps base name args)
         (subst (λ found. Writes tables numbers (method_read tables setting.owner name.at

@@ -1,7 +1,7 @@
 -- The blocks of a function whose code stores a global variable at its end.
-use Rattle.std.proofs.Common.{◌≡◌, ℕ, zero, suc, ◌+◌, ◌≤◌, ◌<◌, ◌==◌, Bool, true, false, List, [], ◌∷◌, ◌++◌}
-use Rattle.std.proofs.Common.{length, map, refl, sym, ap, subst, ◌∙◌, arith, inl, inr, ◌⊎◌, ◌||◌}
-use Rattle.std.proofs.Common.{slice_get, Some, None}
+use Rattle.std.proofs.Common.{◌≡◌, ℕ, zero, suc, ◌+◌, ◌≤◌, ◌<◌, ◌==◌, Bool, true, false, List, []}
+use Rattle.std.proofs.Common.{◌∷◌, ◌++◌, length, map, refl, sym, ap, subst, ◌∙◌, arith, inl, inr}
+use Rattle.std.proofs.Common.{◌⊎◌, ◌||◌, slice_get, Some, None}
 use Rattle.std.proofs.lemmas.Bool.{eq-eqb}
 use Rattle.std.proofs.lemmas.Option.{none-some, same_Some}
 use Rattle.std.specs.List.{AllByRecursion}
@@ -98,7 +98,7 @@ module _ {A B : Type 0} (g : ℕ) (place : Place) (first : Piece A) (piece : Pie
   storing : (number : ℕ) → number < 1 + length piece.made → (there : Bool)
       → (number == first.there) ≡ there → ReturnsStoring g (block_by piece number)
   storing number below true is returns = record {
-    front = written_in number first.writes;
+    earlier = written_in number first.writes;
     at = stores.at;
     given = stores.given;
     is = ap (written_in number) stores.writes

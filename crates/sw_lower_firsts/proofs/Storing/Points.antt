@@ -2,11 +2,12 @@
 -- variable.
 use Rattle.std.proofs.Common.{◌≡◌, ℕ, suc, ◌+◌, ◌-◌, Bool, true, false, IsTrue}
 use Rattle.std.proofs.Common.{List, [], ◌∷◌, ◌++◌, length, map, Option, Some, None, refl, sym, ap}
-use Rattle.std.proofs.Common.{subst, ◌∙◌, arith, inl, inr, ◌||◌, slice_get, length-append, true≢false}
+use Rattle.std.proofs.Common.{subst, ◌∙◌, arith, inl, inr, ◌||◌, slice_get, length-append}
+use Rattle.std.proofs.Common.{true≢false}
 use Rattle.std.proofs.lemmas.Bool.{cases_lt, eq-eqb}
 use Rattle.std.proofs.lemmas.Option.{none-some, same_Some}
 use Rattle.std.specs.Option.{option_map}
-use Rattle.sw_graph.proofs.ListLemmas.{slice_get_front, slice_get_after}
+use Rattle.sw_graph.proofs.ListLemmas.{slice_get_first, slice_get_after}
 use Rattle.sw_graph.specs.Placed.{IsReturn}
 use Rattle.sw_graph.specs.Points.{End, Middle, Point, point_in, points_of}
 use Rattle.sw_graph.specs.Points.{points_of_block}
@@ -49,11 +50,11 @@ pub record StoredAt (g p : ℕ) (points : List Point) : Type 0 where
   pub given : Operand
   pub is : slice_get points before ≡ Some (Middle (StoreGlobal at g given))
 
-last_instr : (front : List Instr) (instr : Instr) (last : Last)
-    → slice_get (map Middle (front ++ instr ∷ []) ++ End last ∷ []) (length front)
+last_instr : (earlier : List Instr) (instr : Instr) (last : Last)
+    → slice_get (map Middle (earlier ++ instr ∷ []) ++ End last ∷ []) (length earlier)
     ≡ Some (Middle instr)
 last_instr [] instr last = refl
-last_instr (first ∷ front) instr last = last_instr front instr last
+last_instr (first ∷ earlier) instr last = last_instr earlier instr last
 
 -- in the block of a return
 in_block : (g p : ℕ) (block : Block) (s : Option Operand) → ReturnsStoring g block
@@ -63,18 +64,20 @@ in_block g p block s storing here =
     let end = end_at block.instrs block.last (Return s) p here in
     let stored = storing (subst IsReturn (sym end.1) tt) in
     record {
-      before = length stored.front;
+      before = length stored.earlier;
       next = omega (
         arith,
         end.0,
         ap length stored.is,
-        length-append stored.front (StoreGlobal stored.at g stored.given ∷ []),
+        length-append stored.earlier (StoreGlobal stored.at g stored.given ∷ []),
       );
       at = stored.at;
       given = stored.given;
-      is = ap (λ instrs. slice_get (map Middle instrs ++ End block.last ∷ []) (length stored.front))
+      is =
+          ap (λ instrs.
+          slice_get (map Middle instrs ++ End block.last ∷ []) (length stored.earlier))
           stored.is
-          ∙ last_instr stored.front (StoreGlobal stored.at g stored.given) block.last;
+          ∙ last_instr stored.earlier (StoreGlobal stored.at g stored.given) block.last;
     }
 
 -- A return stands after the store of the global variable.
@@ -88,12 +91,12 @@ stored_before g p (block ∷ blocks) s all here =
     elim (cases_lt p (length own)) [
       | inl below ↦
           let one = in_block g p block s (all 0 block refl)
-          (sym (slice_get_front own (points_of blocks) p below) ∙ here) in record {
+          (sym (slice_get_first own (points_of blocks) p below) ∙ here) in record {
             before = one.before;
             next = one.next;
             at = one.at;
             given = one.given;
-            is = slice_get_front own (points_of blocks) one.before
+            is = slice_get_first own (points_of blocks) one.before
                 (omega (arith, below, one.next)) ∙ one.is;
           }
       | inr above ↦
@@ -124,7 +127,7 @@ begins_none g block instrs last instrs_are last_is storing =
             arith,
             ap length none,
             ap length stored.is,
-            length-append stored.front (StoreGlobal stored.at g stored.given ∷ []),
+            length-append stored.earlier (StoreGlobal stored.at g stored.given ∷ []),
           )
 
       by : (instrs : List Instr) (last : Last) → block.instrs ≡ instrs → block.last ≡ last

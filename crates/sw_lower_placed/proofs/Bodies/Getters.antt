@@ -22,7 +22,7 @@ use Rattle.sw_decls.specs.Signatures.{actor_iso}
 use Rattle.sw_decls.specs.declared.signature.GlobalVar.{GlobalVar}
 use Rattle.sw_typing_rules.specs.Worlds.{is_object_kind}
 use Rattle.sw_isolation_rules.specs.Kinds.{is_isolated, is_strong, kind_iso, shape_iso}
-use Rattle.sw_isolation_rules.specs.Uses.{is_sent, part_storage}
+use Rattle.sw_isolation_rules.specs.Uses.{may_cross, part_storage}
 use Rattle.sw_isolation_rules.specs.declared.uses.Storage.{Storage}
 use Rattle.sw_lower_run.specs.Run.{Making}
 use Rattle.sw_lower_code.specs.Code.{Code, close}
@@ -47,19 +47,19 @@ use Rattle.sw_lower_placed.proofs.Placing.Later.{type_later}
 use Rattle.sw_lower_placed.proofs.Placing.Steps.{places_close}
 
 -- Storage isn't away in a body of its own isolation.
-near : (around : Iso) (on_self mutable sends : Bool) → (is_own around ≡ true → on_self ≡ true)
+near : (around : Iso) (on_self mutable crosses : Bool) → (is_own around ≡ true → on_self ≡ true)
     → is_away around (record {
       iso = around;
       on_self = on_self;
       mutable = mutable;
-      sends = sends;
+      may_cross = crosses;
     }) ≡ false
-near iso.Free on_self mutable sends own = refl
-near iso.Own true mutable sends own = refl
-near iso.Own false mutable sends own = absurd (true≢false (sym (own refl)))
-near (iso.Global actor) on_self mutable sends own =
+near iso.Free on_self mutable crosses own = refl
+near iso.Own true mutable crosses own = refl
+near iso.Own false mutable crosses own = absurd (true≢false (sym (own refl)))
+near (iso.Global actor) on_self mutable crosses own =
     ap (λ same. is_strong (cond same Same Strong)) (eq-eqb actor actor refl)
-near iso.Caller on_self mutable sends own = refl
+near iso.Caller on_self mutable crosses own = refl
 
 -- what is isolated to `self` is stored in an actor
 pub own_actor : (kind : ShapeKind) (actor : Option ℕ) → is_own (kind_iso kind actor) ≡ true
@@ -156,7 +156,7 @@ module _ (program : Program) (key n i : ℕ) (shape : Shape) (part : Part)
       own = λ is. record { has = λ own. own; first = λ own. refl };
     };
     ok = near_read part_host (part_storage program.tables.world shape true part)
-        (near (shape_iso shape) true part.mutable (is_sent program.tables.world part.ty)
+        (near (shape_iso shape) true part.mutable (may_cross program.tables.world part.ty)
         (λ own. refl)) program regs;
   }
 
@@ -213,9 +213,9 @@ module _ (program : Program) (key g actor : ℕ) (global : GlobalVar)
           iso = actor_iso by;
           on_self = false;
           mutable = global.mutable;
-          sends = is_sent program.tables.world global.ty;
+          may_cross = may_cross program.tables.world global.ty;
         })) on
-        ∙ near (iso.Global actor) false global.mutable (is_sent program.tables.world global.ty)
+        ∙ near (iso.Global actor) false global.mutable (may_cross program.tables.world global.ty)
         (λ own. cc)) program regs;
   }
 

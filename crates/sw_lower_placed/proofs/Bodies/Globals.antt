@@ -22,8 +22,7 @@ use Rattle.sw_typing_rules.proofs.Steps.{and_right}
 use Rattle.sw_typing_rules.specs.Expressions.{Judged}
 use Rattle.sw_typing_rules.specs.Judges.{Judges}
 use Rattle.sw_typing_rules.specs.Judging.{judge}
-use Rattle.sw_typing_rules.specs.Programs as typing
-use Rattle.sw_typing_rules.specs.Programs.{ValueOf, value_setting, values_from, values_of}
+use Rattle.sw_typing_rules.specs.Programs.{ValueOf, value_setting}
 use Rattle.sw_typing_rules.specs.Worlds.{World}
 use Rattle.sw_typing_rules.proofs.Sound.{judges}
 use Rattle.sw_isolation_rules.specs.Answers.{Answers, for_some}
@@ -39,10 +38,11 @@ use Rattle.sw_lower_table.specs.Expressions.{iso_of}
 use Rattle.sw_lower_table.specs.Statements.{expr_code}
 use Rattle.sw_lower_table.specs.Tables.{Tables}
 use Rattle.sw_lower_safe.specs.Forms.{VarHolds}
+use Rattle.sw_lower_safe.proofs.Bodies.GlobalBodies.{global_first, global_first_stands}
 use Rattle.sw_lower_safe.proofs.Lists.Joined.{Gives, all_left, all_right, both_give, none_gives}
 use Rattle.sw_lower_safe.proofs.Lists.Listed.{in_first, in_rest}
 use Rattle.sw_lower_safe.proofs.Programs.DeclParts.{props_in}
-use Rattle.sw_lower_safe.proofs.Programs.DeclStands.{global_there, known_is, value_stands}
+use Rattle.sw_lower_safe.proofs.Programs.DeclStands.{global_there, known_is}
 use Rattle.sw_lower_safe.proofs.Programs.Standing.{Stands}
 use Rattle.sw_lower_safe.proofs.Said.RowsOf.{value_rows_hold}
 use Rattle.sw_lower_total.proofs.Standing.Declared.{global_iso}
@@ -205,12 +205,7 @@ module _ (decls : List Decl) (rule : AsyncDefault) (world : World) (ordered : Li
       host = record { iso = body.iso; owner = None; has_self = false }
 
       abbrev made : ValueOf
-      made = record {
-        at = key;
-        owner = None;
-        wanted = prop_type world.known None prop;
-        value = value;
-      }
+      made = global_first world prop value
 
       host_is : IsHost program host
       host_is = record {
@@ -237,19 +232,12 @@ module _ (decls : List Decl) (rule : AsyncDefault) (world : World) (ordered : Li
             (sym is) has));
       }
 
-      value_declared : Contains (values_from world 0 decls) made
-      unfolding values_of
-      value_declared =
-          value_stands world decls n g (Global prop) made stands
-          (subst (λ found. Contains (typing.first_value world None prop found) made) (sym is)
-          (in_first made []))
-
       value_read : ReadPlaced program host code
       value_read =
           (given.exprs (value_setting made) (is_marked made.wanted) value judged is_judged host
           host_is refl (All-nil (VarHolds answers))
           (value_rows_hold world decls given.typed.keyed given.typed.well made judged
-          value_declared is_judged) inside
+          (global_first_stands world decls n g prop value stands is) is_judged) inside
           (context_of (global_iso world answers prop) false None) []
           (record { iso = sym global_isolated; owner = refl })).read noted where
             judged : Judged

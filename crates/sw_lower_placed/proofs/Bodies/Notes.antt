@@ -97,11 +97,11 @@ module _ (world : World) (answers : Answers) (decls : List Decl) where
   init_in n (Global prop) init has = absurd (none_in init has)
 
   -- properties
-  front_in : (front middle back some : List Note) → AreIn front some
-      → AreIn (front ++ middle ++ back) some
-  front_in front middle back some among note has =
-      Contains-append_left (front ++ middle) back note
-      (Contains-append_left front middle note (among note has))
+  first_of_three : (xs ys zs some : List Note) → AreIn xs some
+      → AreIn (xs ++ ys ++ zs) some
+  first_of_three xs ys zs some among note has =
+      Contains-append_left (xs ++ ys) zs note
+      (Contains-append_left xs ys note (among note has))
 
   prop_in : (n : ℕ) (decl : Decl) (prop : PropTree) → Contains (props_in decl) prop
       → AreIn (decl_notes world answers n decl) (prop_notes world answers n prop)
@@ -110,12 +110,12 @@ module _ (world : World) (answers : Answers) (decls : List Decl) where
   prop_in n (Struct word conforms fields funcs) prop has = absurd (none_in prop has)
   prop_in n (Enum word conforms cases funcs) prop has = absurd (none_in prop has)
   prop_in n (Class written word conforms props inits funcs) prop has =
-      front_in (flat_map (prop_notes world answers n) props)
+      first_of_three (flat_map (prop_notes world answers n) props)
       (inits_notes world answers word inits) (flat_map (func_notes world answers) funcs)
       (prop_notes world answers n prop) (λ note noted.
       in_flat_map (prop_notes world answers n) props prop note has noted)
   prop_in n (Actor word props inits funcs) prop has =
-      front_in (flat_map (prop_notes world answers n) props)
+      first_of_three (flat_map (prop_notes world answers n) props)
       (inits_notes world answers word inits) (flat_map (func_notes world answers) funcs)
       (prop_notes world answers n prop) (λ note noted.
       in_flat_map (prop_notes world answers n) props prop note has noted)

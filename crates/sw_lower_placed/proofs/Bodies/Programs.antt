@@ -18,6 +18,7 @@ use Rattle.sw_types.specs.declared.isolation.Iso.{Iso}
 use Rattle.sw_types.specs.declared.isolation.Iso.TheVariants as iso
 use Rattle.sw_types.specs.declared.shape.Shape.{Shape}
 use Rattle.sw_types.specs.declared.shape.ShapeKind.TheVariants as kinds
+use Rattle.sw_resolve.proofs.WithinLemmas.{one_shape}
 use Rattle.sw_resolve.specs.Evident.{meanings_of}
 use Rattle.sw_resolve.specs.Shaped.{part_of, shape_of, written_actor}
 use Rattle.sw_resolve.specs.Words.{shapes_made, top_meaning}
@@ -47,7 +48,7 @@ use Rattle.sw_lower_safe.proofs.Lists.Joined.{all_left, all_right}
 use Rattle.sw_lower_safe.proofs.Lists.Listed.{in_first, in_map}
 use Rattle.sw_lower_safe.proofs.Programs.DeclParts.{funcs_in}
 use Rattle.sw_lower_safe.proofs.Programs.DeclStands.{made_flat, shape_there, value_stands}
-use Rattle.sw_lower_safe.proofs.Programs.MadeOf.{body_made, body_stands, one_shape}
+use Rattle.sw_lower_safe.proofs.Programs.MadeOf.{body_made, body_stands}
 use Rattle.sw_lower_safe.proofs.Programs.ObjectDecls.{actor_ok, class_ok}
 use Rattle.sw_lower_safe.proofs.Programs.Standing.{Stands, at_place, maker_of}
 use Rattle.sw_lower_total.specs.Known.{IsMade}
@@ -226,7 +227,7 @@ module _ (decls : List Decl) (rule : AsyncDefault) (world : World) (ordered : Li
       let getters = prop_getters tables n 0 props in
       let makers = inits_bodies tables n props word inits in
       let trees = flat_map (func_tree_bodies tables) funcs in
-      let front = all_left Here (getters ++ makers) trees here in
+      let first = all_left Here (getters ++ makers) trees here in
       let placed = trees_are (all_right Here (getters ++ makers) trees here) in
       record {
         each = All-append Placed (getters ++ makers) trees
@@ -234,11 +235,11 @@ module _ (decls : List Decl) (rule : AsyncDefault) (world : World) (ordered : Li
             (ordinary_ones getters
             (prop_getters_placed decls rule world ordered given n g decl object.stands 0 props
             (λ prop has. subst (λ all. Contains all prop) (sym object.props_are) has)
-            (all_left Here getters makers front)))
+            (all_left Here getters makers first)))
             (All-weaker (IsMakerOf decls rule world ordered given object.shape) Placed
             (λ body made. maker made.makes) makers
             (inits_make decls rule world ordered given n g decl word props inits object
-            (all_right Here getters makers front))))
+            (all_right Here getters makers first))))
             (ordinary_ones trees placed);
         inside = All-append Is (flat_map (init_inside tables n) inits)
             (flat_map (tree_inside tables) funcs)

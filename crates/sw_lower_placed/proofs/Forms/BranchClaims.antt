@@ -11,7 +11,7 @@ use Rattle.sw_typing_rules.specs.Expressions.{Judged}
 use Rattle.sw_typing_rules.specs.Judges as is
 use Rattle.sw_typing_rules.specs.Statements.{Left, State, arm_left}
 use Rattle.sw_typing_rules.specs.Statements.{condition_rows, in_loop}
-use Rattle.sw_typing_rules.specs.Statements.{is_one, part_of, setting_of}
+use Rattle.sw_typing_rules.specs.Statements.{is_one, in_branch, setting_of}
 use Rattle.sw_typing_rules.specs.Statements.{with_only}
 use Rattle.sw_typing_rules.specs.declared.scope.Inside.{Inside}
 use Rattle.sw_lower_code.specs.Whole.{Body}
@@ -128,7 +128,7 @@ module _ (program : Program) (sound : Sound program) (inside : Inside) (state : 
   pub more_arms_claim : (at : ℕ) (cond : Expr) (body : Block) (arms : List IfArm)
       (judged : Judged) (left last : Left)
       (of_cond : is.Judges program.tables.world (setting_of inside state) false cond judged)
-      (of_body : is.LeavesBlock program.tables.world (part_of inside) state body left)
+      (of_body : is.LeavesBlock program.tables.world (in_branch inside) state body left)
       (rest : is.LeavesArms program.tables.world inside
       (arm_left state judged left).state arms last)
       → ExprClaim program of_cond → BlockClaim program of_body → ArmsClaim program rest
@@ -201,7 +201,7 @@ module _ (program : Program) (sound : Sound program) (inside : Inside) (state : 
   no_default_claim init host is_host same vars rows bodies context listed seen noted = tt
 
   pub some_block_claim : (ends : Bool) (body : Block) (left : Left)
-      (of_body : is.LeavesBlock program.tables.world (part_of inside) state body left)
+      (of_body : is.LeavesBlock program.tables.world (in_branch inside) state body left)
       → BlockClaim program of_body
       → OtherwiseClaim program (is.present ends inside state body left of_body)
   unfolding block_code

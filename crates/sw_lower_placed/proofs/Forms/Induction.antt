@@ -11,7 +11,7 @@ use Rattle.sw_typing_rules.specs.Calls.{Slot}
 use Rattle.sw_typing_rules.specs.Expressions.{Judged, Passed, infix_judged}
 use Rattle.sw_typing_rules.specs.Judges as is
 use Rattle.sw_typing_rules.specs.Statements.{Armed, Left, State, arm_left, cases_of, closure_state}
-use Rattle.sw_typing_rules.specs.Statements.{in_body, in_loop, in_switch, is_one, part_of}
+use Rattle.sw_typing_rules.specs.Statements.{in_body, in_loop, in_switch, is_one, in_branch}
 use Rattle.sw_typing_rules.specs.Statements.{setting_of, with_only}
 use Rattle.sw_typing_rules.specs.Words.{Setting}
 use Rattle.sw_typing_rules.specs.declared.scope.Inside.{Inside}
@@ -179,7 +179,7 @@ module _ (program : Program) (sound : Sound program) where
         (is.one_arm _ _ at cond body more judged one last of_cond of_body rest) =
         more_arms_claim program sound inside state at cond body more judged one last of_cond of_body
         rest (expr_placed (setting_of inside state) false cond judged of_cond)
-        (block_placed (part_of inside) state body one of_body)
+        (block_placed (in_branch inside) state body one of_body)
         (arms_placed inside (arm_left state judged one).state more last rest)
 
     -- an `else` or a `default`
@@ -193,7 +193,7 @@ module _ (program : Program) (sound : Sound program) where
         no_default_claim program sound inside state
     other_placed ends inside state other left (is.present _ _ _ body one of_body) =
         some_block_claim program sound inside state ends body one of_body
-        (block_placed (part_of inside) state body one of_body)
+        (block_placed (in_branch inside) state body one of_body)
 
     -- the arms of a `switch`
     cases_placed : (inside : Inside) (cases : Option (List CaseShape)) (state : State)
@@ -206,7 +206,7 @@ module _ (program : Program) (sound : Sound program) where
         (is.one_case _ _ _ name patterns body more one rest of_body of_more) =
         more_cases_claim program sound inside cases state name patterns body more one rest of_body
         of_more
-        (block_placed (part_of inside) (is.arm_state cases state (is.head_of name patterns)) body
+        (block_placed (in_branch inside) (is.arm_state cases state (is.head_of name patterns)) body
         one of_body)
         (cases_placed inside cases
         (is.case_of cases state (is.head_of name patterns) one).state more rest of_more)

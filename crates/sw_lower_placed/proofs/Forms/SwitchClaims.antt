@@ -13,7 +13,7 @@ use Rattle.sw_types.specs.declared.shape.CaseShape.{CaseShape}
 use Rattle.sw_typing_rules.specs.Expressions.{Judged}
 use Rattle.sw_typing_rules.specs.Judges as is
 use Rattle.sw_typing_rules.specs.Statements.{Armed, Left, State, arm_payload, arm_vars, beside}
-use Rattle.sw_typing_rules.specs.Statements.{cases_of, in_switch, part_of, setting_of, vars_rows}
+use Rattle.sw_typing_rules.specs.Statements.{cases_of, in_switch, in_branch, setting_of, vars_rows}
 use Rattle.sw_typing_rules.specs.declared.scope.Inside.{Inside}
 use Rattle.sw_lower_code.specs.Whole.{Body}
 use Rattle.sw_lower_table.specs.Carriers.{CaseCode}
@@ -47,7 +47,7 @@ module _ (program : Program) (sound : Sound program) where
 
     pub more_cases_claim : (name : Name) (patterns : List Pattern) (body : Block)
         (arms : List CaseArm) (left : Left) (armed : Armed)
-        (of_body : is.LeavesBlock program.tables.world (part_of inside)
+        (of_body : is.LeavesBlock program.tables.world (in_branch inside)
         (is.arm_state cases state (is.head_of name patterns)) body left)
         (of_more : is.LeavesCases program.tables.world inside cases
         (is.case_of cases state (is.head_of name patterns) left).state arms armed)
@@ -116,12 +116,12 @@ module _ (program : Program) (sound : Sound program) where
         (eq.fold_stmt-Switch (code_steps program.tables host.owner) at subject arms otherwise)
         bodies
         (λ now.
-        let front = inside_left program (code.inside ++ cases_inside these) (inside_of ended)
+        let first = inside_left program (code.inside ++ cases_inside these) (inside_of ended)
         now in
         record {
           code_is = switch_placed program host sound.settled is_host sound.ground code these ended
               ((claim host is_host same vars subject_rows
-              (inside_left program code.inside (cases_inside these) front) context listed
+              (inside_left program code.inside (cases_inside these) first) context listed
               seen).read
               (switch_subject_noted program context listed state.vars at subject arms otherwise
               noted))
@@ -129,7 +129,7 @@ module _ (program : Program) (sound : Sound program) where
               (switch_well answers (cases_of program.tables.world judged.ty) at judged armed.heads
               (is_some otherwise) (beside armed.left last) typed.0 typed.1 rows).each host is_host
               same vars (rows_left answers armed.left.rows last.rows inner)
-              (inside_right program code.inside (cases_inside these) front) context listed seen
+              (inside_right program code.inside (cases_inside these) first) context listed seen
               (switch_arms_noted program context listed state.vars at subject arms otherwise
               noted))
               (other init host is_host same

@@ -1,4 +1,5 @@
--- Parts and global variables are accessed in bodies of their isolation, but for a `let` that is read.
+-- Parts and global variables are accessed in bodies of their isolation, but for a `let` that is
+-- read.
 use Rattle.std.proofs.Common.{◌≡◌, ℕ, Bool, true, false, not, ◌||◌, List, Option, Some, None, refl}
 use Rattle.std.proofs.Common.{sym, ap, subst, ◌∙◌, map, slice_get}
 use Rattle.std.proofs.lemmas.Bool.{eq-eqb, not_from_false, or_left, or_right}

@@ -8,7 +8,7 @@ use Rattle.sw_types.specs.declared.isolation.Iso.{Iso}
 use Rattle.sw_types.specs.declared.isolation.Iso.TheVariants as iso
 use Rattle.sw_graph.specs.Bodies.{is_actor_initialiser, is_own}
 use Rattle.sw_graph.specs.CallKinds.{call_kind}
-use Rattle.sw_graph.specs.Placed.{CallPlaced, EachInstr, HasKind}
+use Rattle.sw_graph.specs.Placed.{CallPlaced, EachInstr, HasCallKind}
 use Rattle.sw_graph.specs.declared.function.Function.{Function}
 use Rattle.sw_graph.specs.declared.function.RegKind.{RegKind}
 use Rattle.sw_graph.specs.declared.graph.Graph.{Graph}
@@ -80,7 +80,7 @@ module _ (program : Program) (ordered : List Body) (is : InOrder program ordered
   call_has : (function : Function) (host : Host) → HostOf function host → (regs : List RegKind)
       (r : ℕ) (kind : CallKind) (f : ℕ) (ss : List Operand) → CallOk program host regs r kind f ss
       → (callee : Function) → slice_get program.functions f ≡ Some callee
-      → HasKind function callee ss kind
+      → HasCallKind function callee ss kind
   call_has function host of regs r kind f ss ok callee there =
       let same : ok.header.function ≡ callee =
       same_Some ok.header.function callee (sym ok.header.at ∙ there) in

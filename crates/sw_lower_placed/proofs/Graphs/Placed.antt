@@ -51,7 +51,8 @@ module _ (program : Program) where
   by_kind : (body : Body) (one : IsMaker program body) → is_own body.iso ≡ true
       → is_actor_initialiser (made program body) ≡ false → (kind : ShapeKind)
       → one.shape.kind ≡ kind → ⊥
-  by_kind body one own other kinds.Struct same = other_maker body one own (λ actor. cc (same, actor))
+  by_kind body one own other kinds.Struct same =
+      other_maker body one own (λ actor. cc (same, actor))
   by_kind body one own other kinds.Enum same = other_maker body one own (λ actor. cc (same, actor))
   by_kind body one own other kinds.Class same = other_maker body one own (λ actor. cc (same, actor))
   by_kind body one own other kinds.Actor same =

@@ -7,7 +7,7 @@ use Rattle.std.proofs.lemmas.Map.Keys.{any_passes_from_place}
 use Rattle.std.proofs.lemmas.Option.{slice_get-get_or, slice_get-map, slice_get_within}
 use Rattle.std.specs.List.{list_any}
 use Rattle.std.specs.Option.{option_map}
-use Rattle.sw_graph.proofs.ListLemmas.{slice_get_back, slice_get_before, slice_get_front}
+use Rattle.sw_graph.proofs.ListLemmas.{slice_get_second, slice_get_before, slice_get_first}
 use Rattle.sw_graph.specs.Points.{End, Middle, Point, points_of, points_of_block}
 use Rattle.sw_graph.specs.declared.instr.Block.{Block}
 use Rattle.sw_graph.specs.declared.instr.Instr.{Instr}
@@ -36,11 +36,11 @@ stands_in (block ∷ blocks) p instr here =
         block = block;
         at_block = refl;
         at_instr = middle_at block.instrs block.last p instr
-            (sym (slice_get_front own (points_of blocks) p below) ∙ here);
+            (sym (slice_get_first own (points_of blocks) p below) ∙ here);
       }
       | inr above ↦
           let later = stands_in blocks (p - length own) instr
-          (sym (slice_get_back own (points_of blocks) p above) ∙ here) in record {
+          (sym (slice_get_second own (points_of blocks) p above) ∙ here) in record {
             number = suc later.number;
             index = later.index;
             block = later.block;

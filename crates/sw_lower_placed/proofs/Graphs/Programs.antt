@@ -38,11 +38,12 @@ use Rattle.sw_lower_placed.specs.Allowed.{IsAllowed, SharesNone}
 use Rattle.sw_lower_placed.specs.Bodies.{ArePlaced}
 use Rattle.sw_lower_placed.specs.Hosts.{Program, Host}
 use Rattle.sw_lower_placed.proofs.Graphs.Accesses.{ActorsAlone}
-use Rattle.sw_lower_placed.proofs.Graphs.Clean.{calls_are_clean, closures_are_clean, reads_are_clean}
-use Rattle.sw_lower_placed.proofs.Graphs.Clean.{tasks_are_clean}
+use Rattle.sw_lower_placed.proofs.Graphs.Clean.{calls_are_clean, closures_are_clean}
+use Rattle.sw_lower_placed.proofs.Graphs.Clean.{reads_are_clean, tasks_are_clean}
 use Rattle.sw_lower_placed.proofs.Graphs.Functions.{InOrder}
 use Rattle.sw_lower_placed.proofs.Graphs.Placed.{BeginsRight, graph_placed}
-use Rattle.sw_lower_placed.proofs.Graphs.Shapes.{ActorBare, actors_bare, globals_clean, shapes_clean}
+use Rattle.sw_lower_placed.proofs.Graphs.Shapes.{ActorBare, actors_bare, globals_clean}
+use Rattle.sw_lower_placed.proofs.Graphs.Shapes.{shapes_clean}
 use Rattle.sw_lower_placed.proofs.Graphs.Standing.{at_points, made_either}
 use Rattle.sw_lower_placed.proofs.Settling.Program.{program_of}
 use Rattle.sw_lower_placed.proofs.Settling.Unnamed.{ClosuresFrom, firsts_unnamed, name_at}

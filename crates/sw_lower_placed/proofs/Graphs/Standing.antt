@@ -1,5 +1,5 @@
--- What stands in the bodies of a program: what may stand there, what makes an object or an actor, and
--- what gives a global variable its first value.
+-- What stands in the bodies of a program: what may stand there, what makes an object or an actor,
+-- and what gives a global variable its first value.
 use Rattle.std.proofs.Common.{◌≡◌, ℕ, true, false, List, Some, inl, inr, refl, sym, subst, ◌∙◌}
 use Rattle.std.proofs.Common.{slice_get}
 use Rattle.std.proofs.lemmas.Bool.{and_from, false≢true, not_from_false}

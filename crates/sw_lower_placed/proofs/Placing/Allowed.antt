@@ -16,14 +16,14 @@ use Rattle.sw_graph.specs.declared.instr.Operand.{Operand}
 use Rattle.sw_isolation_rules.specs.declared.uses.Storage.{Storage}
 use Rattle.sw_lower_run.specs.declared.bound.Bound.{Bound}
 use Rattle.sw_lower_safe.specs.Ground.{kind_by}
-use Rattle.sw_lower_safe.specs.Safe.{IsFront}
+use Rattle.sw_lower_safe.specs.Safe.{IsStart}
 use Rattle.sw_lower_placed.specs.Allowed.{CallOk, ClosureOk, IsAllowed, PartUsed, ReadOk, TaskOk}
 use Rattle.sw_lower_placed.specs.Allowed.{UseOk, WriteOk, global_storage, used_storage}
 use Rattle.sw_lower_placed.specs.Placing.{AllAllowed, IsKnown}
 use Rattle.sw_lower_placed.specs.Hosts.{Program, Host}
-use Rattle.sw_lower_placed.proofs.Placing.Later.{front_has}
+use Rattle.sw_lower_placed.proofs.Placing.Later.{start_keeps}
 
-module _ (program : Program) (host : Host) (regs more : List RegKind) (front : IsFront regs more)
+module _ (program : Program) (host : Host) (regs more : List RegKind) (start : IsStart regs more)
   where
     -- a variable's register
     pub known_later : (bound : Bound) → IsKnown program host regs bound
@@ -31,7 +31,7 @@ module _ (program : Program) (host : Host) (regs more : List RegKind) (front : I
     known_later bound known = record {
       ty = known.ty;
       typed = known.typed;
-      kind = front_has regs more bound.reg (kind_by bound.boxed known.ty) front known.kind;
+      kind = start_keeps regs more bound.reg (kind_by bound.boxed known.ty) start known.kind;
     }
 
     abbrev part_later : (o : Operand) (i : ℕ) → PartUsed program host regs o i
@@ -41,7 +41,7 @@ module _ (program : Program) (host : Host) (regs more : List RegKind) (front : I
       shape = used.shape;
       part = used.part;
       on_self = used.on_self;
-      held = front_has regs more o.reg (Plain (types.Named used.k)) front used.held;
+      held = start_keeps regs more o.reg (Plain (types.Named used.k)) start used.held;
       is_shape = used.is_shape;
       object = used.object;
       is_part = used.is_part;
@@ -69,7 +69,7 @@ module _ (program : Program) (host : Host) (regs more : List RegKind) (front : I
       makes_none = ok.makes_none;
       given = ok.given;
       on_self = ok.on_self;
-      gives = front_has regs more r (Plain ok.result) front ok.gives;
+      gives = start_keeps regs more r (Plain ok.result) start ok.gives;
       crosses = ok.crosses;
     }
 
@@ -85,10 +85,10 @@ module _ (program : Program) (host : Host) (regs more : List RegKind) (front : I
       noted = ok.noted;
       held = ok.held;
       typed = ok.typed;
-      gives = front_has regs more r (Plain ok.ty) front ok.gives;
+      gives = start_keeps regs more r (Plain ok.ty) start ok.gives;
       crosses = λ none marked x has.
           let (ty, held, sends) = ok.crosses none marked x has in
-          (ty, front_has regs more x.reg (Plain ty) front held, sends);
+          (ty, start_keeps regs more x.reg (Plain ty) start held, sends);
     }
 
     task_later : (f : ℕ) (cs : List Operand) → TaskOk program host regs f cs

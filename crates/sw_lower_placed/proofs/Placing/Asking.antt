@@ -16,7 +16,8 @@ use Rattle.sw_lower_safe.proofs.Lists.Found.{seen_by}
 use Rattle.sw_lower_placed.specs.Placing.{IsKnown, PlacesAt}
 use Rattle.sw_lower_placed.specs.Hosts.{Program, Host}
 use Rattle.sw_lower_placed.proofs.Placing.Joining.{places_in, places_then}
-use Rattle.sw_lower_placed.proofs.Placing.Steps.{places_known, places_none, places_number, places_var}
+use Rattle.sw_lower_placed.proofs.Placing.Steps.{places_known, places_none, places_number}
+use Rattle.sw_lower_placed.proofs.Placing.Steps.{places_var}
 
 module _ {program : Program} {host : Host} where
   -- what no accepted program asks for

@@ -1,6 +1,6 @@
 -- Safe code, where it runs in a function of a body: its value is in a register of its type.
-use Rattle.std.proofs.Common.{◌≡◌, ◌≢◌, ℕ, zero, suc, ◌+◌, ◌-◌, ◌<◌, Bool, true, false, inl, List, []}
-use Rattle.std.proofs.Common.{◌∷◌, ◌++◌, length, replicate, map, Some, ap, sym, ◌∙◌, refl}
+use Rattle.std.proofs.Common.{◌≡◌, ◌≢◌, ℕ, zero, suc, ◌+◌, ◌-◌, ◌<◌, Bool, true, false, inl, List}
+use Rattle.std.proofs.Common.{[], ◌∷◌, ◌++◌, length, replicate, map, Some, ap, sym, ◌∙◌, refl}
 use Rattle.std.proofs.Common.{arith, append-nil, true≢false}
 use Rattle.std.proofs.lemmas.List.{length-replicate}
 use Rattle.std.proofs.lemmas.Option.{slice_get_within}
@@ -116,7 +116,8 @@ module _ (program : Program) (host : Host) where
   }
 
   -- Safe code is safe in a function of the body, and what was claimed holds in a whole function.
-  pub safe_somewhere : {A : Type 0} (code : Code A) (Post : Whole → Position → A → Position → Type 0)
+  pub safe_somewhere : {A : Type 0} (code : Code A)
+      (Post : Whole → Position → A → Position → Type 0)
       → Wherever program.tables program.numbers program.functions host.owner
       (λ w p. SafeAt w p code (Post w p))
       → (s t : Making) (value : A) → Stood program host s → code.run s ≡ Ok (value, t)
@@ -124,58 +125,64 @@ module _ (program : Program) (host : Host) where
       → (w : Whole) × (p q : Position) × (w.regs ≡ t.made.regs) × (q.making ≡ t)
       × Post w p value q
   unfolding position_of whole_by
-  safe_somewhere {A} code Post safe s t value stood ran fits =
-      (w, p, moved p piece t, refl, refl, (safe w of p knows stands value t ran fits inside).1) where
-        piece : Piece A
-        piece = code.plan (place_of s)
+  safe_somewhere {A} code Post safe s t value stood ran fits = (
+    w,
+    p,
+    moved p piece t,
+    refl,
+    refl,
+    (safe w of p knows stands value t ran fits inside).1,
+  ) where
+    piece : Piece A
+    piece = code.plan (place_of s)
 
-        p : Position
-        p = position_of s
+    p : Position
+    p = position_of s
 
-        w : Whole
-        w = whole_by s piece t
+    w : Whole
+    w = whole_by s piece t
 
-        of : IsOf program.tables program.functions w
-        of = record { shapes = refl; globals = refl; functions_are = refl }
+    of : IsOf program.tables program.functions w
+    of = record { shapes = refl; globals = refl; functions_are = refl }
 
-        stands : Stands p
-        stands = record {
-          going = stood.going;
-          fits = (made_by_run code s t value stood.going ran).before fits;
-          blocks = omega (
-            arith,
-            stood.going,
-            length-replicate (length s.made.blocks - 1) any_block,
-          );
-          instrs = λ number. all_written 0 number s.made.blocks
-              ∙ ap (λ at. written_in at (in_all 0 s.made.blocks)) (omega arith);
-        }
+    stands : Stands p
+    stands = record {
+      going = stood.going;
+      fits = (made_by_run code s t value stood.going ran).before fits;
+      blocks = omega (
+        arith,
+        stood.going,
+        length-replicate (length s.made.blocks - 1) any_block,
+      );
+      instrs = λ number. all_written 0 number s.made.blocks
+          ∙ ap (λ at. written_in at (in_all 0 s.made.blocks)) (omega arith);
+    }
 
-        seen : (bound : Bound) → IsKnown program host s.made.regs bound
-            → IsSeen program.tables host.owner w p bound
-        seen bound known = record {
-          ty = known.ty;
-          typed = known.typed;
-          kind = kind;
-          set = inl (taken s.here bound.reg (slice_get_within t.made.regs bound.reg _ kind));
-          made = slice_get_within s.made.regs bound.reg _ known.kind;
-        } where
-          kind : slice_get t.made.regs bound.reg ≡ Some (kind_by bound.boxed known.ty)
-          kind = reg_later s t bound.reg (kind_by bound.boxed known.ty)
-              (ran_later code s t value stood.going ran) known.kind
+    seen : (bound : Bound) → IsKnown program host s.made.regs bound
+        → IsSeen program.tables host.owner w p bound
+    seen bound known = record {
+      ty = known.ty;
+      typed = known.typed;
+      kind = kind;
+      set = inl (taken s.here bound.reg (slice_get_within t.made.regs bound.reg _ kind));
+      made = slice_get_within s.made.regs bound.reg _ known.kind;
+    } where
+      kind : slice_get t.made.regs bound.reg ≡ Some (kind_by bound.boxed known.ty)
+      kind = reg_later s t bound.reg (kind_by bound.boxed known.ty)
+          (ran_later code s t value stood.going ran) known.kind
 
-        knows : Knows program.tables host.owner program.numbers w p
-        knows = record {
-          vars = λ k d below. seen _ (stood.known k d below);
-          numbers = stood.numbers;
-        }
+    knows : Knows program.tables host.owner program.numbers w p
+    knows = record {
+      vars = λ k d below. seen _ (stood.known k d below);
+      numbers = stood.numbers;
+    }
 
-        inside : IsIn w (moved p piece t)
-        inside = record {
-          regs = ([], sym (append-nil t.made.regs));
-          made = ([], sym (append-nil (p.made ++ piece.made)));
-          writes = ([], sym (append-nil (p.writes ++ piece.writes)));
-        }
+    inside : IsIn w (moved p piece t)
+    inside = record {
+      regs = ([], sym (append-nil t.made.regs));
+      made = ([], sym (append-nil (p.made ++ piece.made)));
+      writes = ([], sym (append-nil (p.writes ++ piece.writes)));
+    }
 
   -- The value of an expression is in a register of its type.
   pub value_kind : (code : ExprCode) (judged : Judged)

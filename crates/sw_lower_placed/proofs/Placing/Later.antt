@@ -8,12 +8,12 @@ use Rattle.sw_graph.specs.declared.function.RegKind.TheVariants.{Plain}
 use Rattle.sw_graph.specs.declared.instr.Operand.{Operand}
 use Rattle.sw_graph.proofs.ListLemmas.{slice_get_before}
 use Rattle.sw_lower_run.specs.Run.{Making}
-use Rattle.sw_lower_safe.specs.Safe.{IsFront}
+use Rattle.sw_lower_safe.specs.Safe.{IsStart}
 use Rattle.sw_lower_placed.specs.Allowed.{HasType}
 
 -- One function has the registers of another, and maybe more.
 pub record IsLater (s u : Making) : Type 0 where
-  pub regs : IsFront s.made.regs u.made.regs
+  pub regs : IsStart s.made.regs u.made.regs
 
 -- These operands are in registers that were made.
 abbrev pub AreBelow : Making → List Operand → Type 0
@@ -30,14 +30,14 @@ later_then s t u one two = record {
 }
 
 -- A register keeps its kind where more are made after it.
-pub front_has : (regs more : List RegKind) (r : ℕ) (kind : RegKind) → IsFront regs more
+pub start_keeps : (regs more : List RegKind) (r : ℕ) (kind : RegKind) → IsStart regs more
     → slice_get regs r ≡ Some kind → slice_get more r ≡ Some kind
-front_has regs more r kind front is =
-    ap (λ list. slice_get list r) front.1 ∙ slice_get_before regs front.0 r kind is
+start_keeps regs more r kind start is =
+    ap (λ list. slice_get list r) start.1 ∙ slice_get_before regs start.0 r kind is
 
 pub reg_later : (s u : Making) (r : ℕ) (kind : RegKind) → IsLater s u
     → slice_get s.made.regs r ≡ Some kind → slice_get u.made.regs r ≡ Some kind
-reg_later s u r kind later is = front_has s.made.regs u.made.regs r kind later.regs is
+reg_later s u r kind later is = start_keeps s.made.regs u.made.regs r kind later.regs is
 
 pub type_later : (s u : Making) (r : ℕ) (ty : Ty) → IsLater s u → HasType s.made.regs r ty
     → HasType u.made.regs r ty

@@ -119,7 +119,8 @@ module _ {program : Program} {host : Host} where
         (ap (λ list. var_in key list) (sym still.vars) ∙ found);
     alone = λ has. subst (All (λ (bound : Bound). bound.reg ≡ 0 → IsMe program host bound.key))
         (sym still.vars) (stood.alone has);
-    taken = λ has. subst (λ (regs : List RegKind). 0 < length regs) (sym still.regs) (stood.taken has);
+    taken = λ has.
+        subst (λ (regs : List RegKind). 0 < length regs) (sym still.regs) (stood.taken has);
     written = subst (λ regs. AllAllowed program host regs t.made.blocks) (sym still.regs) written;
   }
 

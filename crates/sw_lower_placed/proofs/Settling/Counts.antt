@@ -117,10 +117,10 @@ module _ (c : ℕ) where
       → few (read_notes context at storage) ≤ hits at c
   few_read context at storage =
       few_either (is_outside context storage) _ [] (hits at c)
-      (few_either storage.mutable (call_notes context at (accessor storage) storage.sends)
-      (race_if (not storage.sends) at 606) (hits at c)
-      (few_call context at (accessor storage) storage.sends)
-      (omega (arith, none_race (not storage.sends) at 606)))
+      (few_either storage.mutable (call_notes context at (accessor storage) storage.may_cross)
+      (race_if (not storage.may_cross) at 606) (hits at c)
+      (few_call context at (accessor storage) storage.may_cross)
+      (omega (arith, none_race (not storage.may_cross) at 606)))
       (omega (arith, none_nothing))
 
   pub few_use : (context : Context) (at : ℕ) (used : Used)

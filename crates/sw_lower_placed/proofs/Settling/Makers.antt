@@ -17,10 +17,12 @@ use Rattle.sw_tree.proofs.KeyCounts as keys
 use Rattle.sw_tree.proofs.KeyCounts.{in_decl, in_init}
 use Rattle.sw_types.specs.declared.shape.Shape.{Shape}
 use Rattle.sw_types.specs.declared.shape.ShapeKind.TheVariants as kinds
+use Rattle.sw_resolve.proofs.WithinLemmas.{one_shape}
 use Rattle.sw_resolve.specs.Words.{shapes_made}
 use Rattle.sw_decls.specs.Declaring.{init_key, maker_keys}
 use Rattle.sw_decls.specs.declared.signature.AsyncDefault.{AsyncDefault}
 use Rattle.sw_decls.specs.declared.signature.Signature.{Signature}
+use Rattle.sw_typing_rules.proofs.OneWorld.{value_word}
 use Rattle.sw_typing_rules.specs.Worlds.{IsWorldOf, World, item}
 use Rattle.sw_isolation_rules.specs.Programs.{func_at}
 use Rattle.sw_isolation_rules.specs.Uses.{maker_at}
@@ -33,8 +35,8 @@ use Rattle.sw_lower_safe.proofs.Headers.Makers.{maker_parts, makers_counted}
 use Rattle.sw_lower_safe.proofs.Lists.Listed.{between, in_place}
 use Rattle.sw_lower_safe.proofs.Programs.DeclStands.{made_flat}
 use Rattle.sw_lower_safe.proofs.Programs.Keyed.{one_place}
-use Rattle.sw_lower_safe.proofs.Programs.MadeOf.{body_stands, one_shape}
-use Rattle.sw_lower_safe.proofs.Programs.SignatureKeys.{no_signature, numbered_key, value_word}
+use Rattle.sw_lower_safe.proofs.Programs.MadeOf.{body_stands}
+use Rattle.sw_lower_safe.proofs.Programs.SignatureKeys.{no_signature, numbered_key}
 use Rattle.sw_lower_safe.proofs.Programs.Standing.{Stands, place_of_thing, stands_in}
 use Rattle.sw_lower_total.specs.Programs.{noted_tables}
 use Rattle.sw_lower_actors.proofs.Functions.Signed.{IsSigned, maker_body_signed, signed_among}

@@ -30,8 +30,8 @@ use Rattle.sw_lower_placed.proofs.Settling.Counts.{few, few_body, few_join, mark
 use Rattle.sw_lower_placed.proofs.Settling.Members.{body_few, funcs_few, object_few, value_few}
 
 module _ (c : ℕ) where
-  -- Of a key that stands so often: where it doesn't, nothing is noted, and where it stands once, one
-  -- note is.
+  -- Of a key that stands so often: where it doesn't, nothing is noted, and where it stands once,
+  -- one note is.
   pub record Once (notes : List Note) (n : ℕ) : Type 0 where
     pub none : n ≡ 0 → few c notes ≡ 0
     pub same : n ≤ 1 → (one other : Note) → Contains notes one → Contains notes other

@@ -9,8 +9,9 @@ use Rattle.sw_types.specs.declared.shape.Shape.{Shape}
 use Rattle.sw_resolve.specs.Evident.{meanings_of}
 use Rattle.sw_decls.specs.Declaring.{made_shapes}
 use Rattle.sw_decls.specs.declared.signature.AsyncDefault.{AsyncDefault}
+use Rattle.sw_typing_rules.proofs.OneWorld.{distinct_once}
 use Rattle.sw_typing_rules.specs.Worlds.{IsWorldOf, World}
-use Rattle.sw_lower_safe.proofs.Programs.Keyed.{distinct_once, one_index}
+use Rattle.sw_lower_safe.proofs.Programs.Keyed.{one_index}
 use Rattle.sw_lower_safe.proofs.Said.OneAnswer.{types_count, types_told}
 use Rattle.sw_lower_safe.proofs.Said.Programs.{all_said, in_shape}
 

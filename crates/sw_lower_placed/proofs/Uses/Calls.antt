@@ -14,7 +14,7 @@ use Rattle.sw_graph.specs.declared.instr.Instr.TheVariants as instr
 use Rattle.sw_graph.specs.declared.instr.Operand.{Operand}
 use Rattle.sw_decls.specs.declared.signature.Signature.{Signature}
 use Rattle.sw_isolation_rules.specs.Kinds.{is_strong, kind_of}
-use Rattle.sw_isolation_rules.specs.Uses.{called, func_used, is_sent, made, made_kind, make_used}
+use Rattle.sw_isolation_rules.specs.Uses.{called, func_used, may_cross, made, made_kind, make_used}
 use Rattle.sw_isolation_rules.specs.Uses.{maker_at}
 use Rattle.sw_isolation_rules.specs.declared.uses.Callee.{Callee}
 use Rattle.sw_isolation_rules.specs.declared.uses.Context.{Context}
@@ -78,7 +78,7 @@ module _ (program : Program) (host : Host) (settled : IsSettled program)
         callee = callee_by is_initialiser on_self func
 
         sends : Bool
-        sends = func.sends || is_sent program.tables.world func.result
+        sends = func.sends || may_cross program.tables.world func.result
 
         call_ok : (f : ℕ) (kind : CallKind) (r : ℕ) (t : Making)
             → program.numbers (plain func.key.at) ≡ Some f

@@ -112,16 +112,16 @@ module _ (program : Program) where
   pub getter_crosses : SharesNone program → (context : Context) (at : ℕ) (storage : Storage)
       (kind : CallKind) → IsCrossing context storage kind
       → AreNoted program (read_notes context at storage) → is_strong kind ≡ true
-      → storage.sends ≡ true
+      → storage.may_cross ≡ true
   getter_crosses shares context at storage kind cross noted strong =
-      call_crosses shares context at (accessor storage) storage.sends
+      call_crosses shares context at (accessor storage) storage.may_cross
       (by (is_outside context storage) storage.mutable cross.outside cross.mutable noted)
       (sym (ap is_strong cross.kind_is) ∙ strong) where
         calls : List Note
-        calls = call_notes context at (accessor storage) storage.sends
+        calls = call_notes context at (accessor storage) storage.may_cross
 
         by : (outside mutable : Bool) → outside ≡ true → mutable ≡ true → AreNoted program
-            (if outside then (if mutable then calls else race_if (not storage.sends) at 606)
+            (if outside then (if mutable then calls else race_if (not storage.may_cross) at 606)
             else []) → AreNoted program calls
         by true true away var noted = noted
         by true false away var noted = absurd (false≢true var)
@@ -135,8 +135,8 @@ module _ (program : Program) where
     read_ok context at storage seen noted none = record {
       constant = constant;
       crosses = λ shares away.
-          reads_cross shares (is_outside context storage) storage.mutable storage.sends
-          (call_notes context at (accessor storage) storage.sends) at noted (outside away)
+          reads_cross shares (is_outside context storage) storage.mutable storage.may_cross
+          (call_notes context at (accessor storage) storage.may_cross) at noted (outside away)
           (constant away);
     } where
       outside : is_away host.iso storage ≡ true → is_outside context storage ≡ true

@@ -18,7 +18,8 @@ use Rattle.sw_decls.specs.Signatures.{actor_iso}
 use Rattle.sw_decls.specs.declared.signature.GlobalVar.{GlobalVar}
 use Rattle.sw_typing_rules.specs.Worlds.{is_object_kind}
 use Rattle.sw_isolation_rules.specs.Kinds.{is_strong, kind_of, plain_callee, shape_iso}
-use Rattle.sw_isolation_rules.specs.Uses.{global, global_used, is_sent, part_of, part_storage}
+use Rattle.sw_isolation_rules.specs.Uses.{global, global_used, may_cross, part_of_shape}
+use Rattle.sw_isolation_rules.specs.Uses.{part_storage}
 use Rattle.sw_isolation_rules.specs.Uses.{part_in as used_part, part_used}
 use Rattle.sw_isolation_rules.specs.declared.uses.Context.{Context}
 use Rattle.sw_isolation_rules.specs.declared.uses.Storage.{Storage}
@@ -63,7 +64,7 @@ module _ (program : Program) (host : Host) (settled : IsSettled program)
       → FunctionIs program f iso false false ty)
       → kind ≡ kind_of (plain_callee iso false on_self) host.iso
       → (on_self ≡ true → FirstIsOwn host xs)
-      → (SharesNone program → is_strong kind ≡ true → is_sent program.tables.world ty ≡ true)
+      → (SharesNone program → is_strong kind ≡ true → may_cross program.tables.world ty ≡ true)
       → (s : Making)
       → PlacesAt program host s (call_getter program.tables at kind ty key xs) MadeValue
   unfolding call_getter
@@ -184,7 +185,7 @@ module _ (program : Program) (host : Host) (settled : IsSettled program)
       ≡ used_part program.tables.world shape on_self (Some part)
   unfolding part_used
   part_use k i on_self shape part shape_is part_is =
-      ap (λ found. part_of program.tables.world found i on_self) shape_is
+      ap (λ found. part_of_shape program.tables.world found i on_self) shape_is
       ∙ ap (used_part program.tables.world shape on_self) part_is
 
   -- the property with a number, of `self` or not

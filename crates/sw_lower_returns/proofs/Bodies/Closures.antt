@@ -9,10 +9,11 @@ use Rattle.sw_types.specs.declared.ty.Ty.{Ty}
 use Rattle.sw_types.specs.declared.ty.Ty.TheVariants as types
 use Rattle.sw_isolation_rules.specs.Answers.{Answers}
 use Rattle.sw_isolation_rules.specs.Noting.{result_layer as task_layer, task_result}
-use Rattle.sw_typing_rules.specs.Expressions.{Closed, fun_judged, fun_types, spawn_judged, task_types}
+use Rattle.sw_typing_rules.specs.Expressions.{Closed, fun_judged, fun_types, spawn_judged}
+use Rattle.sw_typing_rules.specs.Expressions.{task_types}
 use Rattle.sw_typing_rules.specs.Statements.{Left, State, are_captured, body_result, body_rows}
-use Rattle.sw_typing_rules.specs.Statements.{capture_rows, closed, lacks_result, param_var, result_of}
-use Rattle.sw_typing_rules.specs.Statements.{vars_rows}
+use Rattle.sw_typing_rules.specs.Statements.{capture_rows, closed, lacks_result, param_var}
+use Rattle.sw_typing_rules.specs.Statements.{result_of, vars_rows}
 use Rattle.sw_typing_rules.specs.Verdicts.{rows_of}
 use Rattle.sw_typing_rules.specs.Words.{Setting, local}
 use Rattle.sw_lower_run.specs.Plan.{Numbers}
@@ -93,7 +94,8 @@ module _ (tables : Tables) (number : Numbers) (owner : Option ℕ) where
         let gives = fun_gives expected closing typed in
         let marked = closing.marked || expected in
         let own = rows_of closure.at (fun_types marked closing.params closing.result) in
-        let at_type = fun_type tables.answers closure.at marked closing.params closing.result gives.0
+        let at_type =
+        fun_type tables.answers closure.at marked closing.params closing.result gives.0
         gives.1 (rows_right tables.answers closing.rows own rows) in
         let is : fun_result tables owner closure.at ≡ gives.0 = ap func_result at_type
         ∙ ap result_layer (types.outs-Func marked closing.params gives.0) in

@@ -1,6 +1,6 @@
 -- The code of bodies leaves no block open that is reached.
-use Rattle.std.proofs.Common.{◌≡◌, ℕ, Bool, true, false, List, [], ◌∷◌, Option, Some, None, refl, sym}
-use Rattle.std.proofs.Common.{subst}
+use Rattle.std.proofs.Common.{◌≡◌, ℕ, Bool, true, false, List, [], ◌∷◌, Option, Some, None, refl}
+use Rattle.std.proofs.Common.{sym, subst}
 use Rattle.std.specs.Prelude.{if◌then◌else◌}
 use Rattle.std.proofs.lemmas.Bool.{false≢true}
 use Rattle.std.specs.List.{AllByRecursion}
@@ -66,7 +66,8 @@ ways_close block breaks ways s live rest stands first =
     (λ _ u to_u closed. closed.flows))
 
 -- The code of a body that gives a value.
-pub body_closes : (number : Numbers) (result : Ty) (state : Typing) (block : BlockCode) (left : Left)
+pub body_closes : (number : Numbers) (result : Ty) (state : Typing) (block : BlockCode)
+    (left : Left)
     → BlockReturns number true state block left → body_result left.state.returned ≡ Some result
     → left.ends ≡ true → is_unit result ≡ false → CodeCloses (body_code result block)
 unfolding body_code

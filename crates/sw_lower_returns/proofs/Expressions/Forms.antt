@@ -31,12 +31,14 @@ use Rattle.sw_lower_returns.proofs.Flow.Quiet.{flows_done, flows_emit, flows_kno
 use Rattle.sw_lower_returns.proofs.Flow.Quiet.{flows_reg}
 use Rattle.sw_lower_returns.proofs.Flow.Then.{flows_then}
 use Rattle.sw_lower_returns.proofs.Expressions.Logic.{flows_and, flows_or}
-use Rattle.sw_lower_returns.proofs.Expressions.Uses.{flows_call_closure, flows_call_func, flows_capture}
-use Rattle.sw_lower_returns.proofs.Expressions.Uses.{flows_give, flows_make, flows_make_value}
-use Rattle.sw_lower_returns.proofs.Expressions.Uses.{flows_read_global, flows_read_own, flows_read_part}
-use Rattle.sw_lower_returns.proofs.Expressions.Uses.{flows_read_self, flows_read_var, flows_read_word}
-use Rattle.sw_lower_returns.proofs.Expressions.Uses.{flows_shape_at, flows_shape_of, flows_typed}
-use Rattle.sw_lower_returns.proofs.Expressions.Uses.{flows_unknown, flows_write_var}
+use Rattle.sw_lower_returns.proofs.Expressions.Uses.{flows_call_closure, flows_call_func}
+use Rattle.sw_lower_returns.proofs.Expressions.Uses.{flows_capture, flows_give, flows_make}
+use Rattle.sw_lower_returns.proofs.Expressions.Uses.{flows_make_value, flows_read_global}
+use Rattle.sw_lower_returns.proofs.Expressions.Uses.{flows_read_own, flows_read_part}
+use Rattle.sw_lower_returns.proofs.Expressions.Uses.{flows_read_self, flows_read_var}
+use Rattle.sw_lower_returns.proofs.Expressions.Uses.{flows_read_word, flows_shape_at}
+use Rattle.sw_lower_returns.proofs.Expressions.Uses.{flows_shape_of, flows_typed, flows_unknown}
+use Rattle.sw_lower_returns.proofs.Expressions.Uses.{flows_write_var}
 
 -- An expression's value and an assignment to it.
 pub record ExprFlows (code : ExprCode) : Type 0 where

@@ -141,6 +141,7 @@ module _ (tables : Tables) (owner : Option ℕ) where
   unfolding expr_code
   expr_flows expr = every_expr claims cases expr
 
-  pub block_gives : (block : Block) → AllByRecursion GivenFlows (block_code tables owner block).gives
+  pub block_gives : (block : Block)
+      → AllByRecursion GivenFlows (block_code tables owner block).gives
   unfolding block_code
   block_gives block = every_block claims cases block

@@ -11,8 +11,8 @@ use Rattle.sw_lower_run.specs.Plan.{Numbers}
 use Rattle.sw_lower_table.specs.Carriers.{BlockCode, CaseCode, IfCode, StmtCode}
 use Rattle.sw_lower_table.specs.Statements.{block_layer, block_only, else_code, inside_of}
 use Rattle.sw_lower_returns.specs.Flows.{WaysFlow}
-use Rattle.sw_lower_returns.specs.Forms.{BlockReturns, BodyReturns, GaveValue, GivesValue, OnlyFlows}
-use Rattle.sw_lower_returns.specs.Forms.{StmtReturns, StmtsReturn}
+use Rattle.sw_lower_returns.specs.Forms.{BlockReturns, BodyReturns, GaveValue, GivesValue}
+use Rattle.sw_lower_returns.specs.Forms.{OnlyFlows, StmtReturns, StmtsReturn}
 use Rattle.sw_lower_returns.proofs.Statements.Arms.{CaseFlows, DefaultFlows, name_in}
 use Rattle.sw_lower_returns.proofs.Statements.Branches.{ArmsFlow}
 use Rattle.sw_typing_rules.proofs.Steps.{and_left, and_right}

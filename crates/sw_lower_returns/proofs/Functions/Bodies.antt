@@ -1,6 +1,6 @@
 -- The function of a body whose code ends each block that is reached returns its result.
-use Rattle.std.proofs.Common.{◌≡◌, ℕ, zero, suc, inl, inr, true≢false, Bool, true, false, List, [], ◌∷◌}
-use Rattle.std.proofs.Common.{refl, ap, sym, ◌∙◌}
+use Rattle.std.proofs.Common.{◌≡◌, ℕ, zero, suc, inl, inr, true≢false, Bool, true, false, List, []}
+use Rattle.std.proofs.Common.{◌∷◌, refl, ap, sym, ◌∙◌}
 use Rattle.std.proofs.lemmas.List.Elements.{All-nil}
 use Rattle.sw_types.specs.declared.ty.Ty.{Ty, out-Ty, roll-Ty, roll-out-Ty}
 use Rattle.sw_types.specs.declared.ty.Ty.TheOpen as layer

@@ -19,12 +19,13 @@ use Rattle.sw_lower_run.specs.Plan.{Ended, written_in}
 use Rattle.sw_lower_safe.specs.Whole.{Whole}
 use Rattle.sw_lower_safe.proofs.Functions.Blocks.{block_in, block_there, blocks_in}
 use Rattle.sw_lower_safe.proofs.Functions.Points.{end_at, middle_at, point_at, start_of}
-use Rattle.sw_lower_returns.specs.Flows.{AtDead, AtFixed, AtLive, Dead, Fixed, Flows, IsFixed, IsMark}
-use Rattle.sw_lower_returns.specs.Flows.{IsReached, LastFlows, Live, Mark, State}
+use Rattle.sw_lower_returns.specs.Flows.{AtDead, AtFixed, AtLive, Dead, Fixed, Flows, IsFixed}
+use Rattle.sw_lower_returns.specs.Flows.{IsMark, IsReached, LastFlows, Live, Mark, State}
 use Rattle.sw_lower_returns.proofs.Flow.Marks.{mark_within}
 use Rattle.sw_lower_returns.proofs.Functions.Ended.{Given, last_given}
 
-never_dead : (marks : List Mark) (number : ℕ) → IsReached marks number → IsMark marks number Dead → ⊥
+never_dead : (marks : List Mark) (number : ℕ) → IsReached marks number
+    → IsMark marks number Dead → ⊥
 never_dead marks number (inl is) other = let same : Some Live ≡ Some Dead = sym is ∙ other in cc
 never_dead marks number (inr is) other = let same : Some Fixed ≡ Some Dead = sym is ∙ other in cc
 
@@ -98,7 +99,8 @@ module _ (w : Whole) (s : State) (flows : Flows s []) (first : IsMark s.marks 0 
             subst (IsReached s.marks) holds_is fixed.reached where
               alone : (block at.number).instrs ≡ Const fixed.at fixed.on.reg (BoolOf true) ∷ []
               alone = ap (written_in at.number) (sym same_writes)
-                  ∙ subst (λ n. written_in n s.writes ≡ Const fixed.at fixed.on.reg (BoolOf true) ∷ [])
+                  ∙ subst (λ n.
+                  written_in n s.writes ≡ Const fixed.at fixed.on.reg (BoolOf true) ∷ [])
                   same fixed.alone
 
               start : ℕ
@@ -120,12 +122,15 @@ module _ (w : Whole) (s : State) (flows : Flows s []) (first : IsMark s.marks 0 
 
               taken : MayTake (Branch fixed.on fixed.holds fixed.fails)
                   (Some (Middle (Const fixed.at fixed.on.reg (BoolOf true)))) k
-              taken = subst (λ point. MayTake (Branch fixed.on fixed.holds fixed.fails) point k) before
-                  (subst (λ one. MayTake one (point_before function p) k) (last_so ∙ fixed.last) may)
+              taken =
+                  subst (λ point. MayTake (Branch fixed.on fixed.holds fixed.fails) point k) before
+                  (subst (λ one. MayTake one (point_before function p) k) (last_so ∙ fixed.last)
+                  may)
 
               holds_is : fixed.holds ≡ target
               holds_is = same_Some fixed.holds target
-                  (subst (λ n. slice_get (fixed.holds ∷ fixed.fails ∷ []) n ≡ Some target) (taken refl)
+                  (subst (λ n. slice_get (fixed.holds ∷ fixed.fails ∷ []) n ≡ Some target)
+                  (taken refl)
                   (subst (λ one. slice_get (blocks_of one) k ≡ Some target) (last_so ∙ fixed.last)
                   leads))
 

@@ -1,7 +1,6 @@
--- The functions of the functions and methods that a program declares, and of its entry, return their
--- results.
-use Rattle.std.proofs.Common.{◌≡◌, ℕ, List, Option, Some, None, refl, sym, subst, Contains, false}
-use Rattle.sw_resolve.specs.declared.words.Meaning.{Meaning}
+-- The functions of the functions and methods that a program declares, and of its entry, return
+-- their results.
+use Rattle.std.proofs.Common.{◌≡◌, ℕ, List, Option, Some, None, refl, sym, subst, Contains}
 use Rattle.std.proofs.lemmas.List.Elements.{All-nil}
 use Rattle.sw_lower_safe.specs.Programs.{tables_in}
 use Rattle.sw_tree.specs.declared.decl.Decl.{Decl}
@@ -9,9 +8,7 @@ use Rattle.sw_tree.specs.declared.decl.FuncTree.{FuncTree}
 use Rattle.sw_tree.specs.declared.decl.ParamTree.{ParamTree}
 use Rattle.sw_tree.specs.declared.stmt.Block.{Block}
 use Rattle.sw_types.specs.declared.isolation.Iso.{Iso}
-use Rattle.sw_types.specs.declared.ty.Ty.TheVariants as types
 use Rattle.sw_graph.specs.declared.function.Function.{Function}
-use Rattle.sw_resolve.specs.Shaped.{stated_type}
 use Rattle.sw_resolve.specs.Words.{top_meaning}
 use Rattle.sw_decls.specs.Declaring.{key_place}
 use Rattle.sw_decls.specs.Signatures.{func_of, funcs_from, funcs_of}
@@ -25,10 +22,10 @@ use Rattle.sw_lower_run.specs.Plan.{Numbers}
 use Rattle.sw_lower_table.specs.Bodies.{func_bodies, func_signed, func_tree_bodies}
 use Rattle.sw_lower_table.specs.Tables.{Isolation, Tables}
 use Rattle.sw_lower_safe.proofs.Bodies.FuncBodies.{body_by}
+use Rattle.sw_lower_safe.proofs.Bodies.FuncTrees.{tree_typed}
 use Rattle.sw_lower_safe.proofs.Bodies.Given.{AllHere, IsProgram}
 use Rattle.sw_lower_safe.proofs.Headers.FoundFuncs.{func_is}
-use Rattle.sw_lower_safe.proofs.Headers.ParamTypes.{top_is}
-use Rattle.sw_lower_safe.proofs.Programs.MadeOf.{func_stands, typed_stands}
+use Rattle.sw_lower_safe.proofs.Programs.MadeOf.{func_stands}
 use Rattle.sw_lower_safe.proofs.Programs.Standing.{Stands}
 use Rattle.sw_lower_returns.specs.Forms.{BodyReturns}
 use Rattle.sw_lower_returns.proofs.Programs.Signed.{AllReturn, signed_returns}
@@ -74,12 +71,4 @@ module _ (world : World) (isolation : Isolation) (decls : List Decl) (rule : Asy
       let one = func_of (top_meaning decls) rule owner actor tree in
       keyed_returns tree.word.at tree.word.at tree.params tree.body one
       (func_stands (top_meaning decls) rule decls n g decl one stands declared) refl
-      (subst (λ (known : ℕ → Option Meaning). Contains (bodies_from world 0 decls) (record {
-        at = tree.word.at;
-        owner = owner;
-        init = false;
-        params = tree.params;
-        wanted = stated_type known tree.result types.Unit;
-        block = tree.body;
-      })) (top_is decls rule world program.declared)
-      (typed_stands world decls n g decl (func_body world owner tree) stands typed)) here
+      (tree_typed decls rule world program.declared n g decl owner actor tree stands typed) here

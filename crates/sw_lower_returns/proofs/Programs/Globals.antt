@@ -1,6 +1,6 @@
 -- The functions of what gives global variables their first values return their results, and so do
 -- those of the bodies in it.
-use Rattle.std.proofs.Common.{◌≡◌, ℕ, false, true≢false, List, [], ◌∷◌, Option, Some, None}
+use Rattle.std.proofs.Common.{◌≡◌, ℕ, false, true≢false, List, ◌∷◌, Option, Some, None}
 use Rattle.std.proofs.Common.{refl, sym, subst, ap, ◌∙◌, Contains}
 use Rattle.std.proofs.lemmas.List.Elements.{All-cons, All-nil, All-tail}
 use Rattle.std.specs.Prelude.{slice_get}
@@ -12,14 +12,12 @@ use Rattle.sw_tree.specs.declared.expr.Expr.{Expr}
 use Rattle.sw_types.specs.Accepts.{is_marked}
 use Rattle.sw_types.specs.declared.ty.Ty.TheVariants as types
 use Rattle.sw_graph.specs.declared.function.Function.{Function}
-use Rattle.sw_resolve.specs.Shaped.{prop_type}
 use Rattle.sw_decls.specs.declared.signature.AsyncDefault.{AsyncDefault}
 use Rattle.sw_typing_rules.proofs.Sound.{judges}
 use Rattle.sw_typing_rules.specs.Expressions.{Judged}
 use Rattle.sw_typing_rules.specs.Judges.{Judges}
 use Rattle.sw_typing_rules.specs.Judging.{judge}
-use Rattle.sw_typing_rules.specs.Programs.{ValueOf, value_setting, values_from, values_of}
-use Rattle.sw_typing_rules.specs.Programs as typing
+use Rattle.sw_typing_rules.specs.Programs.{ValueOf, value_setting, values_from}
 use Rattle.sw_typing_rules.specs.Verdicts.{is_unit, unit_layer}
 use Rattle.sw_typing_rules.specs.Worlds.{World}
 use Rattle.sw_isolation_rules.specs.Answers.{for_some}
@@ -31,10 +29,9 @@ use Rattle.sw_lower_table.specs.Statements.{expr_code}
 use Rattle.sw_lower_table.specs.Tables.{Isolation, Tables}
 use Rattle.sw_lower_safe.specs.Forms.{VarHolds}
 use Rattle.sw_lower_safe.specs.Trees.{IsHere}
+use Rattle.sw_lower_safe.proofs.Bodies.GlobalBodies.{global_first, global_first_stands}
 use Rattle.sw_lower_safe.proofs.Bodies.Given.{AllHere, IsProgram}
 use Rattle.sw_lower_safe.proofs.Lists.Joined.{Gives, both_give, none_gives}
-use Rattle.sw_lower_safe.proofs.Lists.Listed.{in_first}
-use Rattle.sw_lower_safe.proofs.Programs.DeclStands.{value_stands}
 use Rattle.sw_lower_safe.proofs.Programs.Standing.{Stands}
 use Rattle.sw_lower_safe.proofs.Said.RowsOf.{value_rows_hold}
 use Rattle.sw_lower_returns.specs.Forms.{BodyReturns}
@@ -82,7 +79,8 @@ module _ (world : World) (isolation : Isolation) (decls : List Decl) (rule : Asy
         by owner is =
             subst (λ o. AllReturn number (expr_code tables o value.value).inside) is
             (expr_returns tables number functions program.exprs (value_setting value)
-            (is_marked value.wanted) value.value judged is_judged (All-nil (VarHolds tables.answers))
+            (is_marked value.wanted) value.value judged is_judged
+            (All-nil (VarHolds tables.answers))
             (value_rows_hold world decls program.keyed program.well value judged stands is_judged)
             (subst (λ o. AllHere tables number functions (expr_code tables o value.value).inside)
             (sym is) inside))
@@ -90,31 +88,16 @@ module _ (world : World) (isolation : Isolation) (decls : List Decl) (rule : Asy
   -- what is made of a global variable
   pub globals_return : (n g : ℕ) (prop : PropTree) → Stands decls n g (Global prop)
       → Given (global_bodies tables g prop)
-  unfolding global_bodies values_of
+  unfolding global_bodies
   globals_return n g prop stands =
       both_give (IsHere tables number functions) (BodyReturns number)
       (value_bodies tables prop.word.at g prop.value)
       (for_some (slice_get world.globals g) (global_getter tables prop.word.at g))
       (by prop.value refl)
       (global_getters_return tables number functions prop.word.at g) where
-        made : (value : Expr) → prop.value ≡ Some value → ValueOf
-        made value is = record {
-          at = prop.word.at;
-          owner = None;
-          wanted = prop_type world.known None prop;
-          value = value;
-        }
-
-        valued : (value : Expr) (is : prop.value ≡ Some value)
-            → Contains (values_of world n (Global prop)) (made value is)
-        valued value is =
-            subst (λ found. Contains (typing.first_value world None prop found) (made value is))
-            (sym is) (in_first (made value is) [])
-
         by : (found : Option Expr) → prop.value ≡ found
             → Given (value_bodies tables prop.word.at g found)
         by None is = none_gives (IsHere tables number functions) (BodyReturns number)
         by (Some value) is =
-            first_returns prop.word.at g (made value is)
-            (value_stands world decls n g (Global prop) (made value is) stands (valued value is))
-            refl
+            first_returns prop.word.at g (global_first world prop value)
+            (global_first_stands world decls n g prop value stands is) refl

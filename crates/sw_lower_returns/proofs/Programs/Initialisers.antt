@@ -1,69 +1,43 @@
 -- The functions of initialisers return their results.
-use Rattle.std.proofs.Common.{◌≡◌, ℕ, true, List, [], ◌∷◌, ◌++◌, Option, Some, None, map}
-use Rattle.std.proofs.Common.{Contains, ap, sym, ◌∙◌, subst}
+use Rattle.std.proofs.Common.{◌≡◌, ℕ, List, [], ◌∷◌, ◌++◌, Option, Some, None, map}
+use Rattle.std.proofs.Common.{Contains, sym, subst}
 use Rattle.std.proofs.lemmas.List.Elements.{All-cons, All-nil}
 use Rattle.std.specs.List.{AllByRecursion}
 use Rattle.std.specs.Prelude.{slice_get}
 use Rattle.sw_lower_safe.specs.Programs.{tables_in}
-use Rattle.sw_tree.proofs.FoldEquations as eq
-use Rattle.sw_tree.specs.Folds.{Steps, fold_stmt}
 use Rattle.sw_tree.specs.declared.decl.Decl.{Decl}
 use Rattle.sw_tree.specs.declared.decl.InitTree.{InitTree}
 use Rattle.sw_tree.specs.declared.decl.ParamTree.{ParamTree}
 use Rattle.sw_tree.specs.declared.decl.PropTree.{PropTree}
 use Rattle.sw_tree.specs.declared.expr.Expr.{Expr}
 use Rattle.sw_tree.specs.declared.name.Name.{Name}
-use Rattle.sw_tree.specs.declared.stmt.Block.{Block, out-roll-Block}
-use Rattle.sw_tree.specs.declared.stmt.Stmt.{Stmt}
 use Rattle.sw_types.specs.declared.shape.Shape.{Shape}
 use Rattle.sw_graph.specs.declared.function.Function.{Function}
 use Rattle.sw_resolve.specs.Evident.{meanings_of}
 use Rattle.sw_resolve.specs.Shaped.{part_of}
-use Rattle.sw_names.specs.Repeats.{first_place}
-use Rattle.sw_values.specs.Counts.{times_in}
-use Rattle.sw_values.specs.Profile.{in_stmt, param_names, wanted_names}
-use Rattle.sw_values.specs.Values.{set_in}
 use Rattle.sw_decls.specs.declared.signature.AsyncDefault.{AsyncDefault}
 use Rattle.sw_decls.specs.declared.signature.Signature.{Signature}
-use Rattle.sw_typing_rules.proofs.Sound.{leaves_block}
-use Rattle.sw_typing_rules.specs.Judges as is
-use Rattle.sw_typing_rules.specs.Judges.{LeavesAll, LeavesBlock}
-use Rattle.sw_typing_rules.specs.Judging.{leave_block}
-use Rattle.sw_typing_rules.specs.Programs.{bodies_from, body_state, init_body}
-use Rattle.sw_typing_rules.specs.Statements.{Left, State, in_body, is_one, with_only}
+use Rattle.sw_typing_rules.specs.Programs.{bodies_from, init_body}
 use Rattle.sw_typing_rules.specs.Worlds.{World}
-use Rattle.sw_typing_rules.specs.declared.scope.Inside.{Inside}
 use Rattle.sw_isolation_rules.specs.Answers.{for_some}
 use Rattle.sw_isolation_rules.specs.Programs.{func_at}
 use Rattle.sw_lower_run.specs.Plan.{Numbers}
 use Rattle.sw_lower_code.specs.Whole.{Body}
 use Rattle.sw_lower_table.specs.Bodies.{default_bodies, first_values, init_bodies, init_code}
 use Rattle.sw_lower_table.specs.Bodies.{init_signed, param_taken, prop_given, signed}
-use Rattle.sw_lower_table.specs.Carriers.{BlockCode, Given}
-use Rattle.sw_lower_table.specs.Statements.{block_code, code_steps}
+use Rattle.sw_lower_table.specs.Carriers.{Given}
+use Rattle.sw_lower_table.specs.Statements.{block_code}
 use Rattle.sw_lower_table.specs.Tables.{Isolation, Tables}
 use Rattle.sw_lower_safe.specs.Trees.{IsHere}
 use Rattle.sw_lower_safe.proofs.Bodies.Given.{IsProgram}
-use Rattle.sw_lower_safe.proofs.Bodies.InitStmts.{AllGave, stmts_give}
+use Rattle.sw_lower_safe.proofs.Bodies.InitBodies.{init_inside}
 use Rattle.sw_lower_safe.proofs.Lists.Joined.{Gives, both_give, none_gives}
-use Rattle.sw_lower_safe.proofs.Programs.NamesApart.{none_of}
 use Rattle.sw_lower_safe.proofs.Programs.ObjectDecls.{ObjectOk}
-use Rattle.sw_lower_safe.proofs.Programs.OwnAssigns.{OwnAssign, own_assign}
-use Rattle.sw_lower_safe.proofs.Programs.OwnParts.{are_apart}
-use Rattle.sw_lower_safe.proofs.Said.RowsOf.{body_rows_hold, params_hold}
 use Rattle.sw_lower_returns.specs.Forms.{BodyReturns}
 use Rattle.sw_lower_returns.proofs.Bodies.Codes.{init_closes}
 use Rattle.sw_lower_returns.proofs.Expressions.Induction.{GivenFlows, block_gives, expr_flows}
 use Rattle.sw_lower_returns.proofs.Expressions.Induction.{both_give as both_flow}
 use Rattle.sw_lower_returns.proofs.Functions.Bodies.{body_returns}
-
--- the statements of a block
-block_all : (world : World) (inside : Inside) (state : State) (block : Block) (left : Left)
-    → LeavesBlock world inside state block left
-    → LeavesAll world (with_only inside (is_one block.stmts)) state block.stmts left
-block_all world inside state block left (is.block _ _ stmts _ d) =
-    subst (λ (xs : List Stmt). LeavesAll world (with_only inside (is_one xs)) state xs left)
-    (sym (ap (λ b. b.stmts) (out-roll-Block (record { stmts = stmts })))) d
 
 module _ (world : World) (isolation : Isolation) (decls : List Decl) (rule : AsyncDefault)
     (number : Numbers) (functions : List Function)
@@ -119,56 +93,15 @@ module _ (world : World) (isolation : Isolation) (decls : List Decl) (rule : Asy
       (more : List InitTree) → inits ≡ init ∷ more
       → Contains (bodies_from world 0 decls) (init_body n init)
       → Gives Here (BodyReturns number) (init_bodies tables n props init)
-  unfolding init_bodies block_code
+  unfolding init_bodies
   init_returns n props inits object shape there parts init more inits_are stands =
+      let code = block_code tables (Some n) init.body in
       both_give Here (BodyReturns number)
       (for_some (func_at world tables.answers init.at)
       (init_signed tables n props init.params code.gives)) code.inside
       (signed_return n props init.params code.gives (block_gives tables (Some n) init.body)
       (func_at world tables.answers init.at))
       (subst (Gives Here (BodyReturns number))
-      (sym (ap (λ (c : BlockCode). c.inside) code_is ∙ gave.inside))
-      (none_gives Here (BodyReturns number))) where
-        steps : Steps
-        steps = code_steps tables (Some n)
-
-        code : BlockCode
-        code = block_code tables (Some n) init.body
-
-        code_is : code ≡ steps.block (record { stmts = map (fold_stmt steps) init.body.stmts })
-        code_is = eq.fold_block-out steps init.body
-
-        params : ℕ → Option ℕ
-        params = first_place (param_names init.params)
-
-        inside : Inside
-        inside = in_body (Some n) true
-
-        state : State
-        state = body_state world (init_body n init)
-
-        left : Left
-        left = leave_block world init.body inside state
-
-        leaves : LeavesBlock world inside state init.body left
-        leaves = leaves_block world inside state init.body
-
-        own : (x : Stmt) → Contains init.body.stmts x → OwnAssign (meanings_of decls) n params x
-        own x has =
-            own_assign (meanings_of decls) n params (first_place (wanted_names
-            (meanings_of decls) n props)) (times_in (set_in init.body.stmts)) x
-            (none_of (in_stmt (meanings_of decls) n params
-            (first_place (wanted_names (meanings_of decls) n props))
-            (times_in (set_in init.body.stmts))) init.body.stmts x
-            (object.stmts init more inits_are) has)
-
-        gave : AllGave world isolation decls rule number functions program n shape there
-            (are_apart (meanings_of decls) n props inits object shape parts) params
-            init.body.stmts
-        gave = stmts_give world isolation decls rule number functions program n shape there
-            (are_apart (meanings_of decls) n props inits object shape parts) params
-            (is_one init.body.stmts) state init.body.stmts left
-            (block_all world inside state init.body left leaves)
-            (params_hold world decls program.keyed program.well (init_body n init) stands)
-            (body_rows_hold world decls program.keyed program.well (init_body n init) left stands
-            leaves) own
+      (sym (init_inside world isolation decls rule number functions program n props inits object
+      shape there parts init more inits_are stands))
+      (none_gives Here (BodyReturns number)))

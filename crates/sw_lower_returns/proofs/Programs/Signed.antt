@@ -109,4 +109,5 @@ module _ (world : World) (isolation : Isolation) (decls : List Decl) (rule : Asy
             (All-tail (IsHere tables number functions) body code.inside here)
 
         result_is : body_result left.state.returned ≡ Some func.result
-        result_is = ap body_result (block_wants world func.result around state block left leaves refl)
+        result_is =
+            ap body_result (block_wants world func.result around state block left leaves refl)

@@ -1,6 +1,6 @@
 -- The blocks of the arms of a `switch`, and where it leads.
-use Rattle.std.proofs.Common.{◌≡◌, ◌≢◌, ℕ, zero, suc, ◌⊎◌, inl, inr, Bool, true, false, List, [], ◌∷◌}
-use Rattle.std.proofs.Common.{Option, Some, None, subst, sym, refl, ap, ◌∙◌, map}
+use Rattle.std.proofs.Common.{◌≡◌, ◌≢◌, ℕ, zero, suc, ◌⊎◌, inl, inr, Bool, true, false, List, []}
+use Rattle.std.proofs.Common.{◌∷◌, Option, Some, None, subst, sym, refl, ap, ◌∙◌, map}
 use Rattle.std.specs.Prelude.{◌==◌, if◌then◌else◌, slice_get}
 use Rattle.std.specs.List.{AllByRecursion}
 use Rattle.std.specs.Option.{unwrap_or}
@@ -120,14 +120,14 @@ module _ (ends breaks live : Bool) where
       (λ t extend in_t. record { stands = in_t; made = tt; names = refl })
   arms_made tables subject number shape (arm ∷ arms) s rest stands flows =
       flow_then s (arm_block tables subject number shape arm)
-      (λ y. each (arm_block tables subject number shape) arms >>= λ ys. done (y ∷ ys)) (OneMade rest arm)
-      (Made rest (arm ∷ arms))
+      (λ y. each (arm_block tables subject number shape) arms >>= λ ys. done (y ∷ ys))
+      (OneMade rest arm) (Made rest (arm ∷ arms))
       (flow_then s (known 0 (case_from 0 shape.cases arm.name.id)) _ (λ _ t. Stands t live rest)
       (OneMade rest arm)
       (flows_known 0 (case_from 0 shape.cases arm.name.id) s live rest stands)
       (λ tag t to_t in_t.
-      block_then t live rest (OfCase subject.reg number tag) (mark_of live) _ (OneMade rest arm) in_t
-      (λ block u to_u is in_u.
+      block_then t live rest (OfCase subject.reg number tag) (mark_of live) _
+      (OneMade rest arm) in_t (λ block u to_u is in_u.
       flow_value (record { arm = arm; block = block }) u live (block ∷ rest) (OneMade rest arm) in_u
       (λ v to_v in_v.
       record { stands = in_v; is = to_v block (mark_of live) is; arm_is = refl }))))

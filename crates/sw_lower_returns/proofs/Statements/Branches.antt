@@ -11,8 +11,8 @@ use Rattle.sw_lower_table.specs.Carriers.{IfCode}
 use Rattle.sw_lower_table.specs.Expressions.{block_made, jump}
 use Rattle.sw_lower_table.specs.Statements.{arms_code, else_code}
 use Rattle.sw_lower_table.specs.declared.targets.Targets.{Targets}
-use Rattle.sw_lower_returns.specs.Flows.{CodeFlows, FlowAt, IsMark, Stands, State, WaysFlow, mark_of}
-use Rattle.sw_lower_returns.specs.Flows.{TargetsFlow, passes}
+use Rattle.sw_lower_returns.specs.Flows.{CodeFlows, FlowAt, IsMark, Stands, State, WaysFlow}
+use Rattle.sw_lower_returns.specs.Flows.{mark_of, TargetsFlow, passes}
 use Rattle.sw_lower_returns.proofs.Flow.Going.{AreAmong, block_then, flow_on, flow_on_then}
 use Rattle.sw_lower_returns.proofs.Flow.Going.{swapped}
 use Rattle.sw_lower_returns.proofs.Flow.Quiet.{flows_done}
@@ -44,7 +44,8 @@ no_arms_flow last_ends last_breaks otherwise ways = ways
 pub else_ways : WaysFlow false false (else_code None)
 else_ways s live rest targets stands flow = flows_done tt s live rest stands
 
-module _ (arm : IfCode) (ends breaks more_ends more_breaks : Bool) (more : Targets → Code (Unit {0}))
+module _ (arm : IfCode) (ends breaks more_ends more_breaks : Bool)
+    (more : Targets → Code (Unit {0}))
     (body : WaysFlow ends breaks arm.body.code) (others : WaysFlow more_ends more_breaks more)
     (targets : Targets) (live : Bool) (rest : List ℕ) where
   -- the block in which both meet
@@ -81,8 +82,8 @@ module _ (arm : IfCode) (ends breaks more_ends more_breaks : Bool) (more : Targe
       (λ number mark is. is) (λ is. is) (or_left breaks more_breaks) flow))
       (λ _ t extend in_t.
       let now = extend merge (mark_of meets) is in
-      flow_on_then t (passes ends live) live (Jump merge) beyond (merge ∷ beyond ∷ rest) (merge ∷ rest)
-      (more targets >> jump merge >> resume merge) (λ _ u. Stands u meets rest) in_t
+      flow_on_then t (passes ends live) live (Jump merge) beyond (merge ∷ beyond ∷ rest)
+      (merge ∷ rest) (more targets >> jump merge >> resume merge) (λ _ u. Stands u meets rest) in_t
       (swapped merge beyond rest)
       (λ reached. jump_live t.marks merge (live_reached t.marks merge meets now
       (passes_left ends more_ends live reached))) (extend beyond (mark_of live) beyond_is)
@@ -115,8 +116,8 @@ module _ (arm : IfCode) (ends breaks more_ends more_breaks : Bool) (more : Targe
       (λ _ x. Stands x meets rest) in_t
       (λ inner u to_u inner_is in_u.
       block_then u live (inner ∷ rest) Anywhere (mark_of live)
-      (λ beyond. block_made >>= λ merge. parts given inner beyond merge) (λ _ x. Stands x meets rest) in_u
-      (λ beyond v to_v beyond_is in_v.
+      (λ beyond. block_made >>= λ merge. parts given inner beyond merge)
+      (λ _ x. Stands x meets rest) in_u (λ beyond v to_v beyond_is in_v.
       block_then v live (beyond ∷ inner ∷ rest) Anywhere (mark_of meets) (parts given inner beyond)
       (λ _ x. Stands x meets rest) in_v
       (λ merge w to_w is in_w.
@@ -125,10 +126,12 @@ module _ (arm : IfCode) (ends breaks more_ends more_breaks : Bool) (more : Targe
       flow_on_then w live live (Branch given inner beyond) inner (merge ∷ beyond ∷ inner ∷ rest)
       (merge ∷ beyond ∷ rest) (in_inner beyond merge) (λ _ x. Stands x meets rest) in_w
       (third_first merge beyond inner rest)
-      (λ reached. branch_live w.marks given inner beyond (live_reached w.marks inner live inner_now reached)
+      (λ reached.
+      branch_live w.marks given inner beyond (live_reached w.marks inner live inner_now reached)
       (live_reached w.marks beyond live beyond_now reached)) inner_now
       (λ x to_x in_x.
-      body_in beyond merge x in_x (to_x beyond (mark_of live) beyond_now) (to_x merge (mark_of meets) is)
+      body_in beyond merge x in_x (to_x beyond (mark_of live) beyond_now)
+      (to_x merge (mark_of meets) is)
       (targets_part s.marks x.marks live live (breaks || more_breaks) (breaks || more_breaks)
       targets (λ number mark is. to_x number mark (to_w number mark (to_v number mark
       (to_u number mark (to_t number mark is))))) (λ is. is) (λ is. is) flow)))))) where
@@ -138,11 +141,13 @@ module _ (arm : IfCode) (ends breaks more_ends more_breaks : Bool) (more : Targe
             >> resume merge
 
         parts : Operand → ℕ → ℕ → ℕ → Code (Unit {0})
-        parts given inner beyond merge = close (Branch given inner beyond) >> resume inner >> in_inner beyond merge
+        parts given inner beyond merge =
+            close (Branch given inner beyond) >> resume inner >> in_inner beyond merge
 
         with_value : Operand → Code (Unit {0})
         with_value given = block_made
-            >>= λ inner. block_made >>= λ beyond. block_made >>= λ merge. parts given inner beyond merge
+            >>= λ inner. block_made >>= λ beyond. block_made >>= λ merge.
+            parts given inner beyond merge
 
 pub more_arms_flow : (arm : IfCode) (arms : List IfCode) (ends breaks more_ends more_breaks : Bool)
     → CodeFlows arm.cond → WaysFlow ends breaks arm.body.code → ArmsFlow more_ends more_breaks arms
@@ -153,7 +158,7 @@ more_arms_flow arm arms ends breaks more_ends more_breaks cond body more last_en
     subst (λ all. FlowAt s (arms_code (arm ∷ arms) (otherwise targets) targets)
     (λ _ t. Stands t (passes all live) rest)) (sym (and_assoc ends more_ends last_ends))
     (arm_in arm ends breaks (more_ends && last_ends) (more_breaks || last_breaks)
-    (λ to. arms_code arms (otherwise to) to) body (more last_ends last_breaks otherwise ways) targets
-    live rest s cond stands
+    (λ to. arms_code arms (otherwise to) to) body (more last_ends last_breaks otherwise ways)
+    targets live rest s cond stands
     (subst (λ all. TargetsFlow s.marks live all targets) (or_assoc breaks more_breaks last_breaks)
     flow))

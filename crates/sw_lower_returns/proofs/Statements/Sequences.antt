@@ -14,7 +14,8 @@ use Rattle.sw_lower_returns.proofs.Statements.Passing.{or_left, or_right, passes
 use Rattle.sw_lower_returns.proofs.Statements.Passing.{targets_part}
 
 -- Code that goes on, wherever `break` leads.
-pub plain_ways : (code : Targets → Code (Unit {0})) → ((targets : Targets) → CodeFlows (code targets))
+pub plain_ways : (code : Targets → Code (Unit {0}))
+    → ((targets : Targets) → CodeFlows (code targets))
     → WaysFlow false false code
 plain_ways code flows s live rest targets stands flow = flows targets s live rest stands
 
@@ -23,9 +24,11 @@ unfolding all
 no_stmts_ways = plain_ways (λ targets. all (λ (one : StmtCode). one.code targets) [])
     (λ targets. flows_done tt)
 
-pub more_stmts_ways : (one : StmtCode) (more : List StmtCode) (ends breaks then_ends then_breaks : Bool)
+pub more_stmts_ways : (one : StmtCode) (more : List StmtCode)
+    (ends breaks then_ends then_breaks : Bool)
     → WaysFlow ends breaks one.code
-    → WaysFlow then_ends then_breaks (λ targets. all (λ (other : StmtCode). other.code targets) more)
+    → WaysFlow then_ends then_breaks
+    (λ targets. all (λ (other : StmtCode). other.code targets) more)
     → WaysFlow (ends || then_ends) (breaks || then_breaks)
     (λ targets. all (λ (other : StmtCode). other.code targets) (one ∷ more))
 unfolding all

@@ -18,8 +18,8 @@ use Rattle.sw_lower_table.specs.Statements.{patterns_code, switch_code, switch_t
 use Rattle.sw_lower_table.specs.Tables.{Tables}
 use Rattle.sw_lower_table.specs.Uses.{no_shape, shape_at, shape_of}
 use Rattle.sw_lower_table.specs.declared.targets.Targets.{Targets}
-use Rattle.sw_lower_returns.specs.Flows.{CodeFlows, Extend, FlowAt, Flows, IsMark, IsReached, Stands}
-use Rattle.sw_lower_returns.specs.Flows.{Mark, State, WaysFlow, mark_of, passes}
+use Rattle.sw_lower_returns.specs.Flows.{CodeFlows, Extend, FlowAt, Flows, IsMark, IsReached}
+use Rattle.sw_lower_returns.specs.Flows.{Stands, Mark, State, WaysFlow, mark_of, passes}
 use Rattle.sw_lower_returns.proofs.Flow.Going.{block_then}
 use Rattle.sw_lower_returns.proofs.Flow.Marks.{reached_later}
 use Rattle.sw_lower_returns.proofs.Flow.Quiet.{flow_known}
@@ -27,17 +27,18 @@ use Rattle.sw_lower_returns.proofs.Flow.Steps.{Closed, flow_close, flow_done, fl
 use Rattle.sw_lower_returns.proofs.Flow.Steps.{flows_pending, jump_live, last_by, live_reached}
 use Rattle.sw_lower_returns.proofs.Flow.Then.{flow_scope, flow_then, flow_weaker}
 use Rattle.sw_lower_returns.proofs.Statements.Arms.{AllMade, AreCovered, CaseFlows, DefaultFlows}
-use Rattle.sw_lower_returns.proofs.Statements.Arms.{DefaultMade, IsDefault, Made, PartFlows, arms_made}
-use Rattle.sw_lower_returns.proofs.Statements.Arms.{default_last, default_later, default_made}
-use Rattle.sw_lower_returns.proofs.Statements.Arms.{made_later, name_in, named, switch_live}
-use Rattle.sw_lower_returns.proofs.Statements.Arms.{with_arms, with_default}
+use Rattle.sw_lower_returns.proofs.Statements.Arms.{DefaultMade, IsDefault, Made, PartFlows}
+use Rattle.sw_lower_returns.proofs.Statements.Arms.{arms_made, default_last, default_later}
+use Rattle.sw_lower_returns.proofs.Statements.Arms.{default_made, made_later, name_in, named}
+use Rattle.sw_lower_returns.proofs.Statements.Arms.{switch_live, with_arms, with_default}
 use Rattle.sw_lower_returns.proofs.Statements.Declaring.{flows_patterns}
 use Rattle.sw_lower_returns.proofs.Statements.Passing.{passes_broken, passes_part}
 
 -- the type that an expression with a key has in the tables
 abbrev pub shape_by : Tables → ℕ → Shape
 shape_by tables key = unwrap_or
-    (slice_get tables.world.shapes (unwrap_or (named_shape (tables.answers.type_at key)) 0)) no_shape
+    (slice_get tables.world.shapes (unwrap_or (named_shape (tables.answers.type_at key)) 0))
+    no_shape
 
 module _ (tables : Tables) (ends breaks live : Bool) (targets : Targets) (merge : ℕ) where
   -- whether a block goes on after the `switch`
@@ -115,7 +116,8 @@ module _ (tables : Tables) (ends breaks live : Bool) (targets : Targets) (merge 
       (λ _ t. Flows t (with_arms more rest)) (λ _ t. Flows t rest)
       (arm_in subject one made.0.flows s (with_arms more rest) flows made.0.is around)
       (λ _ t to_t in_t.
-      arms_in subject more t rest in_t (made_later ends breaks live s.marks t.marks more to_t made.1)
+      arms_in subject more t rest in_t
+      (made_later ends breaks live s.marks t.marks more to_t made.1)
       (around_later s.marks t.marks to_t around))
 
   pub default_in : (otherwise : Option BlockCode) (default : Option ℕ) (s : State) (rest : List ℕ)
@@ -173,7 +175,8 @@ otherwise_reached ends breaks live marks None (Some number) merge cases names on
     absurd is
 otherwise_reached ends breaks live marks (Some block) None merge cases names on is covered =
     absurd is
-otherwise_reached ends breaks live marks (Some block) (Some number) merge cases names on is covered =
+otherwise_reached ends breaks live marks (Some block) (Some number) merge cases names on is
+    covered =
     inl (live_reached marks number live is on)
 
 module _ (tables : Tables) (ends breaks : Bool) (subject : ExprCode) (arms : List CaseCode)

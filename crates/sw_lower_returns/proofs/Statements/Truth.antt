@@ -62,7 +62,7 @@ module _ (s : State) (head : ℕ) (pending : List ℕ) (flows : Flows s pending)
       ≡ Const makes.at piece.value.reg (BoolOf true) ∷ []
   alone_then =
       written_both head s.writes piece.writes
-      ∙ ap (λ front. front ++ written_in head piece.writes) empty
+      ∙ ap (λ first. first ++ written_in head piece.writes) empty
       ∙ ap (written_in head) makes.writes
       ∙ subst (λ n. written_in n (record {
         block = s.place.here;

@@ -1,6 +1,6 @@
 -- Each case of a `switch` that isn't ill has an arm, or there is a `default`.
-use Rattle.std.proofs.Common.{◌≡◌, ℕ, inl, inr, Bool, true, false, List, [], ◌∷◌, ◌++◌, Option, Some}
-use Rattle.std.proofs.Common.{None, refl, sym, ap, ◌∙◌, subst, true≢false, map, eqb-true}
+use Rattle.std.proofs.Common.{◌≡◌, ℕ, inl, inr, Bool, true, false, List, [], ◌∷◌, ◌++◌, Option}
+use Rattle.std.proofs.Common.{Some, None, refl, sym, ap, ◌∙◌, subst, true≢false, map, eqb-true}
 use Rattle.std.specs.Prelude.{◌&&◌, ◌||◌, ◌==◌, not, is_some, slice_get}
 use Rattle.std.specs.List.{list_all}
 use Rattle.std.specs.Option.{unwrap_or}

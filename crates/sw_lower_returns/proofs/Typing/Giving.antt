@@ -1,6 +1,6 @@
 -- What the rules on types say of a body that gives a value.
-use Rattle.std.proofs.Common.{◌≡◌, ℕ, Bool, true, false, List, [], ◌∷◌, ◌++◌, Option, Some, None, refl}
-use Rattle.std.proofs.Common.{sym, ap, ◌∙◌, subst, true≢false}
+use Rattle.std.proofs.Common.{◌≡◌, ℕ, Bool, true, false, List, [], ◌∷◌, ◌++◌, Option, Some, None}
+use Rattle.std.proofs.Common.{refl, sym, ap, ◌∙◌, subst, true≢false}
 use Rattle.std.proofs.lemmas.Bool.{false≢true}
 use Rattle.std.specs.Prelude.{◌&&◌, not, map, if◌then◌else◌}
 use Rattle.std.proofs.lemmas.Option.{same_Some}
@@ -40,7 +40,8 @@ void_never answers (Gives (Some ty)) state at hold is gives =
 
 -- The first value comes after no `return` without one.
 first_back : (answers : Answers) (places : List ℕ) (found : Option Ty)
-    → RowsHold answers (bare_rows places found) → GivesValue (Gives found) → GivesValue (Open places)
+    → RowsHold answers (bare_rows places found) → GivesValue (Gives found)
+    → GivesValue (Open places)
 first_back answers [] found hold gives = tt
 first_back answers (at ∷ places) None hold gives = gives
 first_back answers (at ∷ places) (Some ty) hold gives =
@@ -80,7 +81,8 @@ plain_back answers true state value hold gives = by state.returned refl hold giv
   by (Gives ty) is hold gives = gives
 
 -- A declaration leaves what is given as it is.
-pub bind_back : (state : State) (mutable : Bool) (name : Name) (written : Option Ty) (value : Judged)
+pub bind_back : (state : State) (mutable : Bool) (name : Name) (written : Option Ty)
+    (value : Judged)
     → GivesValue (bind_left state mutable name written value).state.returned
     → GivesValue state.returned
 bind_back state mutable name None value gives = gives

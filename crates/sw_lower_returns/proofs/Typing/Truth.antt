@@ -12,8 +12,8 @@ use Rattle.sw_types.specs.declared.ty.Ty.TheVariants as types
 use Rattle.sw_graph.specs.declared.instr.Instr.TheVariants as instr
 use Rattle.sw_graph.specs.declared.instr.Literal.TheVariants as literals
 use Rattle.sw_graph.specs.declared.instr.Operand.{Operand}
-use Rattle.sw_typing_rules.specs.Expressions.{Judged, infix_judged, me_judged, member_judged, member_by}
-use Rattle.sw_typing_rules.specs.Expressions.{value_member}
+use Rattle.sw_typing_rules.specs.Expressions.{Judged, infix_judged, me_judged, member_judged}
+use Rattle.sw_typing_rules.specs.Expressions.{member_by, value_member}
 use Rattle.sw_typing_rules.specs.Judges as is
 use Rattle.sw_typing_rules.specs.Words.{Setting}
 use Rattle.sw_lower_code.specs.Code.{Code, andthen, done, emit, reg}
@@ -75,10 +75,11 @@ module _ (tables : Tables) where
       (subst (λ one. MakesTrue (give at types.Bool (λ r. instr.Const at r (literals.Bool one))))
       (sym so) (true_code at))
   makes_true setting expected expr judged (is.word _ _ name) so = absurd (false≢true so)
-  makes_true setting expected expr judged (is.me _ _ at) so = absurd (me_never setting.owner so) where
-    me_never : (owner : Option ℕ) → (me_judged owner at).is_true ≡ true → ⊥
-    me_never None so = false≢true so
-    me_never (Some k) so = false≢true so
+  makes_true setting expected expr judged (is.me _ _ at) so =
+      absurd (me_never setting.owner so) where
+        me_never : (owner : Option ℕ) → (me_judged owner at).is_true ≡ true → ⊥
+        me_never None so = false≢true so
+        me_never (Some k) so = false≢true so
   makes_true setting expected expr judged (is.member _ _ base name one of_base) so =
       absurd (member_never one name so)
   makes_true setting expected expr judged (is.call _ _ name args passed of_args) so =

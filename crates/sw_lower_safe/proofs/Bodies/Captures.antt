@@ -8,7 +8,7 @@ use Rattle.std.specs.Option.{option_map_or}
 use Rattle.sw_types.specs.declared.shape.Shape.{Shape}
 use Rattle.sw_types.specs.declared.ty.Ty.{Ty}
 use Rattle.sw_types.specs.declared.ty.Ty.TheVariants as types
-use Rattle.sw_graph.specs.Kinds.{Each, Goes, IsCaptured, held, kinds_of}
+use Rattle.sw_graph.specs.Kinds.{Each, Goes, IsCaptured, box_content, kinds_of}
 use Rattle.sw_graph.specs.declared.function.Function.{Function}
 use Rattle.sw_graph.specs.declared.function.RegKind.{RegKind}
 use Rattle.sw_graph.specs.declared.function.RegKind.TheVariants.{BoxOf, Plain}
@@ -157,9 +157,9 @@ module _ (tables : Tables) (number : Numbers) (functions : List Function)
           load ty r = LoadBox at r (operand bound.reg one.first)
 
           loads : (ty : Ty) (r : ℕ) → seen.ty ≡ ty → slice_get w.regs r ≡ Some (Plain ty)
-              → Goes (held (slice_get w.regs bound.reg)) (slice_get w.regs r)
+              → Goes (box_content (slice_get w.regs bound.reg)) (slice_get w.regs r)
           loads ty r same kind =
-              subst (λ at. Goes (held at) (slice_get w.regs r)) (sym box)
+              subst (λ at. Goes (box_content at) (slice_get w.regs r)) (sym box)
               (subst (Goes (Some (Plain seen.ty))) (sym kind)
               (subst (λ t. Goes (Some (Plain seen.ty)) (Some (Plain t))) same
               (refl, λ marked. marked)))

@@ -34,7 +34,7 @@ accepts_marked marked params result = (
 
 module _ (shapes : List Shape) (globals : List GlobalKind) (functions : List Function)
     (regs : List RegKind) where
-  -- A closure captures the front of what its function takes, and its type has the rest.
+  -- A closure captures the first of what its function takes, and its type has the rest.
   pub closure_fits : (at r f : ℕ) (xs : List Operand) (function : Function)
       (held params : List RegKind) (marked : Bool) (types : List Ty) (result : Ty)
       → slice_get functions f ≡ Some function → taken function ≡ held ++ params
@@ -45,17 +45,17 @@ module _ (shapes : List Shape) (globals : List GlobalKind) (functions : List Fun
   closure_fits at r f xs function held params marked types result found takes gives count each
       typed kind
       = (
-        subst (EachOf IsCaptured (kinds_of regs xs)) (sym (ap front found ∙ ap Some front_is)) each,
+        subst (EachOf IsCaptured (kinds_of regs xs)) (sym (ap first found ∙ ap Some first_is)) each,
         subst (λ from. Goes from (slice_get regs r))
             (sym (ap (option_and_then (closure_of (length xs))) found ∙ closure_is))
             (subst (Goes (Some (Plain (Func true types result)))) (sym kind)
             (accepts_marked marked types result)),
       ) where
-        front : Option Function → Option (List RegKind)
-        front at = option_map (λ (one : Function). take (length xs) (taken one)) at
+        first : Option Function → Option (List RegKind)
+        first at = option_map (λ (one : Function). take (length xs) (taken one)) at
 
-        front_is : take (length xs) (taken function) ≡ held
-        front_is = ap (take (length xs)) takes ∙ ap (λ n. take n (held ++ params)) count
+        first_is : take (length xs) (taken function) ≡ held
+        first_is = ap (take (length xs)) takes ∙ ap (λ n. take n (held ++ params)) count
             ∙ take-append_seam held params
 
         rest_is : drop (length xs) (taken function) ≡ params

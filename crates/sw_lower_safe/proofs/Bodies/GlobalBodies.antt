@@ -53,6 +53,25 @@ use Rattle.sw_lower_safe.proofs.Said.RowsOf.{value_goes, value_rows_hold}
 use Rattle.sw_lower_safe.proofs.Types.Going.{global_kind_by, goes_by}
 use Rattle.sw_lower_safe.proofs.Types.Within.{unit_within}
 
+-- the first value of a global variable, which is one of its program's
+abbrev pub global_first : World → PropTree → Expr → ValueOf
+global_first world prop value = record {
+  at = prop.word.at;
+  owner = None;
+  wanted = prop_type world.known None prop;
+  value = value;
+}
+
+pub global_first_stands : (world : World) (decls : List Decl) (n g : ℕ) (prop : PropTree)
+    (value : Expr) → Stands decls n g (Global prop) → prop.value ≡ Some value
+    → Contains (values_from world 0 decls) (global_first world prop value)
+unfolding values_of
+global_first_stands world decls n g prop value stands is =
+    let made = global_first world prop value in
+    value_stands world decls n g (Global prop) made stands
+    (subst (λ found. Contains (typing.first_value world None prop found) made) (sym is)
+    (in_first made []))
+
 module _ (tables : Tables) (number : Numbers) (functions : List Function) where
   -- A value is stored in a global variable that accepts it.
   pub first_code_ok : (key g : ℕ) (global : GlobalVar)
@@ -146,7 +165,7 @@ module _ (world : World) (isolation : Isolation) (decls : List Decl) (rule : Asy
   -- what is made of a global variable
   pub globals_fit : (n g : ℕ) (prop : PropTree) → Stands decls n g (Global prop)
       → Given (global_bodies tables g prop)
-  unfolding global_bodies values_of
+  unfolding global_bodies
   globals_fit n g prop stands =
       both_give (IsHere tables number functions) (Fits tables number functions)
       (value_bodies tables prop.word.at g prop.value)
@@ -164,25 +183,11 @@ module _ (world : World) (isolation : Isolation) (decls : List Decl) (rule : Asy
         there : slice_get world.globals g ≡ Some global
         there = global_there decls rule world program.declared n g (Global prop) global stands refl
 
-        made : (value : Expr) → prop.value ≡ Some value → ValueOf
-        made value is = record {
-          at = prop.word.at;
-          owner = None;
-          wanted = prop_type world.known None prop;
-          value = value;
-        }
-
-        valued : (value : Expr) (is : prop.value ≡ Some value)
-            → Contains (values_of world n (Global prop)) (made value is)
-        valued value is =
-            subst (λ found. Contains (typing.first_value world None prop found) (made value is))
-            (sym is) (in_first (made value is) [])
-
         by : (found : Option Expr) → prop.value ≡ found
             → Given (value_bodies tables prop.word.at g found)
         by None is = none_gives (IsHere tables number functions) (Fits tables number functions)
         by (Some value) is =
-            first_fits prop.word.at g global (made value is) there
-            (value_stands world decls n g (Global prop) (made value is) stands (valued value is))
+            first_fits prop.word.at g global (global_first world prop value) there
+            (global_first_stands world decls n g prop value stands is)
             refl (ap (λ (known : Meanings). prop_type known None prop)
             (known_is decls rule world program.declared))

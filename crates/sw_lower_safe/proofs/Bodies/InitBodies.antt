@@ -6,7 +6,7 @@ use Rattle.std.proofs.lemmas.List.Elements.{All-nil, All-cons, All-head}
 use Rattle.std.specs.Prelude.{All, slice_get}
 use Rattle.sw_lower_safe.specs.Programs.{tables_in}
 use Rattle.sw_tree.proofs.FoldEquations as eq
-use Rattle.sw_tree.specs.Folds.{Steps, fold_stmt}
+use Rattle.sw_tree.specs.Folds.{fold_stmt}
 use Rattle.sw_tree.specs.declared.decl.Decl.{Decl}
 use Rattle.sw_tree.specs.declared.decl.InitTree.{InitTree}
 use Rattle.sw_tree.specs.declared.decl.ParamTree.{ParamTree}
@@ -110,6 +110,53 @@ all_own known n props inits object init more inits_are x has =
     own_assign known n params wanted given x
     (none_of (in_stmt known n params wanted given) init.body.stmts x
     (object.stmts init more inits_are) has)
+
+-- the code of a block, by its statements
+block_is : (tables : Tables) (owner : Option ℕ) (block : Block)
+    → block_code tables owner block ≡ (code_steps tables owner).block (record
+    { stmts = map (fold_stmt (code_steps tables owner)) block.stmts })
+unfolding block_code
+block_is tables owner block = eq.fold_block-out (code_steps tables owner) block
+
+module _ (world : World) (isolation : Isolation) (decls : List Decl) (rule : AsyncDefault)
+    (number : Numbers) (functions : List Function)
+    (program : IsProgram world isolation decls rule number functions) (n : ℕ)
+    (props : List PropTree) (inits : List InitTree)
+    (object : ObjectOk (meanings_of decls) n props inits) (shape : Shape)
+    (there : slice_get world.shapes n ≡ Some shape)
+    (parts : shape.parts ≡ map (part_of (meanings_of decls) (Some n)) props) (init : InitTree)
+    (more : List InitTree) (inits_are : inits ≡ init ∷ more)
+    (stands : Contains (bodies_from world 0 decls) (init_body n init)) where
+  -- what the statements of an initialiser give
+  init_gave : AllGave world isolation decls rule number functions program n shape there
+      (are_apart (meanings_of decls) n props inits object shape parts)
+      (first_place (param_names init.params)) init.body.stmts
+  init_gave =
+      stmts_give world isolation decls rule number functions program n shape there
+      (are_apart (meanings_of decls) n props inits object shape parts)
+      (first_place (param_names init.params)) (is_one init.body.stmts) state init.body.stmts left
+      (block_all world inside state init.body left leaves)
+      (params_hold world decls program.keyed program.well (init_body n init) stands)
+      (body_rows_hold world decls program.keyed program.well (init_body n init) left stands leaves)
+      (all_own (meanings_of decls) n props inits object init more inits_are) where
+        inside : Inside
+        inside = in_body (Some n) true
+
+        state : State
+        state = body_state world (init_body n init)
+
+        left : Left
+        left = leave_block world init.body inside state
+
+        leaves : LeavesBlock world inside state init.body left
+        leaves = leaves_block world inside state init.body
+
+  -- There is no body in an initialiser.
+  pub init_inside : (block_code (tables_in world isolation decls) (Some n) init.body).inside ≡ []
+  init_inside =
+      ap (λ (c : BlockCode). c.inside)
+      (block_is (tables_in world isolation decls) (Some n) init.body)
+      ∙ init_gave.inside
 
 module _ (world : World) (isolation : Isolation) (decls : List Decl) (rule : AsyncDefault)
     (number : Numbers) (functions : List Function)
@@ -247,8 +294,8 @@ module _ (world : World) (isolation : Isolation) (decls : List Decl) (rule : Asy
           first = first_gives props (λ p has. has)
 
           all_is : first_values tables n props ++ given ≡ givens (first.all ++ more)
-          all_is = ap (λ front. front ++ given) first.gives
-              ∙ ap (λ back. givens first.all ++ back) given_is
+          all_is = ap (λ before. before ++ given) first.gives
+              ∙ ap (λ after. givens first.all ++ after) given_is
               ∙ sym (map-append (λ (one : One). one.given) first.all more)
 
     -- an initialiser that is found by its key
@@ -285,7 +332,7 @@ module _ (world : World) (isolation : Isolation) (decls : List Decl) (rule : Asy
         (init_of (top_meaning decls) (record { at = init.at; id = word.id }) n actor init.params)
         → Contains (bodies_from world 0 decls) (init_body n init)
         → Gives Here Fit (init_bodies tables n props init)
-    unfolding init_bodies block_code
+    unfolding init_bodies
     init_fits init more inits_are word actor declared stands =
         both_give Here Fit
         (for_some (func_at world tables.answers init.at)
@@ -295,43 +342,16 @@ module _ (world : World) (isolation : Isolation) (decls : List Decl) (rule : Asy
         refl refl declared init.params
         (params_taken_ok world isolation decls rule number functions program (Some n)
         (init_body n init) stands) code.gives gave.all
-        (ap (λ (c : BlockCode). c.gives) code_is ∙ gave.gives))
-        (subst (Gives Here Fit) (sym (ap (λ (c : BlockCode). c.inside) code_is ∙ gave.inside))
+        (ap (λ (c : BlockCode). c.gives) (block_is tables (Some n) init.body) ∙ gave.gives))
+        (subst (Gives Here Fit)
+        (sym (init_inside world isolation decls rule number functions program n props inits object
+        shape there parts init more inits_are stands))
         (none_gives Here Fit)) where
-          steps : Steps
-          steps = code_steps tables (Some n)
-
           code : BlockCode
           code = block_code tables (Some n) init.body
 
-          code_is : code ≡ steps.block (record { stmts = map (fold_stmt steps) init.body.stmts })
-          code_is = eq.fold_block-out steps init.body
-
-          params : ℕ → Option ℕ
-          params = first_place (param_names init.params)
-
-          inside : Inside
-          inside = in_body (Some n) true
-
-          state : State
-          state = body_state world (init_body n init)
-
-          left : Left
-          left = leave_block world init.body inside state
-
-          leaves : LeavesBlock world inside state init.body left
-          leaves = leaves_block world inside state init.body
-
-          own : (x : Stmt) → Contains init.body.stmts x → OwnAssign (meanings_of decls) n params x
-          own = all_own (meanings_of decls) n props inits object init more inits_are
-
           gave : AllGave world isolation decls rule number functions program n shape there
-              (are_apart (meanings_of decls) n props inits object shape parts) params
-              init.body.stmts
-          gave = stmts_give world isolation decls rule number functions program n shape there
-              (are_apart (meanings_of decls) n props inits object shape parts) params
-              (is_one init.body.stmts) state init.body.stmts left
-              (block_all world inside state init.body left leaves)
-              (params_hold world decls program.keyed program.well (init_body n init) stands)
-              (body_rows_hold world decls program.keyed program.well (init_body n init) left stands
-              leaves) own
+              (are_apart (meanings_of decls) n props inits object shape parts)
+              (first_place (param_names init.params)) init.body.stmts
+          gave = init_gave world isolation decls rule number functions program n props inits object
+              shape there parts init more inits_are stands

@@ -12,7 +12,7 @@ use Rattle.sw_typing_rules.specs.Expressions.{Judged}
 use Rattle.sw_typing_rules.specs.Judges as is
 use Rattle.sw_typing_rules.specs.Judges.{arm_state, case_of, head_of}
 use Rattle.sw_typing_rules.specs.Statements.{Armed, Left, State, accepted_left, arm_left, bind_left}
-use Rattle.sw_typing_rules.specs.Statements.{discard_left, in_loop, in_switch, is_one, part_of}
+use Rattle.sw_typing_rules.specs.Statements.{discard_left, in_loop, in_switch, is_one, in_branch}
 use Rattle.sw_typing_rules.specs.Statements.{cases_of, plain_left, result_left, return_value}
 use Rattle.sw_typing_rules.specs.Statements.{return_void, with_only, written}
 use Rattle.sw_typing_rules.specs.Verdicts.{is_unit}
@@ -88,14 +88,14 @@ module _ (world : World) (wanted : Ty) where
     arms_want i s arms l (is.no_arm _ _) w = w
     arms_want i s arms l (is.one_arm _ _ at cond block more judged inner last of_cond d rest) w =
         arms_want i (arm_left s judged inner).state more last rest
-        (block_wants (part_of i) s block inner d w)
+        (block_wants (in_branch i) s block inner d w)
 
     otherwise_wants : (ends : Bool) (i : Inside) (s : State) (x : Option Block) (l : Left)
         → is.LeavesOtherwise world ends i s x l → Wanting s → Wanting l.state
     otherwise_wants ends i s x l (is.absent _ _) w = w
     otherwise_wants ends i s x l (is.absent_default _ _) w = w
     otherwise_wants ends i s x l (is.present _ _ _ block inner d) w =
-        block_wants (part_of i) s block inner d w
+        block_wants (in_branch i) s block inner d w
 
     cases_want : (i : Inside) (cases : Option (List CaseShape)) (s : State)
         (arms : List CaseArm) (a : Armed) → is.LeavesCases world i cases s arms a
@@ -104,4 +104,4 @@ module _ (world : World) (wanted : Ty) where
     cases_want i cases s arms a
         (is.one_case _ _ _ name patterns block more inner armed d rest) w =
         cases_want i cases (case_of cases s (head_of name patterns) inner).state more armed rest
-        (block_wants (part_of i) (arm_state cases s (head_of name patterns)) block inner d w)
+        (block_wants (in_branch i) (arm_state cases s (head_of name patterns)) block inner d w)

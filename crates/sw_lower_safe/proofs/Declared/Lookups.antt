@@ -3,12 +3,12 @@ use Rattle.std.proofs.Common.{◌≡◌, ℕ, ◌<◌, Option, Some, None, refl,
 use Rattle.std.proofs.lemmas.Option.{slice_get_within}
 use Rattle.std.specs.Prelude.{IfSome}
 use Rattle.sw_tree.specs.declared.type_tree.TypeTree.{TypeTree}
+use Rattle.sw_resolve.proofs.WithinLemmas.{written_within}
 use Rattle.sw_resolve.specs.TypeWords.{type_of}
 use Rattle.sw_typing_rules.specs.Worlds.{World, and_then, case_at, part_at}
 use Rattle.sw_lower_safe.proofs.Declared.Noted.{size}
 use Rattle.sw_lower_safe.proofs.Declared.Tables.{FuncWithin, GlobalWithin, PartWithin, ShapeWithin}
 use Rattle.sw_lower_safe.proofs.Declared.Tables.{TablesWithin}
-use Rattle.sw_lower_safe.proofs.Declared.Words.{written_within}
 use Rattle.sw_lower_safe.proofs.Types.Within.{Within, at_number, get_of_all}
 
 -- what holds of each value that may be found

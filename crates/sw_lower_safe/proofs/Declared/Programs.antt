@@ -22,6 +22,7 @@ use Rattle.sw_types.specs.Accepts.{is_marked}
 use Rattle.sw_types.specs.declared.shape.CaseShape.{CaseShape}
 use Rattle.sw_types.specs.declared.ty.Ty.{Ty}
 use Rattle.sw_types.specs.declared.ty.Ty.TheVariants as types
+use Rattle.sw_resolve.proofs.WithinLemmas.{shapes_of_all, stated_within, written_within}
 use Rattle.sw_resolve.specs.Words.{shapes_made}
 use Rattle.sw_decls.specs.declared.signature.AsyncDefault.{AsyncDefault}
 use Rattle.sw_typing_rules.specs.Calls.{Slot, slots_of}
@@ -39,7 +40,7 @@ use Rattle.sw_typing_rules.specs.Programs.{values_of}
 use Rattle.sw_typing_rules.specs.Statements as left
 use Rattle.sw_typing_rules.specs.Statements.{Armed, Left, State, arm_vars, beside, cases_of}
 use Rattle.sw_typing_rules.specs.Statements.{closure_state, expects, in_body, in_loop, in_switch}
-use Rattle.sw_typing_rules.specs.Statements.{is_one, marked_result, marked_type, part_of}
+use Rattle.sw_typing_rules.specs.Statements.{is_one, marked_result, marked_type, in_branch}
 use Rattle.sw_typing_rules.specs.Statements.{place_type, setting_of, with_only, written}
 use Rattle.sw_typing_rules.specs.Words as senses
 use Rattle.sw_typing_rules.specs.Words.{Setting}
@@ -59,7 +60,6 @@ use Rattle.sw_lower_safe.proofs.Declared.Statements as stmt_rule
 use Rattle.sw_lower_safe.proofs.Declared.Tables.{Declared, TablesWithin, shapes_count}
 use Rattle.sw_lower_safe.proofs.Declared.Tables.{tables_within}
 use Rattle.sw_lower_safe.proofs.Declared.Verdicts as verdict_rule
-use Rattle.sw_lower_safe.proofs.Declared.Words.{shapes_of_all, stated_within, written_within}
 use Rattle.sw_lower_safe.proofs.Types.Within.{Within, all_append, all_map, bool_within, int_within}
 use Rattle.sw_lower_safe.proofs.Types.Within.{unit_within}
 
@@ -218,7 +218,7 @@ module _ (world : World) (tables : TablesWithin world) where
     arms_within i s arms l (is.one_arm _ _ at cond block more judged inner last of_cond d rest) o
         t =
         let one = left.arm_left s judged inner in
-        let own = block_within (part_of i) s block inner d o t in
+        let own = block_within (in_branch i) s block inner d o t in
         let are : LeftWithin (size world) one = (
           (t.0, own.0.1),
           row_rule.join (size world) (left.condition_rows judged) inner.rows
@@ -233,7 +233,7 @@ module _ (world : World) (tables : TablesWithin world) where
     otherwise_within ends i s x l (is.absent _ _) o t = (t, tt)
     otherwise_within ends i s x l (is.absent_default _ _) o t = (t, tt)
     otherwise_within ends i s x l (is.present _ _ _ block inner d) o t =
-        let are = block_within (part_of i) s block inner d o t in ((t.0, are.0.1), are.1)
+        let are = block_within (in_branch i) s block inner d o t in ((t.0, are.0.1), are.1)
 
     cases_within : (i : Inside) (cases : Option (List CaseShape)) (s : State)
         (arms : List CaseArm) (a : Armed) → is.LeavesCases world i cases s arms a
@@ -246,7 +246,7 @@ module _ (world : World) (tables : TablesWithin world) where
         let own = arm_vars head (left.arm_payload cases name.id) in
         let one = case_of cases s head inner in
         let vars = arm_rule.arm_vars (size world) cases head c in
-        let inside = block_within (part_of i) (arm_state cases s head) block inner d o
+        let inside = block_within (in_branch i) (arm_state cases s head) block inner d o
         (all_append (VarWithin (size world)) s.vars own t.0 vars, t.1) in
         let are : LeftWithin (size world) one = (
           (t.0, inside.0.1),

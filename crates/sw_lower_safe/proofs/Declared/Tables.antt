@@ -21,6 +21,8 @@ use Rattle.sw_types.specs.declared.shape.Part.{Part}
 use Rattle.sw_types.specs.declared.shape.Shape.{Shape}
 use Rattle.sw_types.specs.declared.ty.Ty.{Ty}
 use Rattle.sw_types.specs.declared.ty.Ty.TheVariants as types
+use Rattle.sw_resolve.proofs.WithinLemmas.{InRange, length_shapes, prop_within}
+use Rattle.sw_resolve.proofs.WithinLemmas.{shapes_of_all, stated_within, written_within}
 use Rattle.sw_resolve.specs.Evident.{Meanings, meanings_of}
 use Rattle.sw_resolve.specs.Shaped.{case_of, part_of, shape_of, shapes_from, written_actor}
 use Rattle.sw_resolve.specs.Words.{shapes_made, top_meaning}
@@ -31,9 +33,8 @@ use Rattle.sw_decls.specs.declared.signature.GlobalVar.{GlobalVar}
 use Rattle.sw_decls.specs.declared.signature.Param.{Param}
 use Rattle.sw_decls.specs.declared.signature.Signature.{Signature}
 use Rattle.sw_typing_rules.specs.Worlds.{IsWorldOf, World}
-use Rattle.sw_lower_safe.proofs.Declared.Words.{InRange, each_within, length_shapes, prop_within}
-use Rattle.sw_lower_safe.proofs.Declared.Words.{shapes_of_all, stated_within, top_in_range}
-use Rattle.sw_lower_safe.proofs.Declared.Words.{written_within}
+use Rattle.sw_lower_safe.proofs.Declared.Words.{each_within}
+use Rattle.sw_lower_safe.proofs.Declared.Words.{top_in_range}
 use Rattle.sw_lower_safe.proofs.Types.Within.{AreWithin, Within, all_append, all_map, at_number}
 use Rattle.sw_lower_safe.proofs.Types.Within.{named_within, unit_within}
 

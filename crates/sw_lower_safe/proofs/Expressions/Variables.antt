@@ -8,7 +8,7 @@ use Rattle.sw_types.specs.Accepts.{Accepts}
 use Rattle.sw_types.specs.declared.shape.Shape.{Shape}
 use Rattle.sw_types.specs.declared.ty.Ty.{Ty}
 use Rattle.sw_types.specs.declared.ty.Ty.TheVariants as types
-use Rattle.sw_graph.specs.Kinds.{held}
+use Rattle.sw_graph.specs.Kinds.{box_content}
 use Rattle.sw_graph.specs.declared.function.Function.{Function}
 use Rattle.sw_graph.specs.declared.function.RegKind.TheVariants.{BoxOf}
 use Rattle.sw_graph.specs.declared.instr.Instr.TheVariants as instr
@@ -113,7 +113,7 @@ module _ (tables : Tables) (number : Numbers) (functions : List Function)
         (λ r. instr.LoadBox at r (operand bound.reg at))
         (ground.typed bound.key ty is)
         (λ r. refl)
-        (λ r r_is. goes_same (held (slice_get w.regs bound.reg)) (slice_get w.regs r) ty
+        (λ r r_is. goes_same (box_content (slice_get w.regs bound.reg)) (slice_get w.regs r) ty
         (box_holds (slice_get w.regs bound.reg) ty
         (subst (λ one. slice_get w.regs bound.reg ≡ Some (BoxOf one))
         (type_seen bound.key seen.ty ty seen.typed is) kind)) r_is)
@@ -172,7 +172,8 @@ module _ (tables : Tables) (number : Numbers) (functions : List Function)
         else emit (instr.Copy at bound.reg given)) (λ _ q. Keeps w p q)
     by true kind =
         emit_keeps tables functions w of p (instr.StoreBox at (operand bound.reg at) given) refl
-        (goes_by (slice_get w.regs given.reg) (held (slice_get w.regs bound.reg)) from seen.ty
+        (goes_by (slice_get w.regs given.reg) (box_content (slice_get w.regs bound.reg)) from
+        seen.ty
         value.kind (box_holds (slice_get w.regs bound.reg) seen.ty kind) accepts)
         (All-cons (IsSet w p.writes (here p)) bound.reg (given.reg ∷ []) seen.set
         (All-cons (IsSet w p.writes (here p)) given.reg [] value.set

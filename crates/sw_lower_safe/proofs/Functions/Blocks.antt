@@ -95,14 +95,14 @@ all_blocks w lasts P each =
 -- An instruction of a block fits after instructions that have those before it in the block.
 pub record IsAt (w : Whole) (number index : ℕ) (instr : Instr) : Type 0 where
   pub earlier : List Written
-  pub front : written_in number earlier ≡ take index (written_in number w.writes)
+  pub up_to : written_in number earlier ≡ take index (written_in number w.writes)
   pub ok : InstrOk w earlier number instr
 
 -- the same in some of the function's instructions, after some others
 record IsAmong (w : Whole) (number index : ℕ) (instr : Instr) (before writes : List Written)
     : Type 0 where
   earlier : List Written
-  front : written_in number earlier
+  up_to : written_in number earlier
       ≡ written_in number before ++ take index (written_in number writes)
   ok : InstrOk w earlier number instr
 
@@ -112,14 +112,14 @@ among_more : (w : Whole) (number index more : ℕ) (instr : Instr) (before : Lis
     ≡ take more (written_in number (one ∷ writes))
     → IsAmong w number index instr (before ++ one ∷ []) writes
     → IsAmong w number more instr before (one ∷ writes)
-among_more w number index more instr before one writes front among = record {
+among_more w number index more instr before one writes up_to among = record {
   earlier = among.earlier;
-  front = among.front
+  up_to = among.up_to
       ∙ ap (λ instrs. instrs ++ take index (written_in number writes))
       (written_both number before (one ∷ []))
       ∙ append_assoc (written_in number before) (written_in number (one ∷ []))
       (take index (written_in number writes))
-      ∙ ap (λ instrs. written_in number before ++ instrs) front;
+      ∙ ap (λ instrs. written_in number before ++ instrs) up_to;
   ok = among.ok;
 }
 
@@ -144,7 +144,7 @@ among w number index instr before (one ∷ writes) all found =
           let same : one.block ≡ number = grind (arith, nat_tests, is) in
           record {
             earlier = before;
-            front = sym (append-nil (written_in number before));
+            up_to = sym (append-nil (written_in number before));
             ok = subst (λ n. InstrOk w before n instr) same
                 (subst (InstrOk w before one.block) (same_Some one.instr instr found) all.0);
           }
@@ -164,7 +164,7 @@ pub instr_at : (w : Whole) (number index : ℕ) (instr : Instr) → AllWritten w
     → slice_get (written_in number w.writes) index ≡ Some instr → IsAt w number index instr
 instr_at w number index instr all found =
     let one = among w number index instr [] w.writes all found in
-    record { earlier = one.earlier; front = one.front; ok = one.ok }
+    record { earlier = one.earlier; up_to = one.up_to; ok = one.ok }
 
 -- what holds of a block's instructions
 pub all_instrs : (w : Whole) (number : ℕ) (P : Instr → Type 0) → AllWritten w [] w.writes

@@ -70,7 +70,7 @@ block_in_front : (w : Whole) (number : ℕ) → AllWritten w [] w.writes
 block_in_front w number written =
     all_in_front (written_in number w.writes) (λ index instr found.
     let one = instr_at w number index instr written found in
-    subst (λ before. IsTrue (comes_first instr before)) one.front one.ok.front)
+    subst (λ before. IsTrue (comes_first instr before)) one.up_to one.ok.front)
 
 -- only a block that is made has an entry
 is_made : (w : Whole) (number : ℕ) (one : NewBlock) → made_at w number ≡ Some one → 0 < number

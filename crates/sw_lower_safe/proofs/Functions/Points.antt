@@ -7,7 +7,7 @@ use Rattle.sw_graph.specs.Points.{Middle, End, points_of, points_of_block}
 use Rattle.sw_graph.specs.declared.instr.Block.{Block}
 use Rattle.sw_graph.specs.declared.instr.Instr.{Instr}
 use Rattle.sw_graph.specs.declared.instr.Last.{Last}
-use Rattle.sw_graph.proofs.ListLemmas.{slice_get_front, slice_get_after}
+use Rattle.sw_graph.proofs.ListLemmas.{slice_get_first, slice_get_after}
 use Rattle.sw_graph.proofs.PointLemmas.{length-points_of_block}
 
 -- the point at which a block begins
@@ -24,7 +24,7 @@ point_at [] number index block here inside = absurd (none-some block here)
 point_at (first ∷ blocks) zero index block here inside =
     let same = same_Some first block here in
     ap (slice_get (points_of_block first ++ points_of blocks)) (omega arith)
-    ∙ slice_get_front (points_of_block first) (points_of blocks) index
+    ∙ slice_get_first (points_of_block first) (points_of blocks) index
     (omega (arith, length-points_of_block first, ap (λ (b : Block). length b.instrs) same))
     ∙ ap (λ (b : Block). slice_get (points_of_block b) index) same
 point_at (first ∷ blocks) (suc number) index block here inside =

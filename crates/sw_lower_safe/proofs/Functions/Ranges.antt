@@ -12,7 +12,8 @@ use Rattle.sw_types.specs.declared.ty.Ty.{Ty}
 use Rattle.sw_types.specs.declared.ty.Ty.TheVariants.{Named, Unit as Void}
 use Rattle.sw_graph.specs.Kinds.{Each, EachOf, Goes, IsCaptured, KindsFit, LastKindsFit, TakesBoth}
 use Rattle.sw_graph.specs.Kinds.{bin_type, literal_type, un_type, awaited, closure_of, form_of}
-use Rattle.sw_graph.specs.Kinds.{given, held, is_actor, is_cell, is_class, is_enum, is_printable}
+use Rattle.sw_graph.specs.Kinds.{given, box_content, is_actor, is_cell, is_class, is_enum}
+use Rattle.sw_graph.specs.Kinds.{is_printable}
 use Rattle.sw_graph.specs.Kinds.{is_struct, kinds_of, made_of, part, parts, payload, result_of}
 use Rattle.sw_graph.specs.Kinds.{shape_at, shape_of, taken, value}
 use Rattle.sw_graph.specs.Mentions.{functions_of, globals_of, last_registers, registers_of}
@@ -179,7 +180,7 @@ registers_below w block (NewObject at r k ss) fits may =
     (all_go w.regs ss _ fits.0)
 registers_below w block (NewBox at r s) fits may =
     below_more _ r (s.reg ∷ [])
-    (is_there (λ kind. Goes (slice_get w.regs s.reg) (held kind)) w.regs r fits
+    (is_there (λ kind. Goes (slice_get w.regs s.reg) (box_content kind)) w.regs r fits
     (λ never. nothing_goes _ never))
     (below_more _ s.reg [] (from_below _ w.regs s.reg fits) (below_none _))
 registers_below w block (NewActor at r k ss) fits may =
@@ -188,11 +189,11 @@ registers_below w block (NewActor at r k ss) fits may =
 registers_below w block (LoadBox at r b) fits may =
     below_more _ r (b.reg ∷ []) (to_below _ w.regs r fits)
     (below_more _ b.reg []
-    (is_there (λ kind. Goes (held kind) (slice_get w.regs r)) w.regs b.reg fits
+    (is_there (λ kind. Goes (box_content kind) (slice_get w.regs r)) w.regs b.reg fits
     (λ never. never)) (below_none _))
 registers_below w block (StoreBox at b s) fits may =
     below_more _ b.reg (s.reg ∷ [])
-    (is_there (λ kind. Goes (slice_get w.regs s.reg) (held kind)) w.regs b.reg fits
+    (is_there (λ kind. Goes (slice_get w.regs s.reg) (box_content kind)) w.regs b.reg fits
     (λ never. nothing_goes _ never))
     (below_more _ s.reg [] (from_below _ w.regs s.reg fits) (below_none _))
 registers_below w block (LoadProp at r o i) fits may =

@@ -216,7 +216,7 @@ sets_first w lasts function written all p passed way (Middle instr) here =
     let one = instr_at w way_comes.number way_comes.index instr written found in
     λ k d inside. way_comes.set (get_or (reads instr) k d)
     (subst (λ instrs. AtStart w way_comes.number (get_or (reads instr) k d)
-    ⊎ IsTrue (sets instrs (get_or (reads instr) k d))) one.front (one.ok.reads k d inside))
+    ⊎ IsTrue (sets instrs (get_or (reads instr) k d))) one.up_to (one.ok.reads k d inside))
 sets_first w lasts function written all p passed way (End last) here =
     let way_comes = comes w lasts function all p passed way in
     let block = block_in w lasts way_comes.number in

@@ -20,7 +20,7 @@ use Rattle.sw_lower_safe.specs.Ground.{IsHeader}
 use Rattle.sw_lower_safe.proofs.Functions.Takes.{gives_of, kinds_of, takes_of}
 use Rattle.sw_lower_safe.proofs.Lists.Listed.{in_place, place_in, some_at}
 
--- a name is told by its key and by whether it is that of a getter
+-- a name is determined by its key and by whether it is that of a getter
 same_name : (one other : FunctionName) → IsTrue (is_named one other) → one ≡ other
 same_name one other named = by (one.key == other.key) refl one.getter other.getter refl refl named
   where

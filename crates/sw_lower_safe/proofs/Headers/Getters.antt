@@ -299,8 +299,8 @@ module _ (tables : Tables) where
       let funcs_are = flat_map (func_tree_bodies tables) funcs in
       elim (Contains-append_cases (prop_getters tables n 0 props ++ inits_are) funcs_are body has) [
         | inr never ↦ absurd (no_getter funcs_are body (plain_funcs funcs) never is)
-        | inl front ↦
-            elim (Contains-append_cases (prop_getters tables n 0 props) inits_are body front) [
+        | inl before ↦
+            elim (Contains-append_cases (prop_getters tables n 0 props) inits_are body before) [
               | inl here ↦ part_getters n 0 props body here
               | inr never ↦
                   absurd (no_getter inits_are body (plain_inits n props word inits) never is)

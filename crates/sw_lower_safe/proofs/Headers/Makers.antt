@@ -14,6 +14,7 @@ use Rattle.sw_tree.specs.declared.name.Name.{Name}
 use Rattle.sw_types.specs.declared.isolation.Iso.{Iso}
 use Rattle.sw_types.specs.declared.isolation.Iso.TheVariants as iso
 use Rattle.sw_types.specs.declared.shape.Shape.{Shape}
+use Rattle.sw_resolve.proofs.WithinLemmas.{one_shape}
 use Rattle.sw_resolve.specs.Evident.{meanings_of}
 use Rattle.sw_resolve.specs.Shaped.{written_actor}
 use Rattle.sw_resolve.specs.Words.{shapes_made, top_meaning}
@@ -22,6 +23,7 @@ use Rattle.sw_decls.specs.Declaring.{init_key, key_place, maker_keys}
 use Rattle.sw_decls.specs.Signatures.{actor_iso, func_of, funcs_of, init_of, inits_of}
 use Rattle.sw_decls.specs.declared.signature.AsyncDefault.{AsyncDefault}
 use Rattle.sw_decls.specs.declared.signature.Signature.{Signature}
+use Rattle.sw_typing_rules.proofs.OneWorld.{value_word}
 use Rattle.sw_typing_rules.specs.Programs.{bodies_of, func_body, init_body}
 use Rattle.sw_typing_rules.specs.Worlds.{IsWorldOf, World, and_then, item}
 use Rattle.sw_isolation_rules.specs.Answers.{Answers, for_some}
@@ -40,9 +42,9 @@ use Rattle.sw_lower_safe.proofs.Headers.ParamTypes.{AreAnswered, are_typed, kind
 use Rattle.sw_lower_safe.proofs.Headers.Signed.{declared_func, for_found, func_found, signed_header}
 use Rattle.sw_lower_safe.proofs.Lists.Listed.{between, in_first, in_map, in_place}
 use Rattle.sw_lower_safe.proofs.Programs.DeclStands.{made_flat}
-use Rattle.sw_lower_safe.proofs.Programs.MadeOf.{body_stands, func_stands, one_shape, shape_stands}
+use Rattle.sw_lower_safe.proofs.Programs.MadeOf.{body_stands, func_stands, shape_stands}
 use Rattle.sw_lower_safe.proofs.Programs.MadeOf.{typed_stands}
-use Rattle.sw_lower_safe.proofs.Programs.SignatureKeys.{no_signature, numbered_key, value_word}
+use Rattle.sw_lower_safe.proofs.Programs.SignatureKeys.{no_signature, numbered_key}
 use Rattle.sw_lower_safe.proofs.Programs.Standing.{Stands, place_of_thing, stands_in}
 
 -- what is found of a type's initialiser

@@ -13,6 +13,7 @@ use Rattle.sw_types.specs.declared.shape.Part.{Part}
 use Rattle.sw_types.specs.declared.shape.Shape.{Shape}
 use Rattle.sw_types.specs.declared.ty.Ty.TheVariants as types
 use Rattle.sw_graph.specs.declared.function.RegKind.TheVariants.{Plain}
+use Rattle.sw_resolve.proofs.WithinLemmas.{one_shape}
 use Rattle.sw_resolve.specs.Words.{shapes_made}
 use Rattle.sw_decls.specs.declared.signature.AsyncDefault.{AsyncDefault}
 use Rattle.sw_typing_rules.specs.Worlds.{IsWorldOf, World}
@@ -30,7 +31,6 @@ use Rattle.sw_lower_safe.proofs.Headers.Getters.{GlobalGetter, IsObjectDecl, Par
 use Rattle.sw_lower_safe.proofs.Lists.Found.{found_in_found, mapped}
 use Rattle.sw_lower_safe.proofs.Programs.DeclStands.{made_flat}
 use Rattle.sw_lower_safe.proofs.Programs.Keyed.{counted_where, key_once, one_index, one_place}
-use Rattle.sw_lower_safe.proofs.Programs.MadeOf.{one_shape}
 use Rattle.sw_lower_safe.proofs.Programs.PropKeys.{global_key_in, no_props, own_key, prop_key_in}
 use Rattle.sw_lower_safe.proofs.Programs.PropKeys.{props_in}
 use Rattle.sw_lower_safe.proofs.Programs.Standing.{Stands, place_of_thing}

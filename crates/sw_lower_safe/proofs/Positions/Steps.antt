@@ -29,7 +29,7 @@ use Rattle.sw_lower_run.proofs.BlockFacts.{written_both}
 use Rattle.sw_lower_code.specs.Code.{Code, bind, block_for, close, done, emit, front, known, number}
 use Rattle.sw_lower_code.specs.Code.{no_var, reg, resume, scope, var}
 use Rattle.sw_lower_safe.specs.Fitting.{InstrOk, IsKind, LastOk, PieceOk}
-use Rattle.sw_lower_safe.specs.Safe.{Closed, Emitted, IsFront, Keeps, MadeBlock, MadeReg, Named}
+use Rattle.sw_lower_safe.specs.Safe.{Closed, Emitted, IsStart, Keeps, MadeBlock, MadeReg, Named}
 use Rattle.sw_lower_safe.specs.Safe.{Position, Resumed, SafeAt, here, moved, seeing}
 use Rattle.sw_lower_safe.specs.Whole.{AtEnd, AtStart, IsSet, Whole, before, made_at, set_before}
 use Rattle.sw_lower_safe.specs.Whole.{sets, taken}
@@ -68,10 +68,10 @@ set_after w writes rest block r (inr holds) =
     (sets_more (written_in block writes) (written_in block rest) r holds))
 
 -- what is set at a position is set at the end of its block
-pub set_at_end : (w : Whole) (writes : List Written) (block r : ℕ) → IsFront writes w.writes
+pub set_at_end : (w : Whole) (writes : List Written) (block r : ℕ) → IsStart writes w.writes
     → IsSet w writes block r → AtEnd w block r
-set_at_end w writes block r front holds =
-    subst (λ all. IsSet w all block r) (sym front.1) (set_after w writes front.0 block r holds)
+set_at_end w writes block r prefix holds =
+    subst (λ all. IsSet w all block r) (sym prefix.1) (set_after w writes prefix.0 block r holds)
 
 -- what is set at the end of the block that went on is set where a block begins
 pub start_of : (w : Whole) (block r : ℕ) (one : NewBlock) → made_at w block ≡ Some one
@@ -133,7 +133,7 @@ safe_reg w p kind within = safe_by w p (reg kind) (MadeReg w p kind) (λ t stand
   },
 )) where
   found : (t : Making) → t.made.regs ≡ p.making.made.regs ++ kind ∷ []
-      → IsFront t.made.regs w.regs → slice_get w.regs (length p.making.made.regs) ≡ Some kind
+      → IsStart t.made.regs w.regs → slice_get w.regs (length p.making.made.regs) ≡ Some kind
   found t regs all =
       ap (λ list. slice_get list (length p.making.made.regs)) (all.1
       ∙ ap (λ list. list ++ all.0) regs
@@ -144,7 +144,7 @@ safe_reg w p kind within = safe_by w p (reg kind) (MadeReg w p kind) (λ t stand
 abbrev pub gave : {A : Type 0} → A → Making → Result (A × Making) CodeFault
 gave value t = Ok (value, t)
 
--- what a run gave, and the function that it came to, are one each
+-- what a run gave, and the function after it, are one each
 pub ended : {A : Type 0} (value : A) (making : Making) (given : A) (t : Making)
     → gave value making ≡ gave given t → (value ≡ given) × (making ≡ t)
 ended {A} value making given t is =
@@ -408,7 +408,7 @@ safe_scope {A} w p code Post safe stands given t ran fits inside =
           ap (λ vars. record u { vars = vars }) (sym (vars_are u m.1.vars)) ∙ t_is in
           let got = safe stands at.0 u is (ap (λ making. making.over) t_is ∙ fits)
           (record {
-            regs = subst (λ making. IsFront making.made.regs w.regs) (sym t_is) inside.regs;
+            regs = subst (λ making. IsStart making.made.regs w.regs) (sym t_is) inside.regs;
             made = inside.made;
             writes = inside.writes;
           }) in (

@@ -10,7 +10,7 @@ use Rattle.sw_lower_run.proofs.BlockFacts.{written_both}
 use Rattle.sw_lower_run.proofs.SameThen.{place_after}
 use Rattle.sw_lower_code.specs.Code.{Code, andthen}
 use Rattle.sw_lower_safe.specs.Fitting.{AllWritten, IsKind, LastOk, PieceOk}
-use Rattle.sw_lower_safe.specs.Safe.{IsFront, IsIn, Position, SafeAt, Stands, moved}
+use Rattle.sw_lower_safe.specs.Safe.{IsStart, IsIn, Position, SafeAt, Stands, moved}
 use Rattle.sw_lower_safe.specs.Whole.{Whole}
 
 -- what a run that ended made is what the plan says
@@ -34,18 +34,18 @@ stands_after piece p t stands fits made = record {
       ∙ sym (written_both number p.writes piece.writes);
 }
 
--- The front of what is a front is a front.
-pub front_of_front : {A : Type 0} (xs ys zs : List A) → IsFront (xs ++ ys) zs → IsFront xs zs
-front_of_front xs ys zs front = (ys ++ front.0, front.1 ∙ append_assoc xs ys front.0)
+-- The start of what is a start is a start.
+pub start_of_start : {A : Type 0} (xs ys zs : List A) → IsStart (xs ++ ys) zs → IsStart xs zs
+start_of_start xs ys zs start = (ys ++ start.0, start.1 ∙ append_assoc xs ys start.0)
 
 -- what holds in the end holds before
 pub in_before : {A : Type 0} (w : Whole) (piece : Piece A) (p : Position) (t : Making)
     → Makes piece p.making t → IsIn w (moved p piece t) → IsIn w p
 in_before w piece p t made inside = record {
-  regs = front_of_front p.making.made.regs piece.regs w.regs
-      (subst (λ regs. IsFront regs w.regs) made.regs inside.regs);
-  made = front_of_front p.made piece.made w.made inside.made;
-  writes = front_of_front p.writes piece.writes w.writes inside.writes;
+  regs = start_of_start p.making.made.regs piece.regs w.regs
+      (subst (λ regs. IsStart regs w.regs) made.regs inside.regs);
+  made = start_of_start p.made piece.made w.made inside.made;
+  writes = start_of_start p.writes piece.writes w.writes inside.writes;
 }
 
 abbrev position : Making → List NewBlock → List Written → Position

@@ -24,11 +24,12 @@ use Rattle.sw_members.specs.Members.{in_funcs, in_program}
 use Rattle.sw_values.specs.Profile.{values_from}
 use Rattle.sw_decls.specs.Declaring.{IsFirstBreach, breaches_of_decls}
 use Rattle.sw_decls.specs.declared.signature.AsyncDefault.{AsyncDefault}
+use Rattle.sw_typing_rules.proofs.OneWorld.{distinct_once}
 use Rattle.sw_typing_rules.specs.Worlds.{IsWorldOf, World}
 use Rattle.sw_tree.specs.CasePlaces.{CasesApart, case_place, case_places}
 use Rattle.sw_lower_safe.proofs.Lists.Listed.{in_map, in_place}
 use Rattle.sw_lower_safe.proofs.Programs.DeclStands.{none_left, none_right}
-use Rattle.sw_lower_safe.proofs.Programs.Keyed.{distinct_once, one_index}
+use Rattle.sw_lower_safe.proofs.Programs.Keyed.{one_index}
 use Rattle.sw_lower_safe.proofs.Programs.NamesApart.{one_place_of}
 use Rattle.sw_lower_safe.proofs.Statements.Cases.{CasesDiffer}
 

@@ -7,6 +7,7 @@ use Rattle.sw_tree.specs.declared.decl.Decl.{Decl}
 use Rattle.sw_tree.specs.declared.decl.Decl.TheVariants.{Entry, Struct, Enum, Class, Actor}
 use Rattle.sw_tree.specs.declared.decl.Decl.TheVariants.{GlobalActor, Func, Global}
 use Rattle.sw_types.specs.declared.shape.Shape.{Shape}
+use Rattle.sw_resolve.proofs.WithinLemmas.{one_shape, shapes_counted}
 use Rattle.sw_resolve.specs.Evident.{Meanings, meanings_of}
 use Rattle.sw_resolve.specs.Shaped.{shape_of}
 use Rattle.sw_resolve.specs.Words.{shapes_made, top_meaning}
@@ -21,7 +22,7 @@ use Rattle.sw_typing_rules.specs.Programs.{ValueOf, values_from, values_of}
 use Rattle.sw_typing_rules.specs.Worlds.{IsWorldOf, World}
 use Rattle.sw_lower_table.specs.Bodies.{globals_made}
 use Rattle.sw_lower_safe.proofs.Lists.Listed.{in_first}
-use Rattle.sw_lower_safe.proofs.Programs.MadeOf.{one_shape, shapes_are, shapes_counted}
+use Rattle.sw_lower_safe.proofs.Programs.MadeOf.{shapes_are}
 use Rattle.sw_lower_safe.proofs.Programs.Standing.{Stands, at_place, made_by_one, made_from}
 
 -- what each declaration makes alone

@@ -1,44 +1,18 @@
 -- In a program each key is that of one node, so a key tells its declaration and its property.
-use Rattle.std.proofs.Common.{◌≡◌, ℕ, zero, suc, ◌+◌, ◌≤◌, Some, List, [], ◌∷◌, Bool, true, false}
-use Rattle.std.proofs.Common.{nat_eq, Contains, inl, inr, refl, ap, sym, ◌∙◌, subst, arith}
-use Rattle.std.proofs.lemmas.Grind.{common_steps}
+use Rattle.std.proofs.Common.{◌≡◌, ℕ, zero, suc, ◌+◌, ◌≤◌, Some, List, [], ◌∷◌}
+use Rattle.std.proofs.Common.{Contains, inl, inr, refl, ap, sym, ◌∙◌, arith}
 use Rattle.std.proofs.lemmas.Option.{same_Some}
-use Rattle.std.specs.List.{AllByRecursion, IsDistinct}
 use Rattle.std.specs.Prelude.{slice_get}
-use Rattle.sw_tree.proofs.Counting.{Weight, hits, in_all, in_all-cons}
+use Rattle.sw_tree.proofs.Counting.{Weight, in_all, in_all-cons}
 use Rattle.sw_tree.proofs.KeyCounts.{in_decl, in_decls}
 use Rattle.sw_tree.specs.Contents.{AreKeyed}
 use Rattle.sw_tree.specs.Keys.{keys_of}
 use Rattle.sw_tree.specs.declared.decl.Decl.{Decl}
 use Rattle.sw_resolve.specs.Words.{shapes_made}
+use Rattle.sw_typing_rules.proofs.OneWorld.{distinct_once}
 use Rattle.sw_lower_table.specs.Bodies.{globals_made}
 use Rattle.sw_lower_safe.proofs.Lists.Listed.{place_in}
 use Rattle.sw_lower_safe.proofs.Programs.Standing.{Stands, StandsFrom}
-
--- offsets that differ stand in their list once at most
-pub unlike : (at : ℕ) (ats : List ℕ) → AllByRecursion (λ other. nat_eq at other ≡ false) ats
-    → in_all hits ats at ≡ 0
-unfolding in_all hits
-unlike at [] differ = refl
-unlike at (other ∷ ats) differ =
-    let apart = differ.0 in
-    let more = unlike at ats differ.1 in
-    grind (arith, common_steps)
-
--- Each number stands once at most in a list without repeats.
-pub distinct_once : (ats : List ℕ) → IsDistinct nat_eq ats → (k : ℕ) → in_all hits ats k ≤ 1
-unfolding in_all hits IsDistinct
-distinct_once [] differ k = omega arith
-distinct_once (at ∷ ats) differ k =
-    by (nat_eq at k) refl (unlike at ats differ.0) (distinct_once ats differ.1 k)
-  where
-    by : (same : Bool) → nat_eq at k ≡ same → in_all hits ats at ≡ 0 → in_all hits ats k ≤ 1
-        → in_all hits (at ∷ ats) k ≤ 1
-    by true is none more =
-        let here : at ≡ k = grind (arith, common_steps) in
-        let empty = subst (λ n. in_all hits ats n ≡ 0) here none in
-        grind (arith, common_steps)
-    by false is none more = grind (arith, common_steps)
 
 -- Each key is that of one declaration at most.
 pub key_once : (decls : List Decl) → AreKeyed decls → (k : ℕ) → in_all in_decl decls k ≤ 1

@@ -1,12 +1,11 @@
 -- What is made of a declaration is made of its program.
-use Rattle.std.proofs.Common.{◌≡◌, ℕ, ◌+◌, Option, Some, List, [], ◌∷◌, ◌++◌, ◌≤◌, length, Contains}
+use Rattle.std.proofs.Common.{◌≡◌, ℕ, ◌+◌, Option, Some, List, [], ◌∷◌, ◌++◌, Contains}
 use Rattle.std.proofs.Common.{refl, ap, sym, ◌∙◌, subst, arith}
 use Rattle.std.proofs.lemmas.List.Elements.{All-append, All-nil}
 use Rattle.std.specs.Prelude.{slice_get, All}
 use Rattle.sw_tree.specs.declared.decl.Decl.{Decl}
-use Rattle.sw_tree.specs.declared.decl.Decl.TheVariants.{Entry, Struct, Enum, Class, Actor}
-use Rattle.sw_tree.specs.declared.decl.Decl.TheVariants.{GlobalActor, Func, Global}
 use Rattle.sw_types.specs.declared.shape.Shape.{Shape}
+use Rattle.sw_resolve.proofs.WithinLemmas.{one_shape, shapes_counted}
 use Rattle.sw_resolve.specs.Evident.{Meanings}
 use Rattle.sw_resolve.specs.Members.{members_from, members_of}
 use Rattle.sw_resolve.specs.Shaped.{shape_of, shapes_from}
@@ -110,30 +109,6 @@ each_shape P known each number (decl ∷ decls) =
     All-append P (shape_of known number decl)
     (shapes_from known (number + shapes_made decl) decls) (each number decl)
     (each_shape P known each (number + shapes_made decl) decls)
-
--- each declaration makes as many shapes as are counted, and one at most
-pub shapes_counted : (known : Meanings) (n : ℕ) (decl : Decl)
-    → length (shape_of known n decl) ≡ shapes_made decl
-unfolding shape_of
-shapes_counted known n (Entry word written at is_async body) = refl
-shapes_counted known n (Struct word conforms fields funcs) = refl
-shapes_counted known n (Enum word conforms cases funcs) = refl
-shapes_counted known n (Class written word conforms props inits funcs) = refl
-shapes_counted known n (Actor word props inits funcs) = refl
-shapes_counted known n (GlobalActor word made) = refl
-shapes_counted known n (Func func) = refl
-shapes_counted known n (Global global) = refl
-
--- A declaration makes one shape at most.
-pub one_shape : (decl : Decl) → shapes_made decl ≤ 1
-one_shape (Entry word written at is_async body) = omega arith
-one_shape (Struct word conforms fields funcs) = omega arith
-one_shape (Enum word conforms cases funcs) = omega arith
-one_shape (Class written word conforms props inits funcs) = omega arith
-one_shape (Actor word props inits funcs) = omega arith
-one_shape (GlobalActor word made) = omega arith
-one_shape (Func func) = omega arith
-one_shape (Global global) = omega arith
 
 -- The shape of a declaration has the number of shapes before it.
 pub shape_stands : (known : Meanings) (decls : List Decl) (n g : ℕ) (decl : Decl)

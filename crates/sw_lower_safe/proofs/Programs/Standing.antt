@@ -7,15 +7,15 @@ use Rattle.std.proofs.lemmas.List.Elements.{Contains-append_cases, Contains-appe
 use Rattle.std.proofs.lemmas.List.Elements.{Contains-append_right}
 use Rattle.std.specs.Prelude.{slice_get}
 use Rattle.sw_tree.specs.declared.decl.Decl.{Decl}
-use Rattle.sw_graph.proofs.ListLemmas.{slice_get_after, slice_get_back, slice_get_before}
-use Rattle.sw_graph.proofs.ListLemmas.{slice_get_front}
+use Rattle.sw_graph.proofs.ListLemmas.{slice_get_after, slice_get_second, slice_get_before}
+use Rattle.sw_graph.proofs.ListLemmas.{slice_get_first}
 use Rattle.sw_resolve.specs.Words.{shapes_made}
 use Rattle.sw_typing_rules.proofs.Saying.{none_in}
 use Rattle.sw_lower_table.specs.Bodies.{globals_made}
 use Rattle.sw_lower_safe.proofs.Lists.Listed.{in_first, in_rest}
 
--- A declaration stands among these after n shapes and g global variables, where so many stand
--- before them all.
+-- A declaration stands among these after n shapes and g global variables, where `number` and
+-- `index` stand before them all.
 abbrev pub StandsFrom : ℕ → ℕ → List Decl → ℕ → ℕ → Decl → Type 0
 StandsFrom number index [] n g decl = ⊥
 StandsFrom number index (first ∷ more) n g decl =
@@ -165,7 +165,7 @@ module _ {X : Type 0} (makes : ℕ → ℕ → Decl → List X) (pick : ℕ → 
         | inl here ↦
             let (is, first) = only_one (makes number index decl) j x
             (omega (arith, counted number index decl, single decl))
-            (sym (slice_get_front (makes number index decl) _ j here) ∙ at) in record {
+            (sym (slice_get_first (makes number index decl) _ j here) ∙ at) in record {
               n = number;
               g = index;
               decl = decl;
@@ -176,7 +176,7 @@ module _ {X : Type 0} (makes : ℕ → ℕ → Decl → List X) (pick : ℕ → 
         | inr there ↦
             let one = place_of_thing (number + shapes_made decl) (index + globals_made decl) decls
             (j - length (makes number index decl)) x
-            (sym (slice_get_back (makes number index decl) _ j there) ∙ at) in record {
+            (sym (slice_get_second (makes number index decl) _ j there) ∙ at) in record {
               n = one.n;
               g = one.g;
               decl = one.decl;

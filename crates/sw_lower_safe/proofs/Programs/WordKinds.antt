@@ -10,6 +10,7 @@ use Rattle.sw_types.specs.declared.shape.Shape.{Shape}
 use Rattle.sw_types.specs.declared.shape.ShapeKind.{ShapeKind}
 use Rattle.sw_types.specs.declared.shape.ShapeKind.TheVariants as kinds
 use Rattle.sw_graph.proofs.ListLemmas.{slice_get_after}
+use Rattle.sw_resolve.proofs.WithinLemmas.{shapes_counted}
 use Rattle.sw_resolve.specs.Evident.{Meanings, meanings_of}
 use Rattle.sw_resolve.specs.Shaped.{shape_of, shapes_from}
 use Rattle.sw_resolve.specs.Words.{actors_made, declares, given_meaning, globals_made, meaning_at}
@@ -18,7 +19,6 @@ use Rattle.sw_resolve.specs.declared.words.Meaning.{Meaning}
 use Rattle.sw_resolve.specs.declared.words.Meaning.TheVariants as means
 use Rattle.sw_decls.specs.declared.signature.AsyncDefault.{AsyncDefault}
 use Rattle.sw_typing_rules.specs.Worlds.{IsWorldOf, World}
-use Rattle.sw_lower_safe.proofs.Programs.MadeOf.{shapes_counted}
 
 -- A word that means a type says of which kind the type is.
 abbrev pub WordKinds : World → Type 0

@@ -12,6 +12,7 @@ use Rattle.sw_resolve.specs.Evident.{Meanings, meanings_of}
 use Rattle.sw_resolve.specs.Shaped.{shapes_from}
 use Rattle.sw_decls.specs.Declaring.{made_shapes}
 use Rattle.sw_decls.specs.declared.signature.AsyncDefault.{AsyncDefault}
+use Rattle.sw_typing_rules.proofs.OneWorld.{distinct_once}
 use Rattle.sw_typing_rules.proofs.Saying.{said_is}
 use Rattle.sw_typing_rules.specs.Programs.{HasType, HasMeaning, said, bodies_from, values_from}
 use Rattle.sw_typing_rules.specs.Worlds.{IsWorldOf, World}
@@ -19,7 +20,6 @@ use Rattle.sw_typing_rules.specs.declared.row.Meaning.{Meaning}
 use Rattle.sw_typing_rules.specs.declared.row.Row.{Row}
 use Rattle.sw_typing_rules.specs.declared.row.Row.TheVariants.{Typed, Means}
 use Rattle.sw_isolation_rules.specs.Answers.{answers_in}
-use Rattle.sw_lower_safe.proofs.Programs.Keyed.{distinct_once}
 use Rattle.sw_lower_safe.proofs.Said.Counts.{Counts}
 use Rattle.sw_lower_safe.proofs.Said.OneAnswer.{meaning_answered, meanings_count, meanings_told}
 use Rattle.sw_lower_safe.proofs.Said.OneAnswer.{no_type_answered, type_answered, types_count}

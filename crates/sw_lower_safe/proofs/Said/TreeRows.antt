@@ -25,7 +25,7 @@ use Rattle.sw_typing_rules.specs.Judges as is
 use Rattle.sw_typing_rules.specs.Judges.{head_of, arm_state, case_of}
 use Rattle.sw_typing_rules.specs.Operators as operators
 use Rattle.sw_typing_rules.specs.Statements as left
-use Rattle.sw_typing_rules.specs.Statements.{State, Left, Armed, setting_of, part_of, in_loop}
+use Rattle.sw_typing_rules.specs.Statements.{State, Left, Armed, setting_of, in_branch, in_loop}
 use Rattle.sw_typing_rules.specs.Statements.{in_switch, in_body, with_only, is_one, written}
 use Rattle.sw_typing_rules.specs.Statements.{marked_type, place_type, marked_result, expects}
 use Rattle.sw_typing_rules.specs.Statements.{cases_of, arm_payload, closure_state, beside}
@@ -345,13 +345,13 @@ module _ (w : Row → Weight) (counts : Counts w) (world : World) where
           in_all-append w (left.condition_rows judged) inner.rows k,
           rows.condition w counts judged k,
           expr_rows (setting_of i s) false cond judged of_cond k,
-          block_rows (part_of i) s block inner d k,
+          block_rows (in_branch i) s block inner d k,
           arms_rows i one.state more last rest k,
           in_all-append hits (words.in_expr world (setting_of i s) false cond judged of_cond
-              ++ words.in_block world (part_of i) s block inner d)
+              ++ words.in_block world (in_branch i) s block inner d)
               (words.in_arms world i one.state more last rest) k,
           in_all-append hits (words.in_expr world (setting_of i s) false cond judged of_cond)
-              (words.in_block world (part_of i) s block inner d) k,
+              (words.in_block world (in_branch i) s block inner d) k,
           in_all-cons in_if_arm arm more k,
           keys.in_if_arm-roll at cond block k,
         )
@@ -365,7 +365,7 @@ module _ (w : Row → Weight) (counts : Counts w) (world : World) where
     otherwise_rows ends i s o l (is.absent_default _ _) k =
         omega (arith, in_all-nil w k, none k)
     otherwise_rows ends i s o l (is.present _ _ _ block inner d) k =
-        omega (arith, block_rows (part_of i) s block inner d k, in_some in_block block k)
+        omega (arith, block_rows (in_branch i) s block inner d k, in_some in_block block k)
 
     -- the arms of a `switch`
     cases_rows : (i : Inside) (cases : Option (List CaseShape)) (s : State) (arms : List CaseArm)
@@ -384,9 +384,9 @@ module _ (w : Row → Weight) (counts : Counts w) (world : World) where
           in_all-append w one.rows armed.left.rows k,
           in_all-append w own inner.rows k,
           rows.arm w counts patterns name.id (arm_payload cases name.id) k,
-          block_rows (part_of i) (arm_state cases s head) block inner d k,
+          block_rows (in_branch i) (arm_state cases s head) block inner d k,
           cases_rows i cases one.state more armed rest k,
-          in_all-append hits (words.in_block world (part_of i) (arm_state cases s head) block
+          in_all-append hits (words.in_block world (in_branch i) (arm_state cases s head) block
               inner d) (words.in_cases world i cases one.state more armed rest) k,
           in_all-cons in_case_arm arm more k,
           keys.in_case_arm-roll name patterns block k,

@@ -11,7 +11,7 @@ use Rattle.sw_types.specs.declared.shape.Shape.{Shape}
 use Rattle.sw_types.specs.declared.shape.ShapeKind.{ShapeKind}
 use Rattle.sw_types.specs.declared.ty.Ty.{Ty}
 use Rattle.sw_types.specs.declared.ty.Ty.TheVariants.{Named, Task, outs-Named, outs-Task}
-use Rattle.sw_graph.specs.Kinds.{Goes, awaited, form_of, held, is_enum, made_of, number_of}
+use Rattle.sw_graph.specs.Kinds.{Goes, awaited, form_of, box_content, is_enum, made_of, number_of}
 use Rattle.sw_graph.specs.Kinds.{part as part_kind, payload, shape_at, shape_of}
 use Rattle.sw_graph.specs.declared.function.GlobalKind.{GlobalKind}
 use Rattle.sw_graph.specs.declared.function.RegKind.{RegKind}
@@ -41,14 +41,14 @@ goes_same from to ty from_is to_is = goes_by from to ty ty from_is to_is (accept
 
 -- what a box of a type holds
 pub box_holds : (kind : Option RegKind) (ty : Ty) → kind ≡ Some (BoxOf ty)
-    → held kind ≡ Some (Plain ty)
-box_holds kind ty is = ap held is
+    → box_content kind ≡ Some (Plain ty)
+box_holds kind ty is = ap box_content is
 
 -- a value and a box of a known type
 pub boxed_goes : (from to : Ty) (one other : Option RegKind) → one ≡ Some (Plain from)
-    → other ≡ Some (BoxOf to) → Accepts from to → Goes one (held other)
+    → other ≡ Some (BoxOf to) → Accepts from to → Goes one (box_content other)
 boxed_goes from to one other is_from is_to accepts =
-    goes_by one (held other) from to is_from (ap held is_to) accepts
+    goes_by one (box_content other) from to is_from (ap box_content is_to) accepts
 
 -- the shape of a value of a declared type
 pub shape_by : (shapes : List Shape) (is_kind : ShapeKind → Bool) (k : ℕ) (shape : Shape)

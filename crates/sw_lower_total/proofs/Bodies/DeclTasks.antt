@@ -35,8 +35,8 @@ module _ (props : List PropTree) (inits : List InitTree) (funcs : List FuncTree)
     (none : flat_map prop_unwritten props ++ flat_map init_unwritten inits
     ++ flat_map func_unwritten funcs ≡ [])
   where
-    front_without : flat_map prop_unwritten props ++ flat_map init_unwritten inits ≡ []
-    front_without =
+    first_without : flat_map prop_unwritten props ++ flat_map init_unwritten inits ≡ []
+    first_without =
         none_left (flat_map prop_unwritten props ++ flat_map init_unwritten inits)
         (flat_map func_unwritten funcs) none
 
@@ -50,13 +50,13 @@ module _ (props : List PropTree) (inits : List InitTree) (funcs : List FuncTree)
     its_init init has =
         none_of init_unwritten inits init
         (none_right (flat_map prop_unwritten props) (flat_map init_unwritten inits)
-        front_without) has
+        first_without) has
 
     its_prop : (prop : PropTree) → Contains props prop → prop_unwritten prop ≡ []
     its_prop prop has =
         none_of prop_unwritten props prop
         (none_left (flat_map prop_unwritten props) (flat_map init_unwritten inits)
-        front_without) has
+        first_without) has
 
 -- a function or a method
 pub func_without : (decl : Decl) (tree : FuncTree) → decl_unwritten decl ≡ []

@@ -12,13 +12,11 @@ use Rattle.sw_types.specs.Accepts.{is_marked}
 use Rattle.sw_types.specs.declared.isolation.Iso.{Iso}
 use Rattle.sw_graph.specs.declared.instr.Instr.TheVariants as instr
 use Rattle.sw_graph.specs.declared.instr.Last.TheVariants.{Return}
-use Rattle.sw_resolve.specs.Shaped.{prop_type}
 use Rattle.sw_decls.specs.declared.signature.AsyncDefault.{AsyncDefault}
 use Rattle.sw_typing_rules.specs.Expressions.{Judged}
 use Rattle.sw_typing_rules.specs.Judges.{Judges}
 use Rattle.sw_typing_rules.specs.Judging.{judge}
-use Rattle.sw_typing_rules.specs.Programs as typing
-use Rattle.sw_typing_rules.specs.Programs.{ValueOf, value_setting, values_from, values_of}
+use Rattle.sw_typing_rules.specs.Programs.{ValueOf, value_setting, values_from}
 use Rattle.sw_typing_rules.specs.Worlds.{World}
 use Rattle.sw_typing_rules.proofs.Sound.{judges}
 use Rattle.sw_isolation_rules.specs.Answers.{for_some}
@@ -33,9 +31,8 @@ use Rattle.sw_lower_table.specs.Carriers.{ExprCode}
 use Rattle.sw_lower_table.specs.Statements.{expr_code}
 use Rattle.sw_lower_table.specs.Tables.{Tables}
 use Rattle.sw_lower_safe.specs.Forms.{VarHolds}
+use Rattle.sw_lower_safe.proofs.Bodies.GlobalBodies.{global_first, global_first_stands}
 use Rattle.sw_lower_safe.proofs.Lists.Joined.{Gives, both_give, none_gives}
-use Rattle.sw_lower_safe.proofs.Lists.Listed.{in_first}
-use Rattle.sw_lower_safe.proofs.Programs.DeclStands.{value_stands}
 use Rattle.sw_lower_safe.proofs.Programs.Standing.{Stands}
 use Rattle.sw_lower_safe.proofs.Said.RowsOf.{value_rows_hold}
 use Rattle.sw_lower_total.specs.Bound.{Ready}
@@ -134,31 +131,16 @@ module _ (world : World) (decls : List Decl) (rule : AsyncDefault) (number : Num
       → ExprStands tables number all (context_of iso false None) [] [] value
       × (expr_unwritten value ≡ []))
       → Given (global_bodies tables g prop)
-  unfolding global_bodies values_of
+  unfolding global_bodies
   globals_proceed n g prop stands iso there =
       both_give (IsNumbered number) (BodyProceeds number)
       (value_bodies tables prop.word.at g prop.value)
       (for_some (slice_get world.globals g) (global_getter tables prop.word.at g))
       (by prop.value refl) (λ numbered. global_getters_proceed tables number prop.word.at g) where
-        made : Expr → ValueOf
-        made value = record {
-          at = prop.word.at;
-          owner = None;
-          wanted = prop_type world.known None prop;
-          value = value;
-        }
-
-        valued : (value : Expr) → prop.value ≡ Some value
-            → Contains (values_of world n (Global prop)) (made value)
-        valued value is =
-            subst (λ found. Contains (typing.first_value world None prop found) (made value))
-            (sym is) (in_first (made value) [])
-
         by : (found : Option Expr) → prop.value ≡ found
             → Given (value_bodies tables prop.word.at g found)
         by None is = none_gives (IsNumbered number) (BodyProceeds number)
         by (Some value) is =
             let at = there value is in
-            first_proceeds prop.word.at g (made value)
-            (value_stands world decls n g (Global prop) (made value) stands (valued value is)) refl
-            iso at.0 at.1
+            first_proceeds prop.word.at g (global_first world prop value)
+            (global_first_stands world decls n g prop value stands is) refl iso at.0 at.1

@@ -170,8 +170,8 @@ module _ (world : World) (decls : List Decl) (rule : AsyncDefault) (number : Num
   join_given state one other names more first second = record {
     reads = λ given has. by given (Contains-append_cases one other given has);
     named = map-append (λ (one : Given). one.name) one other
-        ∙ ap (λ front. front ++ map (λ (one : Given). one.name) other) first.named
-        ∙ ap (λ back. map (λ (name : Name). name.id) names ++ back) second.named
+        ∙ ap (λ before. before ++ map (λ (one : Given). one.name) other) first.named
+        ∙ ap (λ after. map (λ (name : Name). name.id) names ++ after) second.named
         ∙ sym (map-append (λ (name : Name). name.id) names more);
   } where
     by : (given : Given) → Contains one given ⊎ Contains other given → (s : Making)
@@ -271,7 +271,7 @@ module _ (world : World) (decls : List Decl) (rule : AsyncDefault) (number : Num
         gives = join_given state (fold_stmt steps stmt).gives
             (flat_map (λ (one : StmtCode). one.gives) (map (fold_stmt steps) more))
             (option_to_list (set_by stmt)) (set_in more) first.gives later.gives;
-        inside = ap (λ front. front
+        inside = ap (λ before. before
             ++ flat_map (λ (one : StmtCode). one.inside) (map (fold_stmt steps) more)) first.inside
             ∙ later.inside;
       }

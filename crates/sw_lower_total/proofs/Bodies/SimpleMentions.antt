@@ -1,29 +1,21 @@
 -- Simple values mention no variables but parameters.
 use Rattle.std.proofs.Common.{◌≡◌, ℕ, Bool, true, false, List, [], ◌∷◌, ◌++◌, map, Option, Some}
 use Rattle.std.proofs.Common.{None, is_some, refl, sym, ap, ◌∙◌, subst, ◌||◌, Contains, true≢false}
-use Rattle.std.proofs.Common.{◌⊎◌, inl, inr}
 use Rattle.std.proofs.lemmas.List.Elements.{All-contains_itself, All-head}
-use Rattle.std.proofs.lemmas.Option.{none-some}
-use Rattle.std.specs.Prelude.{All, if◌then◌else◌, slice_get}
+use Rattle.std.specs.Prelude.{All}
 use Rattle.sw_tree.specs.Folds.{Steps, fold_arg, fold_expr, fold_link}
 use Rattle.sw_tree.specs.declared.expr.Arg.{Arg, roll-Arg}
 use Rattle.sw_tree.specs.declared.expr.Expr.{Expr}
 use Rattle.sw_tree.specs.declared.expr.Link.{Link, roll-Link}
 use Rattle.sw_tree.specs.declared.name.Name.{Name}
 use Rattle.sw_tree.proofs.FoldEquations as eq
-use Rattle.sw_types.specs.declared.shape.Shape.{Shape}
-use Rattle.sw_types.specs.declared.shape.ShapeKind.{ShapeKind}
 use Rattle.sw_types.specs.declared.shape.ShapeKind.TheVariants as kinds
 use Rattle.sw_types.specs.declared.ty.Ty.{Ty}
-use Rattle.sw_resolve.specs.Evident.{case_type, enum_of, hides, made_type}
-use Rattle.sw_resolve.specs.declared.members.Member.{Member}
+use Rattle.sw_resolve.specs.Evident.{case_type, enum_of, made_type}
 use Rattle.sw_resolve.specs.declared.words.Meaning as words
 use Rattle.sw_resolve.specs.declared.words.Meaning.TheVariants as word
 use Rattle.sw_values.specs.Simple.{Worth, all_simple, is_simple, read, worth_steps}
-use Rattle.sw_decls.specs.declared.signature.Signature.{Signature}
-use Rattle.sw_typing_rules.specs.Calls.{Callee, Slot, Takes, Uncallable, callee_meaning}
-use Rattle.sw_typing_rules.specs.Calls.{func_callee, make_callee, signature_callee, struct_callee}
-use Rattle.sw_typing_rules.specs.Calls.{word_callee}
+use Rattle.sw_typing_rules.specs.Calls.{Slot}
 use Rattle.sw_typing_rules.specs.Expressions.{Judged, Passed, base_rows, call_callee, call_judged}
 use Rattle.sw_typing_rules.specs.Expressions.{infix_judged, word_judged}
 use Rattle.sw_typing_rules.specs.Judges as is
@@ -31,7 +23,7 @@ use Rattle.sw_typing_rules.specs.Verdicts.{meaning_rows, rows_of}
 use Rattle.sw_typing_rules.specs.Words.{Sense, Setting, Top, Variable, local, local_sense}
 use Rattle.sw_typing_rules.specs.Words.{member_sense, owned, sense, top_sense, word_meaning}
 use Rattle.sw_typing_rules.specs.Words.{word_types}
-use Rattle.sw_typing_rules.specs.Worlds.{World, and_then}
+use Rattle.sw_typing_rules.specs.Worlds.{World}
 use Rattle.sw_typing_rules.specs.declared.row.Meaning.TheVariants as means
 use Rattle.sw_typing_rules.specs.declared.scope.Var.{Var}
 use Rattle.sw_typing_rules.proofs.Steps.{and_left, and_right}
@@ -44,7 +36,6 @@ use Rattle.sw_isolation_rules.specs.declared.uses.Context.{Context}
 use Rattle.sw_lower_safe.specs.Forms.{RowsHold, VarsHold}
 use Rattle.sw_lower_safe.proofs.Bodies.ClosureRows.{vars_are_typed}
 use Rattle.sw_lower_safe.proofs.Expressions.Arguments.{HaveTypes}
-use Rattle.sw_lower_safe.proofs.Expressions.Callees.{meaning_is, never_called}
 use Rattle.sw_lower_safe.proofs.Expressions.Typed.{some_type, first_rows, member_rows, valued_rows}
 use Rattle.sw_lower_safe.proofs.Lists.Found.{local_has}
 use Rattle.sw_lower_safe.proofs.Lists.Joined.{all_left, all_right}
@@ -54,15 +45,10 @@ use Rattle.sw_lower_safe.proofs.Said.Rows.{rows_left, rows_right, rows_well}
 use Rattle.sw_lower_safe.specs.EnumWords as enums
 use Rattle.sw_lower_safe.specs.EnumWords.{AreUnmeant}
 use Rattle.sw_lower_safe.proofs.Said.EnumNames.{links_enum, member_no_enum}
+use Rattle.sw_lower_total.proofs.Bodies.SimpleWords.{call_makes, read_top}
 use Rattle.sw_lower_total.proofs.Mentions.Notes.{AreIn, MentionsIn, in_join, in_mentioned}
 use Rattle.sw_lower_total.proofs.Mentions.Notes.{in_silent}
 use Rattle.sw_lower_total.proofs.Mentions.Silent.{use_silent}
-
--- What a made type is called by: it means that it is made, or can't be called.
-abbrev MakesOr : Callee → ℕ → Type 0
-MakesOr callee number = ((slots : List Slot) × (result : Ty)
-    × (callee ≡ Takes (means.MakeOf number) slots result))
-    ⊎ ((code : ℕ) × (callee ≡ Uncallable code))
 
 module _ (world : World) (answers : Answers) (setting : Setting) (params : ℕ → Option ℕ)
     (agrees : (id : ℕ) → is_some (params id) ≡ is_some (local setting.vars id))
@@ -84,53 +70,6 @@ module _ (world : World) (answers : Answers) (setting : Setting) (params : ℕ �
   all_params : (vars : List Var) → ((one : Var) → Contains vars one → IsParam one.at)
       → All (λ (one : Var). IsParam one.at) vars
   all_params vars each = λ k d below. each _ (All-contains_itself vars k d below)
-
-  -- what a word means where no variable has its name and no member of the type around
-  top_sense_is : (id : ℕ) (meaning : words.Meaning) → local setting.vars id ≡ None
-      → hides world.known setting.owner id ≡ false → world.known.top id ≡ Some meaning
-      → sense world setting id ≡ Top meaning
-  top_sense_is id meaning no_var shown is =
-      ap (λ found. local_sense found (member_sense setting.owner (owned world setting.owner id)
-      (top_sense (world.known.top id) id))) no_var
-      ∙ around setting.owner shown
-      ∙ ap (λ found. top_sense found id) is where
-        member : (k : ℕ) (found : Option Member) → is_some found ≡ false
-            → member_sense (Some k) found (top_sense (world.known.top id) id)
-            ≡ top_sense (world.known.top id) id
-        member k None none = refl
-        member k (Some one) none = absurd (true≢false none)
-
-        around : (owner : Option ℕ) → hides world.known owner id ≡ false
-            → member_sense owner (owned world owner id) (top_sense (world.known.top id) id)
-            ≡ top_sense (world.known.top id) id
-        around None shown = refl
-        around (Some k) shown = member k (world.known.members k id) shown
-
-  -- what is read of a word that is no parameter
-  read_top : (id : ℕ) (meaning : words.Meaning)
-      → read world.known setting.owner params id ≡ Some meaning
-      → (local setting.vars id ≡ None) × (sense world setting id ≡ Top meaning)
-  read_top id meaning is = by (is_some (params id)) refl is where
-    no_var : (found : Option Var) → local setting.vars id ≡ found → is_some found ≡ false
-        → local setting.vars id ≡ None
-    no_var None at none = at
-    no_var (Some one) at none = absurd (true≢false none)
-
-    shown : (hidden : Bool) → hides world.known setting.owner id ≡ hidden
-        → (if hidden then None else world.known.top id) ≡ Some meaning
-        → local setting.vars id ≡ None
-        → (local setting.vars id ≡ None) × (sense world setting id ≡ Top meaning)
-    shown true at is none = absurd (none-some meaning is)
-    shown false at is none = (none, top_sense_is id meaning none at is)
-
-    by : (param : Bool) → is_some (params id) ≡ param
-        → (if param then None else (if hides world.known setting.owner id then None
-        else world.known.top id)) ≡ Some meaning
-        → (local setting.vars id ≡ None) × (sense world setting id ≡ Top meaning)
-    by true at is = absurd (none-some meaning is)
-    by false at is =
-        shown (hides world.known setting.owner id) refl is
-        (no_var (local setting.vars id) refl (sym (agrees id) ∙ at))
 
   -- a word of a variable
   variable_in : (context : Context) (at : ℕ) (one : Var) → IsParam one.at
@@ -190,7 +129,7 @@ module _ (world : World) (answers : Answers) (setting : Setting) (params : ℕ �
     named (Some (word.Shape kinds.Struct number)) at some = absurd (true≢false (sym some))
     named (Some (word.Shape kinds.Enum number)) at some =
         absurd (of_sense (Top (word.Shape kinds.Enum number))
-        (read_top name.id (word.Shape kinds.Enum number) at).1).0
+        (read_top world answers setting params agrees name.id (word.Shape kinds.Enum number) at)).0
     named (Some (word.Shape kinds.Class number)) at some = absurd (true≢false (sym some))
     named (Some (word.Shape kinds.Actor number)) at some = absurd (true≢false (sym some))
     named (Some (word.GlobalActor number)) at some = absurd (true≢false (sym some))
@@ -210,63 +149,15 @@ module _ (world : World) (answers : Answers) (setting : Setting) (params : ℕ �
         named (read world.known setting.owner params name.id) refl
         (no_param (agrees name.id ∙ ap is_some at))
 
-  -- what makes a type that is made
-  struct_makes : (number : ℕ) (found : Option Shape) → MakesOr (struct_callee number found) number
-  struct_makes number None = inr (401, refl)
-  struct_makes number (Some shape) = inl (_, _, refl)
-
-  signature_makes : (number : ℕ) (found : Option Signature)
-      → MakesOr (signature_callee (means.MakeOf number) 401 found) number
-  signature_makes number None = inr (401, refl)
-  signature_makes number (Some func) = inl (_, _, refl)
-
-  init_makes : (number : ℕ) (found : Option ℕ)
-      → MakesOr (func_callee world (λ n. means.MakeOf number) 401 found) number
-  init_makes number None = inr (401, refl)
-  init_makes number (Some n) = signature_makes number (slice_get world.funcs n)
-
-  makes : (kind : ShapeKind) (number : ℕ)
-      → is_some (made_type (Some (word.Shape kind number))) ≡ true
-      → MakesOr (make_callee world kind number) number
-  makes kinds.Struct number some = struct_makes number (slice_get world.shapes number)
-  makes kinds.Enum number some = absurd (true≢false (sym some))
-  makes kinds.Class number some =
-      init_makes number (and_then (slice_get world.makers number) world.numbers)
-  makes kinds.Actor number some =
-      init_makes number (and_then (slice_get world.makers number) world.numbers)
-
   -- a call by the word of a type that is made
   made_by : (name : Name) (passed : Passed) (tys : List Ty) → HaveTypes passed.given tys
       → RowsHold answers (call_judged (call_callee world setting name) name.at [] passed).rows
       → is_some (made_type (read world.known setting.owner params name.id)) ≡ true
       → (context : Context) → AreIn IsParam (word_notes world answers context name.at)
   made_by name passed tys have rows some context =
-      by (read world.known setting.owner params name.id) refl some where
-        with_callee : (number : ℕ) (callee : Callee) → call_callee world setting name ≡ callee
-            → MakesOr callee number → AreIn IsParam (word_notes world answers context name.at)
-        with_callee number callee is (inl made) =
-            word_in context name.at (made_in context name.at number
-            (meaning_is answers callee (means.MakeOf number) name.at [] passed
-            (ap callee_meaning made.2)
-            (subst (λ c. RowsHold answers (call_judged c name.at [] passed).rows) is rows)))
-        with_callee number callee is (inr none) =
-            absurd (never_called answers none.0 name.at [] passed tys have
-            (subst (λ c. RowsHold answers (call_judged c name.at [] passed).rows)
-            (is ∙ none.1) rows))
-
-        by : (found : Option words.Meaning)
-            → read world.known setting.owner params name.id ≡ found
-            → is_some (made_type found) ≡ true
-            → AreIn IsParam (word_notes world answers context name.at)
-        by None at some = absurd (true≢false (sym some))
-        by (Some (word.Shape kind number)) at some =
-            with_callee number (make_callee world kind number)
-            (ap (word_callee world) (read_top name.id (word.Shape kind number) at).1)
-            (makes kind number some)
-        by (Some (word.GlobalActor number)) at some = absurd (true≢false (sym some))
-        by (Some (word.Func key)) at some = absurd (true≢false (sym some))
-        by (Some (word.Global number)) at some = absurd (true≢false (sym some))
-        by (Some word.Entry) at some = absurd (true≢false (sym some))
+      let (number, is) =
+      call_makes world answers setting params agrees name passed tys have rows some in
+      word_in context name.at (made_in context name.at number is)
 
   -- Arguments without an ill node have types.
   args_typed : (slots : List Slot) (args : List Arg) (passed : Passed)

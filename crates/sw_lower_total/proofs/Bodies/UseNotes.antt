@@ -65,8 +65,8 @@ module _ {A : Type 0} (f : Note → List A) where
       use_lacks context at (Stored storage) =
           either_lacks (is_outside context storage) _ []
           (either_lacks storage.mutable _ _
-          (call_lacks context at (accessor storage) storage.sends)
-          (race_lacks (not storage.sends) at 606)) refl
+          (call_lacks context at (accessor storage) storage.may_cross)
+          (race_lacks (not storage.may_cross) at 606)) refl
       use_lacks context at Field = refl
       use_lacks context at Waited = await_lacks context at true
       use_lacks context at Nothing = refl

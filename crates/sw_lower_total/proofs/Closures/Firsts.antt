@@ -8,7 +8,7 @@ use Rattle.std.proofs.lemmas.List.Elements.{Contains-append_right}
 use Rattle.std.specs.Prelude.{nat_lt, if◌then◌else◌}
 use Rattle.std.specs.List.{filter}
 use Rattle.sw_typing_rules.specs.Worlds.{World}
-use Rattle.sw_isolation_rules.specs.Captures.{firsts, firsts_from, held, is_among, me_mentions}
+use Rattle.sw_isolation_rules.specs.Captures.{firsts, firsts_from, held_self, is_among, me_mentions}
 use Rattle.sw_isolation_rules.specs.Captures.{mention, mentioned, outer, own_mentions, self_first}
 use Rattle.sw_isolation_rules.specs.Captures.{self_of, taken, variables}
 use Rattle.sw_isolation_rules.specs.Kinds.{is_own}
@@ -163,7 +163,7 @@ module _ (world : World) (context : Context) (closure : ℕ) where
   -- A closure that is isolated to `self` holds it.
   pub held_has : (key : ℕ) → is_own context.iso ≡ true
       → Contains (self_of world context.owner) key
-      → Contains (variables (held world context closure)) key
+      → Contains (variables (held_self world context closure)) key
   unfolding me_mentions
   held_has key own has =
       let me = self_of world context.owner in
@@ -173,7 +173,7 @@ module _ (world : World) (context : Context) (closure : ℕ) where
       (in_map (λ one. mention one closure) me key has))
 
   -- It holds nothing else, and no other closure does.
-  pub held_only : (one : Mention) → Contains (held world context closure) one
+  pub held_only : (one : Mention) → Contains (held_self world context closure) one
       → (is_own context.iso ≡ true) × Contains (self_of world context.owner) one.variable
   unfolding me_mentions
   held_only one has = by (is_own context.iso) refl has where
@@ -192,7 +192,7 @@ module _ (world : World) (context : Context) (closure : ℕ) where
   module _ (inner : List Note) where
     -- all that may be taken
     abbrev all_mentions : List Mention
-    all_mentions = flat_map mentioned inner ++ held world context closure
+    all_mentions = flat_map mentioned inner ++ held_self world context closure
 
     taken_by : (key : ℕ) → Contains (variables all_mentions) key → key < closure
         → Contains (variables (taken world context closure inner)) key
@@ -213,9 +213,9 @@ module _ (world : World) (context : Context) (closure : ℕ) where
         taken_by key
         (subst (λ list. Contains list key)
         (sym (map-append (λ (other : Mention). other.variable) (flat_map mentioned inner)
-        (held world context closure)))
+        (held_self world context closure)))
         (Contains-append_left (variables (flat_map mentioned inner))
-        (variables (held world context closure)) key has)) before
+        (variables (held_self world context closure)) key has)) before
 
     -- And so is `self` where it is held.
     pub taken_held : (key : ℕ) → is_own context.iso ≡ true
@@ -225,9 +225,9 @@ module _ (world : World) (context : Context) (closure : ℕ) where
         taken_by key
         (subst (λ list. Contains list key)
         (sym (map-append (λ (other : Mention). other.variable) (flat_map mentioned inner)
-        (held world context closure)))
+        (held_self world context closure)))
         (Contains-append_right (variables (flat_map mentioned inner))
-        (variables (held world context closure)) key (held_has key own has))) before
+        (variables (held_self world context closure)) key (held_has key own has))) before
 
     -- What surrounds a closure sees an outer variable as mentioned.
     pub own_has : (key : ℕ) → Contains (variables (flat_map mentioned inner)) key
@@ -246,11 +246,12 @@ module _ (world : World) (context : Context) (closure : ℕ) where
         (firsts (outer closure all_mentions)) one has in
         let out = outer_only closure all_mentions one
         (first_is (outer closure all_mentions) one first) in (
-          by (Contains-append_cases (flat_map mentioned inner) (held world context closure) one
+          by (Contains-append_cases (flat_map mentioned inner) (held_self world context closure) one
               out.0),
           out.1,
         ) where
-          by : Contains (flat_map mentioned inner) one ⊎ Contains (held world context closure) one
+          by : Contains (flat_map mentioned inner) one
+              ⊎ Contains (held_self world context closure) one
               → Contains (variables (flat_map mentioned inner)) one.variable
               ⊎ ((is_own context.iso ≡ true)
               × Contains (self_of world context.owner) one.variable)

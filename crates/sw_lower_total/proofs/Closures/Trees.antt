@@ -15,6 +15,7 @@ use Rattle.sw_tree.specs.declared.type_tree.TypeTree.{TypeTree}
 use Rattle.sw_tree.proofs.Counting.{count, hits, in_all-cons}
 use Rattle.sw_tree.proofs.FoldEquations as eq
 use Rattle.sw_tree.proofs.KeyEquations as keys
+use Rattle.sw_typing_rules.proofs.OneWorld.{distinct_once}
 use Rattle.sw_typing_rules.specs.Expressions.{Closed, fun_judged, fun_types, spawn_judged}
 use Rattle.sw_typing_rules.specs.Expressions.{task_types}
 use Rattle.sw_typing_rules.specs.Judges.{closure_of}
@@ -46,7 +47,6 @@ use Rattle.sw_lower_total.proofs.Closures.Forms.{spawn_noted, spawn_proceeds}
 use Rattle.sw_lower_total.proofs.Closures.Places.{IsSeenInside, noted_closed, order_with}
 use Rattle.sw_lower_total.proofs.Standing.Closures.{head_keys, list_keys, param_keys}
 use Rattle.sw_lower_total.proofs.Standing.Covering.{Covers, block_covers}
-use Rattle.sw_lower_total.proofs.Standing.Keys.{distinct_once}
 use Rattle.sw_lower_total.proofs.Standing.NoteForms.{notes-Fun, notes-Spawn}
 use Rattle.sw_lower_total.proofs.Standing.OrderForms as placed
 use Rattle.sw_lower_total.proofs.Standing.Trees.{fun_body_stands, spawn_body_stands}

@@ -102,14 +102,14 @@ module _ (tables : Tables) (number_of : Numbers) (all : List Note)
     (knows : Known tables number_of all) (stand : ShapesStand tables.world) (context : Context)
     (listed : List ℕ) (vars : List Var) (at : ℕ) (args : List ArgCode) (passed : Passed)
     (args_notes : List Note) where
-  abbrev front : List Note
-  front = mention_notes tables.world tables.answers context at
+  abbrev first : List Note
+  first = mention_notes tables.world tables.answers context at
 
   abbrev uses : List Note
   uses = use_notes context at (used_at tables.world tables.answers context no_base at)
 
   abbrev noted : List Note
-  noted = front ++ uses ++ args_notes
+  noted = first ++ uses ++ args_notes
 
   abbrev Here : {A : Type 0} → Code A → Type 0
   Here code = Goes tables number_of context listed (seen_in tables context.owner vars) noted code
@@ -122,13 +122,13 @@ module _ (tables : Tables) (number_of : Numbers) (all : List Note)
   WordGoes callee = CallGoes tables number_of context listed vars noted at [] passed code_of callee
 
   -- what is noted of the word stands before what is noted of the arguments
-  in_front : {A : Type 0} (code : Code A)
-      → Goes tables number_of context listed (seen_in tables context.owner vars) front code
+  in_first : {A : Type 0} (code : Code A)
+      → Goes tables number_of context listed (seen_in tables context.owner vars) first code
       → Here code
-  in_front code goes =
+  in_first code goes =
       goes_left tables number_of context listed (seen_in tables context.owner vars)
-      (front ++ uses) args_notes code
-      (goes_left tables number_of context listed (seen_in tables context.owner vars) front uses code
+      (first ++ uses) args_notes code
+      (goes_left tables number_of context listed (seen_in tables context.owner vars) first uses code
       goes)
 
   module _ (kind_is : KindIs tables number_of all knows stand context listed vars at)
@@ -141,7 +141,7 @@ module _ (tables : Tables) (number_of : Numbers) (all : List Note)
     -- a call of a value
     value_called : (meaning : Meaning) (read : Code Operand)
         → ((is : tables.answers.meaning_at at ≡ Some meaning) → Goes tables number_of context
-        listed (seen_in tables context.owner vars) front read)
+        listed (seen_in tables context.owner vars) first read)
         → call_read tables context.owner at args (Some meaning)
         ≡ closure_called tables context.owner at read args
         → tables.answers.meaning_at at ≡ Some meaning → IsSome (tables.answers.type_at at)
@@ -150,7 +150,7 @@ module _ (tables : Tables) (number_of : Numbers) (all : List Note)
         by_meaning meaning means_is
         (subst Here (sym code_is)
         (closure_goes tables number_of all knows context listed vars noted at read args
-        (in_front read (goes means_is)) args_go typed))
+        (in_first read (goes means_is)) args_go typed))
 
     -- a method of `self`
     own_method : (key : ℕ) → HasMethod tables.world context.owner
@@ -164,8 +164,8 @@ module _ (tables : Tables) (number_of : Numbers) (all : List Note)
         by_meaning (means.OwnFunc n) means_is
         (method_goes tables number_of all knows context listed vars noted at n func
         (read_self tables context.owner at) args
-        (in_front (read_self tables context.owner at)
-        (goes_read_self tables number_of all knows context listed vars front at shape.0 around
+        (in_first (read_self tables context.owner at)
+        (goes_read_self tables number_of all knows context listed vars first at shape.0 around
         (own_func_mentioned tables.world tables.answers context at n shape.0 means_is around)))
         args_go func_is
         (func_kinded tables context at n true func

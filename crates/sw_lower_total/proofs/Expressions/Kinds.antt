@@ -108,12 +108,12 @@ read_kinds : (context : Context) (at : ℕ) (storage : Storage)
     → first_kind (kinds_of at (read_notes context at storage)) ≡ read_kind context storage
 read_kinds context at storage = by (is_outside context storage) storage.mutable where
   by : (outside mutable : Bool) → first_kind (kinds_of at
-      (if outside then (if mutable then call_notes context at (accessor storage) storage.sends
-      else race_if (not storage.sends) at 606) else []))
+      (if outside then (if mutable then call_notes context at (accessor storage) storage.may_cross
+      else race_if (not storage.may_cross) at 606) else []))
       ≡ (if outside
       then (if mutable then Some (kind_of (accessor storage) context.iso) else None) else None)
-  by true true = call_kinds context at (accessor storage) storage.sends
-  by true false = ap first_kind (race_no_kinds at (not storage.sends) at 606)
+  by true true = call_kinds context at (accessor storage) storage.may_cross
+  by true false = ap first_kind (race_no_kinds at (not storage.may_cross) at 606)
   by false mutable = refl
 
 use_kinds : (context : Context) (at : ℕ) (used : Used)

@@ -25,7 +25,7 @@ use Rattle.sw_decls.specs.declared.signature.Signature.{Signature}
 use Rattle.sw_typing_rules.specs.Worlds.{is_object_kind, item}
 use Rattle.sw_typing_rules.specs.declared.scope.Var.{Var}
 use Rattle.sw_isolation_rules.specs.Kinds.{accessor, is_isolated, is_outside, is_strong, kind_of}
-use Rattle.sw_isolation_rules.specs.Uses.{global, is_sent, maker_at, part_in as used_part}
+use Rattle.sw_isolation_rules.specs.Uses.{global, may_cross, maker_at, part_in as used_part}
 use Rattle.sw_isolation_rules.specs.Uses.{part_storage}
 use Rattle.sw_isolation_rules.specs.declared.note.Note.{Note}
 use Rattle.sw_isolation_rules.specs.declared.uses.Context.{Context}
@@ -263,7 +263,7 @@ module _ (tables : Tables) (number_of : Numbers) (all : List Note)
               iso = actor_iso one.actor;
               on_self = false;
               mutable = one.mutable;
-              sends = is_sent tables.world one.ty;
+              may_cross = may_cross tables.world one.ty;
             }) kind (sym some) in
             let actor = actor_of one.actor cross.isolated in
             getter_called at kind one.ty one.key.at []

@@ -9,7 +9,7 @@ use Rattle.sw_typing_rules.specs.Worlds.{World, item}
 use Rattle.sw_typing_rules.specs.declared.row.Meaning.{Meaning}
 use Rattle.sw_isolation_rules.specs.Answers.{Answers}
 use Rattle.sw_isolation_rules.specs.Uses.{called, func_used, global, global_used, made, make_used}
-use Rattle.sw_isolation_rules.specs.Uses.{meant, part_in, part_of, part_used, used}
+use Rattle.sw_isolation_rules.specs.Uses.{meant, part_in, part_of_shape, part_used, used}
 use Rattle.sw_isolation_rules.specs.declared.uses.Base.{Base}
 
 module _ (world : World) where
@@ -27,8 +27,8 @@ module _ (world : World) where
       → part_used world shape_number i on_self ≡ part_in world shape on_self (Some part)
   unfolding part_used
   part_used_is shape_number k i on_self shape part number_is shape_is part_is =
-      ap (λ found. part_of world (item found world.shapes) i on_self) number_is
-      ∙ ap (λ found. part_of world found i on_self) shape_is
+      ap (λ found. part_of_shape world (item found world.shapes) i on_self) number_is
+      ∙ ap (λ found. part_of_shape world found i on_self) shape_is
       ∙ ap (part_in world shape on_self) part_is
 
   -- a global variable

@@ -10,7 +10,7 @@ use Rattle.sw_tree.proofs.FoldEquations as eq
 use Rattle.sw_tree_forms.specs.Unwritten.{block_unwritten, expr_unwritten, unwritten_steps}
 use Rattle.sw_typing_rules.specs.Expressions.{Judged}
 use Rattle.sw_typing_rules.specs.Judges as is
-use Rattle.sw_typing_rules.specs.Statements.{Left, State, arm_left, condition_rows, part_of}
+use Rattle.sw_typing_rules.specs.Statements.{Left, State, arm_left, condition_rows, in_branch}
 use Rattle.sw_typing_rules.specs.Statements.{setting_of}
 use Rattle.sw_typing_rules.specs.declared.scope.Inside.{Inside}
 use Rattle.sw_typing_rules.specs.declared.scope.Var.{Var}
@@ -87,7 +87,7 @@ module _ (tables : Tables) (number : Numbers) (all : List Note) where
   pub more_arms_case : (inside : Inside) (state : State) (at : ℕ) (cond : Expr) (body : Block)
       (more : List IfArm) (judged : Judged) (one last : Left)
       (of_cond : is.Judges tables.world (setting_of inside state) false cond judged)
-      (of_body : is.LeavesBlock tables.world (part_of inside) state body one)
+      (of_body : is.LeavesBlock tables.world (in_branch inside) state body one)
       (rest : is.LeavesArms tables.world inside (arm_left state judged one).state more last)
       → ExprClaim tables number all of_cond → BlockClaim tables number all of_body
       → ArmsClaim tables number all rest
@@ -105,7 +105,7 @@ module _ (tables : Tables) (number : Numbers) (all : List Note) where
       let own = all_left (IsNumbered number) both _ now in
       let of_arm = rows_left tables.answers (arm_left state judged one).rows last.rows rows in
       let cond_words = in_expr tables.world (setting_of inside state) false cond judged of_cond in
-      let body_words = in_block tables.world (part_of inside) state body one of_body in
+      let body_words = in_block tables.world (in_branch inside) state body one of_body in
       let arm_unmeant = all_left (λ at. tables.answers.meaning_at at ≡ None)
       (cond_words ++ body_words) _ unmeant in
       let arm_none = sym (eq.fold_if_arm-roll unwritten_steps at cond body) ∙ none_left _ _ none in
@@ -162,7 +162,7 @@ module _ (tables : Tables) (number : Numbers) (all : List Note) where
       no_otherwise_proceeds tables number context listed inside state.vars
 
   pub some_block_case : (ends : Bool) (inside : Inside) (state : State) (body : Block) (one : Left)
-      (of_body : is.LeavesBlock tables.world (part_of inside) state body one)
+      (of_body : is.LeavesBlock tables.world (in_branch inside) state body one)
       → BlockClaim tables number all of_body
       → OtherwiseClaim tables number all (is.present ends inside state body one of_body)
   unfolding block_code block_unwritten in_otherwise

@@ -55,7 +55,8 @@ no_params (param ∷ params) is = cc
 module _ (tables : Tables) (number : Numbers) (all : List Note) (known : Known tables number all)
   where
     pub fun_case : (setting : Setting) (expected : Bool) (at : ℕ) (mark : Option Name)
-        (captures : List Name) (params : List ClosureParam) (result : Option TypeTree) (body : Block)
+        (captures : List Name) (params : List ClosureParam) (result : Option TypeTree)
+        (body : Block)
         (left : Left) (of_body : is.LeavesBlock tables.world (in_body setting.owner false)
         (closure_state tables.world setting captures params result) body left)
         → BlockClaim tables number all of_body
@@ -70,8 +71,8 @@ module _ (tables : Tables) (number : Numbers) (all : List Note) (known : Known t
         (is.closes _ at mark captures params result body left of_body)) vars rows) rows numbered
         stands
         (λ inner own_rows inside here key has. block_mentions_seen tables
-        (in_body setting.owner false) (closure_state tables.world setting captures params result) body
-        left of_body unmeant inner own_rows _ _ key has)
+        (in_body setting.owner false) (closure_state tables.world setting captures params result)
+        body left of_body unmeant inner own_rows _ _ key has)
         (λ inner own_rows inside here. body_proceeds unmeant
         (fun_tasks at mark captures params result body none) refl inner own_rows inside _ _ same
         here)
@@ -94,7 +95,7 @@ module _ (tables : Tables) (number : Numbers) (all : List Note) (known : Known t
         (is.closes _ key mark captures params result body left of_body)) vars rows) rows numbered
         stands
         (λ inner own_rows inside here key has. block_mentions_seen tables
-        (in_body setting.owner false) (closure_state tables.world setting captures params result) body
-        left of_body unmeant inner own_rows _ _ key has)
+        (in_body setting.owner false) (closure_state tables.world setting captures params result)
+        body left of_body unmeant inner own_rows _ _ key has)
         (λ inner own_rows inside here. body_proceeds unmeant (none_right _ _ empty) refl inner
         own_rows inside _ _ same here)

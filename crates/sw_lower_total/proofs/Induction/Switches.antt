@@ -19,7 +19,7 @@ use Rattle.sw_types.specs.declared.shape.CaseShape.{CaseShape}
 use Rattle.sw_typing_rules.specs.Expressions.{Judged}
 use Rattle.sw_typing_rules.specs.Judges as is
 use Rattle.sw_typing_rules.specs.Statements.{Armed, Left, State, arm_payload, arm_vars, beside}
-use Rattle.sw_typing_rules.specs.Statements.{cases_of, in_switch, more_arms, part_of, setting_of}
+use Rattle.sw_typing_rules.specs.Statements.{cases_of, in_switch, more_arms, in_branch, setting_of}
 use Rattle.sw_typing_rules.specs.Statements.{switch_left, vars_rows}
 use Rattle.sw_typing_rules.specs.declared.scope.Inside.{Inside}
 use Rattle.sw_typing_rules.specs.declared.scope.Var.{Var}
@@ -104,7 +104,7 @@ module _ (tables : Tables) (number : Numbers) (all : List Note) where
       (noted.notes-Switch tables.world tables.answers context listed at subject arms other)
       (eq.fold_stmt-Switch (code_steps tables inside.owner) at subject arms other) numbered
       (λ form.
-      let front = all_left (IsNumbered number)
+      let first = all_left (IsNumbered number)
       ((expr_code tables inside.owner subject).inside ++ arms_inside)
       (inside_of (option_map (fold_block (code_steps tables inside.owner)) other)) form in
       subst (λ has. StmtProceeds tables number context listed inside state
@@ -128,7 +128,7 @@ module _ (tables : Tables) (number : Numbers) (all : List Note) where
       (all_left (λ at. tables.answers.meaning_at at ≡ None) subject_words _ first_unmeant)
       (none_left _ _ none_first) vars subject_rows
       (all_left (IsNumbered number) (expr_code tables inside.owner subject).inside arms_inside
-      front) context listed same
+      first) context listed same
       (standing.switch_subject_stands tables all context listed state.vars at subject arms other
       stands))
       (expr_binds_nothing tables inside.owner subject)
@@ -139,7 +139,7 @@ module _ (tables : Tables) (number : Numbers) (all : List Note) where
       (none_right (expr_unwritten subject) _ none_first) init vars
       (rows_left tables.answers armed.left.rows last.rows inner)
       (all_right (IsNumbered number) (expr_code tables inside.owner subject).inside arms_inside
-      front)
+      first)
       (switch_well tables.answers (cases_of tables.world judged.ty) at judged armed.heads
       (is_some other) (beside armed.left last) typed.0 typed.1 rows).each context listed same
       (standing.switch_arms_stand tables all context listed state.vars at subject arms other
@@ -186,7 +186,7 @@ module _ (tables : Tables) (number : Numbers) (all : List Note) where
   pub more_cases_case : (known : Known tables number all) (inside : Inside)
       (cases : Option (List CaseShape)) (state : State) (name : Name) (patterns : List Pattern)
       (body : Block) (more : List CaseArm) (one : Left) (rest : Armed)
-      (of_body : is.LeavesBlock tables.world (part_of inside)
+      (of_body : is.LeavesBlock tables.world (in_branch inside)
       (is.arm_state cases state (is.head_of name patterns)) body one)
       (of_more : is.LeavesCases tables.world inside cases
       (is.case_of cases state (is.head_of name patterns) one).state more rest)
@@ -205,7 +205,7 @@ module _ (tables : Tables) (number : Numbers) (all : List Note) where
       let left = is.case_of cases state head one in
       let of_arm = rows_left tables.answers left.rows rest.left.rows rows in
       let new = arm_vars head (arm_payload cases name.id) in
-      let body_words = in_block tables.world (part_of inside) (is.arm_state cases state head) body
+      let body_words = in_block tables.world (in_branch inside) (is.arm_state cases state head) body
       one of_body in
       let armed = more_arms head left rest in
       subst (λ (these : List Note). CasesProceed tables number context listed inside cases

@@ -24,7 +24,7 @@ use Rattle.sw_typing_rules.specs.Judges as is
 use Rattle.sw_typing_rules.specs.Statements.{Armed, Left, State, arm_left, arm_payload, arm_vars}
 use Rattle.sw_typing_rules.specs.Statements.{beside, capture_rows, cases_of, closed, closure_state}
 use Rattle.sw_typing_rules.specs.Statements.{condition_rows, fixed, heads_fit, in_body, in_loop}
-use Rattle.sw_typing_rules.specs.Statements.{in_switch, is_one, part_of, pattern_types}
+use Rattle.sw_typing_rules.specs.Statements.{in_switch, is_one, in_branch, pattern_types}
 use Rattle.sw_typing_rules.specs.Statements.{patterns_fit, setting_of, vars_rows, with_only}
 use Rattle.sw_typing_rules.specs.Statements.{written}
 use Rattle.sw_typing_rules.specs.Verdicts.{ill_if}
@@ -321,19 +321,19 @@ module _ (tables : Tables) where
         let subject_rows = rows_left tables.answers judged.rows _ rows in
         let more = rows_left tables.answers (armed.left.rows ++ last.rows) _
         (rows_right tables.answers judged.rows _ rows) in
-        let front = all_left Unmeant (inner ++ cases) _ unmeant in
+        let before = all_left Unmeant (inner ++ cases) _ unmeant in
         notes_by tables state.vars _ _ _ _ (eq.fold_stmt-Switch steps at subject arms other)
         (eq.fold_stmt-Switch order_steps at subject arms other)
         (three_within tables state.vars (fold_expr order_steps subject)
         (joined (map (fold_case_arm order_steps) arms)) _ at (fold_expr steps subject).notes
         (all_of (map (fold_case_arm steps) arms)) _
         (expr_in (setting_of inside state) false subject judged of_subject
-        (all_left Unmeant inner cases front) vars subject_rows).notes
+        (all_left Unmeant inner cases before) vars subject_rows).notes
         (cases_in (in_switch inside) (cases_of tables.world judged.ty) state arms armed of_cases
         (heads_of tables.answers (cases_of tables.world judged.ty) at judged armed.heads
         (is_some other) (beside armed.left last)
         (has_type tables (setting_of inside state) false subject judged of_subject vars
-        subject_rows) rows) (all_right Unmeant inner cases front) vars
+        subject_rows) rows) (all_right Unmeant inner cases before) vars
         (rows_left tables.answers armed.left.rows last.rows more))
         (subst (λ seen. Within tables seen
         (unwrap_or (option_map (fold_block order_steps) other) [])
@@ -408,7 +408,7 @@ module _ (tables : Tables) where
         (is.one_arm _ _ at cond body more judged one last of_cond of_body of_more) unmeant vars
         rows =
         let inner = in_expr tables.world (setting_of inside state) false cond judged of_cond in
-        let block = in_block tables.world (part_of inside) state body one of_body in
+        let block = in_block tables.world (in_branch inside) state body one of_body in
         let own = all_left Unmeant (inner ++ block) _ unmeant in
         let noted = rows_left tables.answers (arm_left state judged one).rows last.rows rows in
         within_joined tables state.vars _ _ _ _
@@ -420,7 +420,7 @@ module _ (tables : Tables) where
         (all_left Unmeant inner block own) vars
         (rows_left tables.answers judged.rows _
         (rows_left tables.answers (condition_rows judged) one.rows noted))).notes
-        (block_in (part_of inside) state body one of_body (all_right Unmeant inner block own) vars
+        (block_in (in_branch inside) state body one of_body (all_right Unmeant inner block own) vars
         (rows_right tables.answers (condition_rows judged) one.rows noted))))
         (arms_in inside (arm_left state judged one).state more last of_more
         (all_right Unmeant (inner ++ block) _ unmeant) vars
@@ -438,7 +438,7 @@ module _ (tables : Tables) where
     other_in ends inside state other left (is.absent_default _ _) unmeant vars rows =
         λ context listed. tt
     other_in ends inside state other left (is.present _ _ _ body one of_body) unmeant vars rows =
-        block_in (part_of inside) state body one of_body unmeant vars rows
+        block_in (in_branch inside) state body one of_body unmeant vars rows
 
     -- the arms of a `switch`
     cases_in : (inside : Inside) (cases : Option (List CaseShape)) (state : State)
@@ -457,7 +457,8 @@ module _ (tables : Tables) where
         let payload = arm_payload cases name.id in
         let new = arm_vars head payload in
         let left = is.case_of cases state head one in
-        let inner = in_block tables.world (part_of inside) (is.arm_state cases state head) body one
+        let inner =
+        in_block tables.world (in_branch inside) (is.arm_state cases state head) body one
         of_body in
         let noted = rows_left tables.answers left.rows rest.left.rows rows in
         let fits = and_left (patterns_fit patterns payload) (heads_fit cases rest.heads) fit in
@@ -466,7 +467,7 @@ module _ (tables : Tables) where
         (eq.fold_case_arm-roll order_steps name patterns body)
         (case_within tables state.vars patterns (pattern_types patterns payload)
         (fold_block order_steps body) (fold_block steps body)
-        (block_in (part_of inside) (is.arm_state cases state head) body one of_body
+        (block_in (in_branch inside) (is.arm_state cases state head) body one of_body
         (all_left Unmeant inner _ unmeant)
         (All-append (VarHolds tables.answers) state.vars new vars
         (arm_vars_hold tables.answers head payload fits

@@ -58,8 +58,8 @@ read_silent : (context : Context) (at : ℕ) (storage : Storage)
     → Silent (read_notes context at storage)
 read_silent context at storage =
     silent_if (is_outside context storage) _ []
-    (silent_if storage.mutable _ _ (call_silent context at (accessor storage) storage.sends)
-    (race_silent (not storage.sends) at 606)) tt
+    (silent_if storage.mutable _ _ (call_silent context at (accessor storage) storage.may_cross)
+    (race_silent (not storage.may_cross) at 606)) tt
 
 write_silent : (context : Context) (at : ℕ) (storage : Storage)
     → Silent (write_notes context at storage)

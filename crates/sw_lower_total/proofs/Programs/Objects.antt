@@ -14,6 +14,7 @@ use Rattle.sw_types.specs.declared.isolation.Iso.{Iso}
 use Rattle.sw_types.specs.declared.isolation.Iso.TheVariants as iso
 use Rattle.sw_types.specs.declared.shape.Part.{Part}
 use Rattle.sw_types.specs.declared.shape.Shape.{Shape}
+use Rattle.sw_resolve.proofs.WithinLemmas.{one_shape, shapes_counted}
 use Rattle.sw_resolve.specs.Evident.{Meanings, meanings_of}
 use Rattle.sw_resolve.specs.Shaped.{part_of, shape_of, written_actor}
 use Rattle.sw_resolve.specs.Words.{shapes_made, top_meaning}
@@ -29,7 +30,7 @@ use Rattle.sw_lower_safe.proofs.Headers.Makers.{makers_counted}
 use Rattle.sw_lower_safe.proofs.Headers.PartGetters.{keys_counted}
 use Rattle.sw_lower_safe.proofs.Lists.Found.{mapped}
 use Rattle.sw_lower_safe.proofs.Programs.DeclStands.{made_flat}
-use Rattle.sw_lower_safe.proofs.Programs.MadeOf.{one_shape, shapes_are, shapes_counted}
+use Rattle.sw_lower_safe.proofs.Programs.MadeOf.{shapes_are}
 use Rattle.sw_lower_safe.proofs.Programs.Standing.{PlaceOf, Stands, at_place, place_of_thing}
 use Rattle.sw_lower_total.specs.Known.{IsMade}
 

@@ -364,14 +364,14 @@ module _ (world : World) (answers : Answers) where
       (omega (arith, none, split)))
       (inits_cover word inits key (omega (arith, none, split))))
 
-  front_share : (number : ℕ) (word : Name) (props : List PropTree) (inits : List InitTree)
+  first_share : (number : ℕ) (word : Name) (props : List PropTree) (inits : List InitTree)
       (funcs : List FuncTree)
       → IsShare (flat_map (prop_notes world answers number) props
       ++ inits_notes world answers word inits ++ flat_map (func_notes world answers) funcs)
       (flat_map prop_keys props ++ flat_map init_keys inits ++ flat_map func_keys funcs)
       (flat_map (prop_notes world answers number) props ++ inits_notes world answers word inits)
       (flat_map prop_keys props ++ flat_map init_keys inits)
-  front_share number word props inits funcs =
+  first_share number word props inits funcs =
       share_left _ _ _ (flat_map func_keys funcs)
       (each_covers (func_notes world answers) func_keys func_covers funcs)
 
@@ -382,7 +382,7 @@ module _ (world : World) (answers : Answers) where
       (flat_map prop_keys props ++ flat_map init_keys inits ++ flat_map func_keys funcs)
       (inits_notes world answers word inits) (flat_map init_keys inits)
   inits_last number word props inits funcs =
-      share_then _ _ _ _ _ _ (front_share number word props inits funcs)
+      share_then _ _ _ _ _ _ (first_share number word props inits funcs)
       (share_right _ _ (flat_map prop_keys props) _
       (each_covers (prop_notes world answers number) prop_keys (prop_covers number) props))
 
@@ -393,7 +393,7 @@ module _ (world : World) (answers : Answers) where
       (flat_map prop_keys props ++ flat_map init_keys inits ++ flat_map func_keys funcs)
       (flat_map (prop_notes world answers number) props) (flat_map prop_keys props)
   props_first number word props inits funcs =
-      share_then _ _ _ _ _ _ (front_share number word props inits funcs)
+      share_then _ _ _ _ _ _ (first_share number word props inits funcs)
       (share_left _ _ _ (flat_map init_keys inits) (inits_cover word inits))
 
   funcs_inner : (number : ℕ) (decl : Decl) (tree : FuncTree) → Contains (funcs_in decl) tree

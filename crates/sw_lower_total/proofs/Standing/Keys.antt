@@ -1,12 +1,11 @@
 -- Keys, by how often they stand in a list.
 use Rattle.std.proofs.Common.{◌≡◌, ℕ, zero, suc, ◌≤◌, Bool, true, false}
-use Rattle.std.proofs.Common.{List, [], ◌∷◌, Contains, nat_eq, refl, sym, subst, arith}
+use Rattle.std.proofs.Common.{[], ◌∷◌, Contains, nat_eq, refl, sym, subst, arith}
 use Rattle.std.proofs.lemmas.Bool.{eqb-true}
 use Rattle.std.proofs.lemmas.Grind.{common_steps}
 use Rattle.std.proofs.lemmas.List.Elements.{Contains-append_left, Contains-append_right}
-use Rattle.std.specs.List.{AllByRecursion, IsDistinct}
 use Rattle.sw_tree.specs.Keys.{Keys}
-use Rattle.sw_tree.proofs.Counting.{count, hits, hits_same, in_all, in_all-cons, in_all-nil}
+use Rattle.sw_tree.proofs.Counting.{count, hits, hits_same, in_all-cons, in_all-nil}
 
 -- A key that isn't counted at another is not that one.
 pub unlike : (at key : ℕ) → hits at key ≡ 0 → nat_eq at key ≡ false
@@ -41,28 +40,3 @@ contained (first ∷ keys) key some =
       by false other later =
           Contains-append_right (first ∷ []) keys key (later
           (omega (arith, some, in_all-cons hits first keys key, missed first key other)))
-
--- A key that differs from those of a list isn't counted there.
-unlike_all : (at : ℕ) (ats : List ℕ) → AllByRecursion (λ other. nat_eq at other ≡ false) ats
-    → count ats at ≡ 0
-unfolding in_all hits
-unlike_all at [] differ = refl
-unlike_all at (other ∷ ats) differ =
-    let apart = differ.0 in
-    let more = unlike_all at ats differ.1 in
-    grind (arith, common_steps)
-
--- Each key stands once at most in a list of distinct ones.
-pub distinct_once : (keys : Keys) → IsDistinct nat_eq keys → (key : ℕ) → count keys key ≤ 1
-unfolding in_all hits IsDistinct
-distinct_once [] differ key = omega arith
-distinct_once (at ∷ keys) differ key =
-    by (nat_eq at key) refl (unlike_all at keys differ.0) (distinct_once keys differ.1 key)
-  where
-    by : (same : Bool) → nat_eq at key ≡ same → count keys at ≡ 0 → count keys key ≤ 1
-        → count (at ∷ keys) key ≤ 1
-    by true is none more =
-        let here : at ≡ key = grind (arith, common_steps) in
-        let empty = subst (λ n. count keys n ≡ 0) here none in
-        grind (arith, common_steps)
-    by false is none more = grind (arith, common_steps)

@@ -204,8 +204,8 @@ lacks_read : (context : Context) (at : ℕ) (storage : Storage) (key : ℕ) → 
 lacks_read context at storage key other =
     lacks_either (is_outside context storage) _ _ key
     (lacks_either storage.mutable _ _ key
-    (lacks_call context at (accessor storage) storage.sends key other)
-    (bare_lacks _ key (bare_race (not storage.sends) at 606)))
+    (lacks_call context at (accessor storage) storage.may_cross key other)
+    (bare_lacks _ key (bare_race (not storage.may_cross) at 606)))
     (lacks_nothing key)
 
 pub lacks_use : (context : Context) (at : ℕ) (used : Used) (key : ℕ) → hits at key ≡ 0

@@ -17,38 +17,38 @@ all_of_each {X} P xs each k d below = each _ (Contains-get_or xs k d below)
 abbrev pub IsBefore : Keys → ℕ → Type 0
 IsBefore order key = All (λ other. key < other) order
 
-pub before_left : (front rest : Keys) (key : ℕ) → IsBefore (front ++ rest) key
-    → IsBefore front key
-before_left front rest key all =
-    all_of_each (λ other. key < other) front (λ other has.
-    All-contains (λ other. key < other) (front ++ rest) other all
-    (Contains-append_left front rest other has))
+pub before_left : (earlier rest : Keys) (key : ℕ) → IsBefore (earlier ++ rest) key
+    → IsBefore earlier key
+before_left earlier rest key all =
+    all_of_each (λ other. key < other) earlier (λ other has.
+    All-contains (λ other. key < other) (earlier ++ rest) other all
+    (Contains-append_left earlier rest other has))
 
-pub before_right : (front rest : Keys) (key : ℕ) → IsBefore (front ++ rest) key
+pub before_right : (earlier rest : Keys) (key : ℕ) → IsBefore (earlier ++ rest) key
     → IsBefore rest key
-before_right front rest key all =
+before_right earlier rest key all =
     all_of_each (λ other. key < other) rest (λ other has.
-    All-contains (λ other. key < other) (front ++ rest) other all
-    (Contains-append_right front rest other has))
+    All-contains (λ other. key < other) (earlier ++ rest) other all
+    (Contains-append_right earlier rest other has))
 
-pub rising_left : (front rest : Keys) → AreRising (front ++ rest) → AreRising front
+pub rising_left : (earlier rest : Keys) → AreRising (earlier ++ rest) → AreRising earlier
 rising_left [] rest rising = tt
-rising_left (key ∷ front) rest rising =
-    (before_left front rest key rising.0, rising_left front rest rising.1)
+rising_left (key ∷ earlier) rest rising =
+    (before_left earlier rest key rising.0, rising_left earlier rest rising.1)
 
-pub rising_right : (front rest : Keys) → AreRising (front ++ rest) → AreRising rest
+pub rising_right : (earlier rest : Keys) → AreRising (earlier ++ rest) → AreRising rest
 rising_right [] rest rising = rising
-rising_right (key ∷ front) rest rising = rising_right front rest rising.1
+rising_right (key ∷ earlier) rest rising = rising_right earlier rest rising.1
 
--- Each key of a front part is less than those after it.
-pub rising_across : (front rest : Keys) (key : ℕ) → AreRising (front ++ rest)
-    → Contains front key → IsBefore rest key
+-- Each key of an earlier part is less than those after it.
+pub rising_across : (earlier rest : Keys) (key : ℕ) → AreRising (earlier ++ rest)
+    → Contains earlier key → IsBefore rest key
 rising_across [] rest key rising (k, below, same) = absurd (omega (arith, below))
-rising_across (first ∷ front) rest key rising has =
-    elim (Contains-append_cases (first ∷ []) front key has) [
-      | inl here ↦ before_right front rest key
-          (subst (IsBefore (front ++ rest)) (only_in first key here) rising.0)
-      | inr there ↦ rising_across front rest key rising.1 there
+rising_across (first ∷ earlier) rest key rising has =
+    elim (Contains-append_cases (first ∷ []) earlier key has) [
+      | inl here ↦ before_right earlier rest key
+          (subst (IsBefore (earlier ++ rest)) (only_in first key here) rising.0)
+      | inr there ↦ rising_across earlier rest key rising.1 there
     ]
 
 -- Where keys in order rise or are after a key, part of them do and are.
@@ -59,13 +59,13 @@ pub record IsWithin (order part : Keys) : Type 0 where
 pub within_same : (order : Keys) → IsWithin order order
 within_same order = record { rising = λ rising. rising; before = λ key before. before }
 
-pub within_left : (front rest : Keys) → IsWithin (front ++ rest) front
-within_left front rest =
-    record { rising = rising_left front rest; before = before_left front rest }
+pub within_left : (earlier rest : Keys) → IsWithin (earlier ++ rest) earlier
+within_left earlier rest =
+    record { rising = rising_left earlier rest; before = before_left earlier rest }
 
-pub within_right : (front rest : Keys) → IsWithin (front ++ rest) rest
-within_right front rest =
-    record { rising = rising_right front rest; before = before_right front rest }
+pub within_right : (earlier rest : Keys) → IsWithin (earlier ++ rest) rest
+within_right earlier rest =
+    record { rising = rising_right earlier rest; before = before_right earlier rest }
 
 pub within_next : (key : ℕ) (rest : Keys) → IsWithin (key ∷ rest) rest
 within_next key rest = within_right (key ∷ []) rest

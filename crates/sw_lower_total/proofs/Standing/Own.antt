@@ -16,6 +16,7 @@ use Rattle.sw_tree.specs.declared.stmt.CaseArm.{CaseArm}
 use Rattle.sw_tree.specs.declared.stmt.Pattern.{Pattern}
 use Rattle.sw_tree.proofs.Counting.{count, hits, hits_same, in_all-append, in_all-joined}
 use Rattle.sw_tree.proofs.KeyCounts as counts
+use Rattle.sw_typing_rules.proofs.OneWorld.{distinct_once}
 use Rattle.sw_typing_rules.specs.Worlds.{World}
 use Rattle.sw_isolation_rules.specs.Answers.{Answers}
 use Rattle.sw_isolation_rules.specs.Captures.{is_among}
@@ -26,7 +27,7 @@ use Rattle.sw_isolation_rules.specs.declared.uses.Context.{Context}
 use Rattle.sw_lower_total.specs.Noted.{Stands, kinds_of}
 use Rattle.sw_lower_total.proofs.Standing.Covering.{block_covers, expr_covers}
 use Rattle.sw_lower_total.proofs.Standing.Expressions.{args_cover}
-use Rattle.sw_lower_total.proofs.Standing.Keys.{contained, counted, distinct_once}
+use Rattle.sw_lower_total.proofs.Standing.Keys.{contained, counted}
 use Rattle.sw_lower_total.proofs.Standing.NoteForms as noted
 use Rattle.sw_lower_total.proofs.Standing.NoteForms.{args_notes, case_arms_notes, expr_notes}
 use Rattle.sw_lower_total.proofs.Standing.NoteForms.{notes_in}

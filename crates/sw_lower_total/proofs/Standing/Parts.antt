@@ -6,12 +6,13 @@ use Rattle.std.specs.List.{IsDistinct}
 use Rattle.std.proofs.lemmas.List.Elements.{All-contains}
 use Rattle.sw_tree.specs.Keys.{Keys}
 use Rattle.sw_tree.proofs.Counting.{IsDistinct-count, count, hits, in_all-append, in_all-cons}
+use Rattle.sw_typing_rules.proofs.OneWorld.{distinct_once}
 use Rattle.sw_isolation_rules.specs.declared.note.BodyIso.{BodyIso}
 use Rattle.sw_isolation_rules.specs.declared.note.Note.{Note}
 use Rattle.sw_isolation_rules.specs.declared.note.Note.TheVariants.{Body}
 use Rattle.sw_lower_total.specs.Noted.{IsAll, Stands}
 use Rattle.sw_lower_total.proofs.Standing.Covering.{Covers}
-use Rattle.sw_lower_total.proofs.Standing.Keys.{contained, counted, distinct_once}
+use Rattle.sw_lower_total.proofs.Standing.Keys.{contained, counted}
 use Rattle.sw_lower_total.proofs.Standing.Noting.{AreBare, IsAlike, alike_body, alike_left}
 use Rattle.sw_lower_total.proofs.Standing.Noting.{alike_right, alike_same, alike_then, bare_lacks}
 use Rattle.sw_lower_total.proofs.Standing.Orders.{IsBefore, IsWithin, all_of_each}
@@ -75,10 +76,10 @@ share_next at notes keys = record {
   fewer = λ key. omega (arith, in_all-cons hits at keys key);
 }
 
-pub share_bare : (front notes : List Note) (keys : Keys) → AreBare front
-    → IsShare (front ++ notes) keys notes keys
-share_bare front notes keys bare = record {
-  alike = λ key some once. alike_right key front notes (bare_lacks front key bare);
+pub share_bare : (first notes : List Note) (keys : Keys) → AreBare first
+    → IsShare (first ++ notes) keys notes keys
+share_bare first notes keys bare = record {
+  alike = λ key some once. alike_right key first notes (bare_lacks first key bare);
   fewer = λ key. omega arith;
 }
 

@@ -9,7 +9,7 @@ use Rattle.std.proofs.lemmas.List.Elements.{Contains-append_right}
 use Rattle.sw_tree.specs.Contents.{AreKeyed}
 use Rattle.sw_tree.specs.Keys as tree
 use Rattle.sw_tree.specs.Keys.{Keys, block_keys, decl_keys, expr_keys, func_keys, init_keys}
-use Rattle.sw_tree.specs.Keys.{params_keys, prop_keys}
+use Rattle.sw_tree.specs.Keys.{params_keys}
 use Rattle.sw_tree.specs.Order.{AreInOrder, AreRising, block_order, expr_order, prop_order}
 use Rattle.sw_tree.specs.declared.decl.Decl.{Decl}
 use Rattle.sw_tree.specs.declared.decl.Decl.TheVariants.{Entry, Struct, Enum, Class, Actor}
@@ -25,11 +25,13 @@ use Rattle.sw_tree.specs.declared.stmt.Block.{Block}
 use Rattle.sw_tree.proofs.Counting.{count, hits, in_all-append, in_all-cons}
 use Rattle.sw_tree.proofs.KeyEquations as keys
 use Rattle.sw_types.specs.declared.shape.Shape.{Shape}
+use Rattle.sw_resolve.proofs.WithinLemmas.{one_shape, shapes_counted}
 use Rattle.sw_resolve.specs.Evident.{meanings_of}
 use Rattle.sw_resolve.specs.Shaped.{shape_of}
 use Rattle.sw_resolve.specs.Words.{shapes_made}
 use Rattle.sw_decls.specs.declared.signature.AsyncDefault.{AsyncDefault}
 use Rattle.sw_decls.specs.declared.signature.Signature.{Signature}
+use Rattle.sw_typing_rules.proofs.OneWorld.{distinct_once}
 use Rattle.sw_typing_rules.specs.Programs.{param_var}
 use Rattle.sw_typing_rules.specs.Worlds.{IsWorldOf, World}
 use Rattle.sw_isolation_rules.specs.Answers.{Answers}
@@ -43,7 +45,7 @@ use Rattle.sw_isolation_rules.specs.declared.note.Note.{Note}
 use Rattle.sw_lower_table.specs.Bodies.{globals_made}
 use Rattle.sw_lower_safe.proofs.Lists.Listed.{in_map}
 use Rattle.sw_lower_safe.proofs.Programs.DeclParts.{funcs_in, inits_in, props_in}
-use Rattle.sw_lower_safe.proofs.Programs.MadeOf.{one_shape, shapes_are, shapes_counted}
+use Rattle.sw_lower_safe.proofs.Programs.MadeOf.{shapes_are}
 use Rattle.sw_lower_safe.proofs.Programs.Standing.{PlaceOf, Stands as StandsAt, StandsFrom}
 use Rattle.sw_lower_safe.proofs.Programs.Standing.{place_of_thing}
 use Rattle.sw_lower_total.specs.Noted.{Stands}
@@ -52,7 +54,7 @@ use Rattle.sw_lower_total.proofs.Standing.Covering.{Covers}
 use Rattle.sw_lower_total.proofs.Standing.Declared as decl
 use Rattle.sw_lower_total.proofs.Standing.Declared.{global_iso, inner_keys}
 use Rattle.sw_lower_total.proofs.Standing.Declared.{keys_split, words_of}
-use Rattle.sw_lower_total.proofs.Standing.Keys.{counted, distinct_once}
+use Rattle.sw_lower_total.proofs.Standing.Keys.{counted}
 use Rattle.sw_lower_total.proofs.Standing.Noting.{Lacks, lacks_join, lacks_nothing}
 use Rattle.sw_lower_total.proofs.Standing.Ordered.{func_ordered, init_ordered, order_rises}
 use Rattle.sw_lower_total.proofs.Standing.Ordered.{owner_of, prop_ordered, self_words}
@@ -119,17 +121,17 @@ module _ (decls : List Decl) (rule : AsyncDefault) (world : World) (answers : An
   seen_with owner params = self_of world owner ++ keys_of (map (param_var world) params)
 
   -- A share of the program stands where its keys rise after the variables that are seen.
-  share_stands : (part : List Note) (part_keys part_order : Keys) (seen front : Keys)
-      → IsShare all (tree.keys_of decls) part part_keys → AreRising (front ++ part_order)
-      → ((key : ℕ) → Contains seen key → Contains front key)
+  share_stands : (part : List Note) (part_keys part_order : Keys) (seen earlier : Keys)
+      → IsShare all (tree.keys_of decls) part part_keys → AreRising (earlier ++ part_order)
+      → ((key : ℕ) → Contains seen key → Contains earlier key)
       → Stands all seen part part_keys part_order
-  share_stands part part_keys part_order seen front share rising among = record {
+  share_stands part part_keys part_order seen earlier share rising among = record {
     alone = share_all all all (tree.keys_of decls) part part_keys share keyed
         (record { kinds = λ key has. refl; held = λ key has. refl; vars = λ key has. refl });
     apart = share_apart all (tree.keys_of decls) part part_keys share keyed;
-    rising = rising_right front part_order rising;
+    rising = rising_right earlier part_order rising;
     before = all_of_each (IsBefore part_order) seen (λ key has.
-        rising_across front part_order key rising (among key has));
+        rising_across earlier part_order key rising (among key has));
   }
 
   -- Of a key of a part of which nothing is noted there, no `var` is noted.
@@ -227,65 +229,49 @@ module _ (decls : List Decl) (rule : AsyncDefault) (world : World) (answers : An
         (before_body (Some n) [] prop.word.at (sym owned))
 
     -- The parameters of functions, methods and initialisers are no `var`s.
-    pub func_param_no_var : (func : FuncTree) (key : ℕ) → Contains (funcs_in one) func
-        → Contains (params_keys func.params) key → is_among (vars_in all) key ≡ false
-    func_param_no_var func key has param =
-        share_no_var (func_notes world answers func) (func_keys func) key share
-        (omega (arith, there, split))
-        (decl.body_covers world answers func.word.at func.body key
-        (omega (
+    param_no_var : (notes : List Note) (own : Keys) (at : ℕ) (params : List ParamTree)
+        (body : Block) (key : ℕ) → IsShare all (tree.keys_of decls) notes own
+        → own ≡ at ∷ (params_keys params ++ block_keys body)
+        → (count (block_keys body) key ≡ 0 → Lacks notes key) → Contains (params_keys params) key
+        → is_among (vars_in all) key ≡ false
+    param_no_var notes own at params body key share own_is lacks param =
+        share_no_var notes own key share (omega (arith, there, split))
+        (lacks (omega (
           arith,
           there,
           split,
           share.fewer key,
           distinct_once (tree.keys_of decls) keyed key,
         ))) where
-          share : IsShare all (tree.keys_of decls) (func_notes world answers func) (func_keys func)
-          share = share_then _ _ _ _ _ _ (decl_share world answers decls n g one stands)
-              (decl.decl_func world answers n one func has)
+          there : 1 ≤ count (params_keys params) key
+          there = counted (params_keys params) key param
 
-          there : 1 ≤ count (params_keys func.params) key
-          there = counted (params_keys func.params) key param
-
-          split : count (func_keys func) key
-              ≡ hits func.word.at key + count (params_keys func.params) key
-              + count (block_keys func.body) key
+          split : count own key
+              ≡ hits at key + count (params_keys params) key + count (block_keys body) key
           split = omega (
             arith,
-            ap (λ list. count list key) (keys.func_keys-is func),
-            in_all-cons hits func.word.at (params_keys func.params ++ block_keys func.body) key,
-            in_all-append hits (params_keys func.params) (block_keys func.body) key,
+            ap (λ list. count list key) own_is,
+            in_all-cons hits at (params_keys params ++ block_keys body) key,
+            in_all-append hits (params_keys params) (block_keys body) key,
           )
+
+    pub func_param_no_var : (func : FuncTree) (key : ℕ) → Contains (funcs_in one) func
+        → Contains (params_keys func.params) key → is_among (vars_in all) key ≡ false
+    func_param_no_var func key has =
+        param_no_var (func_notes world answers func) (func_keys func) func.word.at func.params
+        func.body key
+        (share_then _ _ _ _ _ _ (decl_share world answers decls n g one stands)
+        (decl.decl_func world answers n one func has))
+        (keys.func_keys-is func) (decl.body_covers world answers func.word.at func.body key)
 
     pub init_param_no_var : (init : InitTree) (key : ℕ) → Contains (inits_in one) init
         → Contains (params_keys init.params) key → is_among (vars_in all) key ≡ false
-    init_param_no_var init key has param =
-        share_no_var (init_notes world answers init) (init_keys init) key share
-        (omega (arith, there, split))
-        (decl.body_covers world answers init.at init.body key
-        (omega (
-          arith,
-          there,
-          split,
-          share.fewer key,
-          distinct_once (tree.keys_of decls) keyed key,
-        ))) where
-          share : IsShare all (tree.keys_of decls) (init_notes world answers init) (init_keys init)
-          share = share_then _ _ _ _ _ _ (decl_share world answers decls n g one stands)
-              (decl.decl_init world answers n one init has)
-
-          there : 1 ≤ count (params_keys init.params) key
-          there = counted (params_keys init.params) key param
-
-          split : count (init_keys init) key
-              ≡ hits init.at key + count (params_keys init.params) key
-              + count (block_keys init.body) key
-          split = omega (
-            arith,
-            ap (λ list. count list key) (keys.init_keys-is init),
-            in_all-cons hits init.at (params_keys init.params ++ block_keys init.body) key,
-            in_all-append hits (params_keys init.params) (block_keys init.body) key,
-          )
+    init_param_no_var init key has =
+        param_no_var (init_notes world answers init) (init_keys init) init.at init.params init.body
+        key
+        (share_then _ _ _ _ _ _ (decl_share world answers decls n g one stands)
+        (decl.decl_init world answers n one init has))
+        (keys.init_keys-is init) (decl.body_covers world answers init.at init.body key)
 
     pub func_params_no_var : (func : FuncTree) → Contains (funcs_in one) func
         → (param : ParamTree) → Contains func.params param

@@ -6,7 +6,7 @@ use Rattle.std.proofs.lemmas.List.Elements.{Contains-append_right}
 use Rattle.std.specs.Prelude.{All, Contains, length}
 use Rattle.sw_graph.specs.declared.instr.Last.TheVariants.{Branch, Jump}
 use Rattle.sw_graph.specs.declared.instr.Operand.{Operand}
-use Rattle.sw_typing_rules.specs.Statements.{Left, State, part_of}
+use Rattle.sw_typing_rules.specs.Statements.{Left, State, in_branch}
 use Rattle.sw_typing_rules.specs.declared.scope.Inside.{Inside}
 use Rattle.sw_typing_rules.specs.declared.scope.Var.{Var}
 use Rattle.sw_isolation_rules.specs.declared.note.Note.{Note}
@@ -166,7 +166,7 @@ module _ (tables : Tables) (number : Numbers) (context : Context) (listed : List
       (cond : ExprCode) (body : BlockCode) (arms : List IfCode)
       → ExprProceeds tables number context listed state.vars cond_notes cond
       → ExprBindsNothing cond
-      → BlockProceeds tables number context listed (part_of inside) state notes body
+      → BlockProceeds tables number context listed (in_branch inside) state notes body
       → ((targets : Targets) → BindsNothing (body.code targets))
       → ArmsProceed inside state.vars more arms
       → ArmsProceed inside state.vars ((cond_notes ++ notes) ++ more) (if_arm cond body ∷ arms)
@@ -189,11 +189,12 @@ module _ (tables : Tables) (number : Numbers) (context : Context) (listed : List
             (arms_code arms (otherwise targets) targets) (nothing_body targets)
             (rest.nothing (otherwise targets) targets (nothing targets))
             (λ u begins_u.
-            by_begins tables number context listed (part_of inside) state.vars notes body.code
+            by_begins tables number context listed (in_branch inside) state.vars notes body.code
             targets u
             body_one.code_proceeds
-            (begins_in tables number context listed inside (part_of inside) state.vars notes targets
-            targets u (targets_for inside (part_of inside) u targets refl refl begins_u.has)
+            (begins_in tables number context listed inside (in_branch inside) state.vars notes
+            targets
+            targets u (targets_for inside (in_branch inside) u targets refl refl begins_u.has)
             (begins_less tables number context listed inside state.vars (own ++ later) notes targets
             u
             (λ note has. in_body later note has) begins_u)))
@@ -264,13 +265,13 @@ module _ (tables : Tables) (number : Numbers) (context : Context) (listed : List
   -- a block
   pub some_block_proceeds : (inside : Inside) (state : State) (notes : List Note)
       (block : BlockCode)
-      → BlockProceeds tables number context listed (part_of inside) state notes block
+      → BlockProceeds tables number context listed (in_branch inside) state notes block
       → ((targets : Targets) → BindsNothing (block.code targets))
       → OtherwiseProceeds inside state.vars notes (Some block)
   some_block_proceeds inside state notes block one nothing = record {
     code_proceeds = λ targets s ready boxes has.
         one.code_proceeds targets s ready boxes
-        (targets_for inside (part_of inside) s targets refl refl has);
+        (targets_for inside (in_branch inside) s targets refl refl has);
     nothing = nothing;
     inside_proceed = one.inside_proceed;
   }

@@ -14,7 +14,8 @@ use Rattle.sw_types.specs.declared.ty.Ty.TheOpen as layer
 use Rattle.sw_typing_rules.specs.Judges.{arm_state, case_of}
 use Rattle.sw_typing_rules.specs.Statements.{Armed, Left, State, arm_payload, arm_vars, case_named}
 use Rattle.sw_typing_rules.specs.Statements.{cases_layer, cases_of, cases_of_shape, more_arms}
-use Rattle.sw_typing_rules.specs.Statements.{no_arms, part_of, patterns_fit, payload_of, vars_rows}
+use Rattle.sw_typing_rules.specs.Statements.{no_arms, in_branch, patterns_fit, payload_of}
+use Rattle.sw_typing_rules.specs.Statements.{vars_rows}
 use Rattle.sw_typing_rules.specs.Worlds.{World}
 use Rattle.sw_typing_rules.specs.declared.scope.Inside.{Inside}
 use Rattle.sw_typing_rules.specs.declared.scope.Var.{Var}
@@ -87,7 +88,7 @@ module _ (tables : Tables) (number : Numbers) (context : Context) (listed : List
   -- are in no box, and it writes into its own block and such that it makes.
   pub record CaseProceeds (inside : Inside) (cases : Option (List CaseShape)) (vars : List Var)
       (notes : List Note) (arm : CaseCode) : Type 0 where
-    pub body : CodeProceeds tables number context listed (part_of inside)
+    pub body : CodeProceeds tables number context listed (in_branch inside)
         (vars ++ arm_vars (head_in arm) (arm_payload cases arm.name.id)) notes arm.body.code
     pub nothing : (targets : Targets) → BindsNothing (arm.body.code targets)
     pub stays : (targets : Targets) → CodeStays (arm.body.code targets)
@@ -102,11 +103,12 @@ module _ (tables : Tables) (number : Numbers) (context : Context) (listed : List
       → (arm : CaseCode) → CaseProceeds inside cases vars fewer arm
       → CaseProceeds inside cases vars notes arm
   case_more inside cases vars fewer notes among arm one = record {
-    body = proceeds_by tables number context listed (part_of inside) seen notes arm.body.code
+    body = proceeds_by tables number context listed (in_branch inside) seen notes arm.body.code
         (λ targets s begins.
-        by_begins tables number context listed (part_of inside) seen fewer arm.body.code targets s
+        by_begins tables number context listed (in_branch inside) seen fewer arm.body.code targets s
         one.body
-        (begins_less tables number context listed (part_of inside) seen notes fewer targets s among
+        (begins_less tables number context listed (in_branch inside) seen notes fewer targets s
+        among
         begins));
     nothing = one.nothing;
     stays = one.stays;
@@ -136,7 +138,7 @@ module _ (tables : Tables) (number : Numbers) (context : Context) (listed : List
   pub more_cases_proceed : (all : List Note) → Known tables number all → (inside : Inside)
       (cases : Option (List CaseShape)) (state : State) (notes more : List Note) (arm : CaseCode)
       (left : Left) (arms : List CaseCode) (armed : Armed)
-      → BlockProceeds tables number context listed (part_of inside)
+      → BlockProceeds tables number context listed (in_branch inside)
       (arm_state cases state (head_in arm)) notes arm.body
       → ((targets : Targets) → BindsNothing (arm.body.code targets))
       → ((targets : Targets) → CodeStays (arm.body.code targets))

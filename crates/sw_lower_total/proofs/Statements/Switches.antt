@@ -14,7 +14,7 @@ use Rattle.sw_graph.specs.declared.instr.Last.TheVariants.{Jump, Switch}
 use Rattle.sw_graph.specs.declared.instr.Operand.{Operand}
 use Rattle.sw_typing_rules.specs.Expressions.{Judged}
 use Rattle.sw_typing_rules.specs.Statements.{Armed, Head, Left, State, arm_payload, arm_vars}
-use Rattle.sw_typing_rules.specs.Statements.{beside, cases_of, in_switch, part_of, pattern_types}
+use Rattle.sw_typing_rules.specs.Statements.{beside, cases_of, in_switch, in_branch, pattern_types}
 use Rattle.sw_typing_rules.specs.Statements.{patterns_fit, switch_left}
 use Rattle.sw_typing_rules.specs.declared.scope.Inside.{Inside}
 use Rattle.sw_typing_rules.specs.declared.scope.Var.{Var}
@@ -158,7 +158,7 @@ module _ (tables : Tables) (number : Numbers) (context : Context) (listed : List
         (patterns_bound tables number context listed given one.arm.patterns vars tys s t typed
         case.unboxed begins.boxes ran)))) where
           own_inside : Inside
-          own_inside = part_of (in_switch inside)
+          own_inside = in_branch (in_switch inside)
 
           body : Code (Unit {0})
           body = one.arm.body.code (switch_targets tables targets merge)

@@ -2,15 +2,24 @@
 use Rattle.std.specs.Prelude.{◌≡◌, ℕ, Bool, true, false, Some, None, List, [], ◌∷◌, refl}
 use Rattle.std.proofs.Common.{inr, arith}
 use Rattle.sw_owned.specs.Colours.{Instance, Colour, Generic, On}
-use Rattle.sw_owned.specs.View.{Element, Here, Register, Nonisolated, IsolatedTo, MakesActor, Shape, HoldsLive, Together}
+use Rattle.sw_owned.specs.View.{Element, Here, Register, Nonisolated, IsolatedTo, MakesActor, Shape}
+use Rattle.sw_owned.specs.View.{HoldsLive, Together}
 use Rattle.sw_owned.specs.Calls.{SharesArgument}
 use Rattle.sw_owned.specs.Sketch.{Slot, Row, Job, view_of}
-use Rattle.sw_owned.specs.Premises.{IsNeeded, IsPossible, StaysSound, PlainPremise, plain_says, Before, Height, Heights, Running, Fits, NotClosing, CallerShape, CallerHeld, CallerJoined, Others, Sent, SharesPremise, shares_says, Plain, Colours, Calls, Stays, SameExecutor, Isolated, NoInitialiser, HereColour, SamePremise, same_says, IsIsolated, CallerHere, Result}
+use Rattle.sw_owned.specs.Premises.{IsNeeded, IsPossible, StaysSound, PlainPremise, plain_says}
+use Rattle.sw_owned.specs.Premises.{Before, Height, Heights, Running, Fits, NotClosing, CallerShape}
+use Rattle.sw_owned.specs.Premises.{CallerHeld, CallerJoined, Others, Sent, SharesPremise}
+use Rattle.sw_owned.specs.Premises.{shares_says, Plain, Colours, Calls, Stays, SameExecutor}
+use Rattle.sw_owned.specs.Premises.{Isolated, NoInitialiser, HereColour, SamePremise, same_says}
+use Rattle.sw_owned.specs.Premises.{IsIsolated, CallerHere, Result}
 use Rattle.sw_owned.proofs.Sketches.Tests.{sound_view}
 use Rattle.sw_owned.proofs.Sketches.Reading.{there, running}
 use Rattle.sw_owned.proofs.Sketches.Moves.{result_with}
 use Rattle.sw_owned.proofs.Sketches.Premises.{plain_by, same_by, runs_by}
-use Rattle.sw_owned.proofs.Examples.Views.{bank, banks, mine, yours, nobodys, main, callee, last, task, called, free, on_bank, slot, dead, row, runs, waits, left, caller, bank_caller, alone, with_callee, and_rogue}
+use Rattle.sw_owned.proofs.Examples.Views.{bank, banks, mine, yours, nobodys, main, callee, last}
+use Rattle.sw_owned.proofs.Examples.Views.{task, called, free, on_bank, slot, dead, row, runs}
+use Rattle.sw_owned.proofs.Examples.Views.{waits, left, caller, bank_caller, alone, with_callee}
+use Rattle.sw_owned.proofs.Examples.Views.{and_rogue}
 
 -- ---- a call that shares its argument
 abbrev plainly : Shape

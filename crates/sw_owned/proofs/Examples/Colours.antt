@@ -1,16 +1,27 @@
 -- What each move of colours needs, and what a job needs to run.
-use Rattle.std.specs.Prelude.{◌≡◌, ℕ, zero, suc, Bool, true, false, IsTrue, None, List, [], ◌∷◌, ◌&&◌, refl}
+use Rattle.std.specs.Prelude.{◌≡◌, ℕ, zero, suc, Bool, true, false, IsTrue, None, List, [], ◌∷◌}
+use Rattle.std.specs.Prelude.{◌&&◌, refl}
 use Rattle.std.proofs.Common.{subst, arith}
 use Rattle.sw_owned.specs.Colours.{Actor, Colour, Executor, Generic, On}
-use Rattle.sw_owned.specs.View.{Frame, Here, Register, Isolation, Nonisolated, IsolatedTo, MakesActor, Shape, RunsOn}
+use Rattle.sw_owned.specs.View.{Frame, Here, Register, Isolation, Nonisolated, IsolatedTo}
+use Rattle.sw_owned.specs.View.{MakesActor, Shape, RunsOn}
 use Rattle.sw_owned.specs.Within.{Closed}
 use Rattle.sw_owned.specs.Sketch.{Slot, Row, Job, view_of}
-use Rattle.sw_owned.specs.Premises.{IsNeeded, IsPossible, StaysSound, LeavesNothing, MergedPremise, merged_says, Top, HoldsLost, HoldsKept, Recolours, Joined, UnheldPremise, unheld_says, Unheld, SameShape, HereTurns, Held, GivenPremise, given_says, Weakens, Free, Gone, ClosedPremise, closed_says, Jobs, NewShape, SameHere, Others, HandsOver, HandsOverPremise, hands_over_says, Closes, Makes, DispatchedPremise, dispatched_says, Heights, Running, Frames, Exclusive}
+use Rattle.sw_owned.specs.Premises.{IsNeeded, IsPossible, StaysSound, LeavesNothing, MergedPremise}
+use Rattle.sw_owned.specs.Premises.{merged_says, Top, HoldsLost, HoldsKept, Recolours, Joined}
+use Rattle.sw_owned.specs.Premises.{UnheldPremise, unheld_says, Unheld, SameShape, HereTurns, Held}
+use Rattle.sw_owned.specs.Premises.{GivenPremise, given_says, Weakens, Free, Gone, ClosedPremise}
+use Rattle.sw_owned.specs.Premises.{closed_says, Jobs, NewShape, SameHere, Others, HandsOver}
+use Rattle.sw_owned.specs.Premises.{HandsOverPremise, hands_over_says, Closes, Makes}
+use Rattle.sw_owned.specs.Premises.{DispatchedPremise, dispatched_says, Heights, Running, Frames}
+use Rattle.sw_owned.specs.Premises.{Exclusive}
 use Rattle.sw_owned.proofs.Sketches.Tests.{sound_view}
 use Rattle.sw_owned.proofs.Sketches.Reading.{there, same_heights, fewer_run, all_kept_but, kept_but}
 use Rattle.sw_owned.proofs.Sketches.Moves.{same_jobs}
-use Rattle.sw_owned.proofs.Sketches.Premises.{closed_by, dispatched_by, given_by, merged_by, unheld_by, runs_by}
-use Rattle.sw_owned.proofs.Examples.Views.{bank, banks, mine, yours, nobodys, main, callee, task, called, free, on_bank, slot, dead, row, runs, waits}
+use Rattle.sw_owned.proofs.Sketches.Premises.{closed_by, dispatched_by, given_by, merged_by}
+use Rattle.sw_owned.proofs.Sketches.Premises.{unheld_by, runs_by}
+use Rattle.sw_owned.proofs.Examples.Views.{bank, banks, mine, yours, nobodys, main, callee, task}
+use Rattle.sw_owned.proofs.Examples.Views.{called, free, on_bank, slot, dead, row, runs, waits}
 
 -- ---- two colours become one
 -- one frame with two registers: their regions and colours

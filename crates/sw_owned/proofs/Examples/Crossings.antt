@@ -4,11 +4,18 @@ use Rattle.std.proofs.Common.{inr, arith}
 use Rattle.sw_owned.specs.Colours.{Colour, Executor, Generic, On}
 use Rattle.sw_owned.specs.View.{Here, Register, Nonisolated, IsolatedTo, MakesActor, Shape}
 use Rattle.sw_owned.specs.Sketch.{Row, Job, view_of}
-use Rattle.sw_owned.specs.Premises.{IsNeeded, IsPossible, StaysSound, WeakPremise, weak_says, Calls, Crosses, NoExecutor, NotIsolated, Colours, Result, Free, StrongPremise, strong_says, Leaves, IsIsolated, OnActor, HereColour, NoResult, MakePremise, make_says, Stays, SameExecutor, Makes, SpawnedPremise, spawned_says, Pushes, Others, Ready, Held, Stands}
+use Rattle.sw_owned.specs.Premises.{IsNeeded, IsPossible, StaysSound, WeakPremise, weak_says, Calls}
+use Rattle.sw_owned.specs.Premises.{Crosses, NoExecutor, NotIsolated, Colours, Result, Free}
+use Rattle.sw_owned.specs.Premises.{StrongPremise, strong_says, Leaves, IsIsolated, OnActor}
+use Rattle.sw_owned.specs.Premises.{HereColour, NoResult, MakePremise, make_says, Stays}
+use Rattle.sw_owned.specs.Premises.{SameExecutor, Makes, SpawnedPremise, spawned_says, Pushes}
+use Rattle.sw_owned.specs.Premises.{Others, Ready, Held, Stands}
 use Rattle.sw_owned.proofs.Sketches.Tests.{sound_view}
 use Rattle.sw_owned.proofs.Sketches.Reading.{there}
 use Rattle.sw_owned.proofs.Sketches.Premises.{make_by, spawned_by, strong_by, weak_by, runs_by}
-use Rattle.sw_owned.proofs.Examples.Views.{bank, banks, mine, yours, nobodys, main, callee, task, called, free, on_bank, slot, dead, row, runs, waits, left, caller, bank_caller, alone, with_callee, and_rogue}
+use Rattle.sw_owned.proofs.Examples.Views.{bank, banks, mine, yours, nobodys, main, callee, task}
+use Rattle.sw_owned.proofs.Examples.Views.{called, free, on_bank, slot, dead, row, runs, waits}
+use Rattle.sw_owned.proofs.Examples.Views.{left, caller, bank_caller, alone, with_callee, and_rogue}
 
 -- ---- a call that leaves its caller's actor
 abbrev weakly : Shape

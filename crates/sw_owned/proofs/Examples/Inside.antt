@@ -1,17 +1,24 @@
 -- What each move inside frames needs.
-use Rattle.std.specs.Prelude.{◌≡◌, ◌≢◌, ℕ, zero, suc, Bool, true, false, Some, None, List, [], ◌∷◌, ◌<◌, ◌||◌, Contains, slice_index_or, refl}
+use Rattle.std.specs.Prelude.{◌≡◌, ◌≢◌, ℕ, zero, suc, Bool, true, false, Some, None, List, [], ◌∷◌}
+use Rattle.std.specs.Prelude.{◌<◌, ◌||◌, Contains, slice_index_or, refl}
 use Rattle.std.specs.List.{list_all}
 use Rattle.std.proofs.lemmas.Bool.{or_cases}
 use Rattle.std.proofs.Common.{sym, ap, ◌∙◌, inl, inr, arith}
 use Rattle.sw_owned.specs.Colours.{Colour, Generic, On}
-use Rattle.sw_owned.specs.View.{Element, Here, Register, Nonisolated, IsolatedTo, View, HoldsLive, Together}
+use Rattle.sw_owned.specs.View.{Element, Here, Register, Nonisolated, IsolatedTo, View, HoldsLive}
+use Rattle.sw_owned.specs.View.{Together}
 use Rattle.sw_owned.specs.Sketch.{Job, row_at, view_of}
-use Rattle.sw_owned.specs.Premises.{IsNeeded, IsPossible, StaysSound, WithinPremise, within_says, Change, Held, Joined, ComesPremise, comes_says, FreshenedPremise, freshened_says, Fresh, NewColour, WeakenedPremise, weakened_says, Top, Jobs, SameShape, SameHere, Others, Heights, Running}
+use Rattle.sw_owned.specs.Premises.{IsNeeded, IsPossible, StaysSound, WithinPremise, within_says}
+use Rattle.sw_owned.specs.Premises.{Change, Held, Joined, ComesPremise, comes_says}
+use Rattle.sw_owned.specs.Premises.{FreshenedPremise, freshened_says, Fresh, NewColour}
+use Rattle.sw_owned.specs.Premises.{WeakenedPremise, weakened_says, Top, Jobs, SameShape, SameHere}
+use Rattle.sw_owned.specs.Premises.{Others, Heights, Running}
 use Rattle.sw_owned.proofs.Sketches.Tests.{sound_view, holders, held_in, in_all}
 use Rattle.sw_owned.proofs.Sketches.Reading.{there, joined, holds_live, held_by, for_holders}
 use Rattle.sw_owned.proofs.Sketches.Moves.{same_element, same_element_true, changes_top}
 use Rattle.sw_owned.proofs.Sketches.Premises.{freshened_by, weakened_by, within_by, runs_by}
-use Rattle.sw_owned.proofs.Examples.Views.{bank, banks, mine, yours, nobodys, main, callee, task, called, free, on_bank, slot, dead, row, runs, waits}
+use Rattle.sw_owned.proofs.Examples.Views.{bank, banks, mine, yours, nobodys, main, callee, task}
+use Rattle.sw_owned.proofs.Examples.Views.{called, free, on_bank, slot, dead, row, runs, waits}
 
 -- one frame with two registers
 abbrev two : List Job

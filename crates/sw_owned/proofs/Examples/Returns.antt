@@ -1,15 +1,19 @@
 -- What a return needs, and the end of a job.
-use Rattle.std.specs.Prelude.{◌≡◌, ◌⊎◌, ℕ, Bool, true, false, Option, Some, None, List, [], ◌∷◌, refl}
+use Rattle.std.specs.Prelude.{◌≡◌, ◌⊎◌, ℕ, Bool, true, false, Option, Some, None, List, [], ◌∷◌}
+use Rattle.std.specs.Prelude.{refl}
 use Rattle.std.proofs.Common.{inl, inr, arith}
 use Rattle.sw_owned.specs.Colours.{Colour, Generic, On}
 use Rattle.sw_owned.specs.View.{Element, Here, Register, Nonisolated, HoldsLive}
 use Rattle.sw_owned.specs.Calls.{Handed}
 use Rattle.sw_owned.specs.Sketch.{Slot, Row, Job, row_at, view_of}
-use Rattle.sw_owned.specs.Premises.{IsNeeded, IsPossible, StaysSound, ReturnedPremise, returned_says, Top, Leaves, SameShape, Held, Joined, Others, EndedPremise, ended_says, Height, Heights, Running}
+use Rattle.sw_owned.specs.Premises.{IsNeeded, IsPossible, StaysSound, ReturnedPremise}
+use Rattle.sw_owned.specs.Premises.{returned_says, Top, Leaves, SameShape, Held, Joined, Others}
+use Rattle.sw_owned.specs.Premises.{EndedPremise, ended_says, Height, Heights, Running}
 use Rattle.sw_owned.proofs.Sketches.Tests.{sound_view, holders}
 use Rattle.sw_owned.proofs.Sketches.Reading.{there, AllHold, holds_live, running, for_holders}
 use Rattle.sw_owned.proofs.Sketches.Premises.{ended_by, returned_by, runs_by}
-use Rattle.sw_owned.proofs.Examples.Views.{bank, banks, mine, yours, nobodys, main, callee, task, called, free, on_bank, slot, dead, row, runs, waits}
+use Rattle.sw_owned.proofs.Examples.Views.{bank, banks, mine, yours, nobodys, main, callee, task}
+use Rattle.sw_owned.proofs.Examples.Views.{called, free, on_bank, slot, dead, row, runs, waits}
 
 -- a caller whose second register waits, or has the result: its colour and its region
 abbrev waiting : Row

@@ -3,18 +3,21 @@
 use Rattle.std.specs.Prelude.{◌≡◌, ◌⊎◌, ℕ, Bool, true, false, Some, None, List, [], ◌∷◌, refl}
 use Rattle.std.proofs.Common.{inl, inr, arith}
 use Rattle.sw_owned.specs.Colours.{Actor, Colour, OfActor, Generic, On}
-use Rattle.sw_owned.specs.View.{Frame, Element, Here, Register, Nonisolated, MakesActor, View, HoldsLive, RunsOn}
+use Rattle.sw_owned.specs.View.{Frame, Element, Here, Register, Nonisolated, MakesActor, View}
+use Rattle.sw_owned.specs.View.{HoldsLive, RunsOn}
 use Rattle.sw_owned.specs.Owned.{IsOwned, IsStacked, IsReturnLinked, IsInitialiserLinked, IsSound}
 use Rattle.sw_owned.specs.Within.{Kept, Merged, Recoloured, Closed}
 use Rattle.sw_owned.specs.Calls.{Returned}
 use Rattle.sw_owned.specs.Sketch.{Job, view_of}
 use Rattle.sw_owned.specs.Premises.{WaitsOn}
-use Rattle.sw_owned.proofs.Sketches.Tests.{sound_view, owned_view, stacked_view, returns_view, initialisers_view}
+use Rattle.sw_owned.proofs.Sketches.Tests.{sound_view, owned_view, stacked_view, returns_view}
+use Rattle.sw_owned.proofs.Sketches.Tests.{initialisers_view}
 use Rattle.sw_owned.proofs.Sketches.Reading.{there, joined, for_holders, held_by, kept_but}
 use Rattle.sw_owned.proofs.Sketches.Moves.{popped, same_jobs, recoloured}
 use Rattle.sw_owned.proofs.MergedLemmas.{others_stay}
 use Rattle.sw_owned.proofs.Sketches.Premises.{runs_by}
-use Rattle.sw_owned.proofs.Examples.Views.{bank, banks, mine, yours, main, callee, task, called, free, on_bank, slot, dead, row, runs, waits}
+use Rattle.sw_owned.proofs.Examples.Views.{bank, banks, mine, yours, main, callee, task, called}
+use Rattle.sw_owned.proofs.Examples.Views.{free, on_bank, slot, dead, row, runs, waits}
 
 -- `let z = Cell(); let a = Cell(); let r = pick(a)`, where `pick` has z in its register
 abbrev picking : List Job

@@ -2,15 +2,23 @@
 use Rattle.std.proofs.Common.{sym, subst, ap, ◌∙◌, inl, inr, arith}
 use Rattle.std.proofs.lemmas.Bool.{and_parts, or_cases, not-true, eqb-true, eq-eqb}
 use Rattle.std.specs.List.{list_all, list_any}
-use Rattle.std.specs.Prelude.{◌≡◌, ◌⊎◌, ℕ, suc, Bool, true, false, not, ◌&&◌, ◌||◌, ◌==◌, if◌then◌else◌, nat_lt, Some, None, List, [], ◌∷◌, refl}
+use Rattle.std.specs.Prelude.{◌≡◌, ◌⊎◌, ℕ, suc, Bool, true, false, not, ◌&&◌, ◌||◌, ◌==◌}
+use Rattle.std.specs.Prelude.{if◌then◌else◌, nat_lt, Some, None, List, [], ◌∷◌, refl}
 use Rattle.sw_owned.specs.Calls.{Pushed, Called, ResultWith, Popped}
 use Rattle.sw_owned.specs.Colours.{Colour, OfJob, OfActor}
 use Rattle.sw_owned.specs.Sketch.{Job, row_at, region_in, view_of}
-use Rattle.sw_owned.specs.View.{Frame, above, Element, Here, Register, IsFrame, HoldsLive, IsUnheld, IsDisconnected, Together}
-use Rattle.sw_owned.specs.Within.{Kept, KeptLive, SameJobs, ChangesTop, Becomes, Recoloured, Weakened}
-use Rattle.sw_owned.proofs.Sketches.Same.{same_colour, same_colour_refl, same_colour_true, same_shapes, same_shapes_true}
-use Rattle.sw_owned.proofs.Sketches.Tests.{each_frame, each_pair, frame_passes, held_in, holders, implied, implies, in_all, pair_all, row_of}
-use Rattle.sw_owned.proofs.Sketches.Reading.{all_held, all_kept_but, fewer_run, height_at, heights, heights_but, held_by, holds_live, joined, kept, kept_but, running, same_heights, same_heights_but, still_joined, there}
+use Rattle.sw_owned.specs.View.{Frame, above, Element, Here, Register, IsFrame, HoldsLive, IsUnheld}
+use Rattle.sw_owned.specs.View.{IsDisconnected, Together}
+use Rattle.sw_owned.specs.Within.{Kept, KeptLive, SameJobs, ChangesTop, Becomes, Recoloured}
+use Rattle.sw_owned.specs.Within.{Weakened}
+use Rattle.sw_owned.proofs.Sketches.Same.{same_colour, same_colour_refl, same_colour_true}
+use Rattle.sw_owned.proofs.Sketches.Same.{same_shapes, same_shapes_true}
+use Rattle.sw_owned.proofs.Sketches.Tests.{each_frame, each_pair, frame_passes, held_in, holders}
+use Rattle.sw_owned.proofs.Sketches.Tests.{implied, implies, in_all, pair_all, row_of}
+use Rattle.sw_owned.proofs.Sketches.Reading.{all_held, all_kept_but, fewer_run, height_at, heights}
+use Rattle.sw_owned.proofs.Sketches.Reading.{heights_but, held_by, holds_live, joined, kept}
+use Rattle.sw_owned.proofs.Sketches.Reading.{kept_but, running, same_heights, same_heights_but}
+use Rattle.sw_owned.proofs.Sketches.Reading.{still_joined, there}
 
 -- ---- whole groups of premises
 pub same_jobs : (old new : List Job) → (same_heights old new && fewer_run old new) ≡ true

@@ -1,20 +1,51 @@
 -- A test of each premise of a move between small views: where it passes, the premise holds. Where a
 -- premise is not decided by a test, its test fails, and an example shows it by itself.
-use Rattle.std.specs.Prelude.{◌≡◌, ◌≢◌, ℕ, suc, Bool, true, false, not, ◌&&◌, ◌||◌, ◌==◌, Option, Some, None, List, refl, ◌⊎◌}
+use Rattle.std.specs.Prelude.{◌≡◌, ◌≢◌, ℕ, suc, Bool, true, false, not, ◌&&◌, ◌||◌, ◌==◌, Option}
+use Rattle.std.specs.Prelude.{Some, None, List, refl, ◌⊎◌}
 use Rattle.std.specs.List.{list_all}
 use Rattle.std.proofs.Common.{subst, ap, ◌∙◌, inl, inr}
 use Rattle.std.proofs.lemmas.Bool.{and_parts, or_cases, not-true, eqb-true, eq-eqb}
 use Rattle.sw_owned.specs.Colours.{Actor, Colour, OfJob, OfActor, Generic, On, Executor}
-use Rattle.sw_owned.specs.View.{Frame, above, bottom, Element, Here, Register, Isolation, Nonisolated, IsolatedTo, MakesActor, HoldsLive, RunsOn}
+use Rattle.sw_owned.specs.View.{Frame, above, bottom, Element, Here, Register, Isolation}
+use Rattle.sw_owned.specs.View.{Nonisolated, IsolatedTo, MakesActor, HoldsLive, RunsOn}
 use Rattle.sw_owned.specs.Calls.{ResultWith, IsOnActor, IsOnNone}
 use Rattle.sw_owned.specs.Calls.{ResultWith, IsOnActor, IsOnNone}
 use Rattle.sw_owned.specs.Sketch.{Job, item, no_job, row_at, region_in, view_of}
-use Rattle.sw_owned.specs.Premises.{WithinPremise, within_says, FreshenedPremise, freshened_says, MergedPremise, merged_says, WeakenedPremise, weakened_says, UnheldPremise, unheld_says, GivenPremise, given_says, ClosedPremise, closed_says, DispatchedPremise, dispatched_says, PlainPremise, plain_says, SamePremise, same_says, WeakPremise, weak_says, StrongPremise, strong_says, MakePremise, make_says, SpawnedPremise, spawned_says, ReturnedPremise, returned_says, EndedPremise, ended_says}
-use Rattle.sw_owned.specs.Premises.{Top, Jobs, SameShape, SameHere, Others, Held, Joined, Change, Fresh, NewColour, HoldsLost, HoldsKept, Recolours, Heights, Running, Unheld, HereTurns, Weakens, Free, Gone, NewShape, Frames, Exclusive, Before, Height, Fits, NotClosing, CallerShape, CallerHeld, CallerJoined, Sent, Stays, SameExecutor, Isolated, NoInitialiser, HereColour, Colours, Result, Calls, IsIsolated, CallerHere, Crosses, NoExecutor, NotIsolated, Leaves, OnActor, NoResult, Makes, Pushes, Ready, Stands}
-use Rattle.sw_owned.proofs.Sketches.Same.{same_colour, same_colour_true, same_executor, same_executor_true, same_bool, same_bool_true, same_isolation, same_isolation_true, same_result, same_result_true, same_shapes, same_shapes_true}
-use Rattle.sw_owned.proofs.Sketches.Tests.{implies, implied, each_frame, row_of, holders, held_in, in_all}
-use Rattle.sw_owned.proofs.Sketches.Reading.{there, holds_live, all_held, held_by, joined, still_joined, all_kept, all_kept_but, kept, kept_but, height_at, same_heights, same_heights_but, fewer_run, fewer_run_but, heights, heights_but, running, running_but}
-use Rattle.sw_owned.proofs.Sketches.Moves.{no_result, result_with, same_element, same_element_true, turns, turned, lesser, recoloured, recoloured_test, all_shapes, all_heres, all_lesser, all_turn, all_turned, all_joined, weakens, same_jobs, changes_top, changes_test, is_unheld, unheld_test, calls, called_test, disconnected, disconnected_test, pushed, pushed_test, holds_here, fits_new, together_in, live_joined, live_joined_test, sent, handed_in, is_of_job, of_job}
+use Rattle.sw_owned.specs.Premises.{WithinPremise, within_says, FreshenedPremise, freshened_says}
+use Rattle.sw_owned.specs.Premises.{MergedPremise, merged_says, WeakenedPremise, weakened_says}
+use Rattle.sw_owned.specs.Premises.{UnheldPremise, unheld_says, GivenPremise, given_says}
+use Rattle.sw_owned.specs.Premises.{ClosedPremise, closed_says, DispatchedPremise, dispatched_says}
+use Rattle.sw_owned.specs.Premises.{PlainPremise, plain_says, SamePremise, same_says, WeakPremise}
+use Rattle.sw_owned.specs.Premises.{weak_says, StrongPremise, strong_says, MakePremise, make_says}
+use Rattle.sw_owned.specs.Premises.{SpawnedPremise, spawned_says, ReturnedPremise, returned_says}
+use Rattle.sw_owned.specs.Premises.{EndedPremise, ended_says, Top, Jobs, SameShape, SameHere}
+use Rattle.sw_owned.specs.Premises.{Others, Held, Joined, Change, Fresh, NewColour, HoldsLost}
+use Rattle.sw_owned.specs.Premises.{HoldsKept, Recolours, Heights, Running, Unheld, HereTurns}
+use Rattle.sw_owned.specs.Premises.{Weakens, Free, Gone, NewShape, Frames, Exclusive, Before}
+use Rattle.sw_owned.specs.Premises.{Height, Fits, NotClosing, CallerShape, CallerHeld, CallerJoined}
+use Rattle.sw_owned.specs.Premises.{Sent, Stays, SameExecutor, Isolated, NoInitialiser, HereColour}
+use Rattle.sw_owned.specs.Premises.{Colours, Result, Calls, IsIsolated, CallerHere, Crosses}
+use Rattle.sw_owned.specs.Premises.{NoExecutor, NotIsolated, Leaves, OnActor, NoResult, Makes}
+use Rattle.sw_owned.specs.Premises.{Pushes, Ready, Stands}
+use Rattle.sw_owned.proofs.Sketches.Same.{same_colour, same_colour_true, same_executor}
+use Rattle.sw_owned.proofs.Sketches.Same.{same_executor_true, same_bool, same_bool_true}
+use Rattle.sw_owned.proofs.Sketches.Same.{same_isolation, same_isolation_true, same_result}
+use Rattle.sw_owned.proofs.Sketches.Same.{same_result_true, same_shapes, same_shapes_true}
+use Rattle.sw_owned.proofs.Sketches.Tests.{implies, implied, each_frame, row_of, holders, held_in}
+use Rattle.sw_owned.proofs.Sketches.Tests.{in_all}
+use Rattle.sw_owned.proofs.Sketches.Reading.{there, holds_live, all_held, held_by, joined}
+use Rattle.sw_owned.proofs.Sketches.Reading.{still_joined, all_kept, all_kept_but, kept, kept_but}
+use Rattle.sw_owned.proofs.Sketches.Reading.{height_at, same_heights, same_heights_but, fewer_run}
+use Rattle.sw_owned.proofs.Sketches.Reading.{fewer_run_but, heights, heights_but, running}
+use Rattle.sw_owned.proofs.Sketches.Reading.{running_but}
+use Rattle.sw_owned.proofs.Sketches.Moves.{no_result, result_with, same_element, same_element_true}
+use Rattle.sw_owned.proofs.Sketches.Moves.{turns, turned, lesser, recoloured, recoloured_test}
+use Rattle.sw_owned.proofs.Sketches.Moves.{all_shapes, all_heres, all_lesser, all_turn, all_turned}
+use Rattle.sw_owned.proofs.Sketches.Moves.{all_joined, weakens, same_jobs, changes_top}
+use Rattle.sw_owned.proofs.Sketches.Moves.{changes_test, is_unheld, unheld_test, calls, called_test}
+use Rattle.sw_owned.proofs.Sketches.Moves.{disconnected, disconnected_test, pushed, pushed_test}
+use Rattle.sw_owned.proofs.Sketches.Moves.{holds_here, fits_new, together_in, live_joined}
+use Rattle.sw_owned.proofs.Sketches.Moves.{live_joined_test, sent, handed_in, is_of_job, of_job}
 
 -- ---- single tests
 abbrev pub is_top : List Job → Frame → Bool

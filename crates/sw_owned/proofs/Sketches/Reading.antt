@@ -1,15 +1,20 @@
 -- How a fact of small views is read off them.
 use Rattle.std.proofs.Common.{sym, subst, ap, ◌∙◌, inl, inr, arith}
-use Rattle.std.proofs.lemmas.Bool.{and_parts, or_cases, not-true, ltb-true, eqb-true, eq-eqb, cases_lt, cases_eq}
+use Rattle.std.proofs.lemmas.Bool.{and_parts, or_cases, not-true, ltb-true, eqb-true, eq-eqb}
+use Rattle.std.proofs.lemmas.Bool.{cases_lt, cases_eq}
 use Rattle.std.specs.List.{list_all, list_any}
-use Rattle.std.specs.Prelude.{◌≡◌, ◌≢◌, ◌⊎◌, ℕ, zero, suc, ◌+◌, ◌<◌, Bool, true, false, not, ◌&&◌, ◌||◌, ◌==◌, nat_lt, IsTrue, ◌≤◌, List, [], ◌∷◌, length, Contains, refl}
+use Rattle.std.specs.Prelude.{◌≡◌, ◌≢◌, ◌⊎◌, ℕ, zero, suc, ◌+◌, ◌<◌, Bool, true, false, not, ◌&&◌}
+use Rattle.std.specs.Prelude.{◌||◌, ◌==◌, nat_lt, IsTrue, ◌≤◌, List, [], ◌∷◌, length, Contains}
+use Rattle.std.specs.Prelude.{refl}
 use Rattle.sw_owned.specs.Colours.{Colour}
-use Rattle.sw_owned.specs.Sketch.{Slot, Row, Job, item, no_slot, no_job, rows_of, row_at, region_in, view_of}
+use Rattle.sw_owned.specs.Sketch.{Slot, Row, Job, item, no_slot, no_job, rows_of, row_at, region_in}
+use Rattle.sw_owned.specs.Sketch.{view_of}
 use Rattle.sw_owned.specs.View.{Frame, Element, Here, Register, IsFrame, HoldsLive, Together}
 use Rattle.sw_owned.specs.Within.{Kept}
 use Rattle.sw_owned.proofs.FrameLemmas.{same_frame}
 use Rattle.sw_owned.proofs.Sketches.Same.{same_colour, same_colour_true, same_rows, same_rows_true}
-use Rattle.sw_owned.proofs.Sketches.Tests.{In, all_below, below_all, each_frame, frame_passes, held_in, holders, implied, implies, in_all, row_of}
+use Rattle.sw_owned.proofs.Sketches.Tests.{In, all_below, below_all, each_frame, frame_passes}
+use Rattle.sw_owned.proofs.Sketches.Tests.{held_in, holders, implied, implies, in_all, row_of}
 
 -- ---- what an element holds
 abbrev pub is_alive : Row → Element → Colour → Bool

@@ -1,8 +1,10 @@
 -- Tests of equality, and that they tell.
 use Rattle.std.proofs.Common.{sym, ap, ◌∙◌}
 use Rattle.std.proofs.lemmas.Bool.{and_parts, not-true, eqb-true, eq-eqb}
-use Rattle.std.specs.Prelude.{◌≡◌, ℕ, Bool, true, false, not, ◌&&◌, ◌==◌, Option, Some, None, List, [], ◌∷◌, refl}
-use Rattle.sw_owned.specs.Colours.{Actor, Instance, GlobalActor, Colour, OfJob, OfActor, Executor, Generic, On}
+use Rattle.std.specs.Prelude.{◌≡◌, ℕ, Bool, true, false, not, ◌&&◌, ◌==◌, Option, Some, None, List}
+use Rattle.std.specs.Prelude.{[], ◌∷◌, refl}
+use Rattle.sw_owned.specs.Colours.{Actor, Instance, GlobalActor, Colour, OfJob, OfActor, Executor}
+use Rattle.sw_owned.specs.Colours.{Generic, On}
 use Rattle.sw_owned.specs.Sketch.{Slot, Row}
 use Rattle.sw_owned.specs.View.{Isolation, Nonisolated, IsolatedTo, MakesActor, Shape}
 

@@ -2,13 +2,20 @@
 use Rattle.std.proofs.Common.{sym, subst, ap, ◌∙◌, inl, inr, arith}
 use Rattle.std.proofs.lemmas.Bool.{and_parts, or_cases, not-true, eqb-true, cases_eq, or_right}
 use Rattle.std.specs.List.{list_all}
-use Rattle.std.specs.Prelude.{◌≡◌, ◌⊎◌, ℕ, zero, suc, ◌+◌, ◌<◌, Bool, true, false, not, ◌&&◌, ◌||◌, ◌==◌, if◌then◌else◌, Option, Some, None, List, [], ◌∷◌, length, Contains, refl, ◌++◌, slice_index_or}
+use Rattle.std.specs.Prelude.{◌≡◌, ◌⊎◌, ℕ, zero, suc, ◌+◌, ◌<◌, Bool, true, false, not, ◌&&◌, ◌||◌}
+use Rattle.std.specs.Prelude.{◌==◌, if◌then◌else◌, Option, Some, None, List, [], ◌∷◌, length}
+use Rattle.std.specs.Prelude.{Contains, refl, ◌++◌, slice_index_or}
 use Rattle.sw_owned.specs.Colours.{Actor, Colour, OfJob, OfActor, Executor, Generic, On, IsOwnedBy}
 use Rattle.sw_owned.specs.Owned.{IsOwned, IsStacked, IsReturnLinked, IsInitialiserLinked, IsSound}
-use Rattle.sw_owned.specs.Sketch.{Slot, Row, Job, item, no_slot, no_job, rows_of, row_at, region_in, view_of, no_row}
-use Rattle.sw_owned.specs.View.{Frame, above, Element, Here, Register, Isolation, Nonisolated, IsolatedTo, MakesActor, Shape, IsFrame, HoldsLive, Together, IsBelow, View, RunsOn}
+use Rattle.sw_owned.specs.Sketch.{Slot, Row, Job, item, no_slot, no_job, rows_of, row_at, region_in}
+use Rattle.sw_owned.specs.Sketch.{view_of, no_row}
+use Rattle.sw_owned.specs.View.{Frame, above, Element, Here, Register, Isolation, Nonisolated}
+use Rattle.sw_owned.specs.View.{IsolatedTo, MakesActor, Shape, IsFrame, HoldsLive, Together}
+use Rattle.sw_owned.specs.View.{IsBelow, View, RunsOn}
 use Rattle.sw_owned.proofs.FrameLemmas.{top_is_frame}
-use Rattle.sw_owned.proofs.Sketches.Same.{same_actor, same_actor_refl, same_actor_true, same_colour, same_colour_refl, same_colour_true, same_executor, same_executor_true, stands_on, stands_on_true}
+use Rattle.sw_owned.proofs.Sketches.Same.{same_actor, same_actor_refl, same_actor_true, same_colour}
+use Rattle.sw_owned.proofs.Sketches.Same.{same_colour_refl, same_colour_true, same_executor}
+use Rattle.sw_owned.proofs.Sketches.Same.{same_executor_true, stands_on, stands_on_true}
 
 -- ---- tests of all numbers below one, and of all items
 abbrev pub all_below : ℕ → (ℕ → Bool) → Bool

@@ -11,7 +11,8 @@ new-requires c = record {
   numbered = subst (All IsNumbered)
       (sym (c.in_ok-functions.ensures
       ∙ ap (functions_of c.args.sizes) c.in_ok-measured.ensures))
-      (numbered (functions_of c.args.sizes (calls c.args.sizes)) (calls_fit c.args.sizes c.requires).limits);
+      (numbered (functions_of c.args.sizes (calls c.args.sizes))
+      (calls_fit c.args.sizes c.requires).limits);
 }
 
 pub graph_of-requires : goal.graph_of-requires

@@ -14,7 +14,8 @@ new-requires c = record {
       (sym (c.in_ok-functions.ensures
       ∙ ap (functions_of c.args.sizes)
       (c.in_ok-measured.ensures ∙ ap (body (Plain Int)) c.in_ok-instrs.ensures)))
-      (numbered (functions_of c.args.sizes (straight c.args.sizes)) (straight_fits c.args.sizes c.requires).limits);
+      (numbered (functions_of c.args.sizes (straight c.args.sizes))
+      (straight_fits c.args.sizes c.requires).limits);
 }
 
 pub graph_of-requires : goal.graph_of-requires

@@ -10,4 +10,5 @@ abbrev pub invariant-loop-func : goal.invariant-loop-func
 invariant-loop-func l =
     bodies_by (tables_by l.known) l.bodies
     ++ flat_map (func_tree_bodies (tables_by l.known)) (drop l.func-index l.funcs)
-    ≡ bodies_by (tables_by l.known) l.fn.bodies ++ flat_map (func_tree_bodies (tables_by l.known)) l.funcs
+    ≡ bodies_by (tables_by l.known) l.fn.bodies
+    ++ flat_map (func_tree_bodies (tables_by l.known)) l.funcs

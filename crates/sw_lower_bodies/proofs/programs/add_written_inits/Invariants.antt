@@ -10,4 +10,5 @@ abbrev pub invariant-loop-init : goal.invariant-loop-init
 invariant-loop-init l =
     bodies_by (tables_by l.known) l.bodies
     ++ flat_map (init_bodies (tables_by l.known) l.number l.props) (drop l.init-index l.inits)
-    ≡ bodies_by (tables_by l.known) l.fn.bodies ++ flat_map (init_bodies (tables_by l.known) l.number l.props) l.inits
+    ≡ bodies_by (tables_by l.known) l.fn.bodies
+    ++ flat_map (init_bodies (tables_by l.known) l.number l.props) l.inits

@@ -1,4 +1,5 @@
-use Rattle.sw_owned.proofs.CallLemmas.{called_plain, called_same, called_weak, called_strong, called_make}
+use Rattle.sw_owned.proofs.CallLemmas.{called_plain, called_same, called_weak, called_strong}
+use Rattle.sw_owned.proofs.CallLemmas.{called_make}
 use Rattle.sw_owned.proofs.laws.calls_keep_soundness.Goals as goal
 
 pub returns-clause-plain : goal.returns-clause-plain

@@ -1,6 +1,10 @@
-use Rattle.sw_owned.proofs.PremiseLemmas.{plain_whole, shares_whole, same_whole, weak_whole, strong_whole, make_whole, spawned_whole}
-use Rattle.sw_owned.proofs.Examples.Calls.{plain_possible, plain_needed, shares_needed, same_possible, same_needed}
-use Rattle.sw_owned.proofs.Examples.Crossings.{weak_possible, weak_needed, strong_possible, strong_needed, make_possible, make_needed, spawned_possible, spawned_needed}
+use Rattle.sw_owned.proofs.PremiseLemmas.{plain_whole, shares_whole, same_whole, weak_whole}
+use Rattle.sw_owned.proofs.PremiseLemmas.{strong_whole, make_whole, spawned_whole}
+use Rattle.sw_owned.proofs.Examples.Calls.{plain_possible, plain_needed, shares_needed}
+use Rattle.sw_owned.proofs.Examples.Calls.{same_possible, same_needed}
+use Rattle.sw_owned.proofs.Examples.Crossings.{weak_possible, weak_needed, strong_possible}
+use Rattle.sw_owned.proofs.Examples.Crossings.{strong_needed, make_possible, make_needed}
+use Rattle.sw_owned.proofs.Examples.Crossings.{spawned_possible, spawned_needed}
 use Rattle.sw_owned.proofs.premises.premises_of_calls.Goals as goal
 
 pub returns-clause-plain_whole : goal.returns-clause-plain_whole

@@ -1,5 +1,8 @@
-use Rattle.sw_owned.proofs.PremiseLemmas.{within_whole, comes_whole, freshened_whole, weakened_whole}
-use Rattle.sw_owned.proofs.Examples.Inside.{within_possible, within_needed, comes_possible, comes_needed, freshened_possible, freshened_needed, weakened_possible, weakened_needed}
+use Rattle.sw_owned.proofs.PremiseLemmas.{within_whole, comes_whole, freshened_whole}
+use Rattle.sw_owned.proofs.PremiseLemmas.{weakened_whole}
+use Rattle.sw_owned.proofs.Examples.Inside.{within_possible, within_needed, comes_possible}
+use Rattle.sw_owned.proofs.Examples.Inside.{comes_needed, freshened_possible, freshened_needed}
+use Rattle.sw_owned.proofs.Examples.Inside.{weakened_possible, weakened_needed}
 use Rattle.sw_owned.proofs.premises.premises_of_changes.Goals as goal
 
 pub returns-clause-within_whole : goal.returns-clause-within_whole

@@ -1,5 +1,9 @@
-use Rattle.sw_owned.proofs.PremiseLemmas.{merged_whole, unheld_whole, given_whole, closed_whole, dispatched_whole}
-use Rattle.sw_owned.proofs.Examples.Colours.{merged_possible, merged_needed, unheld_possible, unheld_needed, given_possible, given_needed, closed_possible, closed_needed, hands_over_needed, dispatched_possible, dispatched_needed}
+use Rattle.sw_owned.proofs.PremiseLemmas.{merged_whole, unheld_whole, given_whole, closed_whole}
+use Rattle.sw_owned.proofs.PremiseLemmas.{dispatched_whole}
+use Rattle.sw_owned.proofs.Examples.Colours.{merged_possible, merged_needed, unheld_possible}
+use Rattle.sw_owned.proofs.Examples.Colours.{unheld_needed, given_possible, given_needed}
+use Rattle.sw_owned.proofs.Examples.Colours.{closed_possible, closed_needed, hands_over_needed}
+use Rattle.sw_owned.proofs.Examples.Colours.{dispatched_possible, dispatched_needed}
 use Rattle.sw_owned.proofs.premises.premises_of_colours.Goals as goal
 
 pub returns-clause-merged_whole : goal.returns-clause-merged_whole

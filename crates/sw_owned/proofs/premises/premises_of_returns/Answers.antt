@@ -1,5 +1,6 @@
 use Rattle.sw_owned.proofs.PremiseLemmas.{returned_whole, ended_whole}
-use Rattle.sw_owned.proofs.Examples.Returns.{returned_possible, returned_needed, ended_possible, ended_needed}
+use Rattle.sw_owned.proofs.Examples.Returns.{returned_possible, returned_needed, ended_possible}
+use Rattle.sw_owned.proofs.Examples.Returns.{ended_needed}
 use Rattle.sw_owned.proofs.premises.premises_of_returns.Goals as goal
 
 pub returns-clause-returned_whole : goal.returns-clause-returned_whole

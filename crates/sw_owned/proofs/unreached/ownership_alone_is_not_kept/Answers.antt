@@ -1,4 +1,5 @@
-use Rattle.sw_owned.proofs.Examples.Unreached.{without_return_link, without_initialiser_link, without_stack_shape}
+use Rattle.sw_owned.proofs.Examples.Unreached.{without_return_link, without_initialiser_link}
+use Rattle.sw_owned.proofs.Examples.Unreached.{without_stack_shape}
 use Rattle.sw_owned.proofs.unreached.ownership_alone_is_not_kept.Goals as goal
 
 pub returns-clause-without_return_link : goal.returns-clause-without_return_link

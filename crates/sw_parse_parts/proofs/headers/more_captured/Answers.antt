@@ -17,6 +17,7 @@ loop-words-smaller c =
 pub loop-words-preserved : goal.loop-words-preserved
 loop-words-preserved c = rw c.in_ok-push-2.ensures.items
     (list_turn El shape_of (body (id_in c.args.names.now)) good c.args.depth (codes ",")
-    (captured (id_in c.args.names.now)) refl _ _ _ _ c.loop-words.words.items _ c.loop-words.invariant
+    (captured (id_in c.args.names.now)) refl _ _ _ _ c.loop-words.words.items _
+    c.loop-words.invariant
     (c.skip.ensures ∙ ap (λ found. Ok (found, c.skip.new.self)) c.loop-words-test.true)
     c.in_ok-captured.ensures)

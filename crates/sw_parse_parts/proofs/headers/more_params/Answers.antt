@@ -17,6 +17,7 @@ loop-alloc-smaller c =
 pub loop-alloc-preserved : goal.loop-alloc-preserved
 loop-alloc-preserved c = rw c.in_ok-push-2.ensures.items
     (list_turn El shape_of (body (id_in c.args.names.now)) good c.args.depth (codes ",")
-    (closure_param (id_in c.args.names.now)) refl _ _ _ _ c.loop-alloc.params.items _ c.loop-alloc.invariant
+    (closure_param (id_in c.args.names.now)) refl _ _ _ _ c.loop-alloc.params.items _
+    c.loop-alloc.invariant
     (c.skip.ensures ∙ ap (λ found. Ok (found, c.skip.new.self)) c.loop-alloc-test.true)
     c.in_ok-closure_param.ensures)

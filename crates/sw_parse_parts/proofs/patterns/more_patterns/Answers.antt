@@ -17,6 +17,7 @@ loop-patterns-smaller c =
 pub loop-patterns-preserved : goal.loop-patterns-preserved
 loop-patterns-preserved c = rw c.in_ok-push-2.ensures.items
     (list_turn El shape_of (body (id_in c.args.names.now)) good c.args.depth (codes ",")
-    (pattern (id_in c.args.names.now)) refl _ _ _ _ c.loop-patterns.patterns.items _ c.loop-patterns.invariant
+    (pattern (id_in c.args.names.now)) refl _ _ _ _ c.loop-patterns.patterns.items _
+    c.loop-patterns.invariant
     (c.skip.ensures ∙ ap (λ found. Ok (found, c.skip.new.self)) c.loop-patterns-test.true)
     c.in_ok-pattern.ensures)

@@ -8,7 +8,8 @@ use Rattle.sw_parse_parts.proofs.patterns.more_patterns.Given as goal
 
 abbrev pub invariant-loop-patterns : goal.invariant-loop-patterns
 invariant-loop-patterns l =
-    read (id_in l.names) l.depth (more_of (id_in l.names) l.patterns.items (pattern (id_in l.names)))
+    read (id_in l.names) l.depth
+    (more_of (id_in l.names) l.patterns.items (pattern (id_in l.names)))
     l.tokens
     ≡ read (id_in l.names) l.depth
     (more_of (id_in l.names) l.initial.patterns.items (pattern (id_in l.names))) l.initial.tokens

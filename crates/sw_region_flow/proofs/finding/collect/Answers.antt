@@ -12,8 +12,8 @@ loop-function-init g c = record {
 pub loop-function-preserved : goal.loop-function-preserved
 loop-function-preserved g c = record {
   found = breaks_more c.args.graph.now c.loop-function.function [] c.loop-function.found
-      c.add_breaches.new.found (omega (arith, c.len-function-end.ensures)) c.loop-function.invariant.found
-      c.in_ok-add_breaches.ensures.found;
+      c.add_breaches.new.found (omega (arith, c.len-function-end.ensures))
+      c.loop-function.invariant.found c.in_ok-add_breaches.ensures.found;
   joins = joins_more c.args.graph.now c.loop-function.function c.args.steps.now
       c.loop-function.steps c.add_breaches.new.steps (omega (arith, c.len-function-end.ensures))
       c.loop-function.invariant.joins c.add_breaches.ensures.joins;
@@ -21,7 +21,8 @@ loop-function-preserved g c = record {
 
 pub returns-clause-found : goal.returns-clause-found
 returns-clause-found g c = breaks_all c.args.graph.now c.loop-function.function
-    c.loop-function.found (omega (arith, c.len-function-end.ensures)) c.loop-function.invariant.found
+    c.loop-function.found (omega (arith, c.len-function-end.ensures))
+    c.loop-function.invariant.found
 
 pub returns-clause-joins : goal.returns-clause-joins
 returns-clause-joins g c = omega (
@@ -35,6 +36,6 @@ returns-in_err-add_breaches-clause-joins g c = omega (
   arith,
   joins_all c.args.graph.now (c.loop-function.function + 1),
   joins_more c.args.graph.now c.loop-function.function c.args.steps.now c.loop-function.steps
-      c.add_breaches.new.steps (omega (arith, c.len-function-end.ensures)) c.loop-function.invariant.joins
-      c.add_breaches.ensures.joins,
+      c.add_breaches.new.steps (omega (arith, c.len-function-end.ensures))
+      c.loop-function.invariant.joins c.add_breaches.ensures.joins,
 )

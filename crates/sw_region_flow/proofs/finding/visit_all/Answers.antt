@@ -12,5 +12,6 @@ loop-block-preserved c = visits_more c.args.flow.now.setting c.args.states.now c
 
 pub returns : goal.returns
 returns c = all_visited c.args.flow.now c.blocks-block-end.ensures.fits c.args.states.now c.requires
-    c.loop-block.block c.args.found.now c.loop-block.found (omega (arith, c.blocks-block-end.ensures.count))
+    c.loop-block.block c.args.found.now c.loop-block.found
+    (omega (arith, c.blocks-block-end.ensures.count))
     c.loop-block.invariant

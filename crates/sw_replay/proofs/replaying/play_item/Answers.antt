@@ -15,8 +15,8 @@ update-requires-clause-jobs c =
     let (items, few, way) = c.requires.on_way in
     few_after c.args.graph.now items c.args.job _ _ way.played.state_is c.in_ok-event.ensures.steps
 
-pub update-requires-clause-behind : goal.update-requires-clause-behind
-update-requires-clause-behind c =
+pub update-requires-clause-before : goal.update-requires-clause-before
+update-requires-clause-before c =
     let (items, few, way) = c.requires.on_way in
     record { before = _; stands = way.stands; steps = c.in_ok-event.ensures.steps }
 

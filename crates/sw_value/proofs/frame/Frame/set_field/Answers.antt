@@ -8,7 +8,8 @@ unfolding set_field
 returns-in-Some c =
     let frame = c.args.self.now in
     ap (λ l. record frame { regs = l; point = c.args.next })
-    (mapped_some _ c.args.reg frame.regs _ _ (c.at_mut.ensures.value ∙ ap Some c.in-Some.is) c.set_field.ensures)
+    (mapped_some _ c.args.reg frame.regs _ _ (c.at_mut.ensures.value ∙ ap Some c.in-Some.is)
+    c.set_field.ensures)
 
 pub returns-in_default : goal.returns-in_default
 unfolding set_field

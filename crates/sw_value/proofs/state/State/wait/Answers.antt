@@ -12,7 +12,8 @@ release-requires c = record {
 
 pub invariant_of-self : goal.invariant_of-self
 invariant_of-self c =
-    busy_changed (wait c.args.on c.args.reg c.args.next) c.self.inside.busy c.release.new.busy c.self.inside.jobs c.args.job
+    busy_changed (wait c.args.on c.args.reg c.args.next) c.self.inside.busy c.release.new.busy
+    c.self.inside.jobs c.args.job
     c.at.result.now c.at_mut.result.now c.wait.new.self c.held-held.result None c.self.invariant
     c.at.ensures c.at_mut.ensures.value c.wait.ensures c.held-held.ensures
     (sym (held_waiting c.args.on c.args.reg c.args.next c.at.result.now)) c.release.ensures

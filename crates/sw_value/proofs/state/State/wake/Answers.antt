@@ -12,7 +12,8 @@ release-requires c = record {
 
 pub invariant_of-self : goal.invariant_of-self
 invariant_of-self c =
-    busy_changed (wake c.args.reg c.args.value) c.self.inside.busy c.release.new.busy c.self.inside.jobs c.args.job
+    busy_changed (wake c.args.reg c.args.value) c.self.inside.busy c.release.new.busy
+    c.self.inside.jobs c.args.job
     c.at.result.now c.at_mut.result.now c.wake.new.self c.held-held.result None c.self.invariant
     c.at.ensures c.at_mut.ensures.value c.wake.ensures c.held-held.ensures
     (sym (held_woken c.args.reg c.args.value c.at.result.now)) c.release.ensures

@@ -63,7 +63,7 @@ module _ (world : World) (answers : Answers) (setting : Setting) (params : ℕ �
         around (Some k) shown = member k (world.known.members k id) shown
 
   -- what is read of a word that is no parameter
-  read_top : (id : ℕ) (meaning : words.Meaning) → read_of id ≡ Some meaning
+  pub read_top : (id : ℕ) (meaning : words.Meaning) → read_of id ≡ Some meaning
       → sense world setting id ≡ Top meaning
   read_top id meaning is = by (is_some (params id)) refl is where
     no_var : (found : Option Var) → local setting.vars id ≡ found → is_some found ≡ false
