@@ -1,6 +1,5 @@
 -- Where a value of one type may go where another type is expected: a `@Sendable` function may go
--- where the same
--- function type without the mark stands (SE-0302), and else the types are equal.
+-- where the same function type without the mark stands (SE-0302), and else the types are equal.
 use Rattle.std.specs.Prelude.{◌≡◌, Bool, false, IsTrue}
 use Rattle.sw_types.specs.declared.ty.Ty.{Ty, out-Ty, roll-Ty}
 use Rattle.sw_types.specs.declared.ty.Ty.TheOpen.{Ty-F, Func}

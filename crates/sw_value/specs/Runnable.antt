@@ -1,4 +1,4 @@
--- Graphs of literals, prints, detached tasks and returns, without actors: their jobs share nothing.
+-- Graphs of literals, prints, starts of tasks and returns, with no actor: their jobs share nothing.
 use Rattle.std.specs.Prelude.{◌≡◌, All}
 use Rattle.sw_types.specs.declared.isolation.Iso.TheVariants.{Free}
 use Rattle.sw_graph.specs.declared.instr.Instr.TheVariants as instr
@@ -7,7 +7,7 @@ use Rattle.sw_graph.specs.declared.function.Function.{Function}
 use Rattle.sw_graph.specs.declared.graph.Graph.{Graph}
 use Rattle.sw_graph.specs.Points.{Point, Middle, End, points_of, IsNumbered}
 
--- what stands at the point is a literal, a print, a detached task or a return
+-- what stands at the point is a literal, a print, the start of a task or a return
 abbrev pub IsRunnablePoint : Point → Type 0
 IsRunnablePoint (Middle (instr.Const at r literal)) = Unit {0}
 IsRunnablePoint (Middle (instr.Print at r operands)) = Unit {0}

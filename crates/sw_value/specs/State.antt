@@ -1,4 +1,4 @@
--- Changes of a state. Each has the name of the method of `State` that makes it.
+-- Changes of a state. Where a method of `State` makes one by itself, both have one name.
 use Rattle.std.specs.Prelude.{ℕ, Bool, true, Option, Some, List, [], ◌∷◌, ◌++◌}
 use Rattle.std.specs.Prelude.{slice_get, slice_set, not, option_and_then}
 use Rattle.std.specs.List.{list_any}
