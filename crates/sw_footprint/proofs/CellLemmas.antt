@@ -28,7 +28,7 @@ set_other (x ∷ xs) zero (suc k) y apart = refl
 set_other (x ∷ xs) (suc j) zero y apart = refl
 set_other (x ∷ xs) (suc j) (suc k) y apart = set_other xs j k y (λ e. apart (ap suc e))
 
-changed_other : {A : Type 0} (g : A → A) (j k : ℕ) (xs : List A) → (k ≡ j → ⊥)
+pub changed_other : {A : Type 0} (g : A → A) (j k : ℕ) (xs : List A) → (k ≡ j → ⊥)
     → slice_get (changed_at g j xs) k ≡ slice_get xs k
 unfolding changed_at
 changed_other {A} g j k xs apart = by (slice_get xs j) where

@@ -5,7 +5,7 @@ use Rattle.std.proofs.Common.{true, false}
 use Rattle.std.proofs.Common.{cond, Option, Some, None, List, [], ◌∷◌, ◌++◌, refl, ap, sym, subst}
 use Rattle.std.proofs.Common.{◌∙◌, arith}
 use Rattle.std.specs.Prelude.{option_and_then, is_some}
-use Rattle.std.specs.List.{slice_get, slice_set}
+use Rattle.std.specs.List.{slice_get}
 use Rattle.std.specs.Option.{option_map}
 use Rattle.std.proofs.lemmas.Bool.{cases_eq, cases_order}
 use Rattle.std.proofs.lemmas.Bool.Decides.{nat_tests}
@@ -27,11 +27,10 @@ use Rattle.sw_value.specs.declared.frame.Frame.{Frame}
 use Rattle.sw_value.specs.declared.job.Job.{Job}
 use Rattle.sw_value.specs.declared.race.Access.{Access}
 use Rattle.sw_value.specs.declared.race.Place.{Place}
-use Rattle.sw_value.specs.declared.race.Place.TheVariants.{Prop}
 use Rattle.sw_value.specs.declared.race.Race.{Race}
 use Rattle.sw_value.specs.declared.state.State.{State}
 use Rattle.sw_value.specs.declared.value.Value.{Value}
-use Rattle.sw_value.specs.Access.{box_in, box_at, is_var_part, part_in, part_at, read_by, write_by}
+use Rattle.sw_value.specs.Access.{box_in, box_at, part_in, part_at, read_by, write_by}
 use Rattle.sw_value.specs.Access.{access_of, point_access, frame_access, job_access, next_access}
 use Rattle.sw_value.specs.Act.{act_by, act_of}
 use Rattle.sw_value.specs.Cell.{slot_of, with_slot}
@@ -39,30 +38,20 @@ use Rattle.sw_value.specs.Effect.{needs, is_stuck, set_of, loaded, slot_at, slot
 use Rattle.sw_value.specs.Effect.{point_effect, effect_of}
 use Rattle.sw_value.specs.Frame.{point_at}
 use Rattle.sw_value.specs.Job.{top_frame, new_job, is_running}
-use Rattle.sw_value.specs.Lists.{changed_by, changed_at}
+use Rattle.sw_value.specs.Lists.{changed_at}
 use Rattle.sw_value.specs.Racing.{Racing}
 use Rattle.sw_value.specs.Reach.{after_effect, step_of}
 use Rattle.sw_value.specs.State.{in_job, add_job, add_cell, in_cell, set_global, halt}
 use Rattle.sw_value.specs.Value.{operand_value, reference_at}
 use Rattle.sw_value.proofs.AccessLemmas.{next_names_its_job}
-use Rattle.sw_value.proofs.ListLemmas.{changed_at_found, changed_at_none}
 use Rattle.sw_value.proofs.ReachLemmas.{after_acts, step_by_act}
+use Rattle.sw_footprint.proofs.CellLemmas.{IsOfForm, changed_other, form_kept, box_form, part_form}
 use Rattle.sw_race.specs.Step.{IsNowhereStuck, BringsInItsOwn, HasRival}
 use Rattle.sw_race.specs.Target.{job_target, target_at}
 use Rattle.sw_race.specs.With.{IsRaceOf}
-use Rattle.sw_race.proofs.IndexLemmas.{other_stays}
 use Rattle.sw_race.proofs.UpdateLemmas.{Changes, nothing, in_place, with_new, new_has_none}
 use Rattle.sw_race.proofs.UpdateLemmas.{step_changes}
 use Rattle.sw_race.proofs.WithLemmas.{conflicts, differ, swapped, sides}
-
--- an item other than the one that is changed
-changed_other : {A : Type 0} (g : A → A) (j k : ℕ) (xs : List A) → (k ≡ j → ⊥)
-    → slice_get (changed_at g j xs) k ≡ slice_get xs k
-unfolding changed_at
-changed_other {A} g j k xs apart = by (slice_get xs j) where
-  by : (o : Option A) → slice_get (changed_by o g j xs) k ≡ slice_get xs k
-  by None = refl
-  by (Some x) = other_stays xs j k (g x) (λ e. apart (sym e))
 
 -- what is said of a job that is new is said of no job
 pushed_same : {A B : Type 0} (f : A → Option B) (x : A) → f x ≡ None → (xs : List A) (k : ℕ)
@@ -136,72 +125,13 @@ before_last (y ∷ xs) x zero less = refl
 before_last (y ∷ xs) x (suc c) less = before_last xs x c (omega (arith, less))
 
 -- what is said of a cell, whatever it has in its slots, stays
-cell_same : {B : Type 0} (f : HeapCell → Option B)
-    → ((slot : Slot) (v : Value) (h : HeapCell) → f (with_slot slot v h) ≡ f h) → (c : ℕ)
+cell_same : {B : Type 0} (f : HeapCell → Option B) → IsOfForm f → (c : ℕ)
     → (before after : List HeapCell) → Cells before after → c < length before
     → option_and_then f (slice_get after c) ≡ option_and_then f (slice_get before c)
-cell_same f keeps c before _ as_before less = refl
-cell_same f keeps c before _ (added h) less =
+cell_same f form c before _ as_before less = refl
+cell_same f form c before _ (added h) less =
     ap (option_and_then f) (before_last before h c less)
-cell_same f keeps c before _ (written slot v d) less = elim (cases_eq c d) [
-  | inl e ↦
-      subst
-      (λ n. option_and_then f (slice_get (changed_at (with_slot slot v) n before) c)
-      ≡ option_and_then f (slice_get before c)) e (by (slice_get before c) refl)
-  | inr apart ↦ ap (option_and_then f) (changed_other (with_slot slot v) d c before apart)
-] where
-  by : (o : Option HeapCell) → slice_get before c ≡ o
-      → option_and_then f (slice_get (changed_at (with_slot slot v) c before) c)
-      ≡ option_and_then f (slice_get before c)
-  by None e =
-      ap (λ l. option_and_then f (slice_get l c)) (changed_at_none (with_slot slot v) c before e)
-  by (Some h) e =
-      ap (option_and_then f) (changed_at_found (with_slot slot v) c before h e) ∙ keeps slot v h
-      ∙ sym (ap (option_and_then f) e)
-
-box_keeps : (c : ℕ) (slot : Slot) (v : Value) (h : HeapCell)
-    → box_in c (with_slot slot v h) ≡ box_in c h
-box_keeps c (Part i) v (cell.Object k parts) = refl
-box_keeps c (Part i) v (cell.Actor k parts) = refl
-box_keeps c (Part i) v (cell.BoxOf held) = refl
-box_keeps c (Part i) v (cell.Closure f captures) = refl
-box_keeps c (Part i) v (cell.TaskOf j) = refl
-box_keeps c Content v (cell.Object k parts) = refl
-box_keeps c Content v (cell.Actor k parts) = refl
-box_keeps c Content v (cell.BoxOf held) = refl
-box_keeps c Content v (cell.Closure f captures) = refl
-box_keeps c Content v (cell.TaskOf j) = refl
-
--- a list with another item has the same places
-set_same : {A B : Type 0} (o : Option B) (xs : List A) (n i : ℕ) (x : A)
-    → option_and_then (λ _. o) (slice_get (slice_set xs n x) i)
-    ≡ option_and_then (λ _. o) (slice_get xs i)
-set_same o [] n i x = refl
-set_same o (y ∷ xs) zero zero x = refl
-set_same o (y ∷ xs) zero (suc i) x = refl
-set_same o (y ∷ xs) (suc n) zero x = refl
-set_same o (y ∷ xs) (suc n) (suc i) x = set_same o xs n i x
-
-var_keeps : (graph : Graph) (c i n k : ℕ) (v : Value) (parts : List Value)
-    → option_and_then (λ _. cond (is_var_part graph.shapes k i) (Some (Prop c i)) None)
-    (slice_get (slice_set parts n v) i)
-    ≡ option_and_then (λ _. cond (is_var_part graph.shapes k i) (Some (Prop c i)) None)
-    (slice_get parts i)
-var_keeps graph c i n k v parts =
-    set_same (cond (is_var_part graph.shapes k i) (Some (Prop c i)) None) parts n i v
-
-part_keeps : (graph : Graph) (c i : ℕ) (slot : Slot) (v : Value) (h : HeapCell)
-    → part_in graph c i (with_slot slot v h) ≡ part_in graph c i h
-part_keeps graph c i (Part n) v (cell.Object k parts) = var_keeps graph c i n k v parts
-part_keeps graph c i (Part n) v (cell.Actor k parts) = var_keeps graph c i n k v parts
-part_keeps graph c i (Part n) v (cell.BoxOf held) = refl
-part_keeps graph c i (Part n) v (cell.Closure f captures) = refl
-part_keeps graph c i (Part n) v (cell.TaskOf j) = refl
-part_keeps graph c i Content v (cell.Object k parts) = refl
-part_keeps graph c i Content v (cell.Actor k parts) = refl
-part_keeps graph c i Content v (cell.BoxOf held) = refl
-part_keeps graph c i Content v (cell.Closure f captures) = refl
-part_keeps graph c i Content v (cell.TaskOf j) = refl
+cell_same f form c before _ (written slot v d) less = form_kept f form slot v d before c
 
 -- the cell of a load or a store that is not stuck is there
 abbrev IsFree : Effect → Type 0
@@ -251,13 +181,13 @@ place_same find found (Some c) is = is c refl
 box_same : (graph : Graph) (state : State) (j c : ℕ) → c < length state.cells
     → box_at (step_of graph state j) c ≡ box_at state c
 box_same graph state j c =
-    cell_same (box_in c) (box_keeps c) c state.cells (step_of graph state j).cells
+    cell_same (box_in c) (box_form c) c state.cells (step_of graph state j).cells
     (step_cells graph state j)
 
 part_same : (graph : Graph) (state : State) (j i c : ℕ) → c < length state.cells
     → part_at graph (step_of graph state j) i c ≡ part_at graph state i c
 part_same graph state j i c =
-    cell_same (part_in graph c i) (part_keeps graph c i) c state.cells
+    cell_same (part_in graph c i) (part_form graph c i) c state.cells
     (step_of graph state j).cells (step_cells graph state j)
 
 -- the access of an instruction that is not stuck stays where another job steps
