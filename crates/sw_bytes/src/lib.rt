@@ -1,5 +1,5 @@
-//! Classes of bytes, and the length of the longest prefix whose bytes are of one class. The crate
-//! knows single bytes of ASCII, and no token, item or text.
+//! Classes of bytes, and the length of the longest prefix of digits. The crate knows single bytes of
+//! ASCII, and no token, item or text.
 #![tactic(auto)]
 
 ghost use Rattle.std.specs.Prelude.{◌≡◌, ◌≤◌, length};
@@ -20,14 +20,6 @@ pub fn is_digit(byte: u8) -> bool
     ensures { result ≡ is_digit byte }
 {
     byte.is_ascii_digit()
-}
-
-/// The length of the longest prefix of blanks.
-pub fn blanks_len(bytes: &[u8]) -> usize
-    ensures value { result ≡ prefix_len is_blank bytes.now }
-    ensures within { result ≤ length bytes.now }
-{
-    bytes.iter().take_while(|byte| is_blank(**byte)).count()
 }
 
 /// The length of the longest prefix of digits.

@@ -35,12 +35,4 @@ impl<T> Boxed<T> {
     {
         &self.inner
     }
-
-    /// Moves the value out.
-    pub fn into_inner(self) -> T
-        ensures { result ≡ self }
-    {
-        let Boxed { inner } = self;
-        Box::into_inner(inner)
-    }
 }

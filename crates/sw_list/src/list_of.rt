@@ -34,12 +34,14 @@ impl<T> ListOf<T> {
         }
     }
 
+    /// The items of a `Vec`. It takes no memory.
     pub fn from_vec(items: Vec<T>) -> ListOf<T>
         ensures { result ≡ items.items }
     {
         ListOf { items }
     }
 
+    /// Its items as a `Vec`. It takes no memory.
     pub fn into_vec(self) -> Vec<T>
         ensures { result.items ≡ self }
     {
@@ -47,24 +49,28 @@ impl<T> ListOf<T> {
         items
     }
 
+    /// Lends the items.
     pub fn as_slice(&self) -> &[T]
         ensures { result.now ≡ self.now }
     {
         self.items.as_slice()
     }
 
+    /// The number of items.
     pub fn len(&self) -> usize
         ensures { result ≡ length self.now }
     {
         self.items.len()
     }
 
+    /// Whether there is no item.
     pub fn is_empty(&self) -> bool
         ensures { IsTrue result ↔ (self.now ≡ []) }
     {
         self.items.is_empty()
     }
 
+    /// Lends the item at an index, if there is one.
     pub fn get(&self, index: usize) -> Option<&T>
         ensures value { option_copied result ≡ slice_get self.now index }
         ensures within { OnSome result (index < length self.now) }
