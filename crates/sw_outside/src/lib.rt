@@ -20,7 +20,6 @@ mod std_sink_tests;
 pub use file_shelf::FileShelf;
 pub use mem_shelf::MemShelf;
 pub use mem_sink::MemSink;
-pub use reading::{ReadFault, read_whole};
 pub use shelf::{FetchFault, Shelf};
 pub use sink::{Sink, SinkFault};
 pub use std_sink::StdSink;

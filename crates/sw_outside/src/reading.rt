@@ -1,6 +1,7 @@
 ghost use Rattle.std.specs.Prelude.{◌≡◌, ℕ, List, Option, [], ◌+◌, ◌<◌, ◌≤◌, length, take, vec_len};
-ghost use Rattle.std.specs.Prelude.{◌↔◌, IsTrue, IfOk, OnOk, OnErr, IfSome};
-ghost use Rattle.std.specs.Io.KnownBytes.{Consumes, IsAtEnd};
+ghost use Rattle.std.specs.Prelude.{◌↔◌, IsTrue, IfOk, OnOk, OnErr, IsErrOf, IfSome};
+ghost use Rattle.std.specs.Io.{StartsWith};
+ghost use Rattle.std.specs.Io.KnownBytes.{Consumes, Keeps, IsAtEnd};
 
 use std::io::Read;
 
@@ -27,6 +28,15 @@ pub fn read_whole<F: Read>(
         (λ whole. IfSome (F.remaining file.old) (λ all. IsTrue whole ↔ (length all ≤ limit))) }
     ensures same { IfOk result
         (λ whole. IsTrue whole → IfSome (F.remaining file.old) (λ all. bytes.new.items ≡ all)) }
+    // The bytes of a file that is too long are its first ones.
+    ensures prefix { OnOk result
+        (IfSome (F.remaining file.old) (λ all. bytes.new.items ≡ take (limit + 1) all)) }
+    // After a failed read, the bytes are all that the file gave; where memory ran out, they are the
+    // first of them.
+    ensures kept { IsErrOf result ReadFault.Failed
+        → Consumes (F.remaining file.old) (F.remaining file.new) bytes.new.items }
+    ensures start { OnErr result
+        (IfSome (F.remaining file.old) (λ all. StartsWith all bytes.new.items)) }
 {
     read_prefix(file, limit.saturating_add(1), bytes)?;
     Ok(bytes.len() <= limit)
@@ -38,6 +48,10 @@ fn read_prefix<F: Read>(file: &mut F, most: usize, bytes: &mut Vec<u8>) -> Resul
     ensures bound { vec_len bytes.new ≤ most }
     ensures prefix { OnOk result
         (IfSome (F.remaining file.old) (λ all. bytes.new.items ≡ take most all)) }
+    ensures kept { IsErrOf result ReadFault.Failed
+        → Consumes (F.remaining file.old) (F.remaining file.new) bytes.new.items }
+    ensures start { OnErr result
+        (IfSome (F.remaining file.old) (λ all. StartsWith all bytes.new.items)) }
 {
     while bytes.len() < most {
         let want = most - bytes.len();
@@ -55,6 +69,8 @@ fn read_once<F: Read>(file: &mut F, want: usize, bytes: &mut Vec<u8>) -> Result<
     ensures bound { IfOk result (λ n. n ≤ want) }
     ensures len { IfOk result (λ n. vec_len bytes.new ≡ vec_len bytes.old + n) }
     ensures stays { OnErr result (bytes.new.items ≡ bytes.old.items) }
+    ensures keeps { IsErrOf result ReadFault.Failed
+        → Keeps (F.remaining file.old) (F.remaining file.new) }
     ensures consumes { OnOk result ((all : Option (List ℕ))
         → Consumes all (F.remaining file.old) bytes.old.items
         → Consumes all (F.remaining file.new) bytes.new.items) }

@@ -1,5 +1,5 @@
 //! A reader that fails after some bytes.
-use crate::{ReadFault, read_whole};
+use crate::reading::{ReadFault, read_whole};
 use std::alloc::Global;
 use std::io::{self, ErrorKind, Read};
 
