@@ -14,10 +14,6 @@ further-further : (n m : ℕ) (length : Option ℕ)
 further-further n m None = refl
 further-further n m (Some k) = ap Some (omega arith)
 
-further-zero : (length : Option ℕ) → further 0 length ≡ length
-further-zero None = refl
-further-zero (Some k) = ap Some (omega arith)
-
 -- two more bytes
 drop_two : (bytes : List ℕ) (at : ℕ) → at + 1 < length bytes
     → drop at bytes ≡ get_or bytes at 0 ∷ get_or bytes (at + 1) 0 ∷ drop (at + 2) bytes

@@ -16,7 +16,7 @@ use Rattle.sw_token.specs.declared.step.Refusal.TheVariants.{Unclosed, TooBig, B
 use Rattle.sw_token.specs.Bytes.{is_operator_byte, is_mark}
 use Rattle.sw_token.specs.Words.{is_word_char, begins_word, goes_on, IsWord}
 use Rattle.sw_token.specs.Comments.{is_in_line, begins_line_comment, begins_block_comment}
-use Rattle.sw_token.specs.Comments.{IsComment, IsGap, comment_len}
+use Rattle.sw_token.specs.Comments.{IsGap, comment_len}
 use Rattle.sw_token.specs.Comments as comments
 use Rattle.sw_token.specs.Literals.{head_of, most, is_digit_of, is_digit_or_line, AreDigits}
 use Rattle.sw_token.specs.Literals.{number_in, literal_of}

@@ -13,7 +13,7 @@ use Rattle.sw_token.specs.declared.literals.Literal.{Literal}
 use Rattle.sw_token.specs.declared.literals.Literal.TheVariants.{Decimal, Negative, Binary, Octal}
 use Rattle.sw_token.specs.declared.literals.Literal.TheVariants.{Hexadecimal}
 use Rattle.sw_token.specs.Bytes.{is_operator_byte}
-use Rattle.sw_token.specs.Words.{begins_word, goes_on, IsWord}
+use Rattle.sw_token.specs.Words.{begins_word, IsWord}
 use Rattle.sw_token.specs.Words as words
 use Rattle.sw_token.specs.Literals.{head_of, is_digit_of, AreDigits, after_zero, unsigned_of}
 use Rattle.sw_token.specs.Literals.{negative, literal_of}

@@ -29,7 +29,7 @@ use Rattle.sw_token.specs.Comments.{IsComment, IsGap, is_in_line}
 use Rattle.sw_token.specs.Comments as comments
 use Rattle.sw_token.specs.Literals.{head_of, is_digit_of, is_digit_or_line, AreDigits, literal_of}
 use Rattle.sw_token.specs.Operators.{IsRun, begins_comment}
-use Rattle.sw_token.specs.Tokens.{IsToken, IsRefused, IsTaken, IsTokenFault, lexis}
+use Rattle.sw_token.specs.Tokens.{IsToken, IsTaken, IsTokenFault, lexis}
 use Rattle.sw_token.specs.Tokens as tokens
 use Rattle.sw_token.specs.Reading.{counted, found, step}
 use Rattle.sw_token.proofs.ClassLemmas.{literal_head, literal_head-within}

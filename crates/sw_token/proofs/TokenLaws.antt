@@ -16,7 +16,7 @@ use Rattle.sw_token.specs.declared.Token.{Token}
 use Rattle.sw_token.specs.declared.before.Before.{Before}
 use Rattle.sw_token.specs.declared.LexFault.{LexFault}
 use Rattle.sw_token.specs.declared.LexFault.TheVariants.{Memory}
-use Rattle.sw_token.specs.Tokens.{IsTokens, IsLexicalFault, HasTokens, IsRefused, IsTokenFault}
+use Rattle.sw_token.specs.Tokens.{IsTokens, IsLexicalFault, HasTokens, IsTokenFault}
 use Rattle.sw_token.specs.Tokens.{IsTokenIn, StandInOrder, position_of, at_start, lexis}
 use Rattle.sw_token.specs.Tokens as tokens
 use Rattle.sw_token.specs.Reading.{tokens_or_fault, Lexes}

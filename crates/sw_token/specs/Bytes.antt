@@ -6,9 +6,13 @@ use Rattle.std.specs.List.{list_any}
 unfoldable pub is_operator_byte : ℕ → Bool
 is_operator_byte byte = list_any (λ other. other == byte) (codes "+-*/%=<>!&|")
 
--- a bracket, a separator or a dot
+-- all marks, which are brackets, separators and a dot: a mark's number is its index here, from 0
+abbrev pub marks : List ℕ
+marks = codes "(){}[],:;."
+
+-- whether a byte is a mark
 unfoldable pub is_mark : ℕ → Bool
-is_mark byte = list_any (λ mark. mark == byte) (codes "(){}[],:;.")
+is_mark byte = list_any (λ mark. mark == byte) marks
 
 -- a mark after which an operator stands as after white space
 unfoldable pub is_opening : ℕ → Bool

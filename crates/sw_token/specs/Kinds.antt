@@ -4,7 +4,7 @@ use Rattle.std.specs.Prelude.{Option, Some, None, codes, position, bytes_eq, unw
 use Rattle.sw_token.specs.declared.Kind.{Kind}
 use Rattle.sw_token.specs.declared.Kind.TheVariants as kinds
 use Rattle.sw_token.specs.declared.literals.Literal.{Literal}
-use Rattle.sw_token.specs.Bytes.{is_operator_byte, is_mark}
+use Rattle.sw_token.specs.Bytes.{is_operator_byte, marks, is_mark}
 use Rattle.sw_token.specs.Literals.{head_of, most, number_in, signed, literal_of}
 use Rattle.sw_token.specs.Operators.{operator_number}
 
@@ -31,10 +31,6 @@ reserved_words =
 -- all key words: a key word's number is its index here, from 0
 abbrev pub key_words : List (List ℕ)
 key_words = ruled_words ++ reserved_words
-
--- all marks: a mark's number is its index here, from 0
-abbrev pub marks : List ℕ
-marks = codes "(){}[],:;."
 
 -- a key word's kind is its number, and any other word is a name
 abbrev pub named_kind : Option ℕ → Kind

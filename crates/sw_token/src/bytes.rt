@@ -2,6 +2,9 @@
 ghost use Rattle.std.specs.Prelude.{◌≡◌};
 ghost use Rattle.sw_token.specs.Bytes.{is_operator_byte, is_mark, is_opening, is_closing};
 
+/// All marks, in the order of their numbers.
+pub const MARKS: &[u8; 10] = b"(){}[],:;.";
+
 #[tactic(auto, unfolding(crate::specs::Bytes::is_operator_byte))]
 pub fn is_operator_byte(byte: u8) -> bool
     ensures { result ≡ is_operator_byte byte }
@@ -13,7 +16,7 @@ pub fn is_operator_byte(byte: u8) -> bool
 pub fn is_mark(byte: u8) -> bool
     ensures { result ≡ is_mark byte }
 {
-    b"(){}[],:;.".contains(&byte)
+    MARKS.contains(&byte)
 }
 
 /// Whether the byte is a mark after which an operator stands as after white space.

@@ -1,12 +1,14 @@
 //! The kind of a token, from its text.
-ghost use Rattle.std.specs.Prelude.{◌≡◌, ◌==◌, IfSome, length, ◌≤◌, ◌<◌, position, bytes_eq};
+ghost use Rattle.std.specs.Prelude.{◌≡◌, ◌==◌, IfSome, ◌≤◌, ◌<◌, position, bytes_eq};
+ghost use Rattle.sw_token.specs.Bytes.{marks};
 ghost use Rattle.sw_token.specs.Literals.{most, signed};
-ghost use Rattle.sw_token.specs.Kinds.{kind_of, plain_kind, word_kind, key_words, marks};
+ghost use Rattle.sw_token.specs.Kinds.{kind_of, plain_kind, word_kind, key_words};
 ghost use Rattle.sw_token.specs.Kinds.{mark_number, NumberFits};
 
 use super::Kind;
-use super::bytes::{is_mark, is_operator_byte};
+use super::bytes::{MARKS, is_mark, is_operator_byte};
 use super::literals::{Literal, literal_of};
+use super::numbers::number_of;
 use super::operators::operator_number;
 
 /// The words with a rule, and then those that are reserved without one.
@@ -130,23 +132,7 @@ fn key_number(text: &[u8]) -> Option<u8>
     ensures { result ≡ position (λ word. bytes_eq word text.now) key_words }
 {
     let words: [&str; 59] = KEY_WORDS;
-    match index_of(words.as_slice(), text) {
-        Some(index) => Some(index as u8),
-        None => None,
-    }
-}
-
-pub fn index_of(words: &[&str], text: &[u8]) -> Option<usize>
-    ensures index { result ≡ position (λ word. bytes_eq word.now text.now) words.now }
-    ensures within { IfSome result (λ index. index < length words.now) }
-{
-    words.iter().position(|word| is_same(word, text))
-}
-
-fn is_same(word: &str, text: &[u8]) -> bool
-    ensures { result ≡ bytes_eq word.now text.now }
-{
-    word.as_bytes() == text
+    number_of(words.as_slice(), text)
 }
 
 #[tactic(auto, unfolding(crate::specs::Kinds::mark_number))]
@@ -160,5 +146,5 @@ fn mark_index(byte: u8) -> Option<usize>
     ensures index { result ≡ position (λ mark. mark == byte) marks }
     ensures within { IfSome result (λ index. index < 10) }
 {
-    b"(){}[],:;.".iter().position(|mark| *mark == byte)
+    MARKS.iter().position(|mark| *mark == byte)
 }

@@ -17,6 +17,7 @@ mod bytes;
 mod comments;
 mod kinds;
 mod literals;
+mod numbers;
 mod operators;
 mod step;
 mod words;

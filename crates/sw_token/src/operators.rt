@@ -1,5 +1,5 @@
 //! Operators, and how they stand.
-ghost use Rattle.std.specs.Prelude.{◌≡◌, ◌≤◌, ◌<◌, length, IfSome};
+ghost use Rattle.std.specs.Prelude.{◌≡◌, ◌≤◌, length};
 ghost use Rattle.sw_token.specs.Operators.{operator_number, is_operator, begins_comment, runs_on};
 ghost use Rattle.sw_token.specs.Operators.{run_len, is_opening_text, is_white_after};
 ghost use Rattle.sw_token.specs.Operators.{fixity_between};
@@ -7,7 +7,7 @@ ghost use Rattle.sw_token.specs.Operators.{fixity_between};
 use super::Fixity;
 use super::bytes::{is_closing, is_opening, is_operator_byte};
 use super::comments::{begins_block_comment, begins_line_comment};
-use super::kinds::index_of;
+use super::numbers::number_of;
 use sw_bytes::is_blank;
 
 /// All operators, in the order of their numbers.
@@ -21,10 +21,7 @@ pub fn operator_number(text: &[u8]) -> Option<u8>
     ensures { result ≡ operator_number text.now }
 {
     let operators: [&str; 21] = OPERATORS;
-    match index_of(operators.as_slice(), text) {
-        Some(index) => Some(index as u8),
-        None => None,
-    }
+    number_of(operators.as_slice(), text)
 }
 
 pub fn is_operator(text: &[u8]) -> bool
