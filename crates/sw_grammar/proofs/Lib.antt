@@ -1,4 +1,5 @@
 pub mod ProgramLaws
+pub mod TokenSets
 pub mod TypesAlike
 pub mod ExprsAlike
 pub mod ClosuresAlike

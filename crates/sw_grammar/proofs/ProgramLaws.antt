@@ -9,7 +9,7 @@ use Rattle.sw_grammar.specs.Nests.{El, shape_of}
 use Rattle.sw_grammar.specs.Decls.{program}
 use Rattle.sw_grammar.specs.Grammar.{body, good}
 use Rattle.sw_grammar.specs.Program.{SpellsDecls, Spells, IsProgram, IsUnexpected}
-use Rattle.sw_grammar.specs.Program.{IsProgramWithin, IsTooDeep, Opens}
+use Rattle.sw_grammar.specs.Program.{SpellsWithin, IsProgramWithin, IsTooDeep, Opens}
 use Rattle.sw_grammar.specs.Program.{IsFirstUnexpected}
 
 pub decided : (id_of : List ℕ → ℕ) (tokens : List Spelled) → IsSpelling tokens
@@ -41,6 +41,23 @@ decided_within id_of depth tokens is =
         | inr k ↦ inr (h.0, inr k)
       ]
     ]
+
+pub never_unexpected : (id_of : List ℕ → ℕ) (depth : ℕ) (tokens : List Spelled) (n : ℕ)
+    → IsProgramWithin id_of depth tokens → ¬ (IsFirstUnexpected id_of depth tokens n)
+never_unexpected id_of depth tokens n h k =
+    never_both id_of tokens n
+    (h.0, record { spelling = h.1.spelling; form = (depth, h.1.form) }) k.unexpected
+
+pub one_program_within : (id_of : List ℕ → ℕ) (depth : ℕ) (tokens : List Spelled)
+    (a b : List Decl) → SpellsWithin id_of depth a tokens → SpellsWithin id_of depth b tokens
+    → a ≡ b
+one_program_within id_of depth tokens a b h k =
+    one_value El shape_of (body id_of) good (program id_of) refl a b tokens (depth, h) (depth, k)
+
+pub one_first_unexpected : (id_of : List ℕ → ℕ) (depth : ℕ) (tokens : List Spelled) (a b : ℕ)
+    → IsFirstUnexpected id_of depth tokens a → IsFirstUnexpected id_of depth tokens b → a ≡ b
+one_first_unexpected id_of depth tokens a b h k =
+    one_unexpected id_of tokens a b h.unexpected k.unexpected
 
 pub never_too_deep : (id_of : List ℕ → ℕ) (depth : ℕ) (tokens : List Spelled) (n : ℕ)
     → IsProgramWithin id_of depth tokens → ¬ (IsTooDeep id_of depth tokens n)

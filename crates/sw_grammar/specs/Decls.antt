@@ -19,7 +19,7 @@ use Rattle.sw_tree.specs.declared.decl.CaseTree.{CaseTree}
 use Rattle.sw_tree.specs.declared.decl.Decl.{Decl}
 use Rattle.sw_tree.specs.declared.decl.Decl.TheVariants as decls
 use Rattle.sw_grammar.specs.Tokens.{at_word, plain_at_word, type_ext, expr_ext, infix_op, an_equals}
-use Rattle.sw_grammar.specs.Tokens.{name_in, at_in}
+use Rattle.sw_grammar.specs.Tokens.{binding_first, name_in, at_in}
 use Rattle.sw_grammar.specs.Nests.{in_payload, in_empty, in_params, in_isolation, in_entry}
 use Rattle.sw_grammar.specs.Nests.{in_global_actor, in_struct, in_enum, in_class, shape_of, Form}
 use Rattle.sw_grammar.specs.Nests.{Main, Member, method_first}
@@ -67,10 +67,6 @@ needs_async written.Nonisolated = false
 needs_async written.Concurrent = true
 needs_async written.Nonsending = true
 
--- what a global variable begins with, after its attribute
-abbrev pub global_first : Set
-global_first = one_of (codes "let" ∷ codes "var" ∷ [])
-
 -- the same as `loose`, where the short spelling has a token
 abbrev pub wanted : Set → Set → Shape
 wanted first ext = record {
@@ -91,7 +87,7 @@ property_of mutable word ty value =
 
 -- what a declaration goes on with after an attribute
 abbrev pub annotated_first : Set
-annotated_first = quoted (codes "final") ++ quoted (codes "func") ++ global_first
+annotated_first = quoted (codes "final") ++ quoted (codes "func") ++ binding_first
 
 -- what a declaration begins with
 abbrev pub decl_first : Set
@@ -222,7 +218,7 @@ module _ (id_of : List ℕ → ℕ) where
     ty ← type id_of
     done (property (property_of mutable name (Some ty) None)))
 
-  unfoldable pub field : Form (solid global_first type_ext 0) Member
+  unfoldable pub field : Form (solid binding_first type_ext 0) Member
   field = shaped _ (either (expect (codes "let") >>= λ _. field_after false)
       (expect (codes "var") >>= λ _. field_after true))
 
@@ -241,7 +237,7 @@ module _ (id_of : List ℕ → ℕ) where
         given ← value id_of
         done (property (property_of mutable name None (Some given)))))
 
-  unfoldable pub prop : Form (solid global_first property_ext 0) Member
+  unfoldable pub prop : Form (solid binding_first property_ext 0) Member
   prop = shaped _ (either (expect (codes "let") >>= λ _. prop_after false)
       (expect (codes "var") >>= λ _. prop_after true))
 
@@ -397,7 +393,7 @@ module _ (id_of : List ℕ → ℕ) where
       value = Some given;
     })))
 
-  unfoldable pub global_after : Written → Form (solid global_first expr_ext 0) Decl
+  unfoldable pub global_after : Written → Form (solid binding_first expr_ext 0) Decl
   global_after isolation = shaped _
       (either (expect (codes "let") >>= λ _. global_value isolation false)
       (expect (codes "var") >>= λ _. global_value isolation true))

@@ -19,7 +19,7 @@ use Rattle.sw_tree.specs.declared.decl.InitTree.{InitTree}
 use Rattle.sw_tree.specs.declared.decl.FuncTree.{FuncTree}
 use Rattle.sw_tree.specs.declared.decl.CaseTree.{CaseTree}
 use Rattle.sw_grammar.specs.Tokens.{type_first, type_ext, expr_first, stmt_first, postfix_ext}
-use Rattle.sw_grammar.specs.Tokens.{at_word}
+use Rattle.sw_grammar.specs.Tokens.{at_word, binding_first}
 
 pub data Nest : Type 0 where
   -- after `(` of types: types and `)`
@@ -142,10 +142,10 @@ shape_of in_params = closed_by (codes ")") (word ++ quoted (codes "_"))
 shape_of in_isolation = solid (quoted (codes "nonsending")) [] 0
 shape_of in_entry = solid (at_word ++ one_of (codes "nonisolated" ∷ codes "static" ∷ [])) [] 1
 shape_of in_global_actor = solid (quoted (codes "static")) [] 1
-shape_of in_struct = closed_by (codes "}") (one_of (codes "let" ∷ codes "var" ∷ []) ++ method_first)
+shape_of in_struct = closed_by (codes "}") (binding_first ++ method_first)
 shape_of in_enum = closed_by (codes "}") (quoted (codes "case") ++ method_first)
 shape_of in_class =
-    closed_by (codes "}") (one_of (codes "let" ∷ codes "var" ∷ codes "init" ∷ []) ++ method_first)
+    closed_by (codes "}") (binding_first ++ quoted (codes "init") ++ method_first)
 
 -- a form of this grammar
 abbrev pub Form : Shape → Type 0 → Type 1

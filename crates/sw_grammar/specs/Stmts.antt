@@ -21,7 +21,7 @@ use Rattle.sw_tree.specs.declared.stmt.Pattern.{Pattern}
 use Rattle.sw_tree.specs.declared.stmt.Pattern.TheVariants as patterns
 use Rattle.sw_grammar.specs.Tokens.{value_word, type_ext, plain_first, expr_first, expr_ext}
 use Rattle.sw_grammar.specs.Tokens.{stmt_first, stmt_ext, assign_ops, an_assignment, an_equals}
-use Rattle.sw_grammar.specs.Tokens.{infix_op, name_in}
+use Rattle.sw_grammar.specs.Tokens.{infix_op, binding_first, name_in}
 use Rattle.sw_grammar.specs.Nests.{in_block, in_switch, in_patterns, in_closure, in_task, shape_of}
 use Rattle.sw_grammar.specs.Nests.{Form, Inside}
 use Rattle.sw_grammar.specs.Types.{type, some_of}
@@ -80,7 +80,7 @@ module _ (id_of : List ℕ → ℕ) where
     given ← value
     done (stmts.Bind mutable name written given))
 
-  unfoldable pub bind : Form (solid (one_of (codes "let" ∷ codes "var" ∷ [])) expr_ext 0) Stmt
+  unfoldable pub bind : Form (solid binding_first expr_ext 0) Stmt
   bind = shaped _ (either (expect (codes "let") >>= λ _. binding false)
       (expect (codes "var") >>= λ _. binding true))
 

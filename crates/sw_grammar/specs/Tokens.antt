@@ -1,10 +1,9 @@
 -- The tokens of the grammar, and the sets of those with which its parts begin and go on.
-use Rattle.std.specs.Prelude.{ℕ, ◌+◌, ◌*◌, if◌then◌else◌, List, [], ◌∷◌, ◌++◌, length, drop, codes}
-use Rattle.std.specs.Prelude.{bytes_eq}
+use Rattle.std.specs.Prelude.{ℕ, if◌then◌else◌, List, [], ◌∷◌, ◌++◌, drop, codes, bytes_eq}
 use Rattle.sw_token.specs.declared.Fixity.TheVariants as fixities
 use Rattle.sw_token.specs.Spelling.{Spelled}
-use Rattle.sw_reader.specs.Sets.{Set, quoted_texts, index_of, any, quoted, one_of, word, integer}
-use Rattle.sw_reader.specs.Sets.{not_first}
+use Rattle.sw_reader.specs.Sets.{Set, quoted, standing, one_of, unquoted_word, word, integer}
+use Rattle.sw_reader.specs.Sets.{unquoted_attribute, not_first}
 use Rattle.sw_reader.specs.Form.{Terminal}
 use Rattle.sw_tree.specs.declared.name.Name.{Name}
 use Rattle.sw_tree.specs.declared.operator.PrefixOp.{PrefixOp}
@@ -16,29 +15,28 @@ use Rattle.sw_tree.specs.declared.operator.AssignOp.TheVariants as assigns
 
 -- the operator with this text, between two operands
 abbrev pub infix_op : List ℕ → Set
-infix_op text = any (4 * index_of text)
+infix_op text = standing fixities.Infix text
 
 -- the operator with this text, before its operand
 abbrev pub prefix_op : List ℕ → Set
-prefix_op text = any (4 * index_of text + 1)
+prefix_op text = standing fixities.Prefix text
 
--- The words that an expression may be of: each word that the grammar doesn't quote, and those of
--- the quoted ones that may be names. `Task` isn't one of them, since it begins a form of its own.
+-- The words that an expression may be of: each word outside the quoted texts, and those of the
+-- quoted ones that may be names. `Task` isn't one of them, since it begins a form of its own.
 abbrev pub value_word : Set
 value_word =
-    any (4 * length quoted_texts) ++ one_of (codes "Never" ∷ codes "Sendable" ∷ codes "detached"
-    ∷ codes "main" ∷ codes "nonsending" ∷ codes "print" ∷ codes "shared" ∷ codes "yield" ∷ [])
+    unquoted_word ++ one_of (codes "Never" ∷ codes "Sendable" ∷ codes "detached" ∷ codes "main"
+    ∷ codes "nonsending" ∷ codes "print" ∷ codes "shared" ∷ codes "yield" ∷ [])
 
 -- an `@` with a word, but `@concurrent`
 abbrev pub at_word : Set
 at_word =
-    any (4 * (length quoted_texts + 2)) ++ one_of (codes "@main" ∷ codes "@globalActor"
-    ∷ codes "@Sendable" ∷ codes "@escaping" ∷ [])
+    unquoted_attribute ++ one_of (codes "@main" ∷ codes "@globalActor" ∷ codes "@Sendable"
+    ∷ codes "@escaping" ∷ [])
 
 -- the same, at the beginning of a declaration that is no entry and declares no global actor
 abbrev pub plain_at_word : Set
-plain_at_word =
-    any (4 * (length quoted_texts + 2)) ++ one_of (codes "@Sendable" ∷ codes "@escaping" ∷ [])
+plain_at_word = unquoted_attribute ++ one_of (codes "@Sendable" ∷ codes "@escaping" ∷ [])
 
 abbrev pub times : Set
 times = infix_op (codes "*") ++ infix_op (codes "/") ++ infix_op (codes "%")
@@ -60,6 +58,10 @@ abbrev pub prefix_ops : Set
 prefix_ops = prefix_op (codes "!") ++ prefix_op (codes "-")
 
 -- What parts begin with.
+
+-- `let` or `var`
+abbrev pub binding_first : Set
+binding_first = one_of (codes "let" ∷ codes "var" ∷ [])
 
 abbrev pub type_first : Set
 type_first = quoted (codes "@Sendable") ++ quoted (codes "(") ++ word

@@ -6,9 +6,7 @@ use Rattle.std.specs.Prelude.{Option, Ok, Err}
 use Rattle.sw_token.specs.declared.Fixity.{Fixity}
 use Rattle.sw_token.specs.Spelling.{Spelled}
 use Rattle.sw_reader.specs.Sets.{Set, has, starts}
-use Rattle.sw_reader.specs.Form.{Shape, Terminal, Form, one, seq, alt, star, choice, nested}
-use Rattle.sw_reader.specs.Form.{started}
-use Rattle.sw_reader.specs.Form.{inline, claimed, listed, listed_some, Claim}
+use Rattle.sw_reader.specs.Form.{Shape, Terminal, Claim, Form, one}
 use Rattle.sw_reader.specs.Form as forms
 use Rattle.sw_reader.specs.Relations.{head, may_start, stays}
 use Rattle.sw_reader.specs.Reader.{Answer, Reader, refused, and_then, then_read}

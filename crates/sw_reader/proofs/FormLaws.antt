@@ -9,8 +9,8 @@ use Rattle.std.proofs.lemmas.List.{append-nil}
 use Rattle.std.proofs.Math.Nat.{le-max_left, le-max_right}
 use Rattle.sw_token.specs.Spelling.{Spelled}
 use Rattle.sw_reader.specs.Sets.{has, starts}
-use Rattle.sw_reader.specs.Form.{Shape, Terminal, Claim, Form, empty, one, seq, choice, is_shorter}
-use Rattle.sw_reader.specs.Form.{alt, star, nested, started, inline, claimed, is_item}
+use Rattle.sw_reader.specs.Form.{Shape, Terminal, Form, one, choice, is_shorter, star, started}
+use Rattle.sw_reader.specs.Form.{is_item}
 use Rattle.sw_reader.specs.Form as forms
 use Rattle.sw_reader.specs.Relations.{Relation, head, Nothing, One, Then, Either, Turns, may_start}
 use Rattle.sw_reader.specs.Relations.{stays, Only, OneMore, Passing}

@@ -4,9 +4,9 @@ use Rattle.std.proofs.Common.{◌≡◌, ◌≤◌, Bool, true, false, cond, not
 use Rattle.std.proofs.Common.{◌++◌, refl, sym, ◌∙◌, ap, subst}
 use Rattle.std.proofs.lemmas.Bool.{leb-true}
 use Rattle.sw_token.specs.Spelling.{Spelled}
-use Rattle.sw_reader.specs.Sets.{Set, class_of, is_in, has, starts, not_first}
+use Rattle.sw_reader.specs.Sets.{Set, has}
 use Rattle.sw_reader.specs.Sets as sets
-use Rattle.sw_reader.specs.Form.{Shape, Terminal, Claim, Form, shows, one, seq, choice, alt}
+use Rattle.sw_reader.specs.Form.{Shape, Claim, Form, one, seq, choice}
 use Rattle.sw_reader.specs.Form.{is_shorter, star, nested, started, inline, claimed, listed}
 use Rattle.sw_reader.specs.Form.{listed_some}
 use Rattle.sw_reader.specs.Form as forms

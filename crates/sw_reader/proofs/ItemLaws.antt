@@ -42,10 +42,6 @@ mark_filler from = record {
   fills = (refl, sample_is_token (codes ";") refl, tt);
 }
 
-mark_first : (token : Spelled) (us : List Spelled) (a : ℕ) → One (quote (codes ";")) a us
-    → (rest : List Spelled) → starts semicolon (head (us ++ rest)) ≡ true
-mark_first token us a h rest = ap (λ ws. starts semicolon (head (ws ++ rest))) h.alone ∙ h.member
-
 reads_mark : Reads Skipped Skipped AfterMark (skipping (codes ";"))
 reads_mark = reads_choose Skipped semicolon
     (reads_then (Then (One (quote (codes ";"))) (λ _. Nothing true)) {F = Anything}

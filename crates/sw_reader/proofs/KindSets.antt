@@ -216,6 +216,10 @@ starts-one_of (x ∷ texts) (Some token) h =
     cong_or : {a b a' b' : Bool} → a ≡ a' → b ≡ b' → (a || b) ≡ (a' || b')
     cong_or p q = cc
 
+pub has-one_of : (texts : List (List ℕ)) (token : Spelled) → list_all is_quoted texts ≡ true
+    → has (one_of texts) token ≡ list_any (λ text. bytes_eq token.text text) texts
+has-one_of texts token h = sym (starts-one_of texts (Some token) h)
+
 pub starts-standing_of : (fixity : Fixity) (texts : List (List ℕ)) (token : Option Spelled)
     → list_all is_quoted_operator texts ≡ true
     → (stands fixity token && has_text_of texts token) ≡ starts (standing_of fixity texts) token

@@ -19,7 +19,8 @@ use Rattle.sw_token.specs.Operators.{operators}
 use Rattle.sw_token.specs.Spelling.{Spelled}
 use Rattle.sw_reader.specs.Sets.{Set, quoted_texts, index_of, is_quoted, text_number, sort_of}
 use Rattle.sw_reader.specs.Sets.{is_name, is_integer, fixity_number, kind_class, class_of, is_in}
-use Rattle.sw_reader.specs.Sets.{has, any, not_first, quoted, open_words, one_of, word, integer}
+use Rattle.sw_reader.specs.Sets.{has, any, first_only, not_first, quoted, open_words, one_of, word}
+use Rattle.sw_reader.specs.Sets.{integer}
 use Rattle.sw_reader.proofs.SetLemmas.{and_left, and_right, and_both, or_left, or_right, not_true}
 use Rattle.sw_reader.proofs.SetLemmas.{implied, is_in-append, is_in-filter}
 
@@ -258,19 +259,36 @@ even_or_odd class true = elim (eqb_tells ((2 * class + 1) % 2) 0) [
 ]
 even_or_odd class false = eq-eqb ((2 * class + 0) % 2) 0 (omega arith)
 
-even_filter : (set : Set) (class : ℕ)
-    → is_in (not_first set) class ≡ (is_in set class && (class % 2 == 0))
-even_filter set class = same_truth _ _ (filter_says (λ c. c % 2 == 0) set class)
-    (λ k. is_in-filter (λ c. c % 2 == 0) set class (and_right (is_in set class) (class % 2 == 0) k)
-    (and_left (is_in set class) (class % 2 == 0) k))
+in_filter : (keep : ℕ → Bool) (set : Set) (class : ℕ)
+    → is_in (filter keep set) class ≡ (is_in set class && keep class)
+in_filter keep set class = same_truth _ _ (filter_says keep set class)
+    (λ k. is_in-filter keep set class (and_right (is_in set class) (keep class) k)
+    (and_left (is_in set class) (keep class) k))
 
 pub has-not_first_is : (set : Set) (token : Spelled)
     → has (not_first set) token ≡ (has set token && not token.first)
 unfolding has
 has-not_first_is set token =
-    even_filter set (class_of token.text token.fixity token.first)
+    in_filter (λ c. c % 2 == 0) set (class_of token.text token.fixity token.first)
     ∙ ap (λ b. is_in set (class_of token.text token.fixity token.first) && b)
     (even_or_odd (kind_class token.text token.fixity) token.first)
+
+-- A token of `first_only` is one of the set that is the first on its line.
+
+odd_or_even : (class : ℕ) (first : Bool) → ((2 * class + cond first 1 0) % 2 == 1) ≡ first
+odd_or_even class true = eq-eqb ((2 * class + 1) % 2) 1 (omega arith)
+odd_or_even class false = elim (eqb_tells ((2 * class + 0) % 2) 1) [
+  | inl is ↦ absurd (let even = is.1 in omega arith)
+  | inr is ↦ is.0
+]
+
+pub has-first_only_is : (set : Set) (token : Spelled)
+    → has (first_only set) token ≡ (has set token && token.first)
+unfolding has
+has-first_only_is set token =
+    in_filter (λ c. c % 2 == 1) set (class_of token.text token.fixity token.first)
+    ∙ ap (λ b. is_in set (class_of token.text token.fixity token.first) && b)
+    (odd_or_even (kind_class token.text token.fixity) token.first)
 
 -- Words and integer literals
 

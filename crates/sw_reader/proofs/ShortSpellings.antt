@@ -6,9 +6,8 @@ use Rattle.std.proofs.lemmas.List.{append-nil}
 use Rattle.std.proofs.Math.Nat.{le-max_left, le-max_right}
 use Rattle.sw_token.specs.Spelling.{Spelled}
 use Rattle.sw_reader.specs.Sets.{has}
-use Rattle.sw_reader.specs.Form.{Shape, Terminal, Claim, Form, shows, empty, one, is_usable, seq}
-use Rattle.sw_reader.specs.Form.{choice, alt, is_shorter, star, nested, started, inline, claimed}
-use Rattle.sw_reader.specs.Form.{listed, listed_some}
+use Rattle.sw_reader.specs.Form.{Shape, Terminal, Form, empty, one, is_usable, is_shorter}
+use Rattle.sw_reader.specs.Form.{claimed, listed_some}
 use Rattle.sw_reader.specs.Form as forms
 use Rattle.sw_reader.specs.Relations.{Relation, head, is_first_on_line, Then, Either, may_start}
 use Rattle.sw_reader.specs.Relations.{stays, spelled, OneMore, Turns}
@@ -58,14 +57,6 @@ example_in : {A : Type 0} (t : Terminal A) (lead : Bool) (from : ℕ) → may (o
 unfolding has
 example_in t true from h = h
 example_in t false from h = h
-
-led_append : (lead : Bool) (us vs : List Spelled) → Led lead us → Led lead (us ++ vs)
-led_append lead us vs h = record {
-  token = h.token;
-  others = h.others ++ vs;
-  whole = ap (λ ws. ws ++ vs) h.whole;
-  is = h.is;
-}
 
 not_both : (b : Bool) → b ≡ false → b ≡ true → ⊥
 not_both b h k = let both : false ≡ true = sym h ∙ k in cc
@@ -153,11 +144,6 @@ solidly {A} {R} {bare} {lead} {from} some one = record {
   empty = λ h. absurd (not_both false refl h);
   led = λ h. one.led some;
 }
-
-may_cond : (b : Bool) (s t : Shape) (lead : Bool) → may (cond b s t) lead ≡ true
-    → cond b (may s lead) (may t lead) ≡ true
-may_cond true s t lead h = h
-may_cond false s t lead h = h
 
 first_passes : (asked : Bool) (us : List Spelled) → Led true us → may_start asked (head us) ≡ true
 first_passes true us h = ap (λ vs. is_first_on_line (head vs)) h.whole ∙ h.is

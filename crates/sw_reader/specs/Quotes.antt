@@ -4,7 +4,7 @@ use Rattle.sw_token.specs.declared.Fixity.TheVariants as fixities
 use Rattle.sw_token.specs.declared.Kind.{Kind}
 use Rattle.sw_token.specs.declared.Kind.TheVariants as kinds
 use Rattle.sw_token.specs.Kinds.{kind_of}
-use Rattle.sw_reader.specs.Sets.{quoted, word, integer, not_first}
+use Rattle.sw_reader.specs.Sets.{quoted, integer, not_first}
 use Rattle.sw_reader.specs.Form.{Terminal}
 
 -- the token with this text; its value is its position
@@ -24,10 +24,6 @@ quote_on_line text = record {
   text = text;
   fixity = fixities.None;
 }
-
--- a word that names something; its value is its position
-abbrev pub a_word : Terminal ℕ
-a_word = record { set = word; value = λ token. token.at; text = codes "a"; fixity = fixities.None }
 
 abbrev pub int_value : Kind → ℤ
 int_value (kinds.Int value) = value

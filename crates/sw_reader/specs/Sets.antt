@@ -13,7 +13,8 @@ use Rattle.sw_token.specs.Kinds.{kind_of}
 use Rattle.sw_token.specs.Operators.{operators}
 use Rattle.sw_token.specs.Spelling.{Spelled}
 
--- the marks and words that a grammar quotes
+-- the marks and words that the grammar of programs quotes, and `print`, which no rule quotes: it is
+-- the example of a name
 abbrev pub other_texts : List (List ℕ)
 other_texts =
     codes "(" ∷ codes ")" ∷ codes "{" ∷ codes "}" ∷ codes "[" ∷ codes "]" ∷ codes "," ∷ codes ":"
@@ -27,13 +28,13 @@ other_texts =
     ∷ codes "struct" ∷ codes "switch" ∷ codes "true" ∷ codes "var" ∷ codes "while"
     ∷ codes "yield" ∷ []
 
--- All texts that a grammar quotes. Of the operators it may ask for the fixity.
+-- the quoted texts: the operators and those. Of an operator a rule may ask for the fixity.
 abbrev pub quoted_texts : List (List ℕ)
 quoted_texts = operators ++ other_texts
 
--- texts that examples are taken from: those, a name and a literal
+-- texts that examples are taken from: those and a literal
 abbrev pub sample_texts : List (List ℕ)
-sample_texts = quoted_texts ++ (codes "a" ∷ codes "1" ∷ [])
+sample_texts = quoted_texts ++ (codes "1" ∷ [])
 
 abbrev pub is_sample : List ℕ → Bool
 is_sample text = list_any (λ sample. bytes_eq sample text) sample_texts
@@ -140,7 +141,7 @@ abbrev pub standing_of : Fixity → List (List ℕ) → Set
 standing_of fixity [] = []
 standing_of fixity (text ∷ texts) = standing fixity text ++ standing_of fixity texts
 
--- the quoted words that may also name something
+-- the words among the quoted texts that may name something
 abbrev pub open_words : List (List ℕ)
 open_words =
     codes "Never" ∷ codes "Sendable" ∷ codes "Task" ∷ codes "detached" ∷ codes "main"
@@ -151,9 +152,17 @@ abbrev pub one_of : List (List ℕ) → Set
 one_of [] = []
 one_of (text ∷ texts) = quoted text ++ one_of texts
 
+-- a word that isn't among the quoted texts
+abbrev pub unquoted_word : Set
+unquoted_word = any (4 * length quoted_texts)
+
+-- an `@` with a word, which isn't among the quoted texts
+abbrev pub unquoted_attribute : Set
+unquoted_attribute = any (4 * (length quoted_texts + 2))
+
 -- a word that names something
 abbrev pub word : Set
-word = any (4 * length quoted_texts) ++ one_of open_words
+word = unquoted_word ++ one_of open_words
 
 -- an integer literal
 abbrev pub integer : Set
@@ -162,8 +171,8 @@ integer = any (4 * (length quoted_texts + 1))
 -- an `@` with a word
 abbrev pub attribute : Set
 attribute =
-    any (4 * (length quoted_texts + 2)) ++ one_of (codes "@main" ∷ codes "@globalActor"
-    ∷ codes "@Sendable" ∷ codes "@escaping" ∷ codes "@concurrent" ∷ [])
+    unquoted_attribute ++ one_of (codes "@main" ∷ codes "@globalActor" ∷ codes "@Sendable"
+    ∷ codes "@escaping" ∷ codes "@concurrent" ∷ [])
 
 -- the tokens of the set that are the first on their line
 abbrev pub first_only : Set → Set

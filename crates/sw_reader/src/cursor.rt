@@ -2,12 +2,11 @@
 
 ghost use Rattle.std.specs.Prelude.{◌≡◌, ◌<◌, length, map, drop, All, IsTrue, OnOk};
 ghost use Rattle.std.specs.List.{list_all, list_any};
-ghost use Rattle.sw_token.specs.Tokens.{IsTokens};
 ghost use Rattle.sw_token.specs.Spelling.{IsReadable, spelling_of};
 ghost use Rattle.sw_reader.specs.Sets.{is_quoted, is_quoted_operator, quoted, standing, starts};
 ghost use Rattle.sw_reader.specs.Sets.{one_of, standing_of, not_first, word, integer, attribute};
-ghost use Rattle.sw_reader.specs.Quotes.{quote, quote_on_line, a_word, an_integer};
-ghost use Rattle.sw_reader.specs.Relations.{head, is_first_on_line, may_start, stays};
+ghost use Rattle.sw_reader.specs.Quotes.{quote, quote_on_line, an_integer};
+ghost use Rattle.sw_reader.specs.Relations.{head, is_first_on_line, may_start};
 ghost use Rattle.sw_reader.specs.Reader.{next, opening, skipping, check, finish};
 ghost use Rattle.sw_reader.specs.Outcome.{Gives, Takes, has_text, text_of, stands, names};
 ghost use Rattle.sw_reader.specs.Outcome.{is_attribute, is_literal, literal};
@@ -190,7 +189,12 @@ impl<'a> Cursor<'a> {
             [] => None,
             [token, ..] => match token.kind {
                 Kind::Int(value) => Some(value),
-                _ => None,
+                Kind::Word
+                | Kind::Underscore
+                | Kind::Key(_)
+                | Kind::At
+                | Kind::Op(_)
+                | Kind::Mark(_) => None,
             },
         }
     }
@@ -253,17 +257,6 @@ impl<'a> Cursor<'a> {
         Ok(self.take())
     }
 
-    /// The same of a token that may not be the first on its line.
-    pub fn expect_on_line(&mut self, text: &str) -> Result<u32, Stop>
-        requires { IsTrue (is_quoted text.now) }
-        ensures { Gives (next (quote_on_line text.now) self.old) result self.new }
-    {
-        if self.begins_line() {
-            return Err(self.stop());
-        }
-        self.expect(text)
-    }
-
     /// Takes the token with this text, which opens a nest, where `depth` more may be opened, and
     /// gives its position. Another token can't be taken, whatever the depth; with a depth of 0 this
     /// one is too deep.
@@ -291,16 +284,6 @@ impl<'a> Cursor<'a> {
             return Err(self.stop());
         }
         self.open(text, depth)
-    }
-
-    /// Takes a word that names something, and gives its position.
-    pub fn word(&mut self) -> Result<u32, Stop>
-        ensures { Gives (next a_word self.old) result self.new }
-    {
-        if !self.sees_word() {
-            return Err(self.stop());
-        }
-        Ok(self.take())
     }
 
     /// Takes an integer literal, and gives its position and its value.
@@ -333,16 +316,6 @@ impl<'a> Cursor<'a> {
             return Ok(());
         }
         Err(self.stop())
-    }
-
-    /// Refuses the next token where it begins a line.
-    pub fn stay(&self) -> Result<(), Stop>
-        ensures { Gives (check stays self.now) result self.now }
-    {
-        if self.begins_line() {
-            return Err(self.stop());
-        }
-        Ok(())
     }
 
     /// Refuses a token that is left.
