@@ -275,18 +275,6 @@ module _ (P : Claims) (cases : Cases P) where
       (λ x y is. subst (λ z. P.case_arm (roll-CaseArm z)) is (of_case_arm y))
       (λ x y is. subst (λ z. P.if_arm (roll-IfArm z)) is (of_if_arm y))
 
-  pub every_closure : (x : Closure) → P.closure x
-  every_closure =
-      folds.ind-Closure P.expr P.stmt P.arg P.closure P.link P.block P.case_arm P.if_arm
-      (λ x y is. subst (λ z. P.expr (roll-Expr z)) is (of_expr y))
-      (λ x y is. subst (λ z. P.stmt (roll-Stmt z)) is (of_stmt y))
-      (λ x y is. subst (λ z. P.arg (roll-Arg z)) is (of_arg y))
-      (λ x y is. subst (λ z. P.closure (roll-Closure z)) is (of_closure y))
-      (λ x y is. subst (λ z. P.link (roll-Link z)) is (of_link y))
-      (λ x y is. subst (λ z. P.block (roll-Block z)) is (of_block y))
-      (λ x y is. subst (λ z. P.case_arm (roll-CaseArm z)) is (of_case_arm y))
-      (λ x y is. subst (λ z. P.if_arm (roll-IfArm z)) is (of_if_arm y))
-
   pub every_link : (x : Link) → P.link x
   every_link =
       folds.ind-Link P.expr P.stmt P.arg P.closure P.link P.block P.case_arm P.if_arm

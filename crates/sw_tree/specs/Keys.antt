@@ -1,10 +1,14 @@
 -- The key of each node of a tree: the byte offset of a token of its own.
 --   a literal, `self`, `await`, a prefix operator: that token
--- a word that means something: the word; a member, a call, a method: the member's or callee's word
+--   a word that means something: the word
+--   a member, a call, a method: the member's or callee's word
 --   an operator of a chain, as the chain that ends with its right operand: the operator
 --   a closure, also a task's body: its `{`; a task and `Task.yield()`: their `Task`
--- `let` and `var`: the variable's word; an assignment: its operator; an `if`: the word of each arm
--- any other statement: its first word; an expression as a statement: no node beside the expression
+--   `let` and `var`: the variable's word; an assignment: its operator
+--   an `if`: the word of its first arm. The words of its other arms are no nodes; they are listed
+--     too, so that they have places of their own.
+--   any other statement: its first word
+--   an expression as a statement: no node beside the expression
 --   a parameter, a pattern with a variable, a word of a capture list: the word
 --   a declaration: its word; an initialiser: its `init`; the entry: its `main`
 -- Types, labels, attributes and the cases of an enum are no nodes.

@@ -1,7 +1,7 @@
 -- The order of the text: each node's key, as `Keys` has it, after those of the nodes before it. A
 -- type's properties, initialisers and functions may stand in any order, so each of them has a list
 -- of its own, after the type's word.
-use Rattle.std.specs.Prelude.{ℕ, ◌<◌, List, [], ◌∷◌, ◌++◌, All, map, flat_map, option_map}
+use Rattle.std.specs.Prelude.{◌<◌, List, [], ◌∷◌, ◌++◌, All, map, flat_map, option_map}
 use Rattle.std.specs.Prelude.{unwrap_or}
 use Rattle.std.specs.List.{AllByRecursion}
 use Rattle.sw_tree.specs.Folds.{Steps, fold_expr, fold_block}

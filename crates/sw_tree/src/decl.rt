@@ -76,7 +76,7 @@ pub enum Decl {
 #[derive(Clone, Copy, PartialEq, Eq)]
 pub enum Written {
     Absent,
-    /// A global actor.
+    /// An `@` with a word, which is to name a global actor.
     At(Name),
     /// `nonisolated`.
     Nonisolated,

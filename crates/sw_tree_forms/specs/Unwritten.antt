@@ -1,6 +1,6 @@
--- What is in a tree and can't be written, as a list of keys, which is empty for the tree of a text:
--- the key of each parameter of the body of a task, since a task takes nothing; and a 0 for each
--- chain without an operator, which has no key of its own.
+-- Of what no text writes, two forms, as a list of keys, which is empty for the tree of a text: the
+-- key of each parameter of the body of a task, since a task takes nothing; and a 0 for each chain
+-- without an operator, which has no key of its own.
 use Rattle.std.specs.Prelude.{◌≡◌, List, [], ◌∷◌, ◌++◌, map, flat_map, option_map, unwrap_or}
 use Rattle.sw_tree.specs.Folds.{Steps, fold_block, fold_expr}
 use Rattle.sw_tree.specs.Keys.{Keys, joined}
@@ -106,6 +106,7 @@ decl_unwritten (GlobalActor word made) = []
 decl_unwritten (Func func) = func_unwritten func
 decl_unwritten (Global prop) = prop_unwritten prop
 
--- Texts can write these trees.
+-- Neither of the two forms stands in these trees. Texts needn't be able to write them for that: an
+-- `if` without arms has neither.
 abbrev pub AreWritten : List Decl → Type 0
 AreWritten decls = flat_map decl_unwritten decls ≡ []

@@ -10,9 +10,10 @@ ghost use Rattle.sw_tree_forms.specs.Parts.{of_expr, of_block, of_decls};
 ghost use Rattle.sw_tree_forms.specs.Unwritten.{AreWritten, block_unwritten, expr_unwritten};
 ghost use Rattle.sw_tree_forms.specs.Values.{AreValued};
 
-/// A tree has nothing that no text writes exactly where no body of a task in it has a parameter and
-/// each chain in it has an operator, however deep they stand. Lists of declarations can be taken
-/// apart.
+/// A tree has neither of the two forms that `AreWritten` rules out exactly where no body of a task
+/// in it has a parameter and each chain in it has an operator, however deep they stand. Other trees
+/// that no text writes, as an `if` without arms, aren't ruled out. Lists of declarations can be
+/// taken apart.
 pub fn written_trees_lack_two_forms()
     ensures tasks { (decls : List Decl) → AreWritten decls → TasksTakeNothing (of_decls decls) }
     ensures chains { (decls : List Decl) → AreWritten decls → ChainsHaveOperators (of_decls decls) }

@@ -1,6 +1,7 @@
 //! What holds of the trees of texts beside what their types say, as definitions with their laws:
-//! they have nothing that no text writes (a parameter of a task's body, a chain without an
-//! operator), and a global variable has a first value. It knows nothing of texts or of the grammar.
+//! they have neither of two forms that no text writes (a parameter of a task's body, a chain
+//! without an operator), and a global variable has a first value. It knows nothing of texts or of
+//! the grammar.
 #![tactic(auto)]
 
 mod laws;
