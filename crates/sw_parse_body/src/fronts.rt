@@ -3,10 +3,10 @@
 //! A front is read twice. The first reading finds where it ends, which doesn't hang on the names;
 //! then the names of its tokens are interned, and the second reading gives the tree with their ids.
 
-ghost use Rattle.std.specs.Prelude.{◌≡◌, ◌+◌, ◌<◌, ◌≤◌, ℕ, length, drop, OnOk, OnErr, IfOk, IfErr};
+ghost use Rattle.std.specs.Prelude.{◌≡◌, ◌<◌, ◌≤◌, ℕ, length, drop, OnOk, OnErr, IfOk, IfErr};
 ghost use Rattle.sw_token.specs.Spelling.{spelling_of, IsSpelling};
 ghost use Rattle.sw_token.specs.Tokens.{IsTokens};
-ghost use Rattle.sw_tree.specs.Names.{id_in, with_texts};
+ghost use Rattle.sw_tree.specs.Names.{id_in};
 ghost use Rattle.sw_parse_decl.specs.Programs.{most_nests};
 ghost use Rattle.sw_parse_body.specs.Phrases.{a_block, an_expr, a_type, IsFront, ExplainsFront};
 ghost use Rattle.sw_parse_body.specs.Phrases.{Keeps, texts_after, fault_in, IsStopIn};

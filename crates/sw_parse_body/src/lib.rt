@@ -15,6 +15,5 @@ mod programs;
 
 pub use fronts::{body, value, written_type};
 pub use laws::tokens_have_one_front;
-pub use parser::Parser;
 pub use programs::program;
 pub use sw_parse_decl::ParseFault;

@@ -1,6 +1,6 @@
 //! Blocks, expressions and types, each where no token follows with which it might go on.
 
-ghost use Rattle.std.specs.Prelude.{◌≡◌, []};
+ghost use Rattle.std.specs.Prelude.{◌≡◌};
 ghost use Rattle.sw_reader.specs.Fronts.{ends_before};
 ghost use Rattle.sw_reader.specs.Outcome.{Gives};
 ghost use Rattle.sw_reader.specs.Reader.{check};

@@ -1,7 +1,7 @@
 -- Lists that commas part, turn by turn as a loop of the code reads them.
 use Rattle.std.proofs.Common.{◌≡◌, ℕ, ◌<◌, true, false, List, [], ◌∷◌, ◌++◌, length, codes}
 use Rattle.std.proofs.Common.{refl, sym, ◌∙◌}
-use Rattle.std.specs.Prelude.{Ok, Err}
+use Rattle.std.specs.Prelude.{Ok}
 use Rattle.sw_token.specs.Spelling.{Spelled}
 use Rattle.sw_reader.specs.Sets.{starts, quoted}
 use Rattle.sw_reader.specs.Form.{Shape, one, empty, seq, star}
@@ -10,8 +10,7 @@ use Rattle.sw_reader.specs.Terminals.{◌>>=◌, expect}
 use Rattle.sw_reader.specs.Quotes.{quote}
 use Rattle.sw_reader.specs.Relations.{head}
 use Rattle.sw_reader.specs.Reader.{Reader, then_read, next}
-use Rattle.sw_reader.proofs.ItemLoops.{Refuses}
-use Rattle.sw_reader.proofs.ReaderLaws.{bind_step, bind_stop}
+use Rattle.sw_reader.proofs.ReaderLaws.{bind_step}
 use Rattle.sw_reader.proofs.FormLaws.{loop_stops, loop_goes_on, turn_takes}
 use Rattle.sw_grammar.specs.Nests.{El, shape_of, Form}
 use Rattle.sw_grammar.specs.Grammar.{body, good}
@@ -47,21 +46,6 @@ module _ (id_of : List ℕ → ℕ) (depth : ℕ) {s : Shape} {A : Type 0} (item
   turned xs ts us vs at x a b =
       bind_step (next (quote (codes ",")) ts) _ (at, us) _ a
       (bind_step (read id_of depth item us) _ (x, vs) _ b refl)
-
-  pub stops_at_comma : (init : List A) (start ts : List Spelled) (xs : List A) → goes ts
-      → More xs ts ≡ More init start → Refuses (next (quote (codes ",")) ts) (More init start)
-  stops_at_comma init start ts xs some same fault e =
-      sym same ∙ next_turn xs ts some
-      ∙ bind_stop (turn xs ts) _ fault (bind_stop (next (quote (codes ",")) ts) _ fault e)
-
-  pub stops_at_part : (init : List A) (start ts us : List Spelled) (xs : List A) (at : ℕ) → goes ts
-      → More xs ts ≡ More init start → next (quote (codes ",")) ts ≡ Ok (at, us)
-      → Refuses (read id_of depth item us) (More init start)
-  stops_at_part init start ts us xs at some same a fault e =
-      sym same ∙ next_turn xs ts some
-      ∙ bind_stop (turn xs ts) _ fault
-      (bind_step (next (quote (codes ",")) ts) _ (at, us) (Err fault) a
-      (bind_stop (read id_of depth item us) _ fault e))
 
   pub one_more : (init : List A) (start ts us vs : List Spelled) (xs : List A) (at : ℕ) (x : A)
       → goes ts → More xs ts ≡ More init start → next (quote (codes ",")) ts ≡ Ok (at, us)

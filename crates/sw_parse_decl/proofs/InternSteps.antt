@@ -8,17 +8,13 @@ use Rattle.sw_token.specs.Kinds.{kind_of}
 use Rattle.sw_token.specs.Spelling.{Spelled}
 use Rattle.sw_reader.specs.Outcome.{Takes, text_of}
 use Rattle.sw_reader.specs.Relations.{head}
-use Rattle.sw_reader.specs.Sets.{Set, starts, word, attribute, is_name, is_at}
+use Rattle.sw_reader.specs.Sets.{starts, word, attribute, is_name, is_at}
 use Rattle.sw_reader.proofs.SetLaws.{has-word}
 use Rattle.sw_reader.proofs.KindSets.{has-attribute}
 use Rattle.sw_tree.proofs.NamesLemmas.{length-with_text}
 use Rattle.sw_tree.specs.Names.{with_text, with_texts, predeclared}
 use Rattle.sw_grammar_keys.specs.Interned.{name_texts, texts_in}
 use Rattle.sw_parse_decl.specs.Parts.{next_texts}
-
-pub some_tokens : (set : Set) (ts : List Spelled) → starts set (head ts) ≡ true → 0 < length ts
-some_tokens set [] h = absurd (cc)
-some_tokens set (token ∷ ts) h = omega arith
 
 word_kind : (kind : Kind) (text : List ℕ) → is_name kind ≡ true → name_texts kind text ≡ text ∷ []
 word_kind kinds.Word text is = refl

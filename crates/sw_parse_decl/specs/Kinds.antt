@@ -6,20 +6,20 @@ use Rattle.sw_reader.specs.Reader.{Reader, then_read, pure}
 use Rattle.sw_reader.specs.Sets.{Set, quoted}
 use Rattle.sw_reader.specs.Terminals.{items}
 use Rattle.sw_grammar.specs.Nests.{Form, Member, method_first}
-use Rattle.sw_grammar.specs.Tokens.{type_ext, expr_ext, infix_op}
-use Rattle.sw_grammar.specs.Decls.{field, prop, init, enum_cases, method_member, global_first}
+use Rattle.sw_grammar.specs.Tokens.{binding_first, type_ext, expr_ext, infix_op}
+use Rattle.sw_grammar.specs.Decls.{field, prop, init, enum_cases, method_member}
 use Rattle.sw_grammar.specs.Reading.{read}
 use Rattle.sw_parse_decl.specs.declared.kinds.TypeKind.{TypeKind}
 use Rattle.sw_parse_decl.specs.declared.kinds.TypeKind.TheVariants as kinds
 
 -- what a type of this kind may have
 abbrev pub member_shape : TypeKind → Shape
-member_shape kinds.Struct = alt (solid global_first type_ext 0) (solid method_first [] 1)
+member_shape kinds.Struct = alt (solid binding_first type_ext 0) (solid method_first [] 1)
 member_shape kinds.Enum =
     alt (solid (quoted (codes "case")) (quoted (codes "(") ++ quoted (codes ",")) 0)
     (solid method_first [] 1)
 member_shape kinds.Class =
-    alt (solid global_first (type_ext ++ infix_op (codes "=") ++ expr_ext) 0)
+    alt (solid binding_first (type_ext ++ infix_op (codes "=") ++ expr_ext) 0)
     (alt (solid (quoted (codes "init")) [] 1) (solid method_first [] 1))
 
 abbrev pub member_of : (id_of : List ℕ → ℕ) (kind : TypeKind) → Form (member_shape kind) Member

@@ -129,14 +129,14 @@ fn global_actor_mark(names: &Names, tokens: &mut Cursor<'_>) -> Result<Name, Sto
     attribute(names, tokens)
 }
 
-/// Whether the next token is an attribute that is neither of those, nor `@concurrent`.
+/// Whether the next token is an attribute other than `@main`, `@globalActor` and `@concurrent`.
 fn sees_plain_mark(tokens: &Cursor<'_>) -> bool
     ensures { result ≡ starts plain_at_word (head tokens.now) }
 {
     sees_attribute(tokens) && !tokens.sees_one_of(&["@main", "@globalActor"])
 }
 
-/// Such an attribute.
+/// Takes an attribute other than these three.
 fn plain_mark(names: &Names, tokens: &mut Cursor<'_>) -> Result<Name, Stop>
     ensures { Gives (next (at_in (id_in names.now) plain_at_word (codes "@Sendable")) tokens.old)
         result tokens.new }

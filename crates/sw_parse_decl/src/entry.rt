@@ -4,8 +4,7 @@ ghost use Rattle.std.specs.Prelude.{codes};
 ghost use Rattle.sw_reader.specs.Outcome.{Gives};
 ghost use Rattle.sw_tree.specs.Names.{id_in};
 ghost use Rattle.sw_grammar.specs.Decls.{entry_inside, global_actor_inside, entry, global_actor};
-ghost use Rattle.sw_grammar.specs.Exprs.{nothing};
-ghost use Rattle.sw_grammar.specs.Nests.Nest.{in_empty, in_entry, in_global_actor};
+ghost use Rattle.sw_grammar.specs.Nests.Nest.{in_entry, in_global_actor};
 ghost use Rattle.sw_grammar.specs.Reading.{read};
 ghost use Rattle.sw_reader.specs.Quotes.{quote};
 ghost use Rattle.sw_parse_parts.specs.Nested.{made, nested};
@@ -14,7 +13,7 @@ ghost use Rattle.sw_parse_decl.specs.Entries.{main_isolation, main_of};
 use crate::bodies::Bodies;
 use crate::functions::declared;
 use std::alloc::Global;
-use sw_parse_parts::{attribute, equals, sees_attribute};
+use sw_parse_parts::{attribute, empty, equals, sees_attribute};
 use sw_reader::{Cursor, Stop};
 use sw_tree::{Block, Decl, Name, Names, Written};
 
@@ -59,7 +58,7 @@ fn entry_inside<B: Bodies>(
     tokens.expect("static")?;
     tokens.expect("func")?;
     let at = tokens.expect("main")?;
-    empty_round(names, tokens, depth)?;
+    empty(names, tokens, depth)?;
     let is_async = tokens.skip("async");
     let body = bodies.block(alloc, names, tokens, depth)?;
     tokens.skip(";");
@@ -83,7 +82,7 @@ fn global_actor_inside(names: &Names, tokens: &mut Cursor<'_>, depth: u32) -> Re
     tokens.expect("shared")?;
     equals(tokens)?;
     let made = declared(names, tokens, depth)?;
-    empty_round(names, tokens, depth)?;
+    empty(names, tokens, depth)?;
     tokens.skip(";");
     tokens.expect("}")?;
     Ok(made)
@@ -147,22 +146,4 @@ fn global_actor_body(names: &Names, tokens: &mut Cursor<'_>, depth: u32) -> Resu
 {
     tokens.open("{", depth)?;
     global_actor_inside(names, tokens, depth - 1)
-}
-
-/// `(` and `)`; gives the position of the `)`.
-fn empty_round(names: &Names, tokens: &mut Cursor<'_>, depth: u32) -> Result<u32, Stop>
-    ensures { Gives (nested (id_in names.now) depth (quote (codes "(")) in_empty tokens.old) result
-        tokens.new }
-{
-    tokens.open("(", depth)?;
-    nothing(names, tokens, depth - 1)
-}
-
-/// The `)` of empty brackets.
-#[tactic(auto, unfolding(sw_grammar::specs::Exprs::nothing))]
-fn nothing(names: &Names, tokens: &mut Cursor<'_>, depth: u32) -> Result<u32, Stop>
-    ensures { Gives (read (id_in names.now) depth (nothing (id_in names.now)) tokens.old) result
-        tokens.new }
-{
-    tokens.expect(")")
 }

@@ -2,10 +2,7 @@
 
 ghost use Rattle.std.specs.Prelude.{◌≡◌, codes};
 ghost use Rattle.sw_reader.specs.Outcome.{Gives};
-ghost use Rattle.sw_reader.specs.Reader.{next};
-ghost use Rattle.sw_reader.specs.Sets.{quoted};
 ghost use Rattle.sw_tree.specs.Names.{id_in};
-ghost use Rattle.sw_grammar.specs.Tokens.{plain_at_word, at_in};
 ghost use Rattle.sw_grammar.specs.Decls.{isolation_inside, nonisolated, concurrent, async_if};
 ghost use Rattle.sw_grammar.specs.Decls.{needs_async};
 ghost use Rattle.sw_grammar.specs.Nests.Nest.{in_isolation};
@@ -13,9 +10,8 @@ ghost use Rattle.sw_grammar.specs.Reading.{read};
 ghost use Rattle.sw_parse_parts.specs.Nested.{nested};
 ghost use Rattle.sw_reader.specs.Quotes.{quote};
 
-use sw_parse_parts::attribute;
 use sw_reader::{Cursor, Stop};
-use sw_tree::{Name, Names, Written};
+use sw_tree::{Names, Written};
 
 /// `nonisolated` or `nonisolated(nonsending)`.
 #[tactic(auto, unfolding(sw_grammar::specs::Decls::nonisolated))]

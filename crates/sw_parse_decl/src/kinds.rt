@@ -7,7 +7,7 @@ ghost use Rattle.sw_grammar.specs.Nests.{method_first};
 ghost use Rattle.sw_parse_decl.specs.declared.kinds.TypeKind.TheVariants as kinds;
 ghost use Rattle.sw_parse_decl.specs.Kinds.{member_first};
 
-use sw_parse_parts::sees_attribute;
+use sw_parse_parts::{sees_attribute, sees_binding};
 use sw_reader::Cursor;
 
 /// The kinds of types, by the members that they may have.
@@ -20,7 +20,7 @@ pub enum TypeKind {
 }
 
 /// Whether a method begins with the next token.
-pub fn sees_method(tokens: &Cursor<'_>) -> bool
+fn sees_method(tokens: &Cursor<'_>) -> bool
     ensures { result ≡ starts method_first (head tokens.now) }
 {
     sees_attribute(tokens) || tokens.sees_one_of(&["nonisolated", "@concurrent", "func"])
@@ -30,7 +30,7 @@ pub fn sees_method(tokens: &Cursor<'_>) -> bool
 fn sees_struct_member(tokens: &Cursor<'_>) -> bool
     ensures { result ≡ starts (member_first kinds.Struct) (head tokens.now) }
 {
-    tokens.sees_one_of(&["let", "var"]) || sees_method(tokens)
+    sees_binding(tokens) || sees_method(tokens)
 }
 
 /// Whether a member of an enum begins with the next token.
@@ -47,7 +47,7 @@ fn sees_class_member(tokens: &Cursor<'_>) -> bool
     tokens.sees_one_of(&["let", "var", "init"]) || sees_method(tokens)
 }
 
-/// Whether a member of such a type begins with the next token.
+/// Whether a member of a type of this kind begins with the next token.
 pub fn sees_member(kind: TypeKind, tokens: &Cursor<'_>) -> bool
     ensures { result ≡ starts (member_first kind) (head tokens.now) }
 {

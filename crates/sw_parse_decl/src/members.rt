@@ -1,6 +1,6 @@
 //! The members of types.
 
-ghost use Rattle.std.specs.Prelude.{◌≡◌, ◌++◌, [], ◌∷◌, codes};
+ghost use Rattle.std.specs.Prelude.{◌≡◌, [], ◌∷◌, codes};
 ghost use Rattle.sw_reader.specs.Outcome.{Gives};
 ghost use Rattle.sw_tree.specs.Names.{id_in};
 ghost use Rattle.sw_grammar.specs.Decls.{method_member, value_if, field_after, field, prop_after};
@@ -11,7 +11,7 @@ ghost use Rattle.sw_grammar.specs.Nests.Nest.{in_payload};
 ghost use Rattle.sw_grammar.specs.Reading.{read};
 ghost use Rattle.sw_reader.specs.Quotes.{quote};
 ghost use Rattle.sw_parse_parts.specs.Nested.{nested};
-ghost use Rattle.sw_parse_decl.specs.Members.{collected, with_member, and_member};
+ghost use Rattle.sw_parse_decl.specs.Members.{collected, and_member};
 
 use crate::bodies::Bodies;
 use crate::functions::{declared, method, params};

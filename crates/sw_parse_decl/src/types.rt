@@ -18,10 +18,11 @@ use crate::functions::declared;
 use crate::kinds::{TypeKind, sees_member};
 use crate::members::{Members, enum_cases, field, init, method_member, prop};
 use std::alloc::Global;
+use sw_parse_parts::sees_binding;
 use sw_reader::{Cursor, Stop};
 use sw_tree::{Decl, Names, Written};
 
-/// One more member of such a type.
+/// One more member of a type of this kind.
 fn member<B: Bodies>(
     alloc: Global,
     bodies: &B,
@@ -55,7 +56,7 @@ fn struct_member<B: Bodies>(
         (read (id_in names.now) depth (member_of (id_in names.now) kinds.Struct)) tokens.old) result
         tokens.new }
 {
-    if tokens.sees_one_of(&["let", "var"]) {
+    if sees_binding(tokens) {
         return field(alloc, names, tokens, depth, members);
     }
     method_member(alloc, bodies, names, tokens, depth, members)
@@ -93,7 +94,7 @@ fn class_member<B: Bodies>(
         (read (id_in names.now) depth (member_of (id_in names.now) kinds.Class)) tokens.old) result
         tokens.new }
 {
-    if tokens.sees_one_of(&["let", "var"]) {
+    if sees_binding(tokens) {
         return prop(alloc, bodies, names, tokens, depth, members);
     }
     if tokens.sees("init") {
@@ -102,7 +103,7 @@ fn class_member<B: Bodies>(
     method_member(alloc, bodies, names, tokens, depth, members)
 }
 
-/// The members of such a type, up to a token that begins none.
+/// The members of a type of this kind, up to a token that begins none.
 fn members<B: Bodies>(
     alloc: Global,
     bodies: &B,

@@ -23,7 +23,7 @@ use sw_tree::{Arg, ArgList, Expr, Name, Names};
 
 /// The arguments of a call, where a `(` comes that isn't the first on its line.
 #[tactic(auto, unfolding(sw_grammar::specs::Exprs::call))]
-pub fn call<I: Inner>(
+fn call<I: Inner>(
     alloc: Global,
     inner: &I,
     names: &Names,

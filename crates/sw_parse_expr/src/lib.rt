@@ -18,7 +18,7 @@ mod inner;
 mod operands;
 
 pub use calls::{after_operand, after_word, arg};
-pub use chains::{awaited, expr, more_operands, other_expr};
-pub use closures::{closure, statements, task_body};
+pub use chains::{awaited, expr, more_operands};
+pub use closures::statements;
 pub use inner::Inner;
-pub use operands::{after_task, literal, negated, unary};
+pub use operands::{after_task, negated};

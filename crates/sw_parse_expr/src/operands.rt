@@ -1,6 +1,5 @@
 //! Operands: what stands between operators.
 
-ghost use Rattle.std.specs.Prelude.{codes};
 ghost use Rattle.sw_reader.specs.Outcome.{Gives};
 ghost use Rattle.sw_tree.specs.Names.{id_in};
 ghost use Rattle.sw_grammar.specs.Exprs as exprs;
@@ -128,7 +127,7 @@ pub fn other_primary<I: Inner>(
         return closure_expr(alloc, inner, names, tokens, depth);
     }
     if sees_literal(tokens) {
-        return literal(names, tokens, depth);
+        return a_literal(names, tokens, depth);
     }
     if tokens.sees("self") {
         return me(names, tokens, depth);
@@ -236,15 +235,6 @@ fn closure_expr<I: Inner>(
 {
     let closure = closure(alloc, inner, names, tokens, depth)?;
     Ok(Expr::Fun(Boxed::new(alloc, closure)?))
-}
-
-/// A literal.
-#[tactic(auto, unfolding(sw_grammar::specs::Exprs::a_literal, sw_reader::specs::Terminals::literal))]
-pub fn literal(names: &Names, tokens: &mut Cursor<'_>, depth: u32) -> Result<Expr, Stop>
-    ensures { Gives (read (id_in names.now) depth (exprs.a_literal (id_in names.now)) tokens.old)
-        result tokens.new }
-{
-    a_literal(tokens)
 }
 
 /// `self`.

@@ -4,11 +4,7 @@ use Rattle.sw_token.specs.Spelling.{Spelled}
 use Rattle.sw_tree.specs.declared.operator.PrefixOp.{PrefixOp}
 use Rattle.sw_tree.specs.declared.operator.InfixOp.{InfixOp}
 use Rattle.sw_tree.specs.declared.operator.AssignOp.{AssignOp}
-use Rattle.sw_tree.specs.declared.expr.Expr.{Expr}
 use Rattle.sw_grammar.specs.Tokens.{prefix_of, infix_of, assign_of}
-use Rattle.sw_grammar.specs.Exprs.{a_literal}
-use Rattle.sw_grammar.specs.Reading.{read}
-use Rattle.sw_reader.specs.Reader.{Reader}
 
 -- `TakesAs value tokens x left`: the first of the tokens is taken, `x` is its value, and these are
 -- left.
@@ -26,7 +22,3 @@ prefix_value token = (prefix_of token.text, token.at)
 
 abbrev pub assign_value : Spelled → AssignOp × ℕ
 assign_value token = (assign_of token.text, token.at)
-
--- a literal: it has no nest and no name
-abbrev pub literal_value : Reader Expr
-literal_value = read (λ _. 0) 0 (a_literal (λ _. 0))

@@ -265,7 +265,8 @@ pub fn task_signature(
     Ok((ListOf::new(alloc), result))
 }
 
-/// The same, where a `(` comes; else no parameters and no result type.
+/// Where a `(` comes, the `()` of a task's closure, with `async` and its result type where these
+/// come; else no parameters and no result type.
 #[tactic(auto, unfolding(sw_grammar::specs::Closures::task_signature_if))]
 pub fn task_signature_if(
     alloc: Global,

@@ -7,18 +7,20 @@ ghost use Rattle.sw_reader.specs.Relations.{head};
 ghost use Rattle.sw_reader.specs.Sets.{starts, one_of, not_first};
 ghost use Rattle.sw_grammar.specs.Tokens.{times, plus, compares, assign_ops, prefix_ops, infix_op};
 ghost use Rattle.sw_grammar.specs.Tokens.{literal_first, expr_first, stmt_first, an_equals};
-ghost use Rattle.sw_grammar.specs.Tokens.{prefix_of, infix_of, assign_of, infix_in, a_prefix};
+ghost use Rattle.sw_grammar.specs.Tokens.{infix_of, assign_of, infix_in, a_prefix};
 ghost use Rattle.sw_grammar.specs.Tokens.{an_assignment};
+ghost use Rattle.sw_grammar.specs.Exprs as exprs;
+ghost use Rattle.sw_grammar.specs.Reading.{read};
+ghost use Rattle.sw_tree.specs.Names.{id_in};
 ghost use Rattle.sw_parse_parts.specs.Taking.{TakesAs, infix_value, prefix_value, assign_value};
-ghost use Rattle.sw_parse_parts.specs.Taking.{literal_value};
 ghost use Rattle.sw_parse_parts.specs.Begin.{booleans, value_first, expr_words, stmt_words};
 
 use super::words::sees_value_word;
 use sw_reader::{Cursor, Stop};
 use sw_token::Fixity;
-use sw_tree::{AssignOp, Expr, InfixOp, PrefixOp};
+use sw_tree::{AssignOp, Expr, InfixOp, Names, PrefixOp};
 
-/// The operator with this text, between operands.
+/// The operator with this text, between operands; any text that isn't an operator's gives `||`.
 fn infix_of(text: &str) -> InfixOp
     ensures { result ≡ infix_of text.now }
 {
@@ -39,7 +41,7 @@ fn infix_of(text: &str) -> InfixOp
     }
 }
 
-/// The operator of an assignment with this text.
+/// The operator of an assignment with this text; any text that isn't such an operator's gives `%=`.
 fn assign_of(text: &str) -> AssignOp
     ensures { result ≡ assign_of text.now }
 {
@@ -222,8 +224,9 @@ fn sees_boolean(tokens: &Cursor<'_>) -> bool
 
 /// A literal: an integer, `true` or `false`.
 #[tactic(auto, unfolding(sw_grammar::specs::Exprs::a_literal, sw_reader::specs::Terminals::literal))]
-pub fn a_literal(tokens: &mut Cursor<'_>) -> Result<Expr, Stop>
-    ensures { Gives (literal_value tokens.old) result tokens.new }
+pub fn a_literal(names: &Names, tokens: &mut Cursor<'_>, depth: u32) -> Result<Expr, Stop>
+    ensures { Gives (read (id_in names.now) depth (exprs.a_literal (id_in names.now)) tokens.old)
+        result tokens.new }
 {
     if tokens.sees_integer() {
         let (at, value) = tokens.integer()?;

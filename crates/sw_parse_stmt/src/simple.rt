@@ -187,7 +187,6 @@ pub fn plain_stmt<I: Inner>(
 }
 
 /// An operand that begins with a literal or a prefix operator.
-#[tactic(auto, unfolding(sw_grammar::specs::Exprs::a_literal, sw_reader::specs::Terminals::literal))]
 fn plain_operand<I: Inner>(
     alloc: Global,
     inner: &I,
@@ -202,7 +201,7 @@ fn plain_operand<I: Inner>(
     if sees_prefix(tokens) {
         return negated(alloc, inner, names, tokens, depth, true);
     }
-    let literal = a_literal(tokens)?;
+    let literal = a_literal(names, tokens, depth)?;
     after_operand(alloc, inner, names, tokens, depth, literal)
 }
 
