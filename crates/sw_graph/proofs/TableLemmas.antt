@@ -59,12 +59,6 @@ length-places_from number (block ∷ blocks) =
       length-places_from (number + 1) blocks,
     )
 
--- a table has a place for each point
-pub length_places : (function : Function) (table : PointTable) → table ≡ table_of function
-    → length table.places ≡ length (points_of function.blocks)
-length_places function table is =
-    ap (λ t. length t.places) is ∙ length-places_from 0 function.blocks
-
 -- What stands at the place of a point is what stands at the point.
 placed : (before blocks : List Block) (point : ℕ)
     → option_and_then (at_place (before ++ blocks))

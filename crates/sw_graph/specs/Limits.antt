@@ -1,12 +1,9 @@
--- The greatest number of registers and of points of a function, and the first function that has
--- more.
-use Rattle.std.specs.Prelude.{◌≤◌, ℕ, nat_lt, length, Option, Some, None, List, [], ◌∷◌}
-use Rattle.std.specs.Prelude.{if◌then◌else◌}
+-- The greatest number of registers and of points of a function, and what a function has more of.
+use Rattle.std.specs.Prelude.{◌≤◌, nat_lt, length, Option, Some, None, if◌then◌else◌}
 use Rattle.sw_graph.specs.declared.function.TheConstants.{MAX_REGISTERS, MAX_POINTS}
 use Rattle.sw_graph.specs.declared.function.Function.{Function}
 use Rattle.sw_graph.specs.declared.function.Excess.{Excess}
 use Rattle.sw_graph.specs.declared.function.Excess.TheVariants.{Registers, Points}
-use Rattle.sw_graph.specs.declared.function.TooLarge.{TooLarge}
 use Rattle.sw_graph.specs.Points.{points_of}
 
 -- the function isn't too large
@@ -19,13 +16,3 @@ abbrev pub excess_of : Function → Option Excess
 excess_of function =
     if nat_lt MAX_REGISTERS (length function.regs) then Some Registers
     else if nat_lt MAX_POINTS (length (points_of function.blocks)) then Some Points else None
-
-abbrev pub first_of : Option Excess → ℕ → Option TooLarge → Option TooLarge
-first_of None key later = later
-first_of (Some of) key later = Some (record { key = key; of = of })
-
--- the first function that is larger than the limits
-unfoldable pub first_too_large : List Function → Option TooLarge
-first_too_large [] = None
-first_too_large (function ∷ functions) =
-    first_of (excess_of function) function.key (first_too_large functions)

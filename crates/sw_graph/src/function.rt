@@ -59,11 +59,3 @@ pub enum Excess {
     Registers,
     Points,
 }
-
-/// A function that is larger than a graph's functions may be.
-#[derive(Clone, Copy, Debug, PartialEq, Eq)]
-pub struct TooLarge {
-    /// The byte offset of its key token.
-    pub key: u32,
-    pub of: Excess,
-}

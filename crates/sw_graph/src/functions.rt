@@ -1,8 +1,4 @@
-ghost use Rattle.std.specs.Prelude.{◌≡◌};
-ghost use Rattle.sw_graph.specs.Limits.{excess_of};
-ghost use Rattle.sw_graph.specs.Table.{table_of};
-
-use crate::function::{Excess, Function, FunctionList, MAX_POINTS, MAX_REGISTERS, TooLarge};
+use crate::function::{Function, FunctionList};
 use crate::point::Point;
 use crate::table::PointTable;
 use std::alloc::{AllocError, Global};
@@ -35,11 +31,10 @@ impl Model for Functions {
 }
 
 impl Functions {
-    ghost use Rattle.std.specs.Prelude.{◌≡◌, ◌+◌, ◌<◌, ◌^◌, length, map, take, slice_get, All};
+    ghost use Rattle.std.specs.Prelude.{◌≡◌, ◌+◌, ◌<◌, ◌^◌, length, slice_get, All};
     ghost use Rattle.std.specs.Prelude.{IfOk, IfSome, OnSome};
     ghost use Rattle.std.specs.Option.{option_copied, option_and_then, option_map};
     ghost use Rattle.sw_graph.specs.Lent.{lent_point};
-    ghost use Rattle.sw_graph.specs.Limits.{first_too_large};
     ghost use Rattle.sw_graph.specs.Points.{point_in, block_start, IsNumbered};
     ghost use Rattle.sw_graph.specs.Table.{table_of};
 
@@ -96,23 +91,6 @@ impl Functions {
         self.table(function)?.start(block)
     }
 
-    /// The first function that has more registers, or else more points, than a function of a graph.
-    #[tactic(auto, using(crate::proofs::LimitLemmas::searches))]
-    pub fn too_large(&self) -> Option<TooLarge>
-        ensures { result ≡ first_too_large self.now }
-    {
-        for index in 0..self.list.len() {
-            let function = self.list.at(index);
-            if let Some(of) = excess(function, self.tables.at(index)) {
-                return Some(TooLarge {
-                    key: function.key,
-                    of,
-                });
-            }
-        }
-        None
-    }
-
     /// The function with a number.
     #[tactic(auto, using(crate::proofs::ListLemmas::at_index))]
     fn numbered(&self, function: u32) -> Option<&Function>
@@ -129,19 +107,4 @@ impl Functions {
     {
         self.tables.get(function as usize)
     }
-}
-
-/// What a function has too many of, whose table this is.
-#[tactic(auto, using(crate::proofs::TableLemmas::length_places))]
-fn excess(function: &Function, table: &PointTable) -> Option<Excess>
-    requires { table.now ≡ table_of function.now }
-    ensures { result ≡ excess_of function.now }
-{
-    if function.regs.len() > MAX_REGISTERS {
-        return Some(Excess::Registers);
-    }
-    if table.places.len() > MAX_POINTS {
-        return Some(Excess::Points);
-    }
-    None
 }

@@ -1,9 +1,8 @@
-ghost use Rattle.std.specs.Prelude.{◌≡◌, ℕ, Bool, List, None, IsTrue, All, slice_get};
+ghost use Rattle.std.specs.Prelude.{◌≡◌, ℕ, Bool, List, IsTrue, slice_get};
 ghost use Rattle.sw_types.specs.declared.shape.Shape.{Shape};
 ghost use Rattle.sw_graph.specs.declared.function.Function.{Function};
 ghost use Rattle.sw_graph.specs.declared.function.GlobalKind.{GlobalKind};
 ghost use Rattle.sw_graph.specs.declared.instr.Block.{Block};
-ghost use Rattle.sw_graph.specs.Limits.{IsWithinLimits, first_too_large};
 ghost use Rattle.sw_graph.specs.Payloads.{PayloadsFit};
 ghost use Rattle.sw_graph.specs.Straight.{is_straight, IsStraightGraph};
 ghost use Rattle.sw_graph.specs.Ways.{IsAnnotated, SetsBeforeReads};
@@ -12,7 +11,8 @@ ghost use Rattle.sw_graph.specs.WellFormed.{IsWellFormed};
 use crate::function::{MAX_POINTS, MAX_REGISTERS};
 
 /// How it is shown that a function sets its registers before it reads them: by an annotation, or
-/// for a function of one block by a test that computes.
+/// for a function of one block that returns and takes no payload by a test that computes. What
+/// passes the test also keeps the rules on payloads.
 pub fn registers_are_set()
     ensures annotated { (function : Function) (annotation : ℕ → ℕ → Bool)
         → IsAnnotated function annotation → SetsBeforeReads function }
@@ -24,19 +24,11 @@ pub fn registers_are_set()
         → PayloadsFit shapes function number block }
 {}
 
-/// Graphs of straight functions, as tests make them by hand, are well formed.
+/// A graph of straight functions, as a benchmark makes one, is well formed.
 pub fn straight_graphs_fit()
     ensures { (shapes : List Shape) (globals : List GlobalKind) (functions : List Function)
         (entry : ℕ) (starts : List ℕ) → IsStraightGraph shapes globals functions entry starts
         → IsWellFormed shapes globals functions entry starts }
-{}
-
-/// No function of a list is too large exactly where each is within the limits.
-pub fn large_functions_are_found()
-    ensures within { (functions : List Function) → first_too_large functions ≡ None
-        → All IsWithinLimits functions }
-    ensures none { (functions : List Function) → All IsWithinLimits functions
-        → first_too_large functions ≡ None }
 {}
 
 /// The limits of a function of a graph.

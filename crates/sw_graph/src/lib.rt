@@ -12,14 +12,12 @@ mod table;
 
 pub use function::{
     BoolList, Excess, Function, FunctionList, GlobalKind, GlobalKinds, MAX_POINTS, MAX_REGISTERS,
-    RegKind, RegList, TooLarge,
+    RegKind, RegList,
 };
 pub use functions::Functions;
 pub use graph::Graph;
 pub use instr::{
     BinOp, Block, BlockList, IdList, Instr, InstrList, Last, Literal, Operand, OperandList, UnOp,
 };
-pub use laws::{
-    function_limits, large_functions_are_found, registers_are_set, straight_graphs_fit,
-};
+pub use laws::{function_limits, registers_are_set, straight_graphs_fit};
 pub use point::Point;
