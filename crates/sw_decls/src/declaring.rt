@@ -1,6 +1,7 @@
 //! What a program declares, or the first breach of the rules on declarations.
 ghost use Rattle.std.specs.Prelude.{◌≡◌, ◌++◌, ◌<◌, ◌^◌, ◌∷◌, [], None, length, flat_map, IfOk};
 ghost use Rattle.std.specs.Prelude.{IfErr, OnOk};
+ghost use Rattle.sw_tree.specs.Names.{main_actor_id};
 ghost use Rattle.sw_types.specs.Held.{AreWithin};
 ghost use Rattle.sw_resolve.specs.Evident.{meanings_of, tabled};
 ghost use Rattle.sw_decls.specs.Declaring.{IsDeclared, IsFirstBreach, IsRefusal, actor_ids};
@@ -18,7 +19,7 @@ use crate::wide::add_wide;
 use std::alloc::{AllocError, Global};
 use sw_list::ListOf;
 use sw_members::in_program;
-use sw_resolve::{Members, Placed, Words, first_of, shapes_of};
+use sw_resolve::{MAIN_ACTOR, Members, Placed, Words, first_of, shapes_of};
 use sw_tree::{Decl, InitTree, Name, Program};
 use sw_types::{ShapeFault, ShapeList, Shapes, which_hold_themselves};
 use sw_values::add_values;
@@ -66,9 +67,6 @@ pub struct Decls {
     /// The members of types by name.
     pub members: Members,
 }
-
-/// The id of `MainActor`, which each program has before it declares any name.
-const MAIN_ACTOR: u32 = 6;
 
 /// What words mean: at top level, and as members of types.
 #[derive(Drop)]
@@ -172,7 +170,7 @@ fn checked(alloc: Global, known: &Known, decls: &[Decl]) -> Result<Shapes, DeclF
 
 /// The ids of the global actors.
 fn actors_of(alloc: Global, decls: &[Decl]) -> Result<ListOf<u32>, AllocError>
-    ensures { IfOk result (λ actors. actors ≡ 6 ∷ flat_map actor_ids decls.now) }
+    ensures { IfOk result (λ actors. actors ≡ main_actor_id ∷ flat_map actor_ids decls.now) }
 {
     let mut actors = ListOf::one(alloc, MAIN_ACTOR)?;
     for decl in decls {

@@ -17,5 +17,6 @@ pub use declaring::{DeclFault, Decls, declare};
 pub use laws::programs_have_one_first_breach;
 pub use ordered::Numbers;
 pub use signature::{
-    AsyncDefault, GlobalList, GlobalVar, Param, ParamList, Signature, SignatureList,
+    AsyncDefault, GlobalList, GlobalVar, Param, ParamList, Signature, SignatureList, actor_iso,
+    label_id,
 };

@@ -71,7 +71,7 @@ pub struct GlobalVar {
 }
 
 /// The isolation to a global actor, if there is one.
-fn actor_iso(actor: Option<u32>) -> Iso
+pub fn actor_iso(actor: Option<u32>) -> Iso
     ensures { result ≡ actor_iso actor }
 {
     match actor {
@@ -117,7 +117,7 @@ fn func_iso(
 }
 
 /// The id of a label, where there is one.
-fn label_id(label: Option<Name>) -> Option<u32>
+pub fn label_id(label: Option<Name>) -> Option<u32>
     ensures { result ≡ label_id label }
 {
     match label {

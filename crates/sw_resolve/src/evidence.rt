@@ -128,7 +128,7 @@ pub fn evident(words: &Words, members: &Members, owner: Option<u32>, value: &Exp
 }
 
 /// The type that is evident from a first value, if there is one.
-pub fn evident_type(
+pub(crate) fn evident_type(
     words: &Words,
     members: &Members,
     owner: Option<u32>,

@@ -35,7 +35,11 @@ fn type_meaning(words: &Words, id: u32) -> Option<Ty>
 
 /// The types that written types mean, in order.
 #[cycle(types)]
-pub fn types_of(alloc: Global, words: &Words, trees: &[TypeTree]) -> Result<TyList, AllocError>
+pub(crate) fn types_of(
+    alloc: Global,
+    words: &Words,
+    trees: &[TypeTree],
+) -> Result<TyList, AllocError>
     ensures { IfOk result (λ types. types
         ≡ map (type_of (get nat_eq words.now.meanings)) trees.now) }
 {

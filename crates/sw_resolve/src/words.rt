@@ -35,7 +35,7 @@ pub struct Words {
 const RESERVED: u32 = 8;
 
 /// The id of `MainActor`, which each program has before it declares any name.
-const MAIN_ACTOR: u32 = 6;
+pub const MAIN_ACTOR: u32 = 6;
 
 /// Whether a word can't be declared.
 pub fn is_reserved(id: u32) -> bool
