@@ -1,22 +1,11 @@
 //! Where statements stand, and how several go.
-ghost use Rattle.std.specs.Prelude.{◌≡◌, ◌&&◌, ◌||◌, false, None};
-ghost use Rattle.sw_decls.specs.Signatures.{label_id};
+ghost use Rattle.std.specs.Prelude.{◌≡◌, ◌&&◌, ◌||◌, false};
 ghost use Rattle.sw_typing_rules.specs.Statements.{in_body, in_loop, in_switch, is_one, in_branch};
 ghost use Rattle.sw_typing_rules.specs.Statements.{with_only};
 
-use sw_tree::{Name, Stmt};
+use sw_tree::Stmt;
 use sw_typing_forms::Went;
 use sw_typing_rules::Inside;
-
-/// The id of a label, where there is one.
-pub fn label_id(label: Option<Name>) -> Option<u32>
-    ensures { result ≡ label_id label }
-{
-    match label {
-        None => None,
-        Some(name) => Some(name.id),
-    }
-}
 
 /// In a block of an `if` or a `switch`.
 pub fn in_branch(inside: Inside) -> Inside

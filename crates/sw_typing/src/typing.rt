@@ -33,8 +33,8 @@ impl From<AllocError> for TypeFault {
     }
 }
 
-#[tactic(auto, using(crate::proofs::FirstIll::is_first_ill))]
 /// The types of a program, whose declarations are `world`.
+#[tactic(auto, using(crate::proofs::FirstIll::is_first_ill))]
 pub fn type_program(alloc: Global, program: &Program, world: &Decls) -> Result<Typed, TypeFault>
     requires { length program.now.decls < 2 ^ 31 }
     ensures typed { IfOk result (IsTyped (world_of world.now) program.now.decls) }

@@ -12,12 +12,10 @@ ghost use Rattle.sw_typing.specs.Walked.{called_member, closure_known, expr_know
 ghost use Rattle.sw_typing.specs.Walked.{if_arms_left, links_known, otherwise_left, stmt_left};
 ghost use Rattle.sw_typing.specs.Walked.{stmts_left};
 
-use crate::settings::{
-    beside, in_body, in_branch, in_loop, in_switch, is_one, label_id, then, with_only,
-};
+use crate::settings::{beside, in_body, in_branch, in_loop, in_switch, is_one, then, with_only};
 use crate::steps::{note_fun, note_task};
 use std::alloc::{AllocError, Global};
-use sw_decls::Decls;
+use sw_decls::{Decls, label_id};
 use sw_list::ListOf;
 use sw_tree::{Arg, Block, CaseArm, Closure, Expr, IfArm, Link, Name, Stmt};
 use sw_types::{CaseList, Ty};
@@ -501,7 +499,7 @@ fn stmt(
                 let start = table.rows.len();
                 let marked = marked_result(&table.returned);
                 let value = expr(alloc, world, inside.owner, marked, value, table)?;
-                return_value(alloc, start, *at, value, table)
+                return_value(start, *at, value, table)
             }
         },
         Stmt::Break { at } => break_out(inside, *at, table),
@@ -510,7 +508,7 @@ fn stmt(
             let start = table.rows.len();
             let marked = expects(inside.only, table);
             let value = expr(alloc, world, inside.owner, marked, value, table)?;
-            plain(alloc, start, inside.only, value, table)
+            plain(start, inside.only, value, table)
         }
     }
 }

@@ -29,9 +29,9 @@ pub struct Enclosed {
 /// How a statement goes.
 #[derive(Clone, Copy)]
 pub struct Went {
-    /// Whether all that it holds has a type.
+    /// Whether nothing in it is ill or held.
     pub fine: bool,
-    /// Whether all its ways end in `return`.
+    /// Whether each way through it ends in a `return` or in a loop that nothing leaves.
     pub ends: bool,
     /// Whether a `break` leaves what holds it.
     pub breaks: bool,

@@ -80,13 +80,6 @@ impl Rows {
         self.list.len()
     }
 
-    /// Lends all that is noted.
-    pub fn rows(&self) -> &ListOf<Row>
-        ensures { result.now ≡ self.now }
-    {
-        &self.list
-    }
-
     /// Moves all that is noted out.
     pub fn into_list(self) -> ListOf<Row>
         ensures { result ≡ self }

@@ -288,7 +288,6 @@ fn add_value(ty: Option<Ty>, returned: &mut Returned)
 /// A `return` of a value that was judged since the table had `start` rows.
 #[tactic(auto, using(crate::proofs::TableLemmas::returned_value))]
 pub fn return_value(
-    alloc: Global,
     start: usize,
     at: u32,
     value: Known,
@@ -319,13 +318,7 @@ fn takes_plain(returned: &Returned) -> bool
 }
 
 /// An expression as a statement, which was judged since the table had `start` rows.
-pub fn plain(
-    alloc: Global,
-    start: usize,
-    only: bool,
-    value: Known,
-    table: &mut Table,
-) -> Result<Went, AllocError>
+pub fn plain(start: usize, only: bool, value: Known, table: &mut Table) -> Result<Went, AllocError>
     ensures went { IfOk result (λ went. went ≡ went_of
         (plain_left only (state_of table.old) (judged_since value start table.old))) }
     ensures left { OnOk result (table.new ≡ after (cut start table.old)
@@ -333,7 +326,7 @@ pub fn plain(
 {
     if only && takes_plain(&table.returned) {
         let at = value.key;
-        return_value(alloc, start, at, value, table)
+        return_value(start, at, value, table)
     } else {
         Ok(goes_on(value.ty.is_some()))
     }

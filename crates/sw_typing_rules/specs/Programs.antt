@@ -195,7 +195,7 @@ module _ (world : World) where
       value_noted value
       (judge world value.value (value_setting value) (is_marked value.wanted))
 
-  -- all that is said of the nodes of a program, in order
+  -- all that is said of the nodes of a program: of its bodies, then of its first values
   abbrev pub said : List Decl → List Row
   said decls =
       flat_map said_of_body (bodies_from world 0 decls)

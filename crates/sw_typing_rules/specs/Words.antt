@@ -29,7 +29,8 @@ pub record Setting : Type 0 where
   pub owner : Option ℕ
   pub vars : List Var
 
--- the innermost visible variable, parameter, pattern or listed capture of this name
+-- the innermost visible variable, parameter, pattern or listed capture of this name; of two in one
+-- scope, which no program has that keeps the rules on declarations (E301), the later
 abbrev pub local : List Var → ℕ → Option Var
 local vars id = fold (λ found (one : Var). if one.name == id then Some one else found) None vars
 

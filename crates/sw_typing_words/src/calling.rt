@@ -114,7 +114,7 @@ fn key_callee(world: &Decls, code: u16, key: u32) -> Callee
 }
 
 /// The number of the initialiser of a class or an actor.
-fn init_number(world: &Decls, shape: u32) -> Option<usize>
+pub fn init_number(world: &Decls, shape: u32) -> Option<usize>
     ensures { result ≡ and_then (slice_get (world_of world.now).makers shape)
         (world_of world.now).numbers }
 {

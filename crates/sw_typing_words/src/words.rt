@@ -73,7 +73,7 @@ pub fn part_at(world: &Decls, shape: u32, number: usize) -> Option<&Part>
 }
 
 /// Whether it is the kind of a class or an actor.
-fn is_object_kind(kind: ShapeKind) -> bool
+pub fn is_object_kind(kind: ShapeKind) -> bool
     ensures { result ≡ is_object_kind kind }
 {
     match kind {
