@@ -5,7 +5,6 @@ ghost use Rattle.std.specs.Option.{option_to_list};
 ghost use Rattle.sw_isolation_rules.specs.Captures.{captured, closed, firsts, held_self};
 ghost use Rattle.sw_isolation_rules.specs.Captures.{is_among, is_mention, mentioned, outer};
 ghost use Rattle.sw_isolation_rules.specs.Captures.{own_mentions, self_first};
-ghost use Rattle.sw_isolation_rules.specs.Kinds.{is_own};
 ghost use Rattle.sw_isolation_rules.specs.declared.note.Mention.{Mention};
 ghost use Rattle.sw_isolation_rules.specs.declared.note.Note.TheVariants.{Mentioned};
 ghost use Rattle.sw_typing_rules.specs.Worlds.{world_of};
@@ -15,19 +14,8 @@ use crate::listed::Listed;
 use crate::mention::{self_mention, self_of};
 use std::alloc::{AllocError, Global};
 use sw_decls::Decls;
-use sw_isolation_rules::{Captured, Context, Mention, Note};
+use sw_isolation_rules::{Captured, Context, Mention, Note, is_own};
 use sw_list::ListOf;
-use sw_types::Iso;
-
-/// Whether a body is isolated to `self`.
-fn is_own(iso: Iso) -> bool
-    ensures { result ≡ is_own iso }
-{
-    match iso {
-        Iso::Own => true,
-        Iso::Free | Iso::Global(_) | Iso::Caller => false,
-    }
-}
 
 /// That a closure holds `self`, as a mention of it at the closure, where its body is isolated to
 /// `self`.

@@ -13,15 +13,16 @@ use sw_resolve::Placed;
 /// which of its values cross that may not.
 #[derive(Drop)]
 pub struct Isolated {
-    /// The bodies, in the order of the text.
+    /// The bodies, declaration after declaration; within a class or an actor those of its properties,
+    /// then of its initialisers, then of its functions.
     pub bodies: ListOf<BodyIso>,
-    /// The kinds of calls and of reads that cross, in the order of the text.
+    /// The kinds of calls and of reads that cross, in the same order.
     pub kinds: ListOf<Kinded>,
     /// The captures of all closures and tasks. Those of one stand together, in their order.
     pub captures: ListOf<Capture>,
     /// The variables that are kept in boxes by the keys of their declarations, each once, in order.
     pub boxes: ListOf<u32>,
-    /// The values that cross and may not (E604 to E606), in the order of the text.
+    /// The values that cross and may not (E604 to E606), in the same order.
     pub crossings: ListOf<Placed>,
 }
 

@@ -11,12 +11,12 @@ ghost use Rattle.sw_isolation_rules.specs.Programs.{init_notes, inits_notes, not
 ghost use Rattle.sw_isolation_rules.specs.Programs.{shape_prop, value_notes};
 
 use std::alloc::{AllocError, Global};
-use sw_decls::{Decls, Signature};
+use sw_decls::{Decls, Signature, actor_iso};
 use sw_isolation_rules::{Context, Note};
 use sw_list::ListOf;
 use sw_noting::capture::Listed;
 use sw_noting::typing::Typed;
-use sw_noting::uses::{actor_iso, is_isolated, note_body, shape_iso};
+use sw_noting::uses::{is_isolated, note_body, shape_iso};
 use sw_noting::{block, expr};
 use sw_resolve::{shapes_made, written_actor};
 use sw_tree::{Block, Decl, Expr, FuncTree, InitTree, Name, PropTree};
@@ -314,7 +314,7 @@ fn add_decl(
     }
 }
 
-/// All that is noted of a program, in the order of its text.
+/// All that is noted of a program.
 pub fn noted(
     alloc: Global,
     world: &Decls,

@@ -80,8 +80,8 @@ fn holds_unsent(world: &Decls, shape: &Shape) -> bool
 }
 
 /// Whether a type has a `var`.
-fn has_var(world: &Decls, shape: &Shape) -> bool
-    ensures { result ≡ has_var (world_of world.now) shape.now }
+fn has_var(shape: &Shape) -> bool
+    ensures { result ≡ has_var shape.now }
 {
     let mut any = false;
     for part in shape.parts.as_slice() {
@@ -97,7 +97,7 @@ fn breaks_promise(world: &Decls, shape: &Shape) -> bool
     match shape.kind {
         ShapeKind::Struct | ShapeKind::Enum => holds_unsent(world, shape),
         ShapeKind::Class => {
-            shape.actor.is_none() && (has_var(world, shape) || holds_unsent(world, shape))
+            shape.actor.is_none() && (has_var(shape) || holds_unsent(world, shape))
         }
         ShapeKind::Actor => false,
     }
@@ -167,7 +167,7 @@ fn is_unsent(world: &Decls, typed: &Typed, numbers: &ShapeNumbers, variable: u32
     }
 }
 
-/// Adds the breach of a variable that a closure captures that may be sent.
+/// Adds the breach of a variable that is captured by a closure that may be sent.
 fn add_sent(
     world: &Decls,
     typed: &Typed,

@@ -58,29 +58,29 @@ either_within : (is : Bool) (around : Iso) → cond is iso.Free (inherited aroun
 either_within true around not = absurd (not refl)
 either_within false around not = inherited_within around not
 
-module _ (world : World) (answers : Answers) where
-  pub closure_within : (at : ℕ) (around : Iso) → closure_iso world answers at around ≢ iso.Free
-      → closure_iso world answers at around ≡ around
+module _ (answers : Answers) where
+  pub closure_within : (at : ℕ) (around : Iso) → closure_iso answers at around ≢ iso.Free
+      → closure_iso answers at around ≡ around
   unfolding closure_iso
   closure_within at around not = either_within (marked_type (answers.type_at at)) around not
 
+  pub closure_apart : (at : ℕ) (around : Iso) → closure_iso answers at around ≢ iso.Caller
+  unfolding closure_iso
+  closure_apart at around =
+      differs (cond (marked_type (answers.type_at at)) iso.Free (inherited around))
+      (either_apart (marked_type (answers.type_at at)) around)
+
+module _ (world : World) where
   pub task_within : (mark : Option Name) (detached : Bool) (around : Iso)
-      → task_iso world answers mark detached around ≡ iso.Own → around ≡ iso.Own
+      → task_iso world mark detached around ≡ iso.Own → around ≡ iso.Own
   unfolding task_iso
   task_within None true around same = absurd (false≢true (ap is_own same))
   task_within None false around same = own_from around same
   task_within (Some mark) detached around same =
       absurd (never_own (actor_of (world.known.top mark.id)) same)
 
-  pub closure_apart : (at : ℕ) (around : Iso)
-      → closure_iso world answers at around ≢ iso.Caller
-  unfolding closure_iso
-  closure_apart at around =
-      differs (cond (marked_type (answers.type_at at)) iso.Free (inherited around))
-      (either_apart (marked_type (answers.type_at at)) around)
-
   pub task_apart : (mark : Option Name) (detached : Bool) (around : Iso)
-      → task_iso world answers mark detached around ≢ iso.Caller
+      → task_iso world mark detached around ≢ iso.Caller
   unfolding task_iso
   task_apart None true around = differs iso.Free refl
   task_apart None false around = differs (inherited around) (inherited_apart around)

@@ -91,7 +91,7 @@ module _ (world : World) (answers : Answers) (P : Note → Type 0)
   noted_member base at context =
       so.uses context (base_of answers base.key base.is_self) at
 
-  noted_of_result : (at : ℕ) (result : Option Ty) → Each P (result_races world answers at result)
+  noted_of_result : (at : ℕ) (result : Option Ty) → Each P (result_races world at result)
   noted_of_result at None = tt
   noted_of_result at (Some ty) = of_race_605 P so.leaf (not (is_sendable world.shapes ty)) at
 
@@ -99,7 +99,7 @@ module _ (world : World) (answers : Answers) (P : Note → Type 0)
   unfolding task_races
   noted_task at = noted_of_result at (task_result (answers.type_at at))
 
-  noted_var : (mutable : Bool) (at : ℕ) → Each P (var_notes world answers mutable at)
+  noted_var : (mutable : Bool) (at : ℕ) → Each P (var_notes mutable at)
   noted_var true at = (so.vars at, tt)
   noted_var false at = tt
 

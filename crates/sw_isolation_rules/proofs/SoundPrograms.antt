@@ -62,7 +62,7 @@ module _ (world : World) (answers : Answers) where
   sound_default : (key : ℕ) → AreSound (default_notes world answers key)
   unfolding default_notes
   sound_default key =
-      each_some IsSound (λ func. func_note world answers func ∷ []) (λ func. (tt, tt))
+      each_some IsSound (λ func. func_note func ∷ []) (λ func. (tt, tt))
       (func_at world answers key)
 
   sound_inits : (word : Name) (inits : List InitTree)

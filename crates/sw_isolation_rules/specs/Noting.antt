@@ -154,12 +154,37 @@ abbrev pub task_result : Option Ty → Option Ty
 task_result None = None
 task_result (Some ty) = result_layer (out-Ty ty)
 
-module _ (world : World) (answers : Answers) where
-  abbrev pub mention_notes : Context → ℕ → List Note
-  mention_notes context at = map Mentioned (word_mentions world answers context.owner at)
+abbrev pub var_notes : Bool → ℕ → List Note
+var_notes true at = Var at ∷ []
+var_notes false at = []
+
+-- A closure that may be sent is isolated to no actor, another as what is around it (SE-0302,
+-- SE-0306).
+unfoldable pub closure_iso : Answers → ℕ → Iso → Iso
+closure_iso answers at around =
+    if marked_type (answers.type_at at) then iso.Free else inherited around
+
+-- A task with a global actor is isolated to that, a detached one to none, and another as what is
+-- around it.
+abbrev pub unmarked_iso : Bool → Iso → Iso
+unmarked_iso true around = iso.Free
+unmarked_iso false around = inherited around
+
+module _ (world : World) where
+  unfoldable pub task_iso : Option Name → Bool → Iso → Iso
+  task_iso None detached around = unmarked_iso detached around
+  task_iso (Some mark) detached around = actor_iso (actor_of (world.known.top mark.id))
+
+  abbrev pub result_races : ℕ → Option Ty → List Note
+  result_races at None = []
+  result_races at (Some ty) = race_if (not (is_sendable world.shapes ty)) at 605
 
   abbrev pub me_notes : Context → ℕ → List Note
   me_notes context at = map Mentioned (me_mentions world context.owner at)
+
+module _ (world : World) (answers : Answers) where
+  abbrev pub mention_notes : Context → ℕ → List Note
+  mention_notes context at = map Mentioned (word_mentions world answers context.owner at)
 
   -- what is used by the name, member or call with a key
   abbrev pub used_at : Context → Base → ℕ → Used
@@ -175,39 +200,19 @@ module _ (world : World) (answers : Answers) where
   member_notes base at context =
       use_notes context at (used_at context (base_of answers base.key base.is_self) at)
 
-  -- A closure that may be sent is isolated to no actor, another as what is around it (SE-0302,
-  -- SE-0306).
-  unfoldable pub closure_iso : ℕ → Iso → Iso
-  closure_iso at around =
-      if marked_type (answers.type_at at) then iso.Free else inherited around
-
-  -- A task with a global actor is isolated to that, a detached one to none, and another as what is
-  -- around it.
-  abbrev pub unmarked_iso : Bool → Iso → Iso
-  unmarked_iso true around = iso.Free
-  unmarked_iso false around = inherited around
-
-  unfoldable pub task_iso : Option Name → Bool → Iso → Iso
-  task_iso None detached around = unmarked_iso detached around
-  task_iso (Some mark) detached around = actor_iso (actor_of (world.known.top mark.id))
-
-  abbrev pub result_races : ℕ → Option Ty → List Note
-  result_races at None = []
-  result_races at (Some ty) = race_if (not (is_sendable world.shapes ty)) at 605
-
   -- the result of a task crosses (E605)
   unfoldable pub task_races : ℕ → List Note
-  task_races at = result_races at (task_result (answers.type_at at))
+  task_races at = result_races world at (task_result (answers.type_at at))
 
   abbrev pub fun_notes : Within → Notes
   fun_notes closure context listed =
-      let iso = closure_iso closure.at context.iso in
+      let iso = closure_iso answers closure.at context.iso in
       body_note closure.at iso false
       ∷ closure.inside (in_closure context iso false) listed
 
   abbrev pub task_notes : ℕ → Bool → Within → Notes
   task_notes at detached closure context listed =
-      let iso = task_iso closure.mark detached context.iso in
+      let iso = task_iso world closure.mark detached context.iso in
       body_note closure.at iso true
       ∷ task_races at ++ closure.inside (in_closure context iso true) listed
 
@@ -224,8 +229,8 @@ module _ (world : World) (answers : Answers) where
   me_seen at = record {
     key = at;
     is_self = true;
-    notes = λ context listed. me_notes context at;
-    before = λ context listed. me_notes context at;
+    notes = λ context listed. me_notes world context at;
+    before = λ context listed. me_notes world context at;
     stores = λ context place. [];
   }
 
@@ -268,10 +273,6 @@ module _ (world : World) (answers : Answers) where
       place.before context listed ++ place.stores context place.key
   place_notes _ place context listed =
       place.notes context listed ++ place.stores context place.key
-
-  abbrev pub var_notes : Bool → ℕ → List Note
-  var_notes true at = Var at ∷ []
-  var_notes false at = []
 
   abbrev pub stmt_layer : layer.Stmt-F Seen Notes Notes Within Linked Notes Notes Notes → Notes
   stmt_layer (layer.Bind mutable name ty bound) context listed =

@@ -50,13 +50,13 @@ abbrev pub global_refusals : World → GlobalVar → List Placed
 global_refusals world global =
     if is_shared world global then placed global.key.at 505 ∷ [] else []
 
+abbrev pub func_note : Signature → Note
+func_note func = body_note func.key.at func.iso func.is_async
+
 module _ (world : World) (answers : Answers) where
   -- the function with a key
   unfoldable pub func_at : ℕ → Option Signature
   func_at key = item (world.numbers key) world.funcs
-
-  abbrev pub func_note : Signature → Note
-  func_note func = body_note func.key.at func.iso func.is_async
 
   -- a body, by what its function declares
   abbrev pub declared_body : Block → Signature → List Note

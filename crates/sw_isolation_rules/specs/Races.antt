@@ -34,12 +34,12 @@ shape_from number (shape ∷ shapes) key =
     or_else (if shape.at == key then Some (types.Named number) else None)
     (shape_from (number + 1) shapes key)
 
+abbrev pub has_var : Shape → Bool
+has_var shape = list_any (λ (part : Part). part.mutable) shape.parts
+
 module _ (world : World) where
   abbrev pub holds_unsent : Shape → Bool
   holds_unsent shape = list_any (λ ty. not (is_sendable world.shapes ty)) (types_in shape)
-
-  abbrev pub has_var : Shape → Bool
-  has_var shape = list_any (λ (part : Part). part.mutable) shape.parts
 
   -- Whether a type that declares Sendable isn't: a struct or an enum with a part that isn't, and a
   -- class without a global actor that has such a part or a `var`.

@@ -111,18 +111,18 @@ pub fn storage_is_inside_in_its_own_isolation()
 /// A closure or a task is never isolated as its caller (SE-0461). An isolated closure has the
 /// isolation of the body around it, and so has a task that is isolated to `self`.
 pub fn closures_run_apart()
-    ensures closure { (world : World) (answers : Answers) (at : ℕ) (around : Iso)
-        → closure_iso world answers at around ≢ Caller }
-    ensures task { (world : World) (answers : Answers) (mark : Option Name) (detached : Bool)
-        (around : Iso) → task_iso world answers mark detached around ≢ Caller }
-    ensures inside { (world : World) (answers : Answers) (at : ℕ) (around : Iso)
-        → closure_iso world answers at around ≢ Free
-        → closure_iso world answers at around ≡ around }
-    ensures held { (world : World) (answers : Answers) (mark : Option Name) (detached : Bool)
-        (around : Iso) → task_iso world answers mark detached around ≡ Own → around ≡ Own }
+    ensures closure { (answers : Answers) (at : ℕ) (around : Iso)
+        → closure_iso answers at around ≢ Caller }
+    ensures task { (world : World) (mark : Option Name) (detached : Bool) (around : Iso)
+        → task_iso world mark detached around ≢ Caller }
+    ensures inside { (answers : Answers) (at : ℕ) (around : Iso)
+        → closure_iso answers at around ≢ Free → closure_iso answers at around ≡ around }
+    ensures held { (world : World) (mark : Option Name) (detached : Bool) (around : Iso)
+        → task_iso world mark detached around ≡ Own → around ≡ Own }
 {}
 
-/// A use has one breach of isolation at most, and none where it is awaited in an asynchronous body.
+/// A call, a read or a wait for a task has one breach of isolation at most, and none where it is
+/// awaited in an asynchronous body. What is written is said of by `write_notes`.
 pub fn uses_are_refused_once()
     ensures once { (context : Context) (at : ℕ) (one : Used)
         → length (refusals_in (use_notes context at one)) ≤ 1 }
@@ -210,7 +210,8 @@ pub fn merged_breaches_are_one_list()
         → one ≡ other }
 {}
 
-/// Each call that stands in an expression or a block, however deep, has a kind.
+/// Each call of a function, a method or an initialiser that stands in an expression or a block,
+/// however deep, has a kind.
 pub fn calls_inside_have_kinds()
     ensures exprs { (world : World) (answers : Answers) (context : Context) (listed : List ℕ)
         (expr : Expr) → HaveNotedKinds ((see world answers expr).notes context listed)

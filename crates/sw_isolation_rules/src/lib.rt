@@ -18,5 +18,5 @@ pub use laws::{
 };
 pub use merging::merged;
 pub use note::{BodyIso, Capture, Captured, Kinded, Mention, Note};
-pub use rules::{inherited, is_outside, kind_of, needs_await};
+pub use rules::{accessor, inherited, is_outside, is_own, is_strong, kind_of, needs_await};
 pub use uses::{Base, Callee, Context, Storage, Used};

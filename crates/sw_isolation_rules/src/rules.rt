@@ -1,7 +1,8 @@
 //! The rules that look nothing up.
 ghost use Rattle.std.specs.Prelude.{◌≡◌};
 ghost use Rattle.sw_graph.specs.CallKinds.{async_kind, global_kind, kind_by, own_kind};
-ghost use Rattle.sw_isolation_rules.specs.Kinds.{inherited, is_outside, kind_of, needs_await};
+ghost use Rattle.sw_isolation_rules.specs.Kinds.{accessor, inherited, is_outside, is_own};
+ghost use Rattle.sw_isolation_rules.specs.Kinds.{is_strong, kind_of, needs_await};
 
 use crate::uses::{Callee, Context, Storage};
 use sw_types::{CallKind, Iso};
@@ -81,18 +82,41 @@ pub fn inherited(body: Iso) -> Iso
     }
 }
 
-/// Whether storage is another actor's where it is used.
-pub fn is_outside(context: Context, storage: Storage) -> bool
-    ensures { result ≡ is_outside context storage }
+/// Whether it is the isolation to `self`.
+pub fn is_own(iso: Iso) -> bool
+    ensures { result ≡ is_own iso }
 {
-    let callee = Callee {
+    match iso {
+        Iso::Own => true,
+        Iso::Free | Iso::Global(_) | Iso::Caller => false,
+    }
+}
+
+/// Whether a call of this kind goes to another actor.
+pub fn is_strong(kind: CallKind) -> bool
+    ensures { result ≡ is_strong kind }
+{
+    match kind {
+        CallKind::Strong => true,
+        CallKind::Plain | CallKind::Same | CallKind::Weak | CallKind::Make => false,
+    }
+}
+
+/// What reads storage: a synchronous function in its place.
+pub fn accessor(storage: Storage) -> Callee
+    ensures { result ≡ accessor storage }
+{
+    Callee {
         iso: storage.iso,
         is_async: false,
         is_initialiser: false,
         on_self: storage.on_self,
-    };
-    match kind_of(callee, context.iso) {
-        CallKind::Strong => true,
-        CallKind::Plain | CallKind::Same | CallKind::Weak | CallKind::Make => false,
     }
+}
+
+/// Whether storage is another actor's where it is used.
+pub fn is_outside(context: Context, storage: Storage) -> bool
+    ensures { result ≡ is_outside context storage }
+{
+    is_strong(kind_of(accessor(storage), context.iso))
 }

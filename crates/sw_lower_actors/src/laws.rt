@@ -21,9 +21,9 @@ ghost use Rattle.sw_lower_actors.specs.Calls.{IsOf};
 ghost use Rattle.sw_lower_actors.specs.Given.{TakesAt};
 ghost use Rattle.sw_lower_actors.specs.Owning.{OwnKey};
 
-/// Each call in the functions of a program is that of a getter, or of the function, the method or
-/// the initialiser that is meant at its key, with the kind that is noted there; and each task runs
-/// the body of a task of the program.
+/// Each call in the functions of a program is that of a getter; or it is of the function, the method
+/// or the initialiser that is meant at its key, and has the kind that is noted there. Each task runs
+/// a body of the program that is made as that of a task is, without parameters.
 pub fn bodies_call_what_is_meant()
     ensures { (tables : Tables) (decls : List Decl) (ordered : List Body) → AreKeyed decls
         → IsFirstBreach decls None → AreOrdered tables decls ordered → AreMade ordered → (n p : ℕ)
@@ -33,9 +33,9 @@ pub fn bodies_call_what_is_meant()
         → IsOf tables (numbers_of ordered) (program_bodies tables decls) instr }
 {}
 
-/// A call that leaves its actor's executor for that of another gives that other actor: a function,
-/// a method or a getter that is called so and is isolated to `self` takes it first. No initialiser
-/// of an actor is called so. A task that is isolated to `self` takes its actor first too.
+/// A call that leaves its actor's executor for that of another gives an actor: a function,
+/// a method or a getter that is called so and is isolated to `self` takes an actor first. A task
+/// that is isolated to `self` takes one first too.
 pub fn calls_give_their_actors()
     ensures calls { (decls : List Decl) (rule : AsyncDefault) (world : World)
         (ordered : List Body) → AreKeyed decls → IsFirstBreach decls None

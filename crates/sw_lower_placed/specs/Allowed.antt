@@ -163,8 +163,8 @@ module _ (program : Program) where
       pub has : Contains program.inside (closure_body program.tables owner closure result)
       pub numbered : program.numbers (plain closure.at) ≡ Some f
       pub noted : IsNoted closure.at
-          (closure_iso program.tables.world program.tables.answers closure.at host.iso) false
-      pub held : closure_iso program.tables.world program.tables.answers closure.at host.iso ≡ Own
+          (closure_iso program.tables.answers closure.at host.iso) false
+      pub held : closure_iso program.tables.answers closure.at host.iso ≡ Own
           → FirstIsOwn host cs
       pub typed : program.tables.answers.type_at closure.at ≡ Some ty
       pub gives : HasType regs r ty

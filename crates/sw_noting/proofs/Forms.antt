@@ -62,7 +62,7 @@ module _ (world : World) (answers : Answers) (context : Context) (listed : List 
   use_is name = ap of_seen (eq.fold_expr-Use steps name)
 
   pub me_is : (at : ℕ)
-      → (see world answers (exprs.Me at)).notes context listed ≡ me_notes world answers context at
+      → (see world answers (exprs.Me at)).notes context listed ≡ me_notes world context at
   unfolding see
   me_is at = ap of_seen (eq.fold_expr-Me steps at)
 
@@ -132,7 +132,7 @@ module _ (world : World) (answers : Answers) (context : Context) (listed : List 
 
   pub me_before : (at : ℕ)
       → before_place world answers (exprs.Me at) context listed
-      ≡ me_notes world answers context at
+      ≡ me_notes world context at
   unfolding before_place see
   me_before at = ap before_seen (eq.fold_expr-Me steps at)
 
@@ -195,7 +195,7 @@ module _ (world : World) (answers : Answers) (context : Context) (listed : List 
 
   pub bind_is : (mutable : Bool) (name : Name) (ty : Option TypeTree) (value : Expr)
       → stmt_notes world answers (stmts.Bind mutable name ty value) context listed
-      ≡ var_notes world answers mutable name.at ++ (see world answers value).notes context listed
+      ≡ var_notes mutable name.at ++ (see world answers value).notes context listed
   unfolding see stmt_notes
   bind_is mutable name ty value = ap of_notes (eq.fold_stmt-Bind steps mutable name ty value)
 

@@ -31,22 +31,35 @@ use Rattle.sw_isolation_rules.specs.declared.note.Note.TheVariants.{Mentioned}
 use Rattle.sw_isolation_rules.specs.declared.uses.Base.{Base}
 use Rattle.sw_isolation_rules.specs.declared.uses.Callee.{Callee}
 use Rattle.sw_isolation_rules.specs.declared.uses.Context.{Context}
+use Rattle.sw_isolation_rules.specs.declared.uses.Storage.{Storage}
 use Rattle.sw_isolation_rules.specs.declared.uses.Used.{Used}
-use Rattle.sw_isolation_rules.specs.declared.uses.Used.TheVariants.{Called, Nothing, Waited}
+use Rattle.sw_isolation_rules.specs.declared.uses.Used.TheVariants.{Called, Nothing, Stored}
+use Rattle.sw_isolation_rules.specs.declared.uses.Used.TheVariants.{Waited}
 use Rattle.sw_noting.proofs.Adding.{next_of}
 use Rattle.sw_noting.proofs.Forms as forms
 use Rattle.sw_noting.specs.Walked.{args_noted, before_place, case_arms_noted, closure_seen}
 use Rattle.sw_noting.specs.Walked.{if_arm_noted, if_arms_noted, is_set, links_noted}
 use Rattle.sw_noting.specs.Walked.{otherwise_noted, stmts_noted, written_place}
 
--- a place whose last word is no storage and no part of a struct's value isn't written
-pub unwritten : (context : Context) (at : ℕ) (one : Used) (inside : List Note)
+-- a place whose last word is no part of a struct's value is written by that word alone
+pub written_alone : (context : Context) (at : ℕ) (one : Used) (inside : List Note)
     → ((callee : Callee) × (sends : Bool) × (one ≡ Called callee sends))
-    ⊎ ((one ≡ Waited) ⊎ (one ≡ Nothing))
-    → store_notes context at one inside ≡ []
-unwritten context at one inside (inl w) = ap (λ u. store_notes context at u inside) w.2
-unwritten context at one inside (inr (inl e)) = ap (λ u. store_notes context at u inside) e
-unwritten context at one inside (inr (inr e)) = ap (λ u. store_notes context at u inside) e
+    ⊎ (((storage : Storage) × (one ≡ Stored storage)) ⊎ ((one ≡ Waited) ⊎ (one ≡ Nothing)))
+    → store_notes context at one inside ≡ store_notes context at one []
+written_alone context at one inside is = by is where
+  by_one : (form : Used) → store_notes context at form inside ≡ store_notes context at form []
+      → one ≡ form → store_notes context at one inside ≡ store_notes context at one []
+  by_one form same e =
+      ap (λ u. store_notes context at u inside) e
+      ∙ (same ∙ sym (ap (λ u. store_notes context at u []) e))
+
+  by : ((callee : Callee) × (sends : Bool) × (one ≡ Called callee sends))
+      ⊎ (((storage : Storage) × (one ≡ Stored storage)) ⊎ ((one ≡ Waited) ⊎ (one ≡ Nothing)))
+      → store_notes context at one inside ≡ store_notes context at one []
+  by (inl w) = by_one (Called w.0 w.1) refl w.2
+  by (inr (inl w)) = by_one (Stored w.0) refl w.1
+  by (inr (inr (inl e))) = by_one Waited refl e
+  by (inr (inr (inr e))) = by_one Nothing refl e
 
 module _ (world : World) (answers : Answers) (context : Context) (listed : List ℕ) where
   abbrev noted : Expr → List Note

@@ -13,7 +13,7 @@ use sw_isolation_rules::{Base, Context, Note, Used, expressions_are_noted_by_key
 use sw_list::ListOf;
 use sw_tree::Expr;
 use sw_uses::typing::Typed;
-use sw_uses::{base_of, no_base, store_notes, used, write_notes};
+use sw_uses::{base_of, no_base, store_notes, used};
 
 /// The key of an expression.
 fn key_of(tree: &Expr) -> u32
@@ -79,8 +79,9 @@ fn stores(
             let known = base_at(typed, base);
             match used(world, typed, context.owner, known, name.at) {
                 Used::Field => stores(world, typed, context, at, base, notes),
-                Used::Stored(storage) => write_notes(context, at, storage, notes),
-                Used::Called { .. } | Used::Waited | Used::Nothing => Ok(()),
+                one @ (Used::Called { .. } | Used::Stored(_) | Used::Waited | Used::Nothing) => {
+                    store_notes(context, at, one, notes)
+                }
             }
         }
         Expr::Int { .. }

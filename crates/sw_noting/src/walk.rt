@@ -1,7 +1,6 @@
 //! Expressions and statements at any depth.
 ghost use Rattle.std.specs.Prelude.{◌≡◌, ◌++◌, OnOk};
 ghost use Rattle.sw_uses.specs.capture.Known.{answers_of};
-ghost use Rattle.sw_isolation_rules.specs.Answers.{Answers};
 ghost use Rattle.sw_isolation_rules.specs.Noting.{block_notes, fun_notes, in_await, in_closure};
 ghost use Rattle.sw_isolation_rules.specs.Noting.{place_notes, see, stmt_notes, task_notes};
 ghost use Rattle.sw_isolation_rules.specs.Noting.{var_notes};
@@ -9,7 +8,7 @@ ghost use Rattle.sw_noting.specs.Walked.{args_noted, before_place, case_arms_not
 ghost use Rattle.sw_noting.specs.Walked.{closure_seen, if_arm_noted, if_arms_noted, is_set};
 ghost use Rattle.sw_noting.specs.Walked.{links_noted, otherwise_noted, stmts_noted};
 ghost use Rattle.sw_noting.specs.Walked.{written_place};
-ghost use Rattle.sw_typing_rules.specs.Worlds.{World, world_of};
+ghost use Rattle.sw_typing_rules.specs.Worlds.{world_of};
 
 use crate::places::{base_at, written};
 use std::alloc::{AllocError, Global};
@@ -48,8 +47,7 @@ fn in_closure(context: Context, iso: Iso, is_async: bool) -> Context
 
 /// Notes the declaration of a variable by `var`.
 fn var_notes(mutable: bool, at: u32, notes: &mut ListOf<Note>) -> Result<(), AllocError>
-    ensures { (world : World) (answers : Answers)
-        → OnOk result (notes.new ≡ notes.old ++ var_notes world answers mutable at) }
+    ensures { OnOk result (notes.new ≡ notes.old ++ var_notes mutable at) }
 {
     if mutable {
         notes.push(Note::Var(at))?;

@@ -1,29 +1,17 @@
 //! How types, closures and tasks are isolated.
 ghost use Rattle.std.specs.Prelude.{◌≡◌};
 ghost use Rattle.sw_capture.specs.Known.{answers_of};
-ghost use Rattle.sw_decls.specs.Signatures.{actor_iso};
-ghost use Rattle.sw_isolation_rules.specs.Answers.{Answers};
-ghost use Rattle.sw_isolation_rules.specs.Kinds.{is_isolated, is_own, kind_iso, shape_iso};
+ghost use Rattle.sw_isolation_rules.specs.Kinds.{is_isolated, kind_iso, shape_iso};
 ghost use Rattle.sw_isolation_rules.specs.Noting.{closure_iso, task_iso, unmarked_iso};
-ghost use Rattle.sw_typing_rules.specs.Worlds.{World, world_of};
+ghost use Rattle.sw_typing_rules.specs.Worlds.{world_of};
 
 use crate::known::marked_at;
 use sw_capture::typing::Typed;
-use sw_decls::Decls;
+use sw_decls::{Decls, actor_iso};
 use sw_isolation_rules::inherited;
 use sw_resolve::written_actor;
 use sw_tree::{Name, Written};
 use sw_types::{Iso, Shape, ShapeKind};
-
-/// The isolation to a global actor, if there is one.
-pub fn actor_iso(actor: Option<u32>) -> Iso
-    ensures { result ≡ actor_iso actor }
-{
-    match actor {
-        None => Iso::Free,
-        Some(number) => Iso::Global(number),
-    }
-}
 
 /// The isolation of what a type of this kind stores, with its global actor.
 pub fn kind_iso(kind: ShapeKind, actor: Option<u32>) -> Iso
@@ -43,16 +31,6 @@ pub fn shape_iso(shape: &Shape) -> Iso
     kind_iso(shape.kind, shape.actor)
 }
 
-/// Whether it is the isolation to `self`.
-pub fn is_own(iso: Iso) -> bool
-    ensures { result ≡ is_own iso }
-{
-    match iso {
-        Iso::Own => true,
-        Iso::Free | Iso::Global(_) | Iso::Caller => false,
-    }
-}
-
 /// Whether it is the isolation to an actor.
 pub fn is_isolated(iso: Iso) -> bool
     ensures { result ≡ is_isolated iso }
@@ -66,8 +44,7 @@ pub fn is_isolated(iso: Iso) -> bool
 /// The isolation of the closure with this key, in a body that is isolated as `around`.
 #[tactic(auto, unfolding(sw_isolation_rules::specs::Noting::closure_iso))]
 pub fn closure_iso(typed: &Typed, at: u32, around: Iso) -> Iso
-    ensures { (world : World)
-        → result ≡ closure_iso world (answers_of typed.now) at around }
+    ensures { result ≡ closure_iso (answers_of typed.now) at around }
 {
     if marked_at(typed, at) {
         Iso::Free
@@ -78,8 +55,7 @@ pub fn closure_iso(typed: &Typed, at: u32, around: Iso) -> Iso
 
 /// The isolation of a task without a global actor.
 fn unmarked_iso(detached: bool, around: Iso) -> Iso
-    ensures { (world : World) (answers : Answers)
-        → result ≡ unmarked_iso world answers detached around }
+    ensures { result ≡ unmarked_iso detached around }
 {
     if detached {
         Iso::Free
@@ -91,8 +67,7 @@ fn unmarked_iso(detached: bool, around: Iso) -> Iso
 /// The isolation of a task with this global actor or none, in a body that is isolated as `around`.
 #[tactic(auto, unfolding(sw_isolation_rules::specs::Noting::task_iso))]
 pub fn task_iso(world: &Decls, mark: Option<Name>, detached: bool, around: Iso) -> Iso
-    ensures { (answers : Answers)
-        → result ≡ task_iso (world_of world.now) answers mark detached around }
+    ensures { result ≡ task_iso (world_of world.now) mark detached around }
 {
     match mark {
         None => unmarked_iso(detached, around),

@@ -10,12 +10,10 @@ mod lookups;
 mod steps;
 mod words;
 
-pub use isolations::{actor_iso, closure_iso, is_isolated, is_own, kind_iso, shape_iso, task_iso};
+pub use isolations::{closure_iso, is_isolated, shape_iso, task_iso};
 pub use known::{marked_at, may_cross};
-pub use lookups::{base_of, func_used, global_used, make_used, no_base, part_used, used};
-pub use steps::{
-    await_notes, call_notes, note_body, read_notes, store_notes, task_races, use_notes, write_notes,
-};
+pub use lookups::{base_of, no_base, used};
+pub use steps::{await_notes, note_body, store_notes, task_races};
 pub use sw_capture as capture;
 pub use sw_capture::typing;
 pub use words::{member_notes, word_notes};

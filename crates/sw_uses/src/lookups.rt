@@ -1,20 +1,21 @@
 //! What the use of a name, a member or a call is, by its meaning.
-ghost use Rattle.std.specs.Prelude.{◌≡◌, Some, slice_get};
+ghost use Rattle.std.specs.Prelude.{◌≡◌, Some};
 ghost use Rattle.std.specs.Option.{option_copied};
 ghost use Rattle.sw_capture.specs.Known.{answers_of};
 ghost use Rattle.sw_isolation_rules.specs.Uses.{base_of, called, func_used, global, global_used};
 ghost use Rattle.sw_isolation_rules.specs.Uses.{made_kind, made, make_used, maker_at, meant};
 ghost use Rattle.sw_isolation_rules.specs.Uses.{named_shape, no_base, part_in, part_of_shape};
 ghost use Rattle.sw_isolation_rules.specs.Uses.{part_storage, part_used, used};
-ghost use Rattle.sw_typing_rules.specs.Worlds.{and_then, is_object_kind, item, world_of};
+ghost use Rattle.sw_typing_rules.specs.Worlds.{item, world_of};
 
-use crate::isolations::{actor_iso, shape_iso};
+use crate::isolations::shape_iso;
 use crate::known::may_cross;
 use sw_capture::typing::Typed;
-use sw_decls::{Decls, GlobalVar, Signature};
+use sw_decls::{Decls, GlobalVar, Signature, actor_iso};
 use sw_isolation_rules::{Base, Callee, Storage, Used};
 use sw_types::{Part, Shape, ShapeKind, Ty};
 use sw_typing_rules::Meaning;
+use sw_typing_words::{init_number, is_object_kind};
 
 /// Nothing stands before a word.
 pub fn no_base() -> Base
@@ -74,20 +75,12 @@ pub fn func_used(world: &Decls, number: usize, on_self: bool) -> Used
     called(world, false, on_self, world.funcs.get(number))
 }
 
-/// The number of the initialiser of a class or an actor.
-fn maker_number(world: &Decls, shape: u32) -> Option<usize>
-    ensures { result ≡ and_then (slice_get (world_of world.now).makers shape)
-        (world_of world.now).numbers }
-{
-    world.numbers.get(*world.makers.get(shape as usize)?)
-}
-
 /// The initialiser of a class or an actor.
 #[tactic(auto, unfolding(sw_isolation_rules::specs::Uses::maker_at))]
 fn maker_at(world: &Decls, shape: u32) -> Option<&Signature>
     ensures { option_copied result ≡ maker_at (world_of world.now) shape }
 {
-    match maker_number(world, shape) {
+    match init_number(world, shape) {
         None => None,
         Some(number) => world.funcs.get(number),
     }
@@ -124,16 +117,6 @@ fn part_storage(world: &Decls, shape: &Shape, on_self: bool, part: &Part) -> Sto
         on_self,
         mutable: part.mutable,
         may_cross: may_cross(world, &part.ty),
-    }
-}
-
-/// Whether it is the kind of a class or an actor.
-fn is_object_kind(kind: ShapeKind) -> bool
-    ensures { result ≡ is_object_kind kind }
-{
-    match kind {
-        ShapeKind::Struct | ShapeKind::Enum => false,
-        ShapeKind::Class | ShapeKind::Actor => true,
     }
 }
 

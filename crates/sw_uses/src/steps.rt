@@ -2,8 +2,7 @@
 ghost use Rattle.std.specs.Prelude.{◌≡◌, ◌++◌, ◌∷◌, [], not, if◌then◌else◌, OnOk};
 ghost use Rattle.std.specs.Option.{option_copied};
 ghost use Rattle.sw_capture.specs.Known.{answers_of};
-ghost use Rattle.sw_isolation_rules.specs.Answers.{Answers};
-ghost use Rattle.sw_isolation_rules.specs.Kinds.{accessor, is_strong};
+ghost use Rattle.sw_isolation_rules.specs.Kinds.{accessor};
 ghost use Rattle.sw_isolation_rules.specs.Noting.{await_notes, body_note, call_notes, race_if};
 ghost use Rattle.sw_isolation_rules.specs.Noting.{read_notes, refused_if, result_races};
 ghost use Rattle.sw_isolation_rules.specs.Noting.{store_notes, task_races, task_result, use_notes};
@@ -18,11 +17,12 @@ use std::alloc::AllocError;
 use sw_capture::typing::Typed;
 use sw_decls::Decls;
 use sw_isolation_rules::{
-    BodyIso, Callee, Context, Kinded, Note, Storage, Used, is_outside, kind_of, needs_await,
+    BodyIso, Callee, Context, Kinded, Note, Storage, Used, accessor, is_outside, is_strong,
+    kind_of, needs_await,
 };
 use sw_list::ListOf;
 use sw_resolve::Placed;
-use sw_types::{CallKind, Iso, Ty};
+use sw_types::{Iso, Ty};
 
 /// Notes a body: its key, its isolation, and whether it is asynchronous.
 pub fn note_body(
@@ -92,15 +92,6 @@ fn await_if(
     }
 }
 
-fn is_strong(kind: CallKind) -> bool
-    ensures { result ≡ is_strong kind }
-{
-    match kind {
-        CallKind::Strong => true,
-        CallKind::Plain | CallKind::Same | CallKind::Weak | CallKind::Make => false,
-    }
-}
-
 /// Notes a call: its kind, the breach of a missing `await`, and a result that crosses and may not
 /// (E604). `may_cross` is whether the result may.
 pub fn call_notes(
@@ -117,18 +108,6 @@ pub fn call_notes(
     notes.push(Note::Kind(Kinded { at, kind }))?;
     await_if(needs, context, at, callee.is_async, notes)?;
     race_if(is_strong(kind) && !may_cross, at, CALL_RESULT, notes)
-}
-
-/// What reads storage: a synchronous function in its place.
-fn accessor(storage: Storage) -> Callee
-    ensures { result ≡ accessor storage }
-{
-    Callee {
-        iso: storage.iso,
-        is_async: false,
-        is_initialiser: false,
-        on_self: storage.on_self,
-    }
 }
 
 /// Notes the reading of storage that is outside.
@@ -228,8 +207,8 @@ fn result_races(
     ty: Option<&Ty>,
     notes: &mut ListOf<Note>,
 ) -> Result<(), AllocError>
-    ensures { (answers : Answers) → OnOk result (notes.new ≡ notes.old
-        ++ result_races (world_of world.now) answers at (option_copied ty.entry)) }
+    ensures { OnOk result (notes.new ≡ notes.old
+        ++ result_races (world_of world.now) at (option_copied ty.entry)) }
 {
     match ty {
         None => Ok(()),

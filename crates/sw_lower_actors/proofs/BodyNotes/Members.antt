@@ -67,7 +67,7 @@ module _ (world : World) (answers : Answers) (Good : ℕ → Type 0) where
 
   default_own : (found : Option Signature)
       → ((func : Signature) → found ≡ Some func → is_own func.iso ≡ true → Good func.key.at)
-      → Own (for_some found (λ func. func_note world answers func ∷ []))
+      → Own (for_some found (λ func. func_note func ∷ []))
   default_own None good = tt
   default_own (Some func) good = (λ own. good func refl own, tt)
 

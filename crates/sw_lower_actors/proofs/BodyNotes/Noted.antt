@@ -27,7 +27,7 @@ module _ (Good : ℕ → Type 0) where
   }
 
   module _ (world : World) (answers : Answers) where
-    of_result : (at : ℕ) (result : Option Ty) → AllOwn (result_races world answers at result)
+    of_result : (at : ℕ) (result : Option Ty) → AllOwn (result_races world at result)
     of_result at None = tt
     of_result at (Some ty) =
         of_race_605 (NoteOwn Good) leaf_own (not (is_sendable world.shapes ty)) at
@@ -36,6 +36,6 @@ module _ (Good : ℕ → Type 0) where
     unfolding task_races
     of_task at = of_result at (task_result (answers.type_at at))
 
-    pub var_own : (mutable : Bool) (at : ℕ) → AllOwn (var_notes world answers mutable at)
+    pub var_own : (mutable : Bool) (at : ℕ) → AllOwn (var_notes mutable at)
     var_own true at = (tt, tt)
     var_own false at = tt

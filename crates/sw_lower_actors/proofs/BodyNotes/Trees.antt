@@ -74,7 +74,7 @@ module _ (world : World) (answers : Answers) (Good : ℕ → Type 0) where
   abbrev of_task : (at : ℕ) → AllOwn Good (task_races world answers at)
   of_task = noted.of_task Good world answers
 
-  abbrev var_own : (mutable : Bool) (at : ℕ) → AllOwn Good (var_notes world answers mutable at)
+  abbrev var_own : (mutable : Bool) (at : ℕ) → AllOwn Good (var_notes mutable at)
   var_own = noted.var_own Good world answers
 
   abbrev of_closed : (closure : ℕ) (context : Context) (listed : List ℕ) (inner : List Note)

@@ -96,7 +96,7 @@ module _ (world : World) (answers : Answers) (c me : ℕ) (earlier : me < c) whe
   of_store context at Waited inside are = nothing 0
   of_store context at Nothing inside are = nothing 0
 
-  of_var : (mutable : Bool) (at : ℕ) → Has (var_notes world answers mutable at) (hits at c)
+  of_var : (mutable : Bool) (at : ℕ) → Has (var_notes mutable at) (hits at c)
   of_var true at =
       leaf c me (Var at ∷ []) (hits at c) (λ is. (lacks_var at c is).held) (tt, tt)
   of_var false at = nothing (hits at c)
@@ -334,7 +334,7 @@ module _ (world : World) (answers : Answers) (c me : ℕ) (earlier : me < c) whe
         (value_holds _ _ _ (λ context listed fits.
         let at = (fold_closure steps closure).at in
         more _ (in_closure closure c) (in_expr (exprs.Fun closure) c)
-        (inside (in_closed context (closure_iso world answers at context.iso) false) listed false []
+        (inside (in_closed context (closure_iso answers at context.iso) false) listed false []
         bare_nothing tt
         (λ own. fits (closure_own world answers at context.iso own)))
         (omega (arith, keys.in_expr-Fun closure c))));
@@ -343,7 +343,7 @@ module _ (world : World) (answers : Answers) (c me : ℕ) (earlier : me < c) whe
         (value_holds at _ _ (λ context listed fits.
         let mark = (fold_closure steps body).mark in
         more _ (in_closure body c) (in_expr (exprs.Spawn at detached body) c)
-        (inside (in_closed context (task_iso world answers mark detached context.iso) true) listed
+        (inside (in_closed context (task_iso world mark detached context.iso) true) listed
         true (task_races world answers at) (bare_task world answers at)
         (noted.of_task Never world answers at)
         (λ own. fits (task_own world answers mark detached context.iso own)))

@@ -61,7 +61,7 @@ module _ (world : World) (answers : Answers) where
   make_default : (key : ℕ) → AllMake world answers (default_notes world answers key)
   unfolding default_notes
   make_default key =
-      each_some (NoteMakes world answers) (λ func. func_note world answers func ∷ [])
+      each_some (NoteMakes world answers) (λ func. func_note func ∷ [])
       (λ func. (tt, tt)) (func_at world answers key)
 
   make_inits : (word : Name) (inits : List InitTree)

@@ -94,7 +94,7 @@ module _ (P : BodyIso → Type 0) (key : ℕ)
 
   default_found : (at : ℕ) (found : Option Signature) → func_at world answers at ≡ found
       → hits at key ≡ 0
-      → BodiesAre P (for_some found (λ func. func_note world answers func ∷ []))
+      → BodiesAre P (for_some found (λ func. func_note func ∷ []))
   default_found at None there apart = tt
   default_found at (Some func) there apart = (
     other _ (ap (λ own. hits own key) (key_found decls rule world is answers at func there)

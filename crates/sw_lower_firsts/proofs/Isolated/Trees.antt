@@ -100,7 +100,7 @@ module _ (P : BodyIso → Type 0) (key : ℕ)
           (used_at world answers context (base_of answers base.key base.is_self) at)
 
       result_apart : (at : ℕ) (result : Option Ty)
-          → BodiesAre P (result_races world answers at result)
+          → BodiesAre P (result_races world at result)
       result_apart at None = tt
       result_apart at (Some ty) = race_bodies P (not (is_sendable world.shapes ty)) at 605
 
@@ -108,7 +108,7 @@ module _ (P : BodyIso → Type 0) (key : ℕ)
       unfolding task_races
       task_apart at = result_apart at (task_result (answers.type_at at))
 
-      var_apart : (mutable : Bool) (at : ℕ) → BodiesAre P (var_notes world answers mutable at)
+      var_apart : (mutable : Bool) (at : ℕ) → BodiesAre P (var_notes mutable at)
       var_apart true at = (tt, tt)
       var_apart false at = tt
 

@@ -96,7 +96,7 @@ module _ (program : Program) (sound : Sound program) (setting : Setting) (at : â
       let within : IsSeenFrom (inner_host host one)
       (fun_inside program.tables.world program.tables.answers context listed at) =
       record {
-        iso = ap (closure_iso program.tables.world program.tables.answers at) seen.iso;
+        iso = ap (closure_iso program.tables.answers at) seen.iso;
         owner = seen.owner;
       } in
       value_by program host context listed setting.vars
@@ -154,7 +154,7 @@ module _ (program : Program) (sound : Sound program) (setting : Setting) (at : â
       let within : IsSeenFrom (inner_host host one)
       (task_inside program.tables.world program.tables.answers context listed mark detached) =
       record {
-        iso = ap (task_iso program.tables.world program.tables.answers mark detached) seen.iso;
+        iso = ap (task_iso program.tables.world mark detached) seen.iso;
         owner = seen.owner;
       } in
       value_by program host context listed setting.vars

@@ -66,7 +66,7 @@ module _ (program : Program) (context : Context) (listed : List ℕ) (vars : Lis
         captures params result body whole.stands;
     noted = block_noted (fun_inside world answers context listed at) at captures body
         (noted_right program
-        (body_note at (closure_iso world answers at context.iso) false ∷ []) _
+        (body_note at (closure_iso answers at context.iso) false ∷ []) _
         (noted_by program _ _
         (noted.notes-Fun world answers context listed at mark captures params result body)
         whole.noted));
@@ -86,7 +86,7 @@ module _ (program : Program) (context : Context) (listed : List ℕ) (vars : Lis
     noted = block_noted (task_inside world answers context listed mark detached) at captures body
         (noted_right program (task_races world answers place) _
         (noted_right program
-        (body_note at (task_iso world answers mark detached context.iso) true ∷ []) _
+        (body_note at (task_iso world mark detached context.iso) true ∷ []) _
         (noted_by program _ _
         (noted.notes-Spawn world answers context listed place detached at mark captures params
         result body) whole.noted)));

@@ -224,7 +224,7 @@ module _ (program : Program) (context : Context) (listed : List ℕ) (vars : Lis
   bind_value_noted mutable name ty value whole = record {
     stands = standing.bind_value_stands program.tables program.notes context listed vars mutable
         name ty value whole.stands;
-    noted = right (var_notes world answers mutable name.at) (its value)
+    noted = right (var_notes mutable name.at) (its value)
         (form _ _ (noted.notes-Bind world answers context listed mutable name ty value)
         whole.noted);
   }

@@ -107,8 +107,8 @@ module _ (world : World) (graph : Graph) (same_shapes : graph.shapes ≡ world.s
       and_from (list_all (is_sendable graph.shapes) (types_in shape)) _ (crosses_all shape none)
       refl
   keeps kinds.Class shape other alone none =
-      let parts = or_parts (has_var world shape) (holds_unsent world shape)
-      (sym (ap (λ found. is_none found && (has_var world shape || holds_unsent world shape)) alone)
+      let parts = or_parts (has_var shape) (holds_unsent world shape)
+      (sym (ap (λ found. is_none found && (has_var shape || holds_unsent world shape)) alone)
       ∙ none) in
       and_from (list_all (is_sendable graph.shapes) (types_in shape)) _
       (crosses_all shape parts.1)

@@ -160,7 +160,7 @@ module _ (c : ℕ) where
         )
 
     module _ (answers : Answers) where
-      none_result : (at : ℕ) (result : Option Ty) → few (result_races world answers at result) ≡ 0
+      none_result : (at : ℕ) (result : Option Ty) → few (result_races world at result) ≡ 0
       none_result at None = none_nothing
       none_result at (Some ty) = none_race (not (is_sendable world.shapes ty)) at 605
 
@@ -168,7 +168,7 @@ module _ (c : ℕ) where
       unfolding task_races
       none_task at = none_result at (task_result (answers.type_at at))
 
-      pub none_var : (mutable : Bool) (at : ℕ) → few (var_notes world answers mutable at) ≡ 0
+      pub none_var : (mutable : Bool) (at : ℕ) → few (var_notes mutable at) ≡ 0
       unfolding in_all
       none_var true at = omega arith
       none_var false at = refl

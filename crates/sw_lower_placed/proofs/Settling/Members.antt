@@ -52,7 +52,7 @@ module _ (decls : List Decl) (rule : AsyncDefault) (world : World)
       omega (
         arith,
         few_body c (block_notes world answers body (func_context func) [])
-            (func_note world answers func),
+            (func_note func),
         ap (λ at. hits at c) same,
         block_few world answers c body (func_context func) [],
       )
@@ -79,12 +79,12 @@ module _ (decls : List Decl) (rule : AsyncDefault) (world : World)
   -- initialisers
   default_by : (key : ℕ) (found : Option Signature)
       → ((func : Signature) → found ≡ Some func → func.key.at ≡ key)
-      → few c (for_some found (λ func. func_note world answers func ∷ [])) ≤ hits key c
+      → few c (for_some found (λ func. func_note func ∷ [])) ≤ hits key c
   default_by key None same = omega (arith, none_nothing c)
   default_by key (Some func) same =
       omega (
         arith,
-        few_body c [] (func_note world answers func),
+        few_body c [] (func_note func),
         none_nothing c,
         ap (λ at. hits at c) (same func refl),
       )

@@ -283,7 +283,7 @@ module _ (world : World) (answers : Answers) (c : ℕ) where
         expr_at (exprs.Fun closure) _ (eq.fold_expr-Fun steps closure)
         (value_few _ _ _ (λ context listed.
         let at = (fold_closure steps closure).at in
-        let isolation = closure_iso world answers at context.iso in
+        let isolation = closure_iso answers at context.iso in
         let within = in_body context isolation false in
         omega (
           arith,
@@ -296,7 +296,7 @@ module _ (world : World) (answers : Answers) (c : ℕ) where
         expr_at (exprs.Spawn at detached body) _ (eq.fold_expr-Spawn steps at detached body)
         (value_few at _ _ (λ context listed.
         let one = fold_closure steps body in
-        let isolation = task_iso world answers one.mark detached context.iso in
+        let isolation = task_iso world one.mark detached context.iso in
         let within = in_body context isolation true in
         omega (
           arith,
@@ -311,7 +311,7 @@ module _ (world : World) (answers : Answers) (c : ℕ) where
         (value_few at _ _ (λ context listed. omega (arith, none_await c context at true)));
     bind = λ mutable name ty bound of_bound.
         stmt_at (stmts.Bind mutable name ty bound) _ (eq.fold_stmt-Bind steps mutable name ty bound)
-        (both (λ context listed. var_notes world answers mutable name.at)
+        (both (λ context listed. var_notes mutable name.at)
         (fold_expr steps bound).notes 0 (in_expr bound c)
         (in_stmt (stmts.Bind mutable name ty bound) c)
         (λ context listed. omega (arith, none_var c world answers mutable name.at))

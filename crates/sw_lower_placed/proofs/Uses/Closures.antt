@@ -102,11 +102,11 @@ module _ (program : Program) (host : Host) (settled : IsSettled program)
   -- the isolation of the body of a task, by what is around it
   abbrev pub spawn_in : Option Name → Bool → Iso → Iso
   spawn_in mark detached around =
-      task_iso program.tables.world program.tables.answers mark detached around
+      task_iso program.tables.world mark detached around
 
   -- the isolation of a closure's body, and of a task's
   abbrev pub fun_iso : ℕ → Iso
-  fun_iso at = closure_iso program.tables.world program.tables.answers at host.iso
+  fun_iso at = closure_iso program.tables.answers at host.iso
 
   abbrev pub spawn_iso : Option Name → Bool → Iso
   spawn_iso mark detached = spawn_in mark detached host.iso
@@ -198,9 +198,9 @@ module _ (program : Program) (host : Host) (settled : IsSettled program)
   fun_noted closure at context listed same seen noted =
       subst (λ key. IsNoted program key (fun_iso key) false) same
       (subst (λ around. IsNoted program closure.at
-      (closure_iso program.tables.world program.tables.answers closure.at around) false) seen.iso
+      (closure_iso program.tables.answers closure.at around) false) seen.iso
       (body_noted closure.at
-      (closure_iso program.tables.world program.tables.answers closure.at context.iso) false _
+      (closure_iso program.tables.answers closure.at context.iso) false _
       noted))
 
   -- and of a task
@@ -217,7 +217,7 @@ module _ (program : Program) (host : Host) (settled : IsSettled program)
 
   -- The result of a task may cross.
   result_crosses : SharesNone program → (at : ℕ) (found : Option Ty)
-      → AreNoted program (result_races program.tables.world program.tables.answers at found)
+      → AreNoted program (result_races program.tables.world at found)
       → is_sendable program.tables.world.shapes (or_void found) ≡ true
   result_crosses shares at None noted = void_sends program.tables.world.shapes
   result_crosses shares at (Some ty) noted =
@@ -237,9 +237,9 @@ module _ (program : Program) (host : Host) (settled : IsSettled program)
       (in_closure context one true) listed in
       result_crosses shares at found
       (noted_left program
-      (result_races program.tables.world program.tables.answers at found) inside
+      (result_races program.tables.world at found) inside
       (noted_right program (body_note closure.at one true ∷ [])
-      (result_races program.tables.world program.tables.answers at found ++ inside) noted))
+      (result_races program.tables.world at found ++ inside) noted))
 
   -- what is known after a closure or a task was made
   abbrev pub MadeClosure : ℕ → Operand → Making → Type 0

@@ -2,8 +2,8 @@ use Rattle.std.proofs.Common.{rules, [], ◌∙◌, ap}
 use Rattle.sw_uses.specs.capture.Known.{answers_of}
 use Rattle.sw_isolation_rules.specs.Noting.{see, store_notes}
 use Rattle.sw_typing_rules.specs.Worlds.{world_of}
-use Rattle.sw_noting.proofs.Adding.{alone, none}
-use Rattle.sw_noting.proofs.Wholes.{stores_whole, unwritten}
+use Rattle.sw_noting.proofs.Adding.{alone}
+use Rattle.sw_noting.proofs.Wholes.{stores_whole, written_alone}
 use Rattle.sw_noting.proofs.places.+stores.Goals as goal
 
 pub returns-in-Field : goal.returns-in-Field
@@ -19,25 +19,14 @@ returns-in-Field t c =
     ((see world answers part).stores c.args.context c.args.at)) c.in-Field.is)
     c.stores.ensures
 
-pub returns-in-Stored : goal.returns-in-Stored
-returns-in-Stored t c =
-    let world = world_of c.args.world.now in
-    let answers = answers_of c.args.typed.now in
-    let part = c.get-base.result.now in
-    alone c.write_notes.result c.args.notes.now c.write_notes.new.notes _ _
-    (stores_whole world answers c.args.context [] c.args.tree.now c.in-Member.base part
-    c.in-Member.name c.args.at c.base_at-known.result c.used.result c.in-Member.is
-    (search rules) (c.base_at-known.ensures world) c.used.ensures
-    ∙ ap (λ one. store_notes c.args.context c.args.at one
-    ((see world answers part).stores c.args.context c.args.at)) c.in-Stored.is)
-    c.write_notes.ensures
-
 pub returns-in-Called : goal.returns-in-Called
 returns-in-Called t c =
     let world = world_of c.args.world.now in
     let answers = answers_of c.args.typed.now in
-    none c.args.notes.now _
-    (stores_whole world answers c.args.context [] c.args.tree.now c.in-Member.base
-    c.get-base.result.now c.in-Member.name c.args.at c.base_at-known.result c.used.result
-    c.in-Member.is (search rules) (c.base_at-known.ensures world) c.used.ensures
-    ∙ unwritten c.args.context c.args.at c.used.result _ c.in-Called.is)
+    let part = c.get-base.result.now in
+    alone c.store_notes-in-Called.result c.args.notes.now c.store_notes-in-Called.new.notes _ _
+    (stores_whole world answers c.args.context [] c.args.tree.now c.in-Member.base part
+    c.in-Member.name c.args.at c.base_at-known.result c.used.result c.in-Member.is
+    (search rules) (c.base_at-known.ensures world) c.used.ensures
+    ∙ written_alone c.args.context c.args.at c.used.result _ c.in-Called.is)
+    c.store_notes-in-Called.ensures

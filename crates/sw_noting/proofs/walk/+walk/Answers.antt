@@ -200,7 +200,7 @@ stmt-returns-in_ok-var_notes-in-Bind-clause-notes t c =
     let world = world_of c.args.world.now in
     let answers = answers_of c.args.typed.now in
     two c.expr.result c.args.notes.now c.var_notes.new.notes c.expr.new.notes _ _ _
-    (c.in_ok-var_notes-in-Bind.ensures world answers)
+    c.in_ok-var_notes-in-Bind.ensures
     (wholes.stmt_whole world answers c.args.context c.args.listed.now c.args.tree.now _ _
     c.in-Bind.is (forms.bind_is world answers c.args.context c.args.listed.now
     c.in-Bind.mutable c.in-Bind.name _ c.in-Bind.value))

@@ -6,7 +6,7 @@ use Rattle.sw_uses.proofs.isolations.task_iso.Goals as goal
 
 pub returns-in-None : goal.returns-in-None
 unfolding task_iso
-returns-in-None c answers =
-    c.unmarked_iso.ensures (world_of c.args.world.now) answers
-    ∙ ap (λ (mark : Option Name). task_iso (world_of c.args.world.now) answers mark
+returns-in-None c =
+    c.unmarked_iso.ensures
+    ∙ ap (λ (mark : Option Name). task_iso (world_of c.args.world.now) mark
     c.args.detached c.args.around) (sym c.in-None.is)
