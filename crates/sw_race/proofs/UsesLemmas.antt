@@ -3,7 +3,6 @@ use Rattle.std.proofs.Common.{◌≡◌, ℕ, ◌+◌, ◌<◌, ◌≤◌, ◌^�
 use Rattle.std.proofs.Common.{Some, None, List, [], ◌∷◌, ◌++◌, length, refl, ap, ◌∙◌, arith}
 use Rattle.std.specs.Prelude.{unwrap_or, ◌&&◌, IfSome}
 use Rattle.std.specs.List.{slice_get, slice_set}
-use Rattle.std.proofs.lemmas.List.Sums.{count_by-le-length}
 use Rattle.sw_value.specs.contracts.race.PlacePartialEq.TheImpl as derived
 use Rattle.sw_value.specs.declared.race.Place.{Place}
 use Rattle.sw_value.specs.declared.race.Place.TheVariants.{Prop, Global, BoxOf}
@@ -115,16 +114,6 @@ old_counted xs j (Some t) next before mid here was more =
     (omega (arith, readers, readers_with next t.place (uses_of t.place xs)))
     (omega (arith, writers, writers_with next t.place (uses_of t.place xs)))
     (target_counted xs j t here)
-
--- no more jobs use a location than there are
-pub few_uses : (xs : List (Option Target)) (p : Place) (u : Uses) → u ≡ uses_of p xs
-    → length xs < 2 ^ 33 → (u.readers < 2 ^ 33) × (u.writers < 2 ^ 33)
-few_uses xs p u is few =
-    let readers = ap (λ u. u.readers) is in
-    let writers = ap (λ u. u.writers) is in (
-      omega (arith, few, readers, count_by-le-length (reads p) xs),
-      omega (arith, few, writers, count_by-le-length (writes p) xs),
-    )
 
 -- a job without target uses nothing
 pub uses_push : (xs : List (Option Target)) (p : Place)

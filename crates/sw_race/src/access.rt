@@ -2,11 +2,10 @@ ghost use Rattle.std.specs.Prelude.{◌≡◌, ℕ};
 ghost use Rattle.sw_value.specs.Access.{box_at, is_var_part, var_part, part_at, global_at};
 ghost use Rattle.sw_value.specs.Access.{read_by, write_by};
 ghost use Rattle.sw_value.specs.Access.{frame_access, job_access, next_access};
-ghost use Rattle.sw_value.specs.Value.{reference_at};
 ghost use Rattle.sw_race.specs.Live.{box_of, var_part_of, live_access};
 
 use sw_graph::{Graph, Instr, Operand, Point};
-use sw_value::{Access, Frame, HeapCell, Job, Place, State, ValueList};
+use sw_value::{Access, Frame, HeapCell, Job, Place, State, ValueList, value_in};
 
 /// The access that a job makes next: none where the machine is halted, there is no job with that
 /// number, it does not run, or its next instruction is stuck or accesses no location.
@@ -63,7 +62,7 @@ fn live_access(
             Some(write_by(job, *at, var_part_of(graph, state, frame, o, *i)?))
         }
         Instr::LoadGlobal { at, g, .. } => {
-            let _value = state.globals.get(*g as usize)?.as_ref()?;
+            let _value = value_in(&state.globals, *g)?;
             Some(read_by(job, *at, global_at(graph, *g)?))
         }
         Instr::StoreGlobal { at, g, s } => {
@@ -114,18 +113,11 @@ fn write_by(job: u32, at: u32, place: Place) -> Access
     }
 }
 
-/// The cell that an operand refers to, by number.
-pub fn reference_at(frame: &Frame, operand: &Operand) -> Option<u32>
-    ensures { result ≡ reference_at frame.now.regs operand.now }
-{
-    frame.value_at(operand.reg)?.reference()
-}
-
 /// The box of an operand.
 fn box_of(state: &State, frame: &Frame, operand: &Operand) -> Option<Place>
     ensures { result ≡ box_of state.now frame.now operand.now }
 {
-    box_at(state, reference_at(frame, operand)?)
+    box_at(state, frame.reference_at(operand)?)
 }
 
 fn box_at(state: &State, cell: u32) -> Option<Place>
@@ -150,7 +142,7 @@ fn var_part_of(
 ) -> Option<Place>
     ensures { result ≡ var_part_of graph.now state.now frame.now operand.now part }
 {
-    part_at(graph, state, part, reference_at(frame, operand)?)
+    part_at(graph, state, part, frame.reference_at(operand)?)
 }
 
 fn part_at(graph: &Graph, state: &State, part: u32, cell: u32) -> Option<Place>

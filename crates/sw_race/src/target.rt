@@ -2,7 +2,7 @@ ghost use Rattle.std.specs.Prelude.{◌≡◌};
 ghost use Rattle.sw_race.specs.Target.{read_of, write_of, instr_target, frame_target, job_target};
 ghost use Rattle.sw_race.specs.Target.{target_at};
 
-use crate::access::{global_at, reference_at};
+use crate::access::global_at;
 use sw_graph::{Graph, Instr, Point};
 use sw_value::{Frame, Job, Place, State};
 
@@ -45,14 +45,14 @@ fn instr_target(graph: &Graph, frame: &Frame, instr: &Instr) -> Option<Target>
     ensures { result ≡ instr_target graph.now frame.now instr.now }
 {
     match instr {
-        Instr::LoadBox { b, .. } => Some(read_of(Place::BoxOf(reference_at(frame, b)?))),
-        Instr::StoreBox { b, .. } => Some(write_of(Place::BoxOf(reference_at(frame, b)?))),
+        Instr::LoadBox { b, .. } => Some(read_of(Place::BoxOf(frame.reference_at(b)?))),
+        Instr::StoreBox { b, .. } => Some(write_of(Place::BoxOf(frame.reference_at(b)?))),
         Instr::LoadProp { o, i, .. } => Some(read_of(Place::Prop {
-            cell: reference_at(frame, o)?,
+            cell: frame.reference_at(o)?,
             part: *i,
         })),
         Instr::StoreProp { o, i, .. } => Some(write_of(Place::Prop {
-            cell: reference_at(frame, o)?,
+            cell: frame.reference_at(o)?,
             part: *i,
         })),
         Instr::LoadGlobal { g, .. } => Some(read_of(global_at(graph, *g)?)),

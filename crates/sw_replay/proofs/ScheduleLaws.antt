@@ -27,11 +27,6 @@ runs_or_fault-Splits : (bytes : List ℕ) (runs : List (ℕ × ℕ)) → Splits 
 unfolding runs_or_fault
 runs_or_fault-Splits bytes runs h = laws.scan-Splits agrees 0 0 bytes runs h
 
-runs_or_fault-IsFirstFault : (bytes : List ℕ) (fault : SchedFault) → IsFirstFault bytes fault
-    → runs_or_fault bytes ≡ Err fault
-unfolding runs_or_fault
-runs_or_fault-IsFirstFault bytes fault h = laws.scan-Fails agrees 0 0 bytes fault h
-
 runs_or_fault-Scans : (bytes : List ℕ) → Scans schedule_form 0 0 bytes (runs_or_fault bytes)
 unfolding runs_or_fault
 runs_or_fault-Scans bytes = laws.scan_holds agrees 0 0 bytes tt
@@ -41,11 +36,6 @@ pub items_or_fault-IsItems : (bytes items : List ℕ) → IsItems bytes items
 unfolding items_or_fault
 items_or_fault-IsItems bytes items h =
     ap written (runs_or_fault-Splits bytes h.runs h.splits) ∙ ap Ok (sym h.written)
-
-pub items_or_fault-IsFirstFault : (bytes : List ℕ) (fault : SchedFault) → IsFirstFault bytes fault
-    → items_or_fault bytes ≡ Err fault
-unfolding items_or_fault
-items_or_fault-IsFirstFault bytes fault h = ap written (runs_or_fault-IsFirstFault bytes fault h)
 
 has_written : (bytes : List ℕ) (outcome : Result (List (ℕ × ℕ)) SchedFault)
     → Scans schedule_form 0 0 bytes outcome → HasItems bytes (written outcome)

@@ -1,13 +1,11 @@
 -- What comes of a list of items: the lines that they print, and how the machine stands after them.
-use Rattle.std.specs.Prelude.{◌≡◌, ℕ, Bool, true, false, Option, Some, None, List, [], ◌∷◌, ◌++◌}
-use Rattle.std.specs.Prelude.{length}
-use Rattle.std.specs.Prelude.{count_by}
+use Rattle.std.specs.Prelude.{◌≡◌, ℕ, Bool, Option, Some, None, List, [], ◌∷◌, ◌++◌}
+use Rattle.std.specs.Prelude.{length, count_by, is_some}
 use Rattle.sw_graph.specs.declared.graph.Graph.{Graph}
 use Rattle.sw_value.specs.declared.job.Job.{Job}
-use Rattle.sw_value.specs.declared.job.Status.{Status}
-use Rattle.sw_value.specs.declared.job.Status.TheVariants.{Ended}
 use Rattle.sw_value.specs.declared.state.State.{State}
 use Rattle.sw_value.specs.declared.state.TrapKind.{TrapKind}
+use Rattle.sw_value.specs.Job.{ended_with}
 use Rattle.sw_value.specs.Start.{start_of}
 use Rattle.sw_value.specs.Reach.{step_of, reach}
 use Rattle.sw_step.specs.declared.event.Event.{Event}
@@ -44,12 +42,9 @@ end_by (Some trap) = Trapped trap.0 trap.1
 abbrev pub end_of : State → End
 end_of state = end_by state.halted
 
-abbrev pub has_ended_by : Status → Bool
-has_ended_by (Ended v) = true
-has_ended_by _ = false
-
+-- whether a job has ended
 unfoldable pub has_ended : Job → Bool
-has_ended job = has_ended_by job.status
+has_ended job = is_some (ended_with job.status)
 
 -- how many jobs have ended
 abbrev pub ended_in : State → ℕ

@@ -8,10 +8,10 @@ use crate::memory::{
     actor_effect, box_effect, closure_effect, field_write, global_write, object_effect, set_of,
     slot_write,
 };
-use crate::reading::{await_effect, field_at, global_at, loaded, payload_at, tag_at, truth_at};
+use crate::reading::{await_effect, field_at, loaded, payload_at, tag_at, truth_at};
 use std::alloc::{AllocError, Global};
 use sw_graph::{Graph, IdList, Instr, Last, Operand, Point};
-use sw_value::{Effect, Frame, Slot, State, Value};
+use sw_value::{Effect, Frame, Slot, State, Value, value_in};
 
 /// The effect of the instruction at which a frame stands, the top one of `depth` frames.
 #[tactic(auto, unfolding(sw_value::specs::Effect::effect_of))]
@@ -81,7 +81,7 @@ fn instr_effect(
         Instr::StoreProp { o, i, s, .. } => {
             slot_write(alloc, state, frame, next, o, Slot::Part(*i), s)
         }
-        Instr::LoadGlobal { r, g, .. } => set_of(alloc, next, *r, global_at(state, *g)),
+        Instr::LoadGlobal { r, g, .. } => set_of(alloc, next, *r, value_in(&state.globals, *g)),
         Instr::StoreGlobal { g, s, .. } => global_write(alloc, state, frame, next, *g, s),
         Instr::NewClosure { r, f, cs, .. } => {
             closure_effect(alloc, state, frame, next, *r, *f, cs)

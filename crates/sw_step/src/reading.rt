@@ -3,8 +3,7 @@ ghost use Rattle.std.specs.Option.{option_copied};
 ghost use Rattle.sw_value.specs.Cell.{task_of};
 ghost use Rattle.sw_value.specs.declared.effect.Effect.TheVariants.{Wait};
 ghost use Rattle.sw_value.specs.Effect.{needs, cell_at, loaded, slot_at};
-ghost use Rattle.sw_value.specs.Value.{truth_of, tag_of, field_of, payload_of, reference_at};
-ghost use Rattle.sw_value.specs.Value.{value_at, operand_value};
+ghost use Rattle.sw_value.specs.Value.{truth_of, tag_of, field_of, payload_of, operand_value};
 
 use sw_graph::Operand;
 use sw_value::{Effect, Frame, HeapCell, Slot, State, Value};
@@ -39,18 +38,11 @@ pub fn payload_at<'a>(frame: &'a Frame, operand: &Operand, index: u32) -> Option
     frame.value_at(operand.reg)?.payload(index)
 }
 
-/// The cell that an operand refers to, by number.
-fn reference_at(frame: &Frame, operand: &Operand) -> Option<u32>
-    ensures { result ≡ reference_at frame.now.regs operand.now }
-{
-    frame.value_at(operand.reg)?.reference()
-}
-
 /// The cell that an operand refers to.
 pub fn cell_at<'a>(state: &'a State, frame: &Frame, operand: &Operand) -> Option<&'a HeapCell>
     ensures { option_copied result ≡ cell_at state.now frame.now operand.now }
 {
-    let cell = reference_at(frame, operand)?;
+    let cell = frame.reference_at(operand)?;
     state.cells.get(cell as usize)
 }
 
@@ -70,19 +62,9 @@ pub fn loaded<'a>(
 pub fn slot_at(state: &State, frame: &Frame, operand: &Operand, slot: Slot) -> Option<u32>
     ensures { result ≡ slot_at state.now frame.now operand.now slot }
 {
-    let cell = reference_at(frame, operand)?;
+    let cell = frame.reference_at(operand)?;
     let _old = state.cells.get(cell as usize)?.slot(slot)?;
     Some(cell)
-}
-
-/// The value of a global.
-pub fn global_at(state: &State, global: u32) -> Option<&Value>
-    ensures { option_copied result ≡ value_at state.now.globals global }
-{
-    match state.globals.get(global as usize) {
-        Some(Some(value)) => Some(value),
-        Some(None) | None => None,
-    }
 }
 
 /// The job waits for the job of the task that an operand refers to.

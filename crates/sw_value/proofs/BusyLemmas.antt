@@ -144,9 +144,6 @@ busy_replaced before after jobs j job later agrees there replaced = record {
       omega (arith, was, moved, counts, old, new);
 }
 
-pub not_replaced : (o : Option Executor) (busy : List Executor) → IsReplaced o o busy busy
-not_replaced o busy = record { each = λ e. refl }
-
 -- a job changes, and holds what it held
 pub busy_stays : (busy : List Executor) (jobs : List Job) (j : ℕ) (job later : Job)
     → IsBusy busy jobs → slice_get jobs j ≡ Some job → held later ≡ held job

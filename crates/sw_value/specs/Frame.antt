@@ -1,4 +1,5 @@
--- Changes of a frame. Each has the name of the method of `Frame` that makes it.
+-- Changes of a frame, and the first frame of a function, which is no change. Where a method of
+-- `Frame` makes a change by itself, both have one name.
 use Rattle.std.specs.Prelude.{ℕ, ◌==◌, Option, Some, List, true, slice_get, slice_set, length}
 use Rattle.std.specs.Prelude.{option_and_then, if◌then◌else◌}
 use Rattle.std.specs.Option.{option_map}

@@ -1,4 +1,4 @@
--- Changes of a job. Each has the name of the method of `Job` that makes it.
+-- Changes of a job. Where a method of `Job` makes one by itself, both have one name.
 use Rattle.std.specs.Prelude.{ℕ, ◌-◌, Bool, true, false, Option, Some, None, List, [], ◌∷◌}
 use Rattle.std.specs.Prelude.{slice_get, length, take, ◌++◌, ◌&&◌, if◌then◌else◌}
 use Rattle.std.specs.Option.{option_map_or}

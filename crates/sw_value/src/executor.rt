@@ -3,7 +3,7 @@ ghost use Rattle.sw_value.specs.Value.{reference_of};
 ghost use Rattle.sw_value.specs.declared.executor.Executor.TheVariants.{ActorOf};
 ghost use Rattle.sw_value.specs.Executor.{is_same, executor_of};
 
-use crate::value::{Value, ValueSlots};
+use crate::value::{Value, ValueSlots, value_in};
 use sw_types::Iso;
 
 /// Where a frame runs (SE-0306, SE-0316, SE-0338, SE-0461).
@@ -38,10 +38,7 @@ impl Executor {
         match iso {
             Iso::Free | Iso::Caller => Some(Executor::Generic),
             Iso::Global(actor) => Some(Executor::Global(actor)),
-            Iso::Own => match regs.get(0) {
-                Some(Some(value)) => actor_of(value),
-                Some(None) | None => None,
-            },
+            Iso::Own => actor_of(value_in(regs, 0)?),
         }
     }
 }

@@ -3,11 +3,11 @@ ghost use Rattle.std.specs.Option.{option_copied};
 ghost use Rattle.sw_value.specs.Frame.{point_at, start_at, set_register, finish_instr};
 ghost use Rattle.sw_value.specs.Frame.{go_on, set_field, take_result};
 ghost use Rattle.sw_graph.specs.Lent.{lent_point};
-ghost use Rattle.sw_value.specs.Value.{value_at};
+ghost use Rattle.sw_value.specs.Value.{value_at, reference_at};
 
 use crate::executor::Executor;
-use crate::value::{Value, ValueSlots};
-use sw_graph::{Graph, Point};
+use crate::value::{Value, ValueSlots, value_in};
+use sw_graph::{Graph, Operand, Point};
 use sw_list::ListOf;
 
 /// The frames of a job from the bottom to the top.
@@ -24,7 +24,7 @@ pub struct Frame {
     pub executor: Executor,
     /// Whether the job gives its executor up when this frame returns.
     pub crossing: bool,
-    /// The register of the frame below that gets the result, or 512 where no frame waits for one.
+    /// The register of the frame below that gets the result, or [`NO_REGISTER`] where no frame waits for one.
     pub result: u32,
 }
 
@@ -56,10 +56,14 @@ impl Frame {
     pub fn value_at(&self, reg: u32) -> Option<&Value>
         ensures { option_copied result ≡ value_at self.now.regs reg }
     {
-        match self.regs.get(reg as usize) {
-            Some(Some(value)) => Some(value),
-            _ => None,
-        }
+        value_in(&self.regs, reg)
+    }
+
+    /// The cell that an operand refers to, by number.
+    pub fn reference_at(&self, operand: &Operand) -> Option<u32>
+        ensures { result ≡ reference_at self.now.regs operand.now }
+    {
+        self.value_at(operand.reg)?.reference()
     }
 
     /// Gives a register a value.

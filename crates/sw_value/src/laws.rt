@@ -47,7 +47,8 @@ pub fn races_are_decided()
         next_access graph state job ≡ Some access → access.job ≡ job }
 {}
 
-/// The transition of an item says what its step changes.
+/// The transition of an item says of its step which executor the job enters or leaves, which job is
+/// made, whose end it follows, whether the job ends, and which access it makes.
 pub fn transitions_describe()
     ensures describes { (graph : Graph) (state : State) (item : ℕ) (t : Transition) →
         transition_of graph state item ≡ Some t →

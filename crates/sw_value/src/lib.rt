@@ -17,7 +17,6 @@ mod state;
 mod value;
 
 pub use beginning::{first_frame, start};
-pub use busy::ExecutorList;
 pub use cell::{CellList, HeapCell, Slot};
 pub use effect::{Act, Effect};
 pub use executor::Executor;
@@ -29,4 +28,4 @@ pub use laws::{
 };
 pub use race::{Access, Place, Race};
 pub use state::{State, TrapKind};
-pub use value::{Line, Value, ValueList, ValueSlots};
+pub use value::{Line, Value, ValueList, ValueSlots, value_in};

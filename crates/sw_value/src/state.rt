@@ -293,7 +293,7 @@ impl State {
             None => None,
             Some(job) => match &job.status {
                 Status::Ended { value } => Some(value),
-                _ => None,
+                Status::Ready | Status::Running | Status::Waiting { .. } => None,
             },
         }
     }

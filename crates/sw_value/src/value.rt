@@ -1,7 +1,7 @@
 ghost use Rattle.std.specs.Prelude.{◌≡◌, IfOk, slice_set};
 ghost use Rattle.std.specs.Option.{option_copied};
 ghost use Rattle.sw_value.specs.Value.{value_of, reference_of, integer_of, truth_of, tag_of};
-ghost use Rattle.sw_value.specs.Value.{field_of, with_field, payload_of, made};
+ghost use Rattle.sw_value.specs.Value.{field_of, with_field, payload_of, made, value_at};
 
 use std::alloc::{AllocError, Global};
 use sw_graph::Literal;
@@ -29,6 +29,16 @@ pub enum Value {
     Group(ValueList),
     /// A case of an enum, by the case's number.
     Case { tag: u32, payload: ValueList },
+}
+
+/// The value of a slot, if it is there and has one.
+pub fn value_in(slots: &ValueSlots, index: u32) -> Option<&Value>
+    ensures { option_copied result ≡ value_at slots.now index }
+{
+    match slots.get(index as usize) {
+        Some(Some(value)) => Some(value),
+        Some(None) | None => None,
+    }
 }
 
 /// Puts a value at an index; past the end nothing changes.

@@ -6,6 +6,9 @@ returns-in-Un c = rw c.in-Un.is c.unary_effect.ensures
 pub returns-in-Bin : goal.returns-in-Bin
 returns-in-Bin c = rw c.in-Bin.is c.binary_effect.ensures
 
+pub returns-in-Print : goal.returns-in-Print
+returns-in-Print c = rw c.in-Print.is c.print_effect.ensures
+
 pub returns-in-Make : goal.returns-in-Make
 returns-in-Make c = rw c.in-Make.is c.make_effect.ensures
 
