@@ -1,9 +1,8 @@
 -- What locations have after each change of a state.
-use Rattle.std.proofs.Common.{◌≡◌, ℕ, ◌⊎◌, inl, inr, Option, Some, None, length}
-use Rattle.std.proofs.Common.{refl, ap, ◌∙◌}
+use Rattle.std.proofs.Common.{◌≡◌, ℕ, Option, Some, None, length}
+use Rattle.std.proofs.Common.{refl, ap}
 use Rattle.std.specs.Prelude.{option_and_then, IsSome}
 use Rattle.std.specs.List.{slice_get, slice_set}
-use Rattle.std.proofs.lemmas.Bool.{cases_eq}
 use Rattle.sw_graph.specs.declared.graph.Graph.{Graph}
 use Rattle.sw_value.specs.declared.cell.HeapCell.{HeapCell}
 use Rattle.sw_value.specs.declared.cell.Slot.{Slot}
@@ -20,30 +19,6 @@ use Rattle.sw_value.proofs.ListLemmas.{set_there, length-changed_at}
 use Rattle.sw_footprint.specs.Location.{location_at, IsLocation, content_of, with_content}
 use Rattle.sw_footprint.proofs.CellLemmas.{IsOfForm, form_kept, box_form, part_form, added_after}
 use Rattle.sw_footprint.proofs.CellLemmas.{slot_place, slot_kept, slot_changed, set_other}
-
--- places are one or apart
-pub cases_place : (p q : Place) → (p ≡ q) ⊎ (p ≡ q → ⊥)
-cases_place (Prop c i) (Prop d k) = elim (cases_eq c d) [
-  | inl same ↦ elim (cases_eq i k) [
-    | inl e ↦ inl (ap (λ n. Prop n i) same ∙ ap (Prop d) e)
-    | inr apart ↦ inr (λ e. apart (cc))
-  ]
-  | inr apart ↦ inr (λ e. apart (cc))
-]
-cases_place (Prop c i) (Global g) = inr (λ e. cc)
-cases_place (Prop c i) (BoxOf d) = inr (λ e. cc)
-cases_place (Global g) (Prop d k) = inr (λ e. cc)
-cases_place (Global g) (Global h) = elim (cases_eq g h) [
-  | inl e ↦ inl (ap Global e)
-  | inr apart ↦ inr (λ e. apart (cc))
-]
-cases_place (Global g) (BoxOf d) = inr (λ e. cc)
-cases_place (BoxOf c) (Prop d k) = inr (λ e. cc)
-cases_place (BoxOf c) (Global h) = inr (λ e. cc)
-cases_place (BoxOf c) (BoxOf d) = elim (cases_eq c d) [
-  | inl e ↦ inl (ap BoxOf e)
-  | inr apart ↦ inr (λ e. apart (cc))
-]
 
 -- what a slot has is the content of its place
 pub slot_content : (c : ℕ) (slot : Slot) (state : State)

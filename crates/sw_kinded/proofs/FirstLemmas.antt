@@ -123,13 +123,6 @@ enter_first graph function p next g depth at frame steps first = by (leb MAX_FRA
   by true = tt
   by false = (steps, first)
 
-new_first : (graph : Graph) (state : State) (function : Function) (p next g r : ℕ) (c : HeapCell)
-    → Steps function p next g
-    → ((f : ℕ) (captures : List Value) → c ≡ cell.Closure f captures → GivesFirst graph f)
-    → FirstFits graph function p g (new_of state next r c)
-unfolding FirstFits
-new_first graph state function p next g r c steps first = (steps, first)
-
 -- a frame that is called is of the function that is called
 pub called_number : (graph : Graph) (caller : Frame) (number : ℕ) (call : CallKind) (r : ℕ)
     (values : List Value) (frame : Frame)

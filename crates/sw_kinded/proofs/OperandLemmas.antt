@@ -115,16 +115,6 @@ last_has graph cells function fits p regs s last here k r is =
     (at_index (λ r. IsTrue (is_set function s.passed r)) (last_registers last) k r
     (fits.sets p s.passed (way_of function p s.passed s.way) (End last) here) is)
 
--- the register that an instruction sets is there
-pub set_within : (graph : Graph) (function : Function)
-    → FunctionFits graph.shapes graph.globals graph.functions function → (p : ℕ)
-    → Place function p → (instr : Instr) → point_in function p ≡ Some (Middle instr) → (r : ℕ)
-    → set_by instr ≡ Some r → r < length function.regs
-set_within graph function fits p place instr here r sets =
-    let instr_fit = instr_fits graph function fits p place instr here in
-    at_index (λ r. r < length function.regs) (registers_of instr) 0 r instr_fit.registers
-    (ap (λ o. slice_get (and_then_all o (reads instr)) 0) sets)
-
 -- the values of some operands, of the kinds of the places to which they go
 pub record Gathered (shapes : List Shape) (cells : List RegKind) (regs : List (Option Value))
     (ss : List Operand) (places : List RegKind) : Type 0 where

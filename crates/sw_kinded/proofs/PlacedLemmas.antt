@@ -11,7 +11,7 @@ use Rattle.sw_graph.specs.declared.instr.Instr.{Instr}
 use Rattle.sw_graph.specs.declared.instr.Instr.TheVariants as instr
 use Rattle.sw_graph.specs.declared.instr.Operand.{Operand}
 use Rattle.sw_graph.specs.Bodies.{is_own, is_actor_initialiser, has_self}
-use Rattle.sw_graph.specs.CallKinds.{call_kind, kind_by}
+use Rattle.sw_graph.specs.CallKinds.{kind_by}
 use Rattle.sw_graph.specs.Placed.{EachFunction, FunctionAt, HasCallKind, IsPlaced}
 use Rattle.sw_graph.specs.Points.{Middle, point_in}
 use Rattle.sw_kinded.specs.FirstValues.{StoresFirst}

@@ -28,7 +28,7 @@ pub record HasOperand (shapes : List Shape) (cells : List RegKind) (kinds : List
   pub fits : HasKind shapes cells value kind
 
 -- The job's top frame stands at a point of its function. The registers that are read there have
--- values of their kinds, and so has the global; and the job is not stuck.
+-- values of their kinds, the global that is read has a value, and the job is not stuck.
 pub record HasNext (graph : Graph) (cells : List RegKind) (state : State) (job : Job) : Type 0 where
   pub frame : Frame
   pub top : top_frame job ≡ Some frame

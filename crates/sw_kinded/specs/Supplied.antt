@@ -23,7 +23,7 @@ abbrev pub ReturnsResult : Function → Type 0
 ReturnsResult function = (p : ℕ) (passed : List ℕ) → SureWay function p passed
     → point_in function p ≡ Some (End (Return None)) → function.result ≡ Void
 
--- A function that is isolated to `self` takes that actor first.
+-- A function that is isolated to `self` takes an actor first.
 pub record TakesActor (shapes : List Shape) (function : Function) : Type 0 where
   pub takes : 0 < function.takes
   pub kind : IsSome (shape_of shapes is_actor (slice_get function.regs 0))

@@ -29,8 +29,8 @@ ghost use Rattle.sw_kinded.specs.Supplied.{IsPlain, ReturnsResult};
 ghost use Rattle.sw_kinded.specs.Sure.{SureWay, MayLackResult};
 
 /// However long the items are that lead a supplied graph to a state, no running job of it is stuck:
-/// its next instruction finds its operands, of the kinds that it asks for. So an item that names a
-/// running job executes an instruction, unless the machine is halted.
+/// its next instruction finds its operands, each of the kind of its register. So an item that names
+/// a running job executes an instruction, unless the machine is halted.
 pub fn machine_is_never_stuck()
     ensures never_stuck { (graph : Graph) → IsSupplied graph → (items : List ℕ) (j : ℕ) (job : Job)
         (frame : Frame) → slice_get (reach graph items).jobs j ≡ Some job → IsTrue (is_running job)
@@ -47,7 +47,7 @@ pub fn machine_is_never_stuck()
 {}
 
 /// The start is kinded, and so is what a step leads to from a state that is kinded, reached or not:
-/// each cell and job keeps its kind and result, and there may be one more.
+/// each cell and job keeps its kind and result, and there may be more of them.
 pub fn steps_keep_kinds()
     ensures starts { (graph : Graph) → IsSupplied graph → Kinded graph (start_of graph) }
     ensures keeps { (graph : Graph) → IsSupplied graph → (state : State) (item : ℕ)

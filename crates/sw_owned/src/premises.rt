@@ -2,7 +2,9 @@
 //!
 //! For each move, `whole` says that its premises taken one by one are the move; `possible`, that
 //! they can be met together from a sound view; and `needed`, that without any one of them the move
-//! leads from some sound view to one for which its law does not hold.
+//! leads from some sound view to one for which its law does not hold. Of a weak call they speak
+//! only where the callee's `Here` takes the colour of an argument. Of a plain call that shares an
+//! argument, and of what an initialiser hands over, only some of the three are stated.
 ghost use Rattle.std.specs.Prelude.{ℕ, List};
 ghost use Rattle.sw_owned.specs.Colours.{Actor, Colour};
 ghost use Rattle.sw_owned.specs.View.{Frame, Element, View};

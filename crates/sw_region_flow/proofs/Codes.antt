@@ -24,7 +24,7 @@ use Rattle.sw_region_ops.specs.Calls as calls
 use Rattle.sw_region_ops.specs.Calls.{is_isolated, free_code, callee_ops}
 use Rattle.sw_region_ops.specs.Elements.{element_at}
 use Rattle.sw_region_ops.specs.Groups as groups
-use Rattle.sw_region_ops.specs.Marks.{sent_from, kept_from}
+use Rattle.sw_region_ops.specs.Marks.{sent_arguments, kept_arguments}
 use Rattle.sw_region_ops.specs.Setting.{Setting, setting_of}
 use Rattle.sw_region_ops.specs.Table as table
 use Rattle.sw_region_ops.specs.declared.op.Op.{Op}
@@ -171,8 +171,8 @@ callee : (elements : List (Option ℕ)) (k : CallKind) (code site : ℕ) → IsC
     → HaveCodes (callee_ops k code site r elements operands function)
 callee elements k code site is r operands None = tt
 callee elements k code site is r operands (Some function) =
-    let sent = sent_from elements function.sending 0 operands in
-    let kept = kept_from elements function.sending 0 operands in
+    let sent = sent_arguments elements function.sending operands in
+    let kept = kept_arguments elements function.sending operands in
     both (groups.send_each code site sent ++ calls.kind_ops k code site kept)
     (calls.result_ops function.sends k r kept)
     (both (groups.send_each code site sent) (calls.kind_ops k code site kept)

@@ -1,5 +1,5 @@
 -- The flow of a function's blocks: its facts, its steps and its solution.
-use Rattle.std.proofs.Common.{◌≡◌, ℕ, ◌+◌, ◌*◌, ◌<◌, ◌≤◌, Option, Some, List, ◌∷◌, length}
+use Rattle.std.proofs.Common.{◌≡◌, ℕ, ◌+◌, ◌*◌, ◌<◌, ◌≤◌, Option, Some, List, length}
 use Rattle.std.proofs.Common.{sym, subst, ap, ◌∙◌, arith}
 use Rattle.std.specs.List.{slice_get, All}
 use Rattle.sw_graph.proofs.ListLemmas.{at_index}
@@ -11,17 +11,15 @@ use Rattle.sw_graph.specs.declared.function.GlobalKind.{GlobalKind}
 use Rattle.sw_graph.specs.declared.graph.Graph.{Graph}
 use Rattle.sw_graph.specs.declared.instr.Block.{Block}
 use Rattle.sw_types.specs.declared.shape.Shape.{Shape}
-use Rattle.sw_partition.specs.Regions.{Regions, size_of, IsSameState}
 use Rattle.sw_region_flow.proofs.Counting.{length_is}
 use Rattle.sw_region_flow.proofs.Laid.{ops_are}
 use Rattle.sw_region_flow.proofs.Places.{element_at, fewer_blocks, targets_of}
-use Rattle.sw_region_flow.specs.Analysis.{Analysis, IsAnalysis, Leads, facts_of, block_ops_at}
+use Rattle.sw_region_flow.specs.Analysis.{Analysis, IsAnalysis, facts_of, block_ops_at}
 use Rattle.sw_region_flow.specs.Analysis.{targets_at}
 use Rattle.sw_region_flow.specs.Work.{site_count, joins_of}
 use Rattle.sw_region_ops.proofs.RangeLemmas.{block_fits}
 use Rattle.sw_region_ops.specs.Elements.{AreElements, element_count}
-use Rattle.sw_region_ops.specs.Entry.{IsEntry}
-use Rattle.sw_region_ops.specs.Runs.{Runs, Fits}
+use Rattle.sw_region_ops.specs.Runs.{Fits}
 use Rattle.sw_region_ops.specs.Setting.{Setting, setting_of}
 use Rattle.sw_region_ops.specs.Sites.{AreSites, sites_of, body_ops}
 use Rattle.sw_region_ops.specs.Table.{block_ops}
@@ -91,29 +89,6 @@ pub targets_fit : (analysis : Analysis) (b : ℕ) (block : Block) (targets : Lis
 targets_fit analysis b block targets fits at e =
     subst (λ ts. All (λ q. q < length analysis.setting.body.blocks) ts) (sym e)
     (fits.targets b block at)
-
--- the state at an entry has the flow's size
-pub entry_size : (analysis : Analysis) (r : Regions) → IsEntry analysis.setting analysis.sites r
-    → size_of r ≡ facts_of analysis
-entry_size analysis r entry = both (length r.labels) (element_count analysis.setting.elements)
-    r.sites analysis.sites entry.elements_are entry.sites_are
-  where
-    both : (a b : ℕ) (xs ys : List ℕ) → a ≡ b → xs ≡ ys → a ∷ xs ≡ b ∷ ys
-    both a b xs ys first second = cc
-
--- a walk from a copy
-pub leads_by : (analysis : Analysis) (b : ℕ) (before copied after : Regions) (ops : List Op)
-    → b < length analysis.setting.body.blocks → ops ≡ block_ops_at analysis.setting b
-    → IsSameState before copied → size_of copied ≡ size_of before → Runs ops copied after
-    → Leads analysis b before after
-leads_by analysis b before copied after ops inside e same sized runs = (
-  inside,
-  record {
-    copied = copied;
-    is_copy = record { same = same; sized = sized };
-    runs = subst (λ os. Runs os copied after) e runs;
-  },
-)
 
 -- the number of sites, and so the bound on joins
 pub joins_are : (analysis : Analysis) → AreSites analysis.setting analysis.sites

@@ -1,25 +1,21 @@
 -- No test fails in the least annotations of a graph exactly where each passes.
-use Rattle.std.proofs.Common.{◌≡◌, ℕ, inl, inr, Option, Some, None, List, [], ◌∷◌, refl, arith}
-use Rattle.std.specs.List.{slice_get}
+use Rattle.std.proofs.Common.{ℕ, inl, inr, Option, Some, None, List, [], ◌∷◌, refl, arith}
 use Rattle.sw_breach.specs.declared.Breach.{Breach}
-use Rattle.sw_graph.specs.declared.function.Function.{Function}
 use Rattle.sw_graph.specs.declared.graph.Graph.{Graph}
 use Rattle.sw_partition.specs.Effects.{IsLeastSite}
-use Rattle.sw_partition.specs.Regions.{Regions, Together}
+use Rattle.sw_partition.specs.Regions.{Regions}
 use Rattle.sw_region_flow.proofs.Gathering.{given}
 use Rattle.sw_region_flow.proofs.Leasts.{some_least}
 use Rattle.sw_region_flow.proofs.OneSites.{no_member}
 use Rattle.sw_region_flow.specs.Breaches.{AreBreaches, IsBreachIn, IsBreachOf}
-use Rattle.sw_region_flow.specs.Least.{point_ops_at, IsLeast, FailsAt}
+use Rattle.sw_region_flow.specs.Least.{point_ops_at, IsLeast}
 use Rattle.sw_region_flow.specs.Passing.{AllPass, EachPasses, IsLive, IsPassed, Passes}
-use Rattle.sw_region_flow.specs.Walks.{Fails, FailsAmong, IsCopy}
+use Rattle.sw_region_flow.specs.Walks.{Fails, FailsAmong}
 use Rattle.sw_breach.specs.declared.codes.TheConstants.{GIVEN_AWAY}
 use Rattle.sw_region_ops.proofs.ContextLemmas.{inside}
-use Rattle.sw_region_ops.specs.Runs.{Does}
 use Rattle.sw_region_ops.specs.Setting.{Setting, setting_of}
 use Rattle.sw_region_ops.specs.declared.op.Op.{Op}
 use Rattle.sw_region_ops.specs.declared.op.Op.TheVariants.{Need, Free, Fresh, Put, Join, Give}
-use Rattle.sw_solve.specs.Annotation.{value_at}
 
 -- an element that isn't live has a least site
 live_or_given : (r : Regions) (x : ℕ) → ((site : ℕ) → IsLeastSite r x site → ⊥) → IsLive r x

@@ -3,7 +3,7 @@ use Rattle.std.proofs.Common.{◌≡◌, ◌≢◌, ℕ, ◌+◌, ◌<◌, Bool,
 use Rattle.std.proofs.Common.{Some, None}
 use Rattle.std.proofs.Common.{List, [], ◌∷◌, ◌++◌, zero, suc, map, refl, sym, subst, arith}
 use Rattle.std.specs.List.{All, Contains, flat_map}
-use Rattle.std.specs.Prelude.{slice_get, slice_index_or}
+use Rattle.std.specs.Prelude.{slice_get}
 use Rattle.std.proofs.lemmas.List.Elements.{All-nil, All-cons, All-head, All-tail, All-append}
 use Rattle.std.proofs.lemmas.List.Elements.{All-map}
 use Rattle.std.proofs.lemmas.List.Elements.{All-weaker, Contains-append_left}
@@ -23,7 +23,8 @@ use Rattle.sw_region_ops.specs.Calls.{is_isolated, free_code, callee_ops}
 use Rattle.sw_region_ops.specs.Elements.{AreElements, element_at, element_count}
 use Rattle.sw_region_ops.specs.Sites.{site_of, sites_of, AreSites}
 use Rattle.sw_region_ops.specs.Groups as groups
-use Rattle.sw_region_ops.specs.Marks.{mark_of, mark_at, marks_of, sent_from, kept_from}
+use Rattle.sw_region_ops.specs.Marks.{mark_of, mark_at, marks_of, is_wanted, arguments_from}
+use Rattle.sw_region_ops.specs.Marks.{sent_arguments, kept_arguments}
 use Rattle.sw_region_ops.specs.Runs.{FitsIn, Fits}
 use Rattle.sw_region_ops.specs.Setting.{Setting}
 use Rattle.sw_region_ops.specs.Table as table
@@ -201,35 +202,22 @@ marks_within elements are (operand ∷ operands) =
     (marks_of elements operands) (mark_at_within elements are operand)
     (marks_within elements are operands)
 
-if_marks : (count : ℕ) (b : Bool) (a c : List Mark) → AreMarks count a → AreMarks count c
-    → AreMarks count (if b then a else c)
-if_marks count true a c first second = first
-if_marks count false a c first second = second
+if_marks : (count : ℕ) (b : Bool) (marks : List Mark) → AreMarks count marks
+    → AreMarks count (if b then marks else [])
+if_marks count true marks all = all
+if_marks count false marks all = All-nil (IsMark count)
 
-sent_within : (elements : List (Option ℕ)) → AreInside elements → (sending : List Bool) (k : ℕ)
-    (operands : List Operand)
-    → AreMarks (element_count elements) (sent_from elements sending k operands)
-sent_within elements are sending k [] = All-nil (IsMark (element_count elements))
-sent_within elements are sending k (operand ∷ operands) =
+arguments_within : (elements : List (Option ℕ)) → AreInside elements → (sending : List Bool)
+    (wanted : Bool) (k : ℕ) (operands : List Operand)
+    → AreMarks (element_count elements) (arguments_from elements sending wanted k operands)
+arguments_within elements are sending wanted k [] = All-nil (IsMark (element_count elements))
+arguments_within elements are sending wanted k (operand ∷ operands) =
     All-append (IsMark (element_count elements))
-    (if slice_index_or sending k false then mark_at elements operand else [])
-    (sent_from elements sending (k + 1) operands)
-    (if_marks (element_count elements) (slice_index_or sending k false) (mark_at elements operand)
-    [] (mark_at_within elements are operand) (All-nil (IsMark (element_count elements))))
-    (sent_within elements are sending (k + 1) operands)
-
-kept_within : (elements : List (Option ℕ)) → AreInside elements → (sending : List Bool) (k : ℕ)
-    (operands : List Operand)
-    → AreMarks (element_count elements) (kept_from elements sending k operands)
-kept_within elements are sending k [] = All-nil (IsMark (element_count elements))
-kept_within elements are sending k (operand ∷ operands) =
-    All-append (IsMark (element_count elements))
-    (if slice_index_or sending k false then [] else mark_at elements operand)
-    (kept_from elements sending (k + 1) operands)
-    (if_marks (element_count elements) (slice_index_or sending k false) []
-    (mark_at elements operand) (All-nil (IsMark (element_count elements)))
+    (if is_wanted sending wanted k then mark_at elements operand else [])
+    (arguments_from elements sending wanted (k + 1) operands)
+    (if_marks (element_count elements) (is_wanted sending wanted k) (mark_at elements operand)
     (mark_at_within elements are operand))
-    (kept_within elements are sending (k + 1) operands)
+    (arguments_within elements are sending wanted (k + 1) operands)
 
 -- calls
 kind_ops : (count : ℕ) (k : CallKind) (code site : ℕ) (marks : List Mark) → AreMarks count marks
@@ -265,7 +253,8 @@ callee elements are k code site r there operands (Some function) =
     both count (groups.send_each code site sent ++ calls.kind_ops k code site kept)
     (calls.result_ops function.sends k r kept)
     (both count (groups.send_each code site sent) (calls.kind_ops k code site kept)
-    (send_each count code site sent (sent_within elements are function.sending 0 operands))
+    (send_each count code site sent
+    (arguments_within elements are function.sending true 0 operands))
     (kind_ops count k code site kept all_kept))
     (result_ops count function.sends k r there kept all_kept)
   where
@@ -273,13 +262,13 @@ callee elements are k code site r there operands (Some function) =
     count = element_count elements
 
     sent : List Mark
-    sent = sent_from elements function.sending 0 operands
+    sent = sent_arguments elements function.sending operands
 
     kept : List Mark
-    kept = kept_from elements function.sending 0 operands
+    kept = kept_arguments elements function.sending operands
 
-    all_kept : AreMarks (element_count elements) (kept_from elements function.sending 0 operands)
-    all_kept = kept_within elements are function.sending 0 operands
+    all_kept : AreMarks (element_count elements) (kept_arguments elements function.sending operands)
+    all_kept = arguments_within elements are function.sending false 0 operands
 
 -- the table
 if_ops : (count : ℕ) (b : Bool) (ops : List Op) → AreInRange count ops

@@ -9,7 +9,7 @@ use Rattle.sw_graph.specs.declared.function.Function.{Function}
 use Rattle.sw_graph.specs.declared.instr.Operand.{Operand}
 use Rattle.sw_region_ops.specs.Groups.{send_each, free_each, join_all, fresh, put_here, put_first}
 use Rattle.sw_region_ops.specs.Groups.{meet, keep, part_with}
-use Rattle.sw_region_ops.specs.Marks.{sent_from, kept_from}
+use Rattle.sw_region_ops.specs.Marks.{sent_arguments, kept_arguments}
 use Rattle.sw_region_ops.specs.declared.marks.Mark.{Mark}
 use Rattle.sw_region_ops.specs.declared.op.Op.{Op}
 use Rattle.sw_region_ops.specs.declared.op.TheConstants.{ISOLATED_TO_ACTOR, ISOLATED_TO_TASK}
@@ -63,5 +63,5 @@ abbrev pub callee_ops : CallKind → ℕ → ℕ → Option ℕ → List (Option
     → Option Function → List Op
 callee_ops kind code site r elements operands None = []
 callee_ops kind code site r elements operands (Some callee) =
-    call_ops kind code site callee.sends r (sent_from elements callee.sending 0 operands)
-    (kept_from elements callee.sending 0 operands)
+    call_ops kind code site callee.sends r (sent_arguments elements callee.sending operands)
+    (kept_arguments elements callee.sending operands)

@@ -64,7 +64,7 @@ impl<'a> Context<'a> {
     }
 
     /// How many elements there are, `Here` among them.
-    pub fn elements(&self) -> u32
+    pub(crate) fn element_count(&self) -> u32
         ensures { result ≡ element_count self.now.elements }
     {
         element_count(self.elements.as_slice())
@@ -78,7 +78,7 @@ impl<'a> Context<'a> {
     }
 
     /// The elements of all registers.
-    pub(crate) fn table(&self) -> &[Option<u32>]
+    pub(crate) fn elements(&self) -> &[Option<u32>]
         ensures value { result.now ≡ self.now.elements }
         ensures in_range { AreElements result.now }
     {

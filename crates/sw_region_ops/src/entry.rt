@@ -49,8 +49,8 @@ impl Context<'_> {
         requires { IsStrictlyIncreasing sites.now }
         ensures { IfOk result (IsEntry self.now sites.now) }
     {
-        let mut state = Partition::new(alloc, self.elements(), sites)?;
-        lend_all(&mut state, self.table(), self.body().sending.as_slice());
+        let mut state = Partition::new(alloc, self.element_count(), sites)?;
+        lend_all(&mut state, self.elements(), self.body().sending.as_slice());
         Ok(state)
     }
 }

@@ -1,7 +1,7 @@
 //! The tracked operands of an instruction.
 ghost use Rattle.std.specs.Prelude.{◌≡◌, [], ◌++◌, false, if◌then◌else◌, slice_index_or, OnOk};
 ghost use Rattle.std.specs.Prelude.{IfOk};
-ghost use Rattle.sw_region_ops.specs.Marks.{mark_at, marks_of, sent_from, kept_from};
+ghost use Rattle.sw_region_ops.specs.Marks.{mark_at, marks_of, is_wanted, arguments_from};
 
 use crate::elements::element_at;
 use std::alloc::{AllocError, Global};
@@ -69,70 +69,50 @@ fn is_sent(sending: &[bool], index: usize) -> bool
     }
 }
 
-/// Adds the argument for parameter `index` if it is tracked and the parameter is `sending`.
-fn add_sent(
+/// Whether parameter `index` is one of those that are wanted: the `sending` ones, or the others.
+fn is_wanted(sending: &[bool], wanted: bool, index: usize) -> bool
+    ensures { result ≡ is_wanted sending.now wanted index }
+{
+    if wanted {
+        is_sent(sending, index)
+    } else {
+        !is_sent(sending, index)
+    }
+}
+
+/// Adds the argument for parameter `index` if it is tracked and the parameter is wanted.
+fn add_argument(
     marks: &mut MarkList,
     elements: &[Option<u32>],
     sending: &[bool],
+    wanted: bool,
     index: usize,
     operand: &Operand,
 ) -> Result<(), AllocError>
     ensures { OnOk result (marks.new ≡ marks.old
-        ++ (if slice_index_or sending.now index false then mark_at elements.now operand.now
+        ++ (if is_wanted sending.now wanted index then mark_at elements.now operand.now
         else [])) }
 {
-    if is_sent(sending, index) {
+    if is_wanted(sending, wanted, index) {
         add_mark(marks, elements, operand)?;
     }
     Ok(())
 }
 
-/// Adds the argument for parameter `index` if it is tracked and the parameter isn't `sending`.
-fn add_kept(
-    marks: &mut MarkList,
-    elements: &[Option<u32>],
-    sending: &[bool],
-    index: usize,
-    operand: &Operand,
-) -> Result<(), AllocError>
-    ensures { OnOk result (marks.new ≡ marks.old
-        ++ (if slice_index_or sending.now index false then []
-        else mark_at elements.now operand.now)) }
-{
-    if !is_sent(sending, index) {
-        add_mark(marks, elements, operand)?;
-    }
-    Ok(())
-}
-
-/// The tracked arguments of a call whose parameters are `sending`.
-pub(crate) fn sent_of(
+/// The tracked arguments of a call whose parameters are wanted: the `sending` ones, or the others.
+pub(crate) fn arguments_of(
     alloc: Global,
     elements: &[Option<u32>],
     sending: &[bool],
+    wanted: bool,
     operands: &[Operand],
 ) -> Result<MarkList, AllocError>
-    ensures { IfOk result (λ marks. marks ≡ sent_from elements.now sending.now 0 operands.now) }
+    ensures { IfOk result (λ marks. marks
+        ≡ arguments_from elements.now sending.now wanted 0 operands.now) }
 {
     let mut marks = ListOf::new(alloc);
     for (index, operand) in operands.iter().enumerate() {
-        add_sent(&mut marks, elements, sending, index, operand)?;
-    }
-    Ok(marks)
-}
-
-/// The tracked arguments of a call whose parameters aren't `sending`.
-pub(crate) fn kept_of(
-    alloc: Global,
-    elements: &[Option<u32>],
-    sending: &[bool],
-    operands: &[Operand],
-) -> Result<MarkList, AllocError>
-    ensures { IfOk result (λ marks. marks ≡ kept_from elements.now sending.now 0 operands.now) }
-{
-    let mut marks = ListOf::new(alloc);
-    for (index, operand) in operands.iter().enumerate() {
-        add_kept(&mut marks, elements, sending, index, operand)?;
+        add_argument(&mut marks, elements, sending, wanted, index, operand)?;
     }
     Ok(marks)
 }

@@ -17,7 +17,7 @@ use crate::groups::{
     free_each, join_result_here, keep, make_of, meet, need_each, part_with, put_first, put_here,
     take_from,
 };
-use crate::marks::{Mark, MarkList, add_mark, add_marks, kept_of, marks_of, sent_of};
+use crate::marks::{Mark, MarkList, add_mark, add_marks, arguments_of, marks_of};
 use crate::op::{NOT_DISCONNECTED, OpList};
 use std::alloc::{AllocError, Global};
 use sw_graph::{Block, Instr, Last, Operand, Point};
@@ -33,7 +33,7 @@ fn needed(
 ) -> Result<(), AllocError>
     ensures { OnOk result (ops.new ≡ ops.old ++ need_each (marks context.now operands.now)) }
 {
-    let marks = marks_of(alloc, context.table(), operands)?;
+    let marks = marks_of(alloc, context.elements(), operands)?;
     need_each(ops, marks.as_slice())
 }
 
@@ -48,7 +48,7 @@ fn copied(
     ensures { OnOk result (ops.new ≡ ops.old
         ++ take_from (result_at context.now r) (marks context.now (operand ∷ []))) }
 {
-    let marks = marks_of(alloc, context.table(), &[operand])?;
+    let marks = marks_of(alloc, context.elements(), &[operand])?;
     take_from(ops, context.element(r), marks.as_slice())
 }
 
@@ -63,7 +63,7 @@ fn made(
     ensures { OnOk result (ops.new ≡ ops.old
         ++ make_of (result_at context.now r) (marks context.now operands.now)) }
 {
-    let marks = marks_of(alloc, context.table(), operands)?;
+    let marks = marks_of(alloc, context.elements(), operands)?;
     make_of(ops, context.element(r), marks.as_slice())
 }
 
@@ -77,7 +77,7 @@ fn met(
 ) -> Result<(), AllocError>
     ensures { OnOk result (ops.new ≡ ops.old ++ meet (marks context.now (first ∷ second ∷ []))) }
 {
-    let marks = marks_of(alloc, context.table(), &[first, second])?;
+    let marks = marks_of(alloc, context.elements(), &[first, second])?;
     meet(ops, marks.as_slice())
 }
 
@@ -90,7 +90,7 @@ fn kept(
 ) -> Result<(), AllocError>
     ensures { OnOk result (ops.new ≡ ops.old ++ keep (marks context.now (operand ∷ []))) }
 {
-    let marks = marks_of(alloc, context.table(), &[operand])?;
+    let marks = marks_of(alloc, context.elements(), &[operand])?;
     keep(ops, marks.as_slice())
 }
 
@@ -172,7 +172,7 @@ fn enclosed(
         ++ closure_ops (iso_is context.now is_isolated function) (result_at context.now r)
         (marks context.now captures.now)) }
 {
-    let marks = marks_of(alloc, context.table(), captures)?;
+    let marks = marks_of(alloc, context.elements(), captures)?;
     let isolated = is_isolated_function(context, function);
     closure_ops(ops, isolated, context.element(r), marks.as_slice())
 }
@@ -196,8 +196,8 @@ fn called(
         return Ok(());
     };
     let sending = callee.sending.as_slice();
-    let sent = sent_of(alloc, context.table(), sending, operands)?;
-    let kept = kept_of(alloc, context.table(), sending, operands)?;
+    let sent = arguments_of(alloc, context.elements(), sending, true, operands)?;
+    let kept = arguments_of(alloc, context.elements(), sending, false, operands)?;
     let form = Form {
         kind,
         code: free_code(context.body().iso),
@@ -223,8 +223,8 @@ fn closure_marks(
     ensures { IfOk result (λ list. list ≡ marks context.now (closure.now ∷ operands.now)) }
 {
     let mut marks = ListOf::new(alloc);
-    add_mark(&mut marks, context.table(), closure)?;
-    add_marks(&mut marks, context.table(), operands)?;
+    add_mark(&mut marks, context.elements(), closure)?;
+    add_marks(&mut marks, context.elements(), operands)?;
     Ok(marks)
 }
 
@@ -296,7 +296,7 @@ fn spawned(
         ++ task_ops (iso_is context.now (λ iso. shares_actor iso context.now.body.iso) function)
         (free_code context.now.body.iso) at (marks context.now captures.now)) }
 {
-    let marks = marks_of(alloc, context.table(), captures)?;
+    let marks = marks_of(alloc, context.elements(), captures)?;
     let inside = is_task_inside(context, function);
     task_ops(
         ops,
@@ -371,7 +371,7 @@ fn returned(
     ensures { OnOk result (ops.new ≡ ops.old
         ++ return_ops context.now.body.sends (marks context.now (operand ∷ []))) }
 {
-    let marks = marks_of(alloc, context.table(), &[operand])?;
+    let marks = marks_of(alloc, context.elements(), &[operand])?;
     return_ops(ops, context.body().sends, marks.as_slice())
 }
 
@@ -419,7 +419,7 @@ impl Context<'_> {
     }
 
     /// The operations of what stands at a point.
-    pub fn point_ops(&self, alloc: Global, point: Point) -> Result<OpList, AllocError>
+    pub(crate) fn point_ops(&self, alloc: Global, point: Point) -> Result<OpList, AllocError>
         ensures { IfOk result (λ ops. Some ops
             ≡ option_map (point_ops self.now) (lent_point (Some point.entry))) }
     {
