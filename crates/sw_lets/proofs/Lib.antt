@@ -1,0 +1,12 @@
+pub mod ActLemmas
+pub mod BeginLemmas
+pub mod FunctionLemmas
+pub mod GlobalLemmas
+pub mod KeepLemmas
+pub mod LetLemmas
+pub mod PastLemmas
+pub mod PlaceLemmas
+pub mod RunLemmas
+pub mod StepLemmas
+pub mod StoreLemmas
+pub mod VarLemmas
