@@ -6,7 +6,7 @@ use sw_list::ListOf;
 use sw_lower_run::Bound;
 
 /// A function while code for it is made: what is made of it, the block that goes on, the variables
-/// that are seen, and whether an instruction was dropped since the function had all its points.
+/// that are seen, and whether an instruction was dropped because the function had all its points.
 #[derive(Drop)]
 pub struct Draft<'a> {
     pub(crate) numbers: &'a NumberTable,

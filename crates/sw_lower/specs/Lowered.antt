@@ -1,6 +1,6 @@
 -- The functions that are made of a program's bodies, and the fault of a program that has none.
 use Rattle.std.specs.Prelude.{◌≡◌, ℕ, Bool, ◌||◌, nat_lt, List, [], Some, Result, Ok, Err}
-use Rattle.std.specs.Prelude.{IsOk, map, if◌then◌else◌}
+use Rattle.std.specs.Prelude.{IsOk, if◌then◌else◌}
 use Rattle.sw_types.specs.declared.ty.Ty.{Ty}
 use Rattle.sw_graph.specs.declared.function.TheConstants.{MAX_POINTS}
 use Rattle.sw_builder.specs.Unfinished.{finished}
@@ -16,17 +16,15 @@ use Rattle.sw_lower.specs.declared.lowering.LowerFault.TheVariants as faults
 use Rattle.sw_lower.specs.declared.lowering.Lowering.{Lowering}
 use Rattle.sw_lower.specs.declared.lowering.Made.{Made}
 use Rattle.sw_lower.specs.declared.lowering.MadeProgram.{MadeProgram}
-use Rattle.sw_lower.specs.Ordered.{starts_in}
-use Rattle.sw_typing_rules.specs.Worlds.{and_then}
 use Rattle.sw_lower_bodies.specs.Trees.{body_by}
 use Rattle.sw_lower_bodies.specs.declared.body_tree.BodyTree.{BodyTree}
 use Rattle.sw_lower_code.specs.Whole.{Body, function_of, lower_body}
 use Rattle.sw_lower_bodies.specs.lower_known.Knowledge.{tables_by}
 use Rattle.sw_lower_bodies.specs.lower_known.declared.known.Known.{Known}
-use Rattle.sw_lower_table.specs.Bodies.{AreMade, AreNumbered, AreOrdered, IsFirstTooLarge}
-use Rattle.sw_lower_table.specs.Bodies.{HasFunctions, entry_key, functions_of, numbers_of}
+use Rattle.sw_lower_table.specs.Bodies.{AreMade, AreNumbered, AreOrdered, AreStarts, IsEntry}
+use Rattle.sw_lower_table.specs.Bodies.{HasFunctions, IsFirstTooLarge, functions_of}
 use Rattle.sw_lower_table.specs.Bodies.{too_large_in}
-use Rattle.sw_lower_table.specs.Tables.{Tables, plain}
+use Rattle.sw_lower_table.specs.Tables.{Tables}
 
 -- what a function is that is made, where it has no more points than it may have
 abbrev pub finished_by : ℕ → ℕ → List Bool → Bool → Ty → Making → Result Function BodyFault
@@ -49,11 +47,6 @@ pub record HasMade (functions : List Function) (made : Made) : Type 0 where
   pub too_large : made.too_large ≡ too_large_in functions
   pub fitting : made.too_large ≡ [] → made.functions ≡ functions
 
--- the function with a number is that of the entry
-abbrev pub IsEntry : List Decl → List Body → ℕ → Type 0
-IsEntry decls ordered entry =
-    Some entry ≡ and_then (entry_key decls) (λ key. numbers_of ordered (plain key))
-
 -- what is made of a program
 pub record IsMadeOf (tables : Tables) (decls : List Decl) (program : MadeProgram) : Type 0 where
   pub ordered : List Body
@@ -62,14 +55,13 @@ pub record IsMadeOf (tables : Tables) (decls : List Decl) (program : MadeProgram
   pub numbered : AreNumbered ordered
   pub ended : program.made.too_large ≡ [] → AreMade ordered
   pub entry : IsEntry decls ordered program.entry
-  pub starts : map Some program.starts ≡ starts_in (numbers_of ordered) tables.world.globals
+  pub starts : AreStarts tables.world ordered program.starts
 
 -- the functions are those of a program, and so are the numbers of its entry and of its first values
 pub record IsLowering (tables : Tables) (decls : List Decl) (lowering : Lowering) : Type 0 where
   pub has : HasFunctions tables decls lowering.functions
   pub entry : IsEntry decls has.ordered lowering.entry
-  pub starts : map Some lowering.starts
-      ≡ starts_in (numbers_of has.ordered) tables.world.globals
+  pub starts : AreStarts tables.world has.ordered lowering.starts
 
 -- The fault is the first function of a program that is too large. Nothing is said of memory.
 abbrev pub IsTooLarge : Tables → List Decl → LowerFault → Type 0

@@ -1,10 +1,8 @@
 -- The order and the names of bodies.
-use Rattle.std.specs.Prelude.{◌≡◌, ℕ, ◌+◌, ◌*◌, List, Option, Some, map, slice_get, if◌then◌else◌}
-use Rattle.sw_decls.specs.declared.signature.GlobalVar.{GlobalVar}
+use Rattle.std.specs.Prelude.{◌≡◌, ℕ, ◌+◌, ◌*◌, List, Some, slice_get, if◌then◌else◌}
 use Rattle.sw_lower_bodies.specs.declared.body_tree.BodyTree.{BodyTree}
 use Rattle.sw_lower_run.specs.declared.name.FunctionName.{FunctionName}
-use Rattle.sw_lower_run.specs.Plan.{Numbers}
-use Rattle.sw_lower_table.specs.Tables.{number_in, plain}
+use Rattle.sw_lower_table.specs.Tables.{number_in}
 
 -- by the key, and a getter after what gives a first value
 abbrev pub tree_order : BodyTree → ℕ
@@ -17,7 +15,3 @@ tree_name tree = record { key = tree.key; getter = tree.getter }
 abbrev pub AreFound : List FunctionName → Type 0
 AreFound names = (number : ℕ) (name : FunctionName) → slice_get names number ≡ Some name
     → number_in names name ≡ Some number
-
--- the numbers of the functions that give global variables their first values
-abbrev pub starts_in : Numbers → List GlobalVar → List (Option ℕ)
-starts_in number globals = map (λ (global : GlobalVar). number (plain global.key.at)) globals

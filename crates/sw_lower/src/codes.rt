@@ -1,4 +1,4 @@
-//! The code of bodies that are no blocks: initialisers, getters and first values.
+//! The code of each form of body.
 ghost use Rattle.std.specs.Prelude.{◌≡◌, ◌++◌, map, None, Ok, IfErr, IfOk};
 ghost use Rattle.std.specs.Option.{option_copied};
 ghost use Rattle.sw_draft.specs.Drafts.{Gives, making_of};

@@ -98,11 +98,11 @@ module _ (tables : Tables) where
     code = code_by tree.key tree.form;
   }
 
-  -- the body with a key that is no getter, isolated as is known
-  abbrev pub known_body : ℕ → BodyForm → Body
-  known_body key form = body_by (record {
+  -- the body with a key, a getter or not, isolated as is known
+  abbrev pub known_body : ℕ → Bool → BodyForm → Body
+  known_body key getter form = body_by (record {
     key = key;
-    getter = false;
+    getter = getter;
     iso = iso_of (tables.isolation.body_at key);
     is_async = is_async_of (tables.isolation.body_at key);
     form = form;

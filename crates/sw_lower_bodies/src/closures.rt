@@ -33,7 +33,7 @@ pub fn add<'a>(
 }
 
 /// The isolation of a body.
-pub fn iso_of(body: Option<BodyIso>) -> Iso
+fn iso_of(body: Option<BodyIso>) -> Iso
     ensures { result ≡ iso_of body }
 {
     match body {
@@ -43,7 +43,7 @@ pub fn iso_of(body: Option<BodyIso>) -> Iso
 }
 
 /// Whether a body is asynchronous.
-pub fn is_async_of(body: Option<BodyIso>) -> bool
+fn is_async_of(body: Option<BodyIso>) -> bool
     ensures { result ≡ is_async_of body }
 {
     match body {
@@ -52,21 +52,22 @@ pub fn is_async_of(body: Option<BodyIso>) -> bool
     }
 }
 
-/// Adds the body with this key, isolated as is known, that is no getter.
+/// Adds the body with this key, a getter or not, isolated as is known.
 pub fn add_known<'a>(
     known: &Known<'_>,
     key: u32,
+    getter: bool,
     form: BodyForm<'a>,
     bodies: &mut BodyList<'a>,
 ) -> Result<(), AllocError>
     ensures { OnOk result (bodies_by (tables_by known.now) bodies.new
         ≡ bodies_by (tables_by known.now) bodies.old
-        ++ known_body (tables_by known.now) key form.entry ∷ []) }
+        ++ known_body (tables_by known.now) key getter form.entry ∷ []) }
 {
     let isolation = known.body_at(key);
     let body = BodyTree {
         key,
-        getter: false,
+        getter,
         iso: iso_of(isolation),
         is_async: is_async_of(isolation),
         form,
@@ -165,6 +166,7 @@ fn fun<'a>(
     add_known(
         known,
         closure.at,
+        false,
         BodyForm::Closure { owner, closure },
         bodies,
     )?;
@@ -186,7 +188,7 @@ fn task<'a>(
         ++ task_inside (tables_by known.now) owner at closure.now) }
 {
     let form = BodyForm::Task { owner, at, closure };
-    add_known(known, closure.at, form, bodies)?;
+    add_known(known, closure.at, false, form, bodies)?;
     block(known, owner, &closure.body, bodies)
 }
 

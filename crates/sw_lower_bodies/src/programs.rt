@@ -12,7 +12,7 @@ ghost use Rattle.sw_lower_table.specs.Bodies.{part_getter, program_bodies, prop_
 ghost use Rattle.sw_lower_table.specs.Bodies.{shape_getters, value_bodies};
 
 use crate::body_tree::{BodyForm, BodyTree};
-use crate::closures::{BodyList, add, add_known, block, expr, is_async_of, iso_of};
+use crate::closures::{BodyList, add, add_known, block, expr};
 use std::alloc::{AllocError, Global};
 use sw_decls::{GlobalVar, Signature};
 use sw_list::ListOf;
@@ -227,20 +227,13 @@ fn add_part_getter<'a>(
         ≡ bodies_by (tables_by known.now) bodies.old
         ++ part_getter (tables_by known.now) key number index shape.now part.now ∷ []) }
 {
-    let isolation = known.body_at(key);
-    let body = BodyTree {
-        key,
-        getter: true,
-        iso: iso_of(isolation),
-        is_async: is_async_of(isolation),
-        form: BodyForm::PartGetter {
-            number,
-            index,
-            shape,
-            part,
-        },
+    let form = BodyForm::PartGetter {
+        number,
+        index,
+        shape,
+        part,
     };
-    add(known, body, bodies)
+    add_known(known, key, true, form, bodies)
 }
 
 /// Adds the getter of a property of a type, where it has one.
@@ -315,15 +308,13 @@ fn add_global_getter<'a>(
         ++ global_getter (tables_by known.now) key index global.now) }
 {
     if global.actor.is_some() && global.mutable {
-        let isolation = known.body_at(key);
-        let body = BodyTree {
+        add_known(
+            known,
             key,
-            getter: true,
-            iso: iso_of(isolation),
-            is_async: is_async_of(isolation),
-            form: BodyForm::GlobalGetter { index, global },
-        };
-        add(known, body, bodies)?;
+            true,
+            BodyForm::GlobalGetter { index, global },
+            bodies,
+        )?;
     }
     Ok(())
 }
@@ -345,7 +336,13 @@ fn add_value<'a>(
     match value {
         None => Ok(()),
         Some(value) => {
-            add_known(known, key, BodyForm::FirstValue { index, value }, bodies)?;
+            add_known(
+                known,
+                key,
+                false,
+                BodyForm::FirstValue { index, value },
+                bodies,
+            )?;
             expr(known, None, value, bodies)
         }
     }

@@ -15,7 +15,7 @@ ghost use Rattle.sw_lower_safe.specs.Programs.{tables_in};
 
 /// The functions of a program that keeps the rules on declarations and on types return their
 /// results: a return of nothing that a sure way leads to stands in a function that gives nothing.
-/// Each function is found by its name, and its code asks for nothing that isn't known.
+/// Each function is found by its name, and its code runs to its end.
 pub fn functions_return_their_results()
     ensures { (decls : List Decl) (rule : AsyncDefault) (world : World) (isolation : Isolation)
         (ordered : List Body) → AreKeyed decls → CasesApart decls → IsFirstBreach decls None

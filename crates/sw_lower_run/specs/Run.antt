@@ -23,8 +23,8 @@ use Rattle.sw_lower_run.specs.declared.fault.CodeFault.{CodeFault}
 use Rattle.sw_lower_run.specs.declared.fault.CodeFault.TheVariants.{Registers, Memory}
 
 -- A function while code for it is made: what is made, the block that goes on, the variables that
--- are seen, the numbers of functions, and whether an instruction was dropped since the function had
--- all its points.
+-- are seen, the numbers of functions, and whether an instruction was dropped because the function
+-- had all its points.
 pub record Making : Type 0 where
   pub made : Unfinished
   pub here : ℕ

@@ -1,16 +1,15 @@
 -- The functions of a program are those of a well-formed graph.
 use Rattle.std.proofs.Common.{◌≡◌, ℕ, List, Some, None, map, option_map, refl, sym, ◌∙◌, ap, subst}
-use Rattle.std.proofs.Common.{[], ◌∷◌}
-use Rattle.std.proofs.lemmas.List.Elements.{All-head, All-map, All-tail}
+use Rattle.std.proofs.lemmas.List.Elements.{All-map}
 use Rattle.std.proofs.lemmas.List.Sorted.{All-permutation, IsPermutation-sym}
 use Rattle.std.proofs.lemmas.Option.{slice_get-get_or, slice_get-map, same_Some}
 use Rattle.std.specs.Prelude.{All, IsOk, Result, Ok, Err, get_or, slice_get}
 use Rattle.sw_tree.specs.Contents.{AreKeyed}
 use Rattle.sw_tree.specs.declared.decl.Decl.{Decl}
-use Rattle.sw_graph.specs.Limits.{IsWithinLimits, excess_of, first_of, first_too_large}
+use Rattle.sw_graph.specs.Limits.{IsWithinLimits, excess_of}
 use Rattle.sw_graph.specs.WellFormed.{IsWellFormed}
 use Rattle.sw_graph.specs.declared.function.Function.{Function}
-use Rattle.sw_graph.proofs.LimitLemmas.{all_within}
+use Rattle.sw_graph.proofs.LimitLemmas.{within_of}
 use Rattle.sw_decls.specs.Declaring.{IsFirstBreach}
 use Rattle.sw_decls.specs.declared.signature.AsyncDefault.{AsyncDefault}
 use Rattle.sw_typing_rules.specs.Programs.{IsFirstIll}
@@ -23,7 +22,8 @@ use Rattle.sw_lower_table.specs.Bodies.{AreMade, AreNumbered, AreOrdered, functi
 use Rattle.sw_lower_table.specs.Bodies.{numbers_of, program_bodies}
 use Rattle.sw_lower_table.specs.Tables.{Isolation, Tables}
 use Rattle.sw_lower_safe.specs.Trees.{IsHere}
-use Rattle.sw_lower_safe.specs.Programs.{AreStarts, IsEntry, tables_in}
+use Rattle.sw_lower_safe.specs.Programs.{tables_in}
+use Rattle.sw_lower_table.specs.Bodies.{AreStarts, IsEntry}
 use Rattle.sw_tree.specs.CasePlaces.{CasesApart}
 use Rattle.sw_lower_safe.proofs.Bodies.ProgramBodies.{bodies_fit}
 use Rattle.sw_lower_safe.proofs.Graphs.{graph_fits}
@@ -42,24 +42,11 @@ made_within number body = by (lower_body number body) (lowers_whole number body)
   by (Ok function) whole ok = whole.1
   by (Err fault) whole ok = cc
 
--- functions none of which has too much of anything
-none_large : (functions : List Function)
-    → All (λ (function : Function). excess_of function ≡ None) functions
-    → first_too_large functions ≡ None
-unfolding first_too_large
-none_large [] all = refl
-none_large (function ∷ functions) all =
-    ap (λ of. first_of of function.key (first_too_large functions))
-    (All-head (λ (one : Function). excess_of one ≡ None) function functions all)
-    ∙ none_large functions
-    (All-tail (λ (one : Function). excess_of one ≡ None) function functions all)
-
+-- the functions of bodies that are made are within the limits
 all_limits : (ordered : List Body) → AreMade ordered → All IsWithinLimits (functions_of ordered)
 all_limits ordered made =
-    all_within (functions_of ordered)
-    (none_large (functions_of ordered)
-    (All-map (λ (one : Function). excess_of one ≡ None) (function_of (numbers_of ordered)) ordered
-    (λ k d below. made_within (numbers_of ordered) _ (made k d below))))
+    All-map IsWithinLimits (function_of (numbers_of ordered)) ordered
+    (λ k d below. within_of _ (made_within (numbers_of ordered) _ (made k d below)))
 
 -- each body is found by its name
 pub bodies_here : (tables : Tables) (ordered : List Body) → AreNumbered ordered → AreMade ordered

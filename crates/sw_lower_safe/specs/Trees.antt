@@ -16,7 +16,7 @@ use Rattle.sw_lower_table.specs.Tables.{Tables, name_of}
 use Rattle.sw_lower_safe.specs.Forms.{BlockOk, ExprOk, RowsHold, VarsHold}
 
 module _ (tables : Tables) (number : Numbers) (functions : List Function) where
-  -- The body's code asks for nothing that isn't known, and its function is found by its name.
+  -- The body's code runs to its end, and its function is found by its name.
   pub record IsHere (body : Body) : Type 0 where
     pub made : IsOk (lower_body number body)
     pub found : (f : ℕ) → number (name_of body) ≡ Some f

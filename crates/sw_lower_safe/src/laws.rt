@@ -10,13 +10,13 @@ ghost use Rattle.sw_typing_rules.specs.Programs.{IsFirstIll};
 ghost use Rattle.sw_typing_rules.specs.Worlds.{IsWorldOf, World};
 ghost use Rattle.sw_lower_code.specs.Whole.{Body};
 ghost use Rattle.sw_lower_table.specs.Bodies.{AreMade, AreNumbered, AreOrdered};
-ghost use Rattle.sw_lower_table.specs.Bodies.{functions_of, global_kind};
+ghost use Rattle.sw_lower_table.specs.Bodies.{AreStarts, IsEntry, functions_of, global_kind};
 ghost use Rattle.sw_lower_table.specs.Tables.{Isolation};
-ghost use Rattle.sw_lower_safe.specs.Programs.{AreStarts, IsEntry, tables_in};
+ghost use Rattle.sw_lower_safe.specs.Programs.{tables_in};
 
 /// The functions of a program that keeps the rules on declarations and on types are those of a
-/// well-formed graph, where each is found by its name and its code asks for nothing that isn't
-/// known.
+/// well-formed graph, where each is found by its name and its code runs to its end: it asks for
+/// nothing that isn't known, and its function isn't too large.
 pub fn programs_have_well_formed_graphs()
     ensures { (decls : List Decl) (rule : AsyncDefault) (world : World) (isolation : Isolation)
         (ordered : List Body) (entry : ℕ) (starts : List ℕ) → AreKeyed decls → CasesApart decls

@@ -55,7 +55,7 @@ fn only(tree: &Block) -> Option<&Expr>
 {
     match tree.stmts.as_slice() {
         [one] => plain(one),
-        _ => None,
+        [] | [_, _, ..] => None,
     }
 }
 

@@ -1,5 +1,5 @@
 -- What the plans of some forms are.
-use Rattle.std.proofs.Common.{◌≡◌, ℕ, ◌+◌, Option, List, [], ◌∷◌, length, refl, ap}
+use Rattle.std.proofs.Common.{◌≡◌, ℕ, ◌+◌, Bool, Option, List, [], ◌∷◌, length, refl, ap}
 use Rattle.std.proofs.Common.{◌∙◌, ℤ, arith}
 use Rattle.sw_tree.proofs.FoldEquations as eq
 use Rattle.sw_tree.specs.declared.expr.Expr.TheVariants as exprs
@@ -10,6 +10,7 @@ use Rattle.sw_graph.specs.declared.instr.BinOp.{BinOp}
 use Rattle.sw_graph.specs.declared.instr.Instr.TheVariants as instr
 use Rattle.sw_graph.specs.declared.instr.Last.{Last}
 use Rattle.sw_graph.specs.declared.instr.Last.TheVariants as last
+use Rattle.sw_graph.specs.declared.instr.Literal.{Literal}
 use Rattle.sw_graph.specs.declared.instr.Literal.TheVariants as literals
 use Rattle.sw_graph.specs.declared.instr.Operand.{Operand}
 use Rattle.sw_lower_run.specs.Plan.{Ended, Piece, Place}
@@ -28,14 +29,14 @@ unfolding andthen done emit reg
 result_of_binary at op ty right left place = refl
 
 -- a literal's value, its register and its instruction
-abbrev literal_piece : ℕ → ℤ → Place → Piece Operand
-literal_piece at value place = record {
+abbrev literal_piece : Ty → Literal → ℕ → Place → Piece Operand
+literal_piece ty literal at place = record {
   value = operand place.regs at;
-  regs = Plain types.Int ∷ [];
+  regs = Plain ty ∷ [];
   made = [];
   writes = record {
     block = place.here;
-    instr = instr.Const at place.regs (literals.Int value);
+    instr = instr.Const at place.regs literal;
   } ∷ [];
   lasts = [];
   there = place.here;
@@ -44,11 +45,19 @@ literal_piece at value place = record {
 
 pub plan_of_int : (tables : Tables) (owner : Option ℕ) (at : ℕ) (value : ℤ) (place : Place)
     → (expr_code tables owner (exprs.Int at value)).read.plan place
-    ≡ literal_piece at value place
+    ≡ literal_piece types.Int (literals.Int value) at place
 unfolding expr_code andthen done emit reg
 plan_of_int tables owner at value place =
     ap (λ (code : ExprCode). code.read.plan place)
     (eq.fold_expr-Int (code_steps tables owner) at value)
+
+pub plan_of_bool : (tables : Tables) (owner : Option ℕ) (at : ℕ) (value : Bool) (place : Place)
+    → (expr_code tables owner (exprs.Bool at value)).read.plan place
+    ≡ literal_piece types.Bool (literals.Bool value) at place
+unfolding expr_code andthen done emit reg
+plan_of_bool tables owner at value place =
+    ap (λ (code : ExprCode). code.read.plan place)
+    (eq.fold_expr-Bool (code_steps tables owner) at value)
 
 -- where a branch of `&&` or `||` leads: its own block and the one after are the next two
 branch_first : (here : ℕ) (branch : ℕ → ℕ → Last) (blocks own merge : ℕ)

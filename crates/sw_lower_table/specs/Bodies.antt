@@ -324,12 +324,13 @@ abbrev pub AreNumbered : List Body → Type 0
 AreNumbered ordered = (number : ℕ) (body : Body) → slice_get ordered number ≡ Some body
     → numbers_of ordered (name_of body) ≡ Some number
 
--- The code of each body asks for nothing that isn't known.
+-- The code of each body runs to its end: it asks for nothing that isn't known, and its function
+-- isn't too large.
 abbrev pub AreMade : List Body → Type 0
 AreMade ordered = All (λ (body : Body). IsOk (lower_body (numbers_of ordered) body)) ordered
 
 -- The functions are those of a program: its bodies in the order of their keys, each as its plan
--- says. Each is found by its name, and its code asks for nothing that isn't known.
+-- says. Each is found by its name, and its code runs to its end.
 pub record HasFunctions (tables : Tables) (decls : List Decl) (functions : List Function)
     : Type 0 where
   pub ordered : List Body
@@ -337,6 +338,19 @@ pub record HasFunctions (tables : Tables) (decls : List Decl) (functions : List 
   pub are_those : functions ≡ functions_of ordered
   pub numbered : AreNumbered ordered
   pub made : AreMade ordered
+
+-- The number is that of the function of the entry.
+abbrev pub IsEntry : List Decl → List Body → ℕ → Type 0
+IsEntry decls ordered entry =
+    Some entry ≡ and_then (entry_key decls) (λ key. numbers_of ordered (plain key))
+
+-- the numbers of the functions that give global variables their first values
+abbrev pub starts_in : Numbers → List GlobalVar → List (Option ℕ)
+starts_in number globals = map (λ (global : GlobalVar). number (plain global.key.at)) globals
+
+-- The functions with these numbers give the global variables their first values, in order.
+abbrev pub AreStarts : World → List Body → List ℕ → Type 0
+AreStarts world ordered starts = map Some starts ≡ starts_in (numbers_of ordered) world.globals
 
 -- The graph is that of a program.
 pub record Lowered (world : World) (answers : Answers) (isolation : Isolation) (decls : List Decl)
@@ -346,7 +360,5 @@ pub record Lowered (world : World) (answers : Answers) (isolation : Isolation) (
   pub shapes : graph.shapes ≡ world.shapes
   pub globals : graph.globals ≡ map global_kind world.globals
   pub functions : graph.functions ≡ functions_of ordered
-  pub entry : Some graph.entry
-      ≡ and_then (entry_key decls) (λ key. numbers_of ordered (plain key))
-  pub starts : map Some graph.starts
-      ≡ map (λ (global : GlobalVar). numbers_of ordered (plain global.key.at)) world.globals
+  pub entry : IsEntry decls ordered graph.entry
+  pub starts : AreStarts world ordered graph.starts

@@ -1,6 +1,6 @@
 //! Laws, without code: what the definitions of lowering say of all programs.
 ghost use Rattle.std.specs.Prelude.{◌≡◌, ℕ, ◌+◌, ◌<◌, ℤ, IsTrue, List, [], ◌∷◌, Option, Some};
-ghost use Rattle.std.specs.Prelude.{slice_get, ◌≤◌, ◌⊎◌, length};
+ghost use Rattle.std.specs.Prelude.{slice_get, ◌≤◌, ◌⊎◌, length, Bool};
 ghost use Rattle.sw_tree.specs.declared.decl.Decl.{Decl};
 ghost use Rattle.sw_tree.specs.declared.expr.Expr.TheVariants as exprs;
 ghost use Rattle.sw_types.specs.declared.ty.Ty.{Ty};
@@ -25,7 +25,7 @@ ghost use Rattle.sw_lower_table.specs.Statements.{expr_code};
 ghost use Rattle.sw_lower_table.specs.Tables.{Isolation, Tables, is_named, number_in};
 ghost use Rattle.sw_lower_table.specs.Uses.{operand};
 
-/// A function's number is its place among the names of the functions, in the order of their keys.
+/// A function's number is a place at which its name stands among the names of the functions.
 pub fn numbers_are_places()
     ensures within { (names : List FunctionName) (name : FunctionName) (number : ℕ)
         → number_in names name ≡ Some number → number < length names }
@@ -49,9 +49,22 @@ pub fn literals_take_one_register()
           there = place.here;
           vars = [];
         } }
+    ensures bool { (tables : Tables) (owner : Option ℕ) (at : ℕ) (value : Bool) (place : Place)
+        → (expr_code tables owner (exprs.Bool at value)).read.plan place ≡ record {
+          value = operand place.regs at;
+          regs = Plain types.Bool ∷ [];
+          made = [];
+          writes = record {
+            block = place.here;
+            instr = instr.Const at place.regs (literals.Bool value);
+          } ∷ [];
+          lasts = [];
+          there = place.here;
+          vars = [];
+        } }
 {}
 
-/// The register of a result is made after those of its operands.
+/// The register of what an infix operator gives is made after those of its operands.
 pub fn results_follow_operands()
     ensures { (at : ℕ) (op : BinOp) (ty : Ty) (right : Code Operand) (left : Operand)
         (place : Place)
@@ -73,7 +86,8 @@ pub fn the_right_operand_is_skipped()
         } ∷ rest) }
 {}
 
-/// The functions of a program's graph are those of its bodies, in the order of their keys.
+/// The graph of a program has as many functions as the program has bodies, and their keys never
+/// fall.
 pub fn functions_are_in_order()
     ensures count { (world : World) (answers : Answers) (isolation : Isolation)
         (decls : List Decl) (graph : Graph) → Lowered world answers isolation decls graph

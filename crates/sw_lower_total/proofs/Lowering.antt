@@ -20,7 +20,7 @@ use Rattle.sw_lower_code.proofs.WholeFacts.{lowers_whole}
 use Rattle.sw_lower_table.specs.Bodies.{AreMade, AreNumbered, AreOrdered, functions_of, numbers_of}
 use Rattle.sw_lower_table.specs.Bodies.{placed_excess, program_bodies, too_large_in}
 use Rattle.sw_lower_table.specs.Tables.{isolation_in}
-use Rattle.sw_lower_safe.specs.Programs.{AreStarts, IsEntry}
+use Rattle.sw_lower_table.specs.Bodies.{AreStarts, IsEntry}
 use Rattle.sw_lower_safe.proofs.Programs.WordKinds.{word_kinds}
 use Rattle.sw_lower_total.specs.Known.{Known}
 use Rattle.sw_lower_total.specs.Proceeding.{BodyProceeds}

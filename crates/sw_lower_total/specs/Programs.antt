@@ -25,8 +25,8 @@ abbrev pub noted_tables : World → List Decl → Tables
 noted_tables world decls = tables_in world (isolation_in (notes_of world decls)) decls
 
 -- A program as texts write them, which keeps the rules on declarations and on types: its keys are
--- its nodes' own and rise in the order of the text, its global variables have first values, and it
--- has no form that no text writes.
+-- its nodes' own and rise in the order of the text, its global variables have first values, and
+-- neither of the two forms stands in it that `AreWritten` rules out.
 pub record IsWelltyped (decls : List Decl) (rule : AsyncDefault) (world : World) : Type 0 where
   pub keyed : AreKeyed decls
   pub in_order : AreInOrder decls

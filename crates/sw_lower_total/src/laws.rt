@@ -7,15 +7,14 @@ ghost use Rattle.sw_typing_rules.specs.Worlds.{World};
 ghost use Rattle.sw_lower_code.specs.Whole.{Body};
 ghost use Rattle.sw_lower_table.specs.Bodies.{AreMade, AreNumbered, AreOrdered};
 ghost use Rattle.sw_lower_table.specs.Bodies.{functions_of, numbers_of, too_large_in};
-ghost use Rattle.sw_lower_safe.specs.Programs.{AreStarts, IsEntry};
+ghost use Rattle.sw_lower_table.specs.Bodies.{AreStarts, IsEntry};
 ghost use Rattle.sw_lower_total.specs.Proceeding.{BodyProceeds};
 ghost use Rattle.sw_lower_total.specs.Programs.{IsWelltyped, noted_tables};
 
 /// The bodies of a program that keeps the rules on declarations and on types ask for nothing that
 /// isn't known: each variable that they read is bound, each value has a type, each member, function
-/// and getter that they use is there. Each body is found by its name, so have the entry and what
-/// gives each global variable its first value a number. So a body is made unless its function is
-/// too large.
+/// and getter that they use is there. Each body is found by its name, so the entry and the functions
+/// that give first values have numbers. So a body is made unless its function is too large.
 pub fn programs_can_be_lowered()
     ensures proceed { (decls : List Decl) (rule : AsyncDefault) (world : World)
         (ordered : List Body) → IsWelltyped decls rule world

@@ -103,7 +103,7 @@ module _ (tables : Tables) where
   race_as false at notes = record { sees = refl; holds = refl }
 
   result_as : (at : ℕ) (result : Option Ty) (notes : List Note)
-      → SaysAs (result_races tables.world tables.answers at result ++ notes) notes
+      → SaysAs (result_races tables.world at result ++ notes) notes
   result_as at None notes = record { sees = refl; holds = refl }
   result_as at (Some ty) notes = race_as (not (is_sendable tables.world.shapes ty)) at notes
 
@@ -138,7 +138,7 @@ module _ (tables : Tables) where
     context = context;
     listed = listed;
     vars = setting.vars;
-    iso = closure_iso tables.world tables.answers at context.iso;
+    iso = closure_iso tables.answers at context.iso;
     is_async = false;
     at = at;
     words = words;
@@ -152,7 +152,7 @@ module _ (tables : Tables) where
     context = context;
     listed = listed;
     vars = setting.vars;
-    iso = task_iso tables.world tables.answers mark detached context.iso;
+    iso = task_iso tables.world mark detached context.iso;
     is_async = true;
     at = at;
     words = words;

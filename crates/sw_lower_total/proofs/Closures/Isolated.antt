@@ -32,12 +32,12 @@ never_own (Some number) around own = absurd (false≢true own)
 
 module _ (world : World) (answers : Answers) where
   pub closure_own : (at : ℕ) (around : Iso)
-      → is_own (closure_iso world answers at around) ≡ true → is_own around ≡ true
+      → is_own (closure_iso answers at around) ≡ true → is_own around ≡ true
   unfolding closure_iso
   closure_own at around own = either_own (marked_type (answers.type_at at)) around own
 
   pub task_own : (mark : Option Name) (detached : Bool) (around : Iso)
-      → is_own (task_iso world answers mark detached around) ≡ true → is_own around ≡ true
+      → is_own (task_iso world mark detached around) ≡ true → is_own around ≡ true
   unfolding task_iso
   task_own None true around own = absurd (false≢true own)
   task_own None false around own = inherited_own around own

@@ -60,10 +60,10 @@ module _ (world : World) (answers : Answers) (context : Context) (at : ℕ) wher
 
   -- the word `self`
   pub self_mentioned : (shape : Shape) → item context.owner world.shapes ≡ Some shape
-      → Contains (mentions (me_notes world answers context at)) shape.at
+      → Contains (mentions (me_notes world context at)) shape.at
   unfolding me_mentions
   self_mentioned shape is =
-      mention_in (me_notes world answers context at) (mention shape.at at)
+      mention_in (me_notes world context at) (mention shape.at at)
       (subst (λ keys. Contains (map Mentioned (map (λ me. mention me at) keys))
       (Mentioned (mention shape.at at)))
       (sym (self_is world context.owner shape is)) (in_first (Mentioned (mention shape.at at)) []))

@@ -306,10 +306,10 @@ module _ (tables : Tables) (number_of : Numbers) (all : List Note)
   -- `self`
   pub me_proceeds : (at : ℕ) → RowsHold tables.answers (me_judged setting.owner at).rows
       → ExprProceeds tables number_of context listed setting.vars
-      (me_notes tables.world tables.answers context at) (self_code tables setting.owner at)
+      (me_notes tables.world context at) (self_code tables setting.owner at)
   me_proceeds at rows =
       subst (λ owner. ExprProceeds tables number_of context listed setting.vars
-      (me_notes tables.world tables.answers context at) (self_code tables owner at)) same
+      (me_notes tables.world context at) (self_code tables owner at)) same
       (record {
         read = by context.owner refl
             (subst (λ owner. RowsHold tables.answers (me_judged owner at).rows) (sym same) rows);
@@ -318,7 +318,7 @@ module _ (tables : Tables) (number_of : Numbers) (all : List Note)
         by : (around : Option ℕ) → context.owner ≡ around
             → RowsHold tables.answers (me_judged around at).rows
             → Goes tables number_of context listed (seen_in tables context.owner setting.vars)
-            (me_notes tables.world tables.answers context at) (read_self tables context.owner at)
+            (me_notes tables.world context at) (read_self tables context.owner at)
         by None is typed = absurd typed.0
         by (Some k) is typed =
             let below : k < length tables.world.shapes =
@@ -327,5 +327,5 @@ module _ (tables : Tables) (number_of : Numbers) (all : List Note)
             (knows.typed at (types.Named k) typed.0)) in
             let found = some_at tables.world.shapes k below in
             self_read tables number_of all knows stand context listed setting.vars
-            (me_notes tables.world tables.answers context at) at k found.0 is found.1
+            (me_notes tables.world context at) at k found.0 is found.1
             (self_mentioned tables.world tables.answers context at found.0)

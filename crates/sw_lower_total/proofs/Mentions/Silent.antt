@@ -81,14 +81,14 @@ store_silent context at Waited inside silent = tt
 store_silent context at Nothing inside silent = tt
 
 module _ (world : World) (answers : Answers) where
-  pub var_silent : (mutable : Bool) (at : ℕ) → Silent (var_notes world answers mutable at)
+  pub var_silent : (mutable : Bool) (at : ℕ) → Silent (var_notes mutable at)
   var_silent true at = (tt, tt)
   var_silent false at = tt
 
   pub races_silent : (at : ℕ) → Silent (task_races world answers at)
   unfolding task_races
   races_silent at = by (task_result (answers.type_at at)) where
-    by : (found : Option Ty) → Silent (result_races world answers at found)
+    by : (found : Option Ty) → Silent (result_races world at found)
     by None = tt
     by (Some ty) = race_silent _ at 605
 

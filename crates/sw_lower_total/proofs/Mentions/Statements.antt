@@ -30,10 +30,10 @@ module _ (tables : Tables) where
   pub bind_within : (vars : List Var) (order : List ℕ) (mutable : Bool) (at : ℕ) (value : Notes)
       → Within tables vars order value
       → Within tables vars (at ∷ order)
-      (λ context listed. var_notes tables.world tables.answers mutable at ++ value context listed)
+      (λ context listed. var_notes mutable at ++ value context listed)
   bind_within vars order mutable at value within =
       within_both tables vars (at ∷ order)
-      (λ context listed. var_notes tables.world tables.answers mutable at) value
+      (λ context listed. var_notes mutable at) value
       (within_silent tables vars (at ∷ order) _
       (λ context listed. var_silent tables.world tables.answers mutable at))
       (within_rest tables vars at order value within)

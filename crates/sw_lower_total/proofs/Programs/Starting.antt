@@ -29,7 +29,7 @@ use Rattle.sw_lower_table.specs.Bodies.{global_bodies, global_getter, globals_ma
 use Rattle.sw_lower_table.specs.Bodies.{tables_of, value_bodies}
 use Rattle.sw_lower_table.specs.Statements.{expr_code}
 use Rattle.sw_lower_table.specs.Tables.{Isolation, Tables, plain}
-use Rattle.sw_lower_safe.specs.Programs.{AreStarts, IsEntry}
+use Rattle.sw_lower_table.specs.Bodies.{AreStarts, IsEntry}
 use Rattle.sw_lower_safe.proofs.Lists.Listed.{in_first, in_rest, place_in}
 use Rattle.sw_lower_safe.proofs.Programs.DeclStands.{none_left, none_right}
 use Rattle.sw_lower_safe.proofs.Programs.GlobalDecls.{global_at}

@@ -97,7 +97,7 @@ module _ (world : World) (answers : Answers) where
       lacks_use context at
       (used_at world answers context (base_of answers base.key base.is_self) at) key other
 
-  bare_result : (at : ℕ) (result : Option Ty) → AreBare (result_races world answers at result)
+  bare_result : (at : ℕ) (result : Option Ty) → AreBare (result_races world at result)
   bare_result at None = bare_nothing
   bare_result at (Some ty) = bare_race (not (is_sendable world.shapes ty)) at 605
 
@@ -106,7 +106,7 @@ module _ (world : World) (answers : Answers) where
   bare_task at = bare_result at (task_result (answers.type_at at))
 
   pub var_covers : (mutable : Bool) (at key : ℕ) → hits at key ≡ 0
-      → Lacks (var_notes world answers mutable at) key
+      → Lacks (var_notes mutable at) key
   var_covers true at key other = lacks_var at key other
   var_covers false at key other = lacks_nothing key
 

@@ -175,7 +175,7 @@ module _ (world : World) (answers : Answers) where
 
   -- the initialisers of a type
   bare_default : (found : Option Signature)
-      → AreBare (for_some found (λ func. func_note world answers func ∷ []))
+      → AreBare (for_some found (λ func. func_note func ∷ []))
   bare_default None = bare_nothing
   bare_default (Some func) = record { kinds = refl; held = refl; vars = refl }
 

@@ -121,16 +121,16 @@ module _ (world : World) (answers : Answers) where
         (closure_inner inside captures body)
 
     abbrev pub fun_inside : ℕ → Context
-    fun_inside at = in_closure context (closure_iso world answers at context.iso) false
+    fun_inside at = in_closure context (closure_iso answers at context.iso) false
 
     abbrev pub task_inside : Option Name → Bool → Context
     task_inside mark detached =
-        in_closure context (task_iso world answers mark detached context.iso) true
+        in_closure context (task_iso world mark detached context.iso) true
 
     pub notes-Fun : (at : ℕ) (mark : Option Name) (captures : List Name)
         (params : List ClosureParam) (result : Option TypeTree) (body : Block)
         → expr_notes (exprs.Fun (closure_of at mark captures params result body))
-        ≡ body_note at (closure_iso world answers at context.iso) false
+        ≡ body_note at (closure_iso answers at context.iso) false
         ∷ closure_noted (fun_inside at) at captures body
     unfolding see block_notes
     notes-Fun at mark captures params result body =
@@ -143,7 +143,7 @@ module _ (world : World) (answers : Answers) where
         (captures : List Name) (params : List ClosureParam) (result : Option TypeTree)
         (body : Block)
         → expr_notes (exprs.Spawn place detached (closure_of at mark captures params result body))
-        ≡ body_note at (task_iso world answers mark detached context.iso) true
+        ≡ body_note at (task_iso world mark detached context.iso) true
         ∷ task_races world answers place
         ++ closure_noted (task_inside mark detached) at captures body
     unfolding see block_notes
@@ -174,7 +174,7 @@ module _ (world : World) (answers : Answers) where
 
     pub notes-Bind : (mutable : Bool) (name : Name) (ty : Option TypeTree) (value : Expr)
         → noted_stmt (stmts.Bind mutable name ty value)
-        ≡ var_notes world answers mutable name.at ++ expr_notes value
+        ≡ var_notes mutable name.at ++ expr_notes value
     unfolding see stmt_notes
     notes-Bind mutable name ty value =
         ap (λ (n : Notes). n context listed) (eq.fold_stmt-Bind steps mutable name ty value)

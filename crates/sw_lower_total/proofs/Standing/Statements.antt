@@ -116,7 +116,7 @@ module _ (world : World) (answers : Answers) (context : Context) (listed : List 
       part_by _ _ _ _ _ _ _ _ _
       (noted.notes-Bind world answers context listed mutable name ty value)
       (keys.stmt_keys-Bind mutable name ty value) (placed.order-Bind mutable name ty value)
-      (part_right (var_notes world answers mutable name.at) _ (name.at ∷ []) _ (name.at ∷ []) _
+      (part_right (var_notes mutable name.at) _ (name.at ∷ []) _ (name.at ∷ []) _
       (λ key none.
       var_covers world answers mutable name.at key (omega (arith, none, one_key name.at key))))
 

@@ -174,7 +174,7 @@ module _ (tables : Tables) (number : Numbers) (context : Context) (listed : List
       → ExprProceeds tables number context listed state.vars notes value
       → ExprBindsNothing value → tables.answers.type_at name.at ≡ Some ty
       → StmtProceeds tables number context listed inside state
-      (var_notes tables.world tables.answers mutable name.at ++ notes)
+      (var_notes mutable name.at ++ notes)
       (statement (λ targets. value.read >>= declare_var tables name.at) value.inside) left
   bind_by inside state mutable notes name value one ty left same vars proceeds nothing has =
       stmt_of tables number context listed inside state (first ++ notes)
@@ -193,7 +193,7 @@ module _ (tables : Tables) (number : Numbers) (context : Context) (listed : List
       (λ targets. value.read >>= declare_var tables name.at)) (sym vars)
       (bind_binds name value state.vars one ty same nothing has)) proceeds.inside where
         first : List Note
-        first = var_notes tables.world tables.answers mutable name.at
+        first = var_notes mutable name.at
 
   -- `let` and `var`, where the value has a type
   pub bind_proceeds : (inside : Inside) (state : State) (notes : List Note) (mutable : Bool)
@@ -202,7 +202,7 @@ module _ (tables : Tables) (number : Numbers) (context : Context) (listed : List
       → ExprBindsNothing value
       → RowsHold tables.answers (bind_left state mutable name written judged).rows
       → StmtProceeds tables number context listed inside state
-      (var_notes tables.world tables.answers mutable name.at ++ notes)
+      (var_notes mutable name.at ++ notes)
       (statement (λ targets. value.read >>= declare_var tables name.at) value.inside)
       (bind_left state mutable name written judged)
   bind_proceeds inside state notes mutable name None value judged ty has proceeds nothing rows =

@@ -9,7 +9,8 @@ use Rattle.sw_lower_bodies.specs.lower_known.Knowledge.{tables_by}
 use Rattle.sw_lower_table.specs.Bodies.{entry_key}
 use Rattle.sw_lower_table.specs.Tables.{number_in, plain}
 use Rattle.sw_typing_rules.specs.Worlds.{and_then}
-use Rattle.sw_lower.specs.Ordered.{AreFound, starts_in, tree_name}
+use Rattle.sw_lower.specs.Ordered.{AreFound, tree_name}
+use Rattle.sw_lower_table.specs.Bodies.{starts_in}
 use Rattle.sw_lower.specs.Lowered.{EndsWell, HasMade, function_by}
 use Rattle.sw_lower.proofs.Numbered.{bodies_found}
 use Rattle.sw_lower.proofs.Programs.{bodies_end, bodies_moved, functions_are, order_kept}
