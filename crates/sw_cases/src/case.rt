@@ -79,10 +79,10 @@ fn add_hexadecimal(bytes: &mut Vec<u8>, text: &str) -> Result<bool, AllocError> 
     Ok(true)
 }
 
-/// Adds numbers, each of them a line. It returns whether all of them are.
+/// Adds numbers that white space separates. It returns whether all of them are numbers.
 fn add_numbers(numbers: &mut Vec<u64>, text: &str) -> Result<bool, AllocError> {
-    for line in text.split_ascii_whitespace() {
-        let Ok(number) = line.parse::<u64>() else {
+    for word in text.split_ascii_whitespace() {
+        let Ok(number) = word.parse::<u64>() else {
             return Ok(false);
         };
         numbers.push(number)?;

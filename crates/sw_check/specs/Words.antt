@@ -12,8 +12,8 @@ abbrev pub is_file_name : List ℕ → Bool
 is_file_name [] = false
 is_file_name (first ∷ rest) = not (first == 45)
 
--- What the words ask for, with the default that counts: where asynchronous functions run that say
--- nothing more (SE-0338, SE-0461).
+-- What the words ask for, with the default that counts: where asynchronous functions without an
+-- annotation run (SE-0338, SE-0461).
 pub data Command : Type 0 where
   -- is the program in the file accepted?
   Check : (rule : AsyncDefault) (file : List ℕ) → Command
@@ -22,7 +22,7 @@ pub data Command : Type 0 where
   -- run the program in the file by the schedule in the other file, also where jobs of it may race
   Trace : (rule : AsyncDefault) (file schedule_file : List ℕ) → Command
 
--- The default where the words name none: asynchronous functions that say nothing more run on no
+-- The default where the words name none: asynchronous functions without an annotation run on no
 -- actor. No word names a default, so it is that of every command.
 abbrev pub unnamed_default : AsyncDefault
 unnamed_default = Concurrent

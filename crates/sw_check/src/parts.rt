@@ -45,8 +45,8 @@ pub enum Phases {
     ToSize,
 }
 
-/// The verdict of these phases on a text under a default: its graph, or what the first finds that
-/// finds a breach.
+/// The verdict of these phases on a text under a default: its graph, or the breaches of the first
+/// that finds any.
 fn verdict(
     alloc: Global,
     default: AsyncDefault,

@@ -78,6 +78,6 @@ pub fn read(words: &[String]) -> Option<Command<'_>>
                 None
             }
         }
-        _ => None,
+        [] | [_] | [_, _, _, _, ..] => None,
     }
 }

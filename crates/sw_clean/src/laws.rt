@@ -16,9 +16,9 @@ pub fn texts_have_placed_graphs()
 {}
 
 /// The graph of a text that is accepted under a default is clean: it is placed, and what crosses
-/// between isolations may (SE-0302, SE-0412, SE-0430). So is that of each text besides that passes
-/// these phases and whose program shares no value that may not be, whatever breaches of regions it
-/// has.
+/// between isolations may cross (SE-0302, SE-0412, SE-0430). So is that of each text besides that
+/// passes the phases up to the size of functions and whose program shares no value that may not be,
+/// whatever breaches of regions it has.
 pub fn accepted_texts_have_clean_graphs()
     ensures accepted { (rule : AsyncDefault) (text : List ℕ) (graph : Graph) → Accepts rule text
         → IsGraphOf rule text graph → IsClean graph }

@@ -38,8 +38,23 @@ pub fn instr_text(alloc: Global, instr: &Instr) -> Result<String, AllocError> {
             let ss = ss.as_slice();
             format!(in alloc; "CallClosure {{ at: {at}, r: {r}, c: {c:?}, ss: {ss:?} }}")
         }
-        // The other instructions have no list.
-        _ => format!(in alloc; "{instr:?}"),
+        // These have no list.
+        Instr::Const { .. }
+        | Instr::Un { .. }
+        | Instr::Bin { .. }
+        | Instr::Copy { .. }
+        | Instr::Field { .. }
+        | Instr::Payload { .. }
+        | Instr::SetField { .. }
+        | Instr::NewBox { .. }
+        | Instr::LoadBox { .. }
+        | Instr::StoreBox { .. }
+        | Instr::LoadProp { .. }
+        | Instr::StoreProp { .. }
+        | Instr::LoadGlobal { .. }
+        | Instr::StoreGlobal { .. }
+        | Instr::Await { .. }
+        | Instr::Yield { .. } => format!(in alloc; "{instr:?}"),
     }
 }
 

@@ -1,7 +1,7 @@
 -- The phases of the verdict. Each says which breaches it finds in a text in which the phases before
 -- it find none. What a program declares, and so what the phases from that of types on find, depends
--- on the default: where asynchronous functions run that say nothing more (SE-0338, SE-0461). It is
--- an argument, and each phase is defined for both defaults.
+-- on the default: where asynchronous functions without an annotation run (SE-0338, SE-0461). It is an
+-- argument, and each phase is defined for both defaults.
 use Rattle.std.specs.Prelude.{ℕ, List, [], ◌∷◌, ◌++◌, ◌⊎◌, Contains, length, map, slice_get}
 use Rattle.std.specs.Prelude.{Some, None}
 use Rattle.std.specs.Option.{option_map_or}

@@ -25,8 +25,8 @@ Accepts rule text = Breaches rule all_phases text []
 abbrev pub Refuses : AsyncDefault → List Phase → List ℕ → Type 0
 Refuses rule phases text = (list : List Breach) × (list ≢ []) × Breaches rule phases text list
 
--- The verdict of these phases on a text: its graph, where none of them finds a breach, or else what
--- the first finds that does.
+-- The verdict of these phases on a text: its graph, where none of them finds a breach, or else the
+-- breaches of the first that finds any.
 abbrev pub IsVerdict : AsyncDefault → List Phase → List ℕ → Result Graph (List Breach) → Type 0
 IsVerdict rule phases text (Ok graph) = Breaches rule phases text [] × IsGraphOf rule text graph
 IsVerdict rule phases text (Err list) = (list ≢ []) × Breaches rule phases text list

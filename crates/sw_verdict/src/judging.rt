@@ -101,8 +101,8 @@ fn graph(alloc: Global, program: &Program, found: Analysed) -> Result<Graph, All
     graph_of(alloc, program, declared, &typed, &isolated, lowering)
 }
 
-/// The verdict on a text under a default: its graph, or what the first phase finds that finds a
-/// breach.
+/// The verdict on a text under a default: its graph, or the breaches of the first phase that finds
+/// any.
 pub fn judge(alloc: Global, text: &[u8], default: AsyncDefault) -> Result<Graph, Refusal>
     requires { length text.now ≤ MAX_LENGTH }
     ensures graph { IfOk result (λ graph. IsVerdict default all_phases text.now (Ok graph)) }
@@ -118,8 +118,8 @@ pub fn judge(alloc: Global, text: &[u8], default: AsyncDefault) -> Result<Graph,
 }
 
 /// The verdict on a text under a default by the phases up to the size of functions: the graph of
-/// its program, whatever races that has, or what the first of these phases finds that finds a
-/// breach.
+/// its program, whatever races that has, or the breaches of the first of these phases that finds
+/// any.
 pub fn lower_text(alloc: Global, text: &[u8], default: AsyncDefault) -> Result<Graph, Refusal>
     requires { length text.now ≤ MAX_LENGTH }
     ensures graph { IfOk result (λ graph. IsVerdict default phases_to_size text.now (Ok graph)) }

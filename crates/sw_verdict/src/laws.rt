@@ -12,8 +12,8 @@ ghost use Rattle.sw_verdict.specs.Phases.{phases_to_size};
 ghost use Rattle.sw_verdict.specs.Verdict.{Accepts, Breaches, Refuses};
 
 /// Under each default for asynchronous functions every text is accepted or refused, and never both.
-/// A text has one list of breaches, by position and then by code, each with the code of a text. A
-/// phase finds one breach at most, but for that of races, which finds all.
+/// A text has one list of breaches, by position and then by code, each with a code that has a
+/// message. A phase finds one breach at most, but for that of races, which finds all.
 pub fn texts_have_one_verdict()
     ensures decided { (rule : AsyncDefault) (text : List ℕ)
         → Accepts rule text ⊎ Refuses rule all_phases text }

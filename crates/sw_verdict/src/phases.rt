@@ -66,7 +66,7 @@ const NESTED_TOO_DEEPLY: u16 = 202;
 /// Why a text has no graph.
 #[derive(Drop)]
 pub enum Refusal {
-    /// What the first phase finds that finds a breach. The list isn't empty.
+    /// The breaches of the first phase that finds any. The list isn't empty.
     Breached { breaches: ListOf<Breach> },
     /// Memory ran out.
     Memory,
@@ -185,7 +185,7 @@ pub fn syntax(alloc: Global, source: &Source, tokens: &[Token]) -> Result<Progra
     }
 }
 
-/// What a program declares, where asynchronous functions run by `default` that say nothing more.
+/// What a program declares, where asynchronous functions without an annotation run by `default`.
 pub fn declarations(
     alloc: Global,
     program: &Program,
