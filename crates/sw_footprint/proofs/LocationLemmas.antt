@@ -25,13 +25,19 @@ global_is graph state g kind is var =
     ap (option_and_then (λ (k : GlobalKind). cond k.mutable (Some (Global g)) None)) is
     ∙ ap (λ b. cond b (Some (Global g)) None) var
 
-var_is : (graph : Graph) (k i : ℕ) → IsVar graph k i → is_var_part graph.shapes k i ≡ true
-var_is graph k i var =
+-- whether a part is a `var`
+pub part_mutable : (graph : Graph) (k i : ℕ) (shape : Shape) (part : Part)
+    → slice_get graph.shapes k ≡ Some shape → slice_get shape.parts i ≡ Some part
+    → is_var_part graph.shapes k i ≡ part.mutable
+part_mutable graph k i shape part shape_is part_is =
     ap (λ o. unwrap_or (option_and_then
     (λ (s : Shape). option_map (λ (p : Part). p.mutable) (slice_get s.parts i)) o) false)
-    var.shape_is
-    ∙ ap (λ o. unwrap_or (option_map (λ (p : Part). p.mutable) o) false) var.part_is
-    ∙ var.mutable
+    shape_is
+    ∙ ap (λ o. unwrap_or (option_map (λ (p : Part). p.mutable) o) false) part_is
+
+var_is : (graph : Graph) (k i : ℕ) → IsVar graph k i → is_var_part graph.shapes k i ≡ true
+var_is graph k i var =
+    part_mutable graph k i var.shape var.part var.shape_is var.part_is ∙ var.mutable
 
 part_is : (graph : Graph) (c i k : ℕ) (parts : List Value) → IsSome (slice_get parts i)
     → IsVar graph k i → var_part graph c i k parts ≡ Some (Prop c i)

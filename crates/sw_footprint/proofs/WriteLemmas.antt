@@ -60,7 +60,7 @@ written (effect.WriteGlobal g v next) = Some (Global g)
 written _ = None
 
 -- another place than that of the slot that is written
-slot_written : (state : State) (c : ℕ) (slot : Slot) (v : Value) (place : Place)
+pub slot_written : (state : State) (c : ℕ) (slot : Slot) (v : Value) (place : Place)
     → (slot_place c slot ≡ place → ⊥)
     → content_of (in_cell (with_slot slot v) c state) place ≡ content_of state place
 slot_written state c (Part i) v place apart =

@@ -1,10 +1,7 @@
 -- The `let`s are no locations.
 use Rattle.std.proofs.Common.{◌≡◌, ℕ, false, cond, Option, Some, None, List, ap, sym, ◌∙◌}
-use Rattle.std.specs.Prelude.{option_and_then, unwrap_or}
-use Rattle.std.specs.Option.{option_map}
+use Rattle.std.specs.Prelude.{option_and_then}
 use Rattle.std.specs.List.{slice_get}
-use Rattle.sw_types.specs.declared.shape.Part.{Part}
-use Rattle.sw_types.specs.declared.shape.Shape.{Shape}
 use Rattle.sw_graph.specs.declared.function.GlobalKind.{GlobalKind}
 use Rattle.sw_graph.specs.declared.graph.Graph.{Graph}
 use Rattle.sw_value.specs.declared.cell.HeapCell.TheVariants.{Object, Actor}
@@ -14,15 +11,12 @@ use Rattle.sw_value.specs.declared.state.State.{State}
 use Rattle.sw_value.specs.declared.value.Value.{Value}
 use Rattle.sw_value.specs.Access.{is_var_part, var_part, part_in}
 use Rattle.sw_footprint.specs.Location.{IsLocation}
+use Rattle.sw_footprint.proofs.LocationLemmas.{part_mutable}
 use Rattle.sw_lets.specs.Lets.{IsLet}
 
 is_no_var : (graph : Graph) (k i : ℕ) → IsLet graph k i → is_var_part graph.shapes k i ≡ false
 is_no_var graph k i is =
-    ap (λ o. unwrap_or (option_and_then
-    (λ (s : Shape). option_map (λ (p : Part). p.mutable) (slice_get s.parts i)) o) false)
-    is.shape_is
-    ∙ ap (λ o. unwrap_or (option_map (λ (p : Part). p.mutable) o) false) is.part_is
-    ∙ is.fixed
+    part_mutable graph k i is.shape is.part is.shape_is is.part_is ∙ is.fixed
 
 nothing : (place : Place) → None ≡ Some place → ⊥
 nothing place e = cc

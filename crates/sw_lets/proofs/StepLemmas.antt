@@ -5,7 +5,6 @@ use Rattle.std.specs.Prelude.{IsSome}
 use Rattle.sw_graph.specs.declared.graph.Graph.{Graph}
 use Rattle.sw_value.specs.declared.cell.HeapCell.{HeapCell}
 use Rattle.sw_value.specs.declared.cell.HeapCell.TheVariants as cell
-use Rattle.sw_value.specs.declared.cell.Slot.{Slot}
 use Rattle.sw_value.specs.declared.cell.Slot.TheVariants.{Part, Content}
 use Rattle.sw_value.specs.declared.effect.Act.{Act}
 use Rattle.sw_value.specs.declared.effect.Act.TheVariants.{Dispatch, Wake}
@@ -14,7 +13,6 @@ use Rattle.sw_value.specs.declared.effect.Effect.TheVariants as effect
 use Rattle.sw_value.specs.declared.race.Place.{Place}
 use Rattle.sw_value.specs.declared.race.Place.TheVariants.{Prop, Global, BoxOf}
 use Rattle.sw_value.specs.declared.state.State.{State}
-use Rattle.sw_value.specs.declared.value.Value.{Value}
 use Rattle.sw_value.specs.Act.{act_of}
 use Rattle.sw_value.specs.Cell.{slot_of, with_slot}
 use Rattle.sw_value.specs.Reach.{after_effect, step_of}
@@ -23,6 +21,7 @@ use Rattle.sw_value.proofs.ReachLemmas.{after_acts, step_by_act}
 use Rattle.sw_footprint.specs.Location.{content_of}
 use Rattle.sw_footprint.proofs.CellLemmas.{slot_place, added_after}
 use Rattle.sw_footprint.proofs.ContentLemmas.{content_kept, content_same}
+use Rattle.sw_footprint.proofs.WriteLemmas.{slot_written}
 use Rattle.sw_lets.proofs.ActLemmas.{Executes, asked, Does, idle, dispatches, wakes, executes}
 use Rattle.sw_lets.proofs.ActLemmas.{does, executed}
 use Rattle.sw_lets.proofs.PlaceLemmas.{cases_place}
@@ -57,14 +56,6 @@ content_added state h (Global g) there = refl
 content_added state h (BoxOf c) there =
     let old = has_value (content_of state (BoxOf c)) there in
     added_after (slot_of Content) (slot_of Content) h state.cells c old.0 old.1
-
-slot_written : (state : State) (c : ℕ) (slot : Slot) (v : Value) (place : Place)
-    → (slot_place c slot ≡ place → ⊥)
-    → content_of (in_cell (with_slot slot v) c state) place ≡ content_of state place
-slot_written state c (Part i) v place apart =
-    content_kept state (Prop c i) place v (λ e. apart (sym e))
-slot_written state c Content v place apart =
-    content_kept state (BoxOf c) place v (λ e. apart (sym e))
 
 -- an effect leaves the place as it was, or writes it
 effect_keeps : (state : State) (j : ℕ) (e : Effect) (place : Place) → IsThere state place
