@@ -8,7 +8,7 @@ use Rattle.sw_tree.specs.declared.decl.Decl.TheVariants.{Entry, Struct, Enum, Cl
 use Rattle.sw_tree.specs.declared.decl.Decl.TheVariants.{GlobalActor, Func, Global}
 use Rattle.sw_tree.specs.declared.decl.FuncTree.{FuncTree}
 use Rattle.sw_tree.specs.declared.decl.PropTree.{PropTree}
-use Rattle.sw_resolve.specs.Words.{shapes_made}
+use Rattle.sw_resolve.specs.Words.{declares, shapes_made}
 use Rattle.sw_resolve.specs.declared.members.Member.{Member}
 use Rattle.sw_resolve.specs.declared.members.MemberKey.{MemberKey}
 use Rattle.sw_resolve.specs.declared.members.Members.{Members}
@@ -63,9 +63,10 @@ abbrev pub earlier_member : Option Member → Member → Member
 earlier_member None member = member
 earlier_member (Some first) member = if nat_lt member.word.at first.word.at then member else first
 
--- whether it is a member of this type with this name
+-- Whether it is a member of this type with this name. As at top level, a word that can't be declared
+-- gets no meaning from its declaration.
 abbrev pub is_named : Owned → ℕ → ℕ → Bool
-is_named owned shape word = (owned.shape == shape) && (owned.member.word.id == word)
+is_named owned shape word = (owned.shape == shape) && declares owned.member.word.id word
 
 -- of the members of a type with one name the first
 abbrev pub first_member : List Owned → ℕ → ℕ → Option Member

@@ -4,7 +4,7 @@ ghost use Rattle.sw_resolve.specs.Members.{cases_from, earlier_member, members_f
 ghost use Rattle.sw_resolve.specs.Members.{methods_of, parts_from};
 ghost use Rattle.sw_resolve.specs.declared.members.Owned.{Owned};
 
-use crate::words::shapes_made;
+use crate::words::{is_reserved, shapes_made};
 use indexmap::IndexMap;
 use std::alloc::{AllocError, Global};
 use sw_list::ListOf;
@@ -42,7 +42,7 @@ pub struct MemberKey {
 }
 
 /// The members of all types of a program by name. Where several members have one name it is that of
-/// the first of them.
+/// the first of them, and the declaration of a word that can't be declared makes no member.
 #[derive(Drop)]
 pub struct Members {
     pub table: IndexMap<MemberKey, Member>,
@@ -166,7 +166,7 @@ impl Members {
         self.table.get(&MemberKey { shape, word }).copied()
     }
 
-    /// Notes a member under its name, where it is the first of it.
+    /// Notes a member under its name, where it is the first of it and the name can be declared.
     fn note(&mut self, owned: Owned) -> Result<(), AllocError>
         ensures { OnOk result ((shape word : ℕ) → member_at self.new shape word
             ≡ (if is_named owned shape word
@@ -174,6 +174,9 @@ impl Members {
             else member_at self.old shape word)) }
     {
         let word = owned.member.word.id;
+        if is_reserved(word) {
+            return Ok(());
+        }
         let member = earlier(self.get(owned.shape, word), owned.member);
         let key = MemberKey {
             shape: owned.shape,

@@ -14,6 +14,7 @@ use Rattle.sw_tree.specs.declared.decl.FuncTree.{FuncTree}
 use Rattle.sw_tree.specs.declared.decl.PropTree.{PropTree}
 use Rattle.sw_resolve.specs.Members.{cases_from, earlier_member, first_member, is_named, member_of}
 use Rattle.sw_resolve.specs.Members.{members_from, members_of, methods_of, parts_from}
+use Rattle.sw_resolve.specs.Words.{declares}
 use Rattle.sw_resolve.specs.declared.members.Member.{Member}
 use Rattle.sw_resolve.specs.declared.members.Owned.{Owned}
 use Rattle.sw_resolve.specs.declared.members.Role.TheVariants as role
@@ -57,7 +58,7 @@ stepped : (shape word : ℕ) (found : Option Member) (owned : Owned) (member : M
     → next_member shape word found owned ≡ Some member
     → (found ≡ Some member) ⊎ ((owned.shape ≡ shape) × (owned.member ≡ member))
 stepped shape word found owned member is =
-    by (owned.shape == shape) (owned.member.word.id == word) refl is where
+    by (owned.shape == shape) (declares owned.member.word.id word) refl is where
       by : (shapes words : Bool) → (owned.shape == shape) ≡ shapes
           → (if shapes && words then Some (earlier_member found owned.member) else found)
           ≡ Some member

@@ -6,7 +6,7 @@ use Rattle.std.proofs.lemmas.Bool.{eqb-true}
 use Rattle.std.proofs.lemmas.List.Elements.{Contains-append_cases}
 use Rattle.std.proofs.lemmas.Option.{same_Some, slice_get-map}
 use Rattle.std.specs.Option.{option_map}
-use Rattle.std.specs.Prelude.{◌==◌, ◌&&◌, if◌then◌else◌, slice_get}
+use Rattle.std.specs.Prelude.{◌==◌, ◌&&◌, not, if◌then◌else◌, slice_get}
 use Rattle.sw_tree.specs.declared.decl.CaseTree.{CaseTree}
 use Rattle.sw_tree.specs.declared.decl.Decl.{Decl}
 use Rattle.sw_tree.specs.declared.decl.Decl.TheVariants.{Entry, Struct, Enum, Class, Actor}
@@ -20,6 +20,7 @@ use Rattle.sw_resolve.specs.Evident.{Meanings, meanings_of}
 use Rattle.sw_resolve.specs.Members.{cases_from, earlier_member, first_member, members_from}
 use Rattle.sw_resolve.specs.Members.{members_of, methods_of, parts_from}
 use Rattle.sw_resolve.specs.Shaped.{part_of, shape_of}
+use Rattle.sw_resolve.specs.Words.{declares, is_reserved}
 use Rattle.sw_resolve.specs.declared.members.Member.{Member}
 use Rattle.sw_resolve.specs.declared.members.Owned.{Owned}
 use Rattle.sw_resolve.specs.declared.members.Role.TheVariants as role
@@ -30,6 +31,13 @@ use Rattle.sw_lower_safe.proofs.Lists.Listed.{in_first, in_rest, of_map}
 use Rattle.sw_lower_safe.proofs.Programs.DeclStands.{shape_there}
 use Rattle.sw_lower_safe.proofs.Programs.MadeOf.{member_made}
 use Rattle.sw_lower_safe.proofs.Programs.MemberTrees.{next_member}
+
+-- a declared word gives itself alone a meaning
+declared_word : (word id : ℕ) → declares word id ≡ true → word ≡ id
+declared_word word id is = eqb-true word id (by (is_reserved word) is) where
+  by : (reserved : Bool) → (not reserved && (word == id)) ≡ true → (word == id) ≡ true
+  by true never = cc
+  by false same = same
 
 -- the member of a type with a name
 record Named (members : List Owned) (shape word : ℕ) (member : Member) : Type 0 where
@@ -60,16 +68,16 @@ module _ (members : List Owned) (shape word : ℕ) where
       → IfFound members shape word found
       → IfFound members shape word (next_member shape word found owned)
   next_found found owned has before =
-      by (owned.shape == shape) (owned.member.word.id == word) refl refl where
+      by (owned.shape == shape) (declares owned.member.word.id word) refl refl where
         by : (shapes words : Bool) → (owned.shape == shape) ≡ shapes
-            → (owned.member.word.id == word) ≡ words
+            → declares owned.member.word.id word ≡ words
             → IfFound members shape word
             (if shapes && words then Some (earlier_member found owned.member) else found)
         by true true shapes words = earlier_found found owned before (record {
           owned = owned;
           has = has;
           shape_is = eqb-true owned.shape shape shapes;
-          word_is = eqb-true owned.member.word.id word words;
+          word_is = declared_word owned.member.word.id word words;
           member_is = refl;
         })
         by true false shapes words = before

@@ -1,4 +1,4 @@
-use Rattle.std.proofs.Common.{Some, nat_eq, ◌&&◌, cond, ap, ◌∙◌}
+use Rattle.std.proofs.Common.{Some, nat_eq, ◌&&◌, cond, ap, sym, ◌∙◌}
 use Rattle.sw_resolve.specs.Members.{earlier_member, member_at}
 use Rattle.sw_resolve.proofs.MemberLemmas.{noted_same}
 use Rattle.sw_resolve.proofs.members.Members.note.Goals as goal
@@ -14,3 +14,4 @@ returns c = λ shape word.
     (member_at old shape word))
     (c.earlier-member.ensures ∙ ap (λ first. earlier_member first owned.member) c.get.ensures)
     ∙ noted_same (member_at old) owned.member (member_at old shape word) key id shape word
+    (sym c.is_reserved.ensures ∙ c.if-is_reserved.false)
