@@ -19,13 +19,13 @@ abbrev pub number : Operand
 number = record { reg = 0; at = 0 }
 
 abbrev pub call : ℕ → Instr
-call f = Call 0 1 kind.Plain f (number ∷ [])
+call function = Call 0 1 kind.Plain function (number ∷ [])
 
 abbrev pub sum : Instr
 sum = Bin 0 1 Add number number
 
 abbrev pub task : ℕ → Instr
-task f = NewTask 0 1 f (number ∷ [])
+task function = NewTask 0 1 function (number ∷ [])
 
 abbrev pub boxed : Instr
 boxed = NewBox 0 1 number

@@ -50,47 +50,47 @@ fn operands(alloc: Global) -> Result<OperandList, AllocError>
     ListOf::one(alloc, number())
 }
 
-fn call(alloc: Global, f: u32) -> Result<Instr, AllocError>
-    ensures { IfOk result (λ instr. instr ≡ call f) }
+fn call(alloc: Global, function: u32) -> Result<Instr, AllocError>
+    ensures { IfOk result (λ instr. instr ≡ call function) }
 {
     Ok(Instr::Call {
         at: 0,
-        r: 1,
+        dst: 1,
         kind: CallKind::Plain,
-        f,
-        ss: operands(alloc)?,
+        function,
+        args: operands(alloc)?,
     })
 }
 
-fn task(alloc: Global, f: u32) -> Result<Instr, AllocError>
-    ensures { IfOk result (λ instr. instr ≡ task f) }
+fn task(alloc: Global, function: u32) -> Result<Instr, AllocError>
+    ensures { IfOk result (λ instr. instr ≡ task function) }
 {
     Ok(Instr::NewTask {
         at: 0,
-        r: 1,
-        f,
-        cs: operands(alloc)?,
+        dst: 1,
+        function,
+        captures: operands(alloc)?,
     })
 }
 
 /// Calls of a function.
-fn repeated_calls(alloc: Global, f: u32, count: u32) -> Result<InstrList, AllocError>
-    ensures { IfOk result (λ instrs. instrs ≡ replicate count (call f)) }
+fn repeated_calls(alloc: Global, function: u32, count: u32) -> Result<InstrList, AllocError>
+    ensures { IfOk result (λ instrs. instrs ≡ replicate count (call function)) }
 {
     let mut instrs = ListOf::new(alloc);
     for _turn in 0..count {
-        instrs.push(call(alloc, f)?)?;
+        instrs.push(call(alloc, function)?)?;
     }
     Ok(instrs)
 }
 
 /// Tasks of a function.
-fn repeated_tasks(alloc: Global, f: u32, count: u32) -> Result<InstrList, AllocError>
-    ensures { IfOk result (λ instrs. instrs ≡ replicate count (task f)) }
+fn repeated_tasks(alloc: Global, function: u32, count: u32) -> Result<InstrList, AllocError>
+    ensures { IfOk result (λ instrs. instrs ≡ replicate count (task function)) }
 {
     let mut instrs = ListOf::new(alloc);
     for _turn in 0..count {
-        instrs.push(task(alloc, f)?)?;
+        instrs.push(task(alloc, function)?)?;
     }
     Ok(instrs)
 }
@@ -103,8 +103,8 @@ fn repeated_boxes(alloc: Global, count: u32) -> Result<InstrList, AllocError>
     for _turn in 0..count {
         instrs.push(Instr::NewBox {
             at: 0,
-            r: 1,
-            s: number(),
+            dst: 1,
+            src: number(),
         })?;
     }
     Ok(instrs)
@@ -118,10 +118,10 @@ fn repeated_sums(alloc: Global, count: u32) -> Result<InstrList, AllocError>
     for _turn in 0..count {
         instrs.push(Instr::Bin {
             at: 0,
-            r: 1,
+            dst: 1,
             op: BinOp::Add,
-            s: number(),
-            t: number(),
+            left: number(),
+            right: number(),
         })?;
     }
     Ok(instrs)
@@ -135,7 +135,7 @@ fn block(alloc: Global, instrs: InstrList) -> Result<BlockList, AllocError>
         alloc,
         Block {
             instrs,
-            last: Last::Return { s: None },
+            last: Last::Return { value: None },
         },
     )
 }
@@ -165,8 +165,8 @@ fn entry_instrs(alloc: Global) -> Result<InstrList, AllocError>
 {
     let one = Instr::Const {
         at: 0,
-        r: 0,
-        v: Literal::Int(1),
+        dst: 0,
+        value: Literal::Int(1),
     };
     let mut instrs = ListOf::two(alloc, one, call(alloc, 1)?)?;
     instrs.push(call(alloc, 2)?)?;
@@ -192,11 +192,11 @@ fn entry(alloc: Global) -> Result<Function, AllocError>
 }
 
 /// A function that calls another over and over.
-fn caller(alloc: Global, f: u32, count: u32) -> Result<Function, AllocError>
+fn caller(alloc: Global, callee: u32, count: u32) -> Result<Function, AllocError>
     ensures { IfOk result (λ function.
-        function ≡ body (RegKind.Plain Ty.Unit) (replicate count (call f))) }
+        function ≡ body (RegKind.Plain Ty.Unit) (replicate count (call callee))) }
 {
-    let instrs = repeated_calls(alloc, f, count)?;
+    let instrs = repeated_calls(alloc, callee, count)?;
     body(alloc, RegKind::Plain(Ty::Unit), instrs)
 }
 

@@ -91,7 +91,7 @@ impl Builder {
         let number = self.blocks.len();
         let block = Block {
             instrs: ListOf::new(self.alloc),
-            last: Last::Return { s: None },
+            last: Last::Return { value: None },
         };
         self.blocks.push(block)?;
         self.points += 1;

@@ -33,7 +33,7 @@ names k ty = layer_names k (out-Ty ty)
 
 -- whether the point makes an actor of this type
 abbrev pub makes_actor : Ty → Point → Bool
-makes_actor ty (Middle (NewActor at r k ss)) = names k ty
+makes_actor ty (Middle (NewActor at dst shape args)) = names shape ty
 makes_actor ty _ = false
 
 -- An actor's initialiser is isolated to `self`, makes that actor and gives it.
@@ -51,8 +51,8 @@ is_on_some None iso = false
 
 -- whether the point makes an object of this type, a class whose global actor the body is on
 abbrev pub makes_object : List Shape → Function → Point → Bool
-makes_object shapes function (Middle (NewObject at r k ss)) =
-    names k function.result && is_on_some (actor_of shapes k) function.iso
+makes_object shapes function (Middle (NewObject at dst shape args)) =
+    names shape function.result && is_on_some (actor_of shapes shape) function.iso
 makes_object shapes function _ = false
 
 -- The initialiser of a class with a global actor is isolated to that actor, makes an object of the

@@ -39,32 +39,34 @@ is_marked_kind _ = false
 
 -- A `@Sendable` closure is isolated to no actor and captures untracked registers alone.
 abbrev pub ClosureClean : Graph → Function → Instr → Type 0
-ClosureClean graph body (NewClosure at r f cs) = IsTrue (is_marked_kind (slice_get body.regs r))
-    → FunctionAt graph f (λ function. function.iso ≡ Free)
-    × IsTrue (list_all (is_untracked graph) (kinds_of body.regs cs))
+ClosureClean graph body (NewClosure at dst number captures) =
+    IsTrue (is_marked_kind (slice_get body.regs dst))
+    → FunctionAt graph number (λ function. function.iso ≡ Free)
+    × IsTrue (list_all (is_untracked graph) (kinds_of body.regs captures))
 ClosureClean graph body _ = Unit {0}
 
 -- The result of a call into another isolation is untracked or `sending`.
 abbrev pub CallClean : Graph → Function → Instr → Type 0
-CallClean graph body (Call at r kind f ss) = kind ≡ Strong
-    → FunctionAt graph f
-    (λ callee. IsTrue (callee.sends || is_untracked graph (slice_get body.regs r)))
+CallClean graph body (Call at dst kind function args) = kind ≡ Strong
+    → FunctionAt graph function
+    (λ callee. IsTrue (callee.sends || is_untracked graph (slice_get body.regs dst)))
 CallClean graph body _ = Unit {0}
 
 -- A task's result is Sendable.
 abbrev pub TaskClean : Graph → Instr → Type 0
-TaskClean graph (NewTask at r f cs) = FunctionAt graph f
+TaskClean graph (NewTask at dst number captures) = FunctionAt graph number
     (λ function. IsTrue (may_cross graph function.result))
 TaskClean graph _ = Unit {0}
 
 -- What is read directly from outside its isolation is an untracked `let`.
 abbrev pub ReadClean : Graph → Function → Instr → Type 0
-ReadClean graph body (LoadProp at r o i) = is_inside graph.shapes body o ≡ false
-    → IsTrue (not (is_var_part graph.shapes body o i)
-    && is_untracked graph (part (shape_of graph.shapes is_cell (slice_get body.regs o.reg)) i))
-ReadClean graph body (LoadGlobal at r g) = is_inside_global graph.globals body g ≡ false
-    → IsTrue (not (is_var_global graph.globals g)
-    && option_map_or (λ global. may_cross graph global.ty) (slice_get graph.globals g) false)
+ReadClean graph body (LoadProp at dst cell index) = is_inside graph.shapes body cell ≡ false
+    → IsTrue (not (is_var_part graph.shapes body cell index)
+    && is_untracked graph
+    (part (shape_of graph.shapes is_cell (slice_get body.regs cell.reg)) index))
+ReadClean graph body (LoadGlobal at dst number) = is_inside_global graph.globals body number ≡ false
+    → IsTrue (not (is_var_global graph.globals number)
+    && option_map_or (λ global. may_cross graph global.ty) (slice_get graph.globals number) false)
 ReadClean graph body _ = Unit {0}
 
 -- Whether a declaration that says it is Sendable may: its parts are, and a class without a global

@@ -195,71 +195,76 @@ awaited _ = None
 -- The kinds of an instruction's operands and of its result. Where a payload stands and what it
 -- gives is said of its block.
 abbrev pub KindsFit : List Shape → List GlobalKind → List Function → List RegKind → Instr → Type 0
-KindsFit shapes globals functions regs (Const at r v) =
-    Goes (value (literal_type v)) (slice_get regs r)
-KindsFit shapes globals functions regs (Un at r op s) =
-    (slice_get regs s.reg ≡ value (un_type op)) × Goes (value (un_type op)) (slice_get regs r)
-KindsFit shapes globals functions regs (Bin at r op s t) =
-    TakesBoth op (slice_get regs s.reg) (slice_get regs t.reg)
-    × Goes (value (bin_type op)) (slice_get regs r)
-KindsFit shapes globals functions regs (Print at r ss) =
-    All (λ kind. IsTrue (is_printable kind)) (kinds_of regs ss)
-    × Goes (value Void) (slice_get regs r)
-KindsFit shapes globals functions regs (Copy at r s) =
-    Goes (slice_get regs s.reg) (slice_get regs r)
-KindsFit shapes globals functions regs (Field at r s i) =
-    Goes (part (shape_of shapes is_struct (slice_get regs s.reg)) i) (slice_get regs r)
-KindsFit shapes globals functions regs (Payload at r s i) =
-    IsSome (shape_of shapes is_enum (slice_get regs s.reg))
-KindsFit shapes globals functions regs (SetField at r i s) =
-    Goes (slice_get regs s.reg) (part (shape_of shapes is_struct (slice_get regs r.reg)) i)
-KindsFit shapes globals functions regs (Make at r k tag ss) =
-    EachOf Goes (kinds_of regs ss) (made_of shapes k tag)
-    × Goes (value (Named k)) (slice_get regs r)
-KindsFit shapes globals functions regs (NewObject at r k ss) =
-    EachOf Goes (kinds_of regs ss) (parts (shape_at shapes is_class k))
-    × Goes (value (Named k)) (slice_get regs r)
-KindsFit shapes globals functions regs (NewBox at r s) =
-    Goes (slice_get regs s.reg) (box_content (slice_get regs r))
-KindsFit shapes globals functions regs (NewActor at r k ss) =
-    EachOf Goes (kinds_of regs ss) (parts (shape_at shapes is_actor k))
-    × Goes (value (Named k)) (slice_get regs r)
-KindsFit shapes globals functions regs (LoadBox at r b) =
-    Goes (box_content (slice_get regs b.reg)) (slice_get regs r)
-KindsFit shapes globals functions regs (StoreBox at b s) =
-    Goes (slice_get regs s.reg) (box_content (slice_get regs b.reg))
-KindsFit shapes globals functions regs (LoadProp at r o i) =
-    Goes (part (shape_of shapes is_cell (slice_get regs o.reg)) i) (slice_get regs r)
-KindsFit shapes globals functions regs (StoreProp at o i s) =
-    Goes (slice_get regs s.reg) (part (shape_of shapes is_cell (slice_get regs o.reg)) i)
-KindsFit shapes globals functions regs (LoadGlobal at r g) =
-    Goes (option_map (λ global. Plain global.ty) (slice_get globals g)) (slice_get regs r)
-KindsFit shapes globals functions regs (StoreGlobal at g s) =
-    Goes (slice_get regs s.reg) (option_map (λ global. Plain global.ty) (slice_get globals g))
-KindsFit shapes globals functions regs (NewClosure at r f cs) =
-    EachOf IsCaptured (kinds_of regs cs)
-    (option_map (λ function. take (length cs) (taken function)) (slice_get functions f))
-    × Goes (option_and_then (closure_of (length cs)) (slice_get functions f)) (slice_get regs r)
-KindsFit shapes globals functions regs (Call at r kind f ss) =
-    EachOf Goes (kinds_of regs ss) (option_map taken (slice_get functions f))
-    × Goes (result_of (slice_get functions f)) (slice_get regs r)
-KindsFit shapes globals functions regs (CallClosure at r c ss) =
-    EachOf Goes (kinds_of regs ss) (params (form_of (slice_get regs c.reg)))
-    × Goes (given (form_of (slice_get regs c.reg))) (slice_get regs r)
-KindsFit shapes globals functions regs (NewTask at r f cs) =
-    EachOf IsCaptured (kinds_of regs cs) (option_map taken (slice_get functions f))
-    × Goes (option_map (λ function. Plain (Task function.result)) (slice_get functions f))
-    (slice_get regs r)
-KindsFit shapes globals functions regs (Await at r t) =
-    Goes (awaited (form_of (slice_get regs t.reg))) (slice_get regs r)
-KindsFit shapes globals functions regs (Yield at r) = Goes (value Void) (slice_get regs r)
+KindsFit shapes globals functions regs (Const at dst literal) =
+    Goes (value (literal_type literal)) (slice_get regs dst)
+KindsFit shapes globals functions regs (Un at dst op src) =
+    (slice_get regs src.reg ≡ value (un_type op)) × Goes (value (un_type op)) (slice_get regs dst)
+KindsFit shapes globals functions regs (Bin at dst op left right) =
+    TakesBoth op (slice_get regs left.reg) (slice_get regs right.reg)
+    × Goes (value (bin_type op)) (slice_get regs dst)
+KindsFit shapes globals functions regs (Print at dst args) =
+    All (λ kind. IsTrue (is_printable kind)) (kinds_of regs args)
+    × Goes (value Void) (slice_get regs dst)
+KindsFit shapes globals functions regs (Copy at dst src) =
+    Goes (slice_get regs src.reg) (slice_get regs dst)
+KindsFit shapes globals functions regs (Field at dst src index) =
+    Goes (part (shape_of shapes is_struct (slice_get regs src.reg)) index) (slice_get regs dst)
+KindsFit shapes globals functions regs (Payload at dst src index) =
+    IsSome (shape_of shapes is_enum (slice_get regs src.reg))
+KindsFit shapes globals functions regs (SetField at target index src) =
+    Goes (slice_get regs src.reg)
+    (part (shape_of shapes is_struct (slice_get regs target.reg)) index)
+KindsFit shapes globals functions regs (Make at dst shape tag args) =
+    EachOf Goes (kinds_of regs args) (made_of shapes shape tag)
+    × Goes (value (Named shape)) (slice_get regs dst)
+KindsFit shapes globals functions regs (NewObject at dst shape args) =
+    EachOf Goes (kinds_of regs args) (parts (shape_at shapes is_class shape))
+    × Goes (value (Named shape)) (slice_get regs dst)
+KindsFit shapes globals functions regs (NewBox at dst src) =
+    Goes (slice_get regs src.reg) (box_content (slice_get regs dst))
+KindsFit shapes globals functions regs (NewActor at dst shape args) =
+    EachOf Goes (kinds_of regs args) (parts (shape_at shapes is_actor shape))
+    × Goes (value (Named shape)) (slice_get regs dst)
+KindsFit shapes globals functions regs (LoadBox at dst cell) =
+    Goes (box_content (slice_get regs cell.reg)) (slice_get regs dst)
+KindsFit shapes globals functions regs (StoreBox at cell src) =
+    Goes (slice_get regs src.reg) (box_content (slice_get regs cell.reg))
+KindsFit shapes globals functions regs (LoadProp at dst cell index) =
+    Goes (part (shape_of shapes is_cell (slice_get regs cell.reg)) index) (slice_get regs dst)
+KindsFit shapes globals functions regs (StoreProp at cell index src) =
+    Goes (slice_get regs src.reg) (part (shape_of shapes is_cell (slice_get regs cell.reg)) index)
+KindsFit shapes globals functions regs (LoadGlobal at dst number) =
+    Goes (option_map (λ global. Plain global.ty) (slice_get globals number)) (slice_get regs dst)
+KindsFit shapes globals functions regs (StoreGlobal at number src) =
+    Goes (slice_get regs src.reg)
+    (option_map (λ global. Plain global.ty) (slice_get globals number))
+KindsFit shapes globals functions regs (NewClosure at dst number captures) =
+    EachOf IsCaptured (kinds_of regs captures)
+    (option_map (λ function. take (length captures) (taken function)) (slice_get functions number))
+    × Goes (option_and_then (closure_of (length captures)) (slice_get functions number))
+    (slice_get regs dst)
+KindsFit shapes globals functions regs (Call at dst kind function args) =
+    EachOf Goes (kinds_of regs args) (option_map taken (slice_get functions function))
+    × Goes (result_of (slice_get functions function)) (slice_get regs dst)
+KindsFit shapes globals functions regs (CallClosure at dst closure args) =
+    EachOf Goes (kinds_of regs args) (params (form_of (slice_get regs closure.reg)))
+    × Goes (given (form_of (slice_get regs closure.reg))) (slice_get regs dst)
+KindsFit shapes globals functions regs (NewTask at dst number captures) =
+    EachOf IsCaptured (kinds_of regs captures) (option_map taken (slice_get functions number))
+    × Goes (option_map (λ function. Plain (Task function.result)) (slice_get functions number))
+    (slice_get regs dst)
+KindsFit shapes globals functions regs (Await at dst task) =
+    Goes (awaited (form_of (slice_get regs task.reg))) (slice_get regs dst)
+KindsFit shapes globals functions regs (Yield at dst) = Goes (value Void) (slice_get regs dst)
 
 -- The kind of what a last instruction reads. A `Switch` has a block for each case of the enum.
 abbrev pub LastKindsFit : List Shape → List RegKind → Ty → Last → Type 0
 LastKindsFit shapes regs result (Jump to) = Unit {0}
-LastKindsFit shapes regs result (Branch s holds fails) = slice_get regs s.reg ≡ value BoolType
-LastKindsFit shapes regs result (Switch s to) =
-    option_map (λ shape. length shape.cases) (shape_of shapes is_enum (slice_get regs s.reg))
+LastKindsFit shapes regs result (Branch condition holds fails) =
+    slice_get regs condition.reg ≡ value BoolType
+LastKindsFit shapes regs result (Switch subject to) =
+    option_map (λ shape. length shape.cases) (shape_of shapes is_enum (slice_get regs subject.reg))
     ≡ Some (length to)
-LastKindsFit shapes regs result (Return (Some s)) = Goes (slice_get regs s.reg) (value result)
+LastKindsFit shapes regs result (Return (Some operand)) =
+    Goes (slice_get regs operand.reg) (value result)
 LastKindsFit shapes regs result (Return None) = Unit {0}

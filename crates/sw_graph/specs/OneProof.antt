@@ -73,56 +73,58 @@ TakesBoth-prop _ left right = hlevel (props, RegKind-set)
 
 KindsFit-prop : (shapes : List Shape) (globals : List GlobalKind) (functions : List Function)
     (regs : List RegKind) (instr : Instr) → IsProp (KindsFit shapes globals functions regs instr)
-KindsFit-prop shapes globals functions regs (Const at r v) =
-    Goes-prop (value (literal_type v)) (slice_get regs r)
-KindsFit-prop shapes globals functions regs (Un at r op s) = hlevel (props, RegKind-set, Goes-prop)
-KindsFit-prop shapes globals functions regs (Bin at r op s t) =
+KindsFit-prop shapes globals functions regs (Const at dst literal) =
+    Goes-prop (value (literal_type literal)) (slice_get regs dst)
+KindsFit-prop shapes globals functions regs (Un at dst op src) =
+    hlevel (props, RegKind-set, Goes-prop)
+KindsFit-prop shapes globals functions regs (Bin at dst op left right) =
     hlevel (props, TakesBoth-prop, Goes-prop)
-KindsFit-prop shapes globals functions regs (Print at r ss) = hlevel (props, Goes-prop)
-KindsFit-prop shapes globals functions regs (Copy at r s) = Goes-prop _ _
-KindsFit-prop shapes globals functions regs (Field at r s i) = Goes-prop _ _
-KindsFit-prop shapes globals functions regs (Payload at r s i) = hlevel props
-KindsFit-prop shapes globals functions regs (SetField at r i s) = Goes-prop _ _
-KindsFit-prop shapes globals functions regs (Make at r k tag ss) = hlevel (props, all_go, Goes-prop)
-KindsFit-prop shapes globals functions regs (NewObject at r k ss) =
+KindsFit-prop shapes globals functions regs (Print at dst args) = hlevel (props, Goes-prop)
+KindsFit-prop shapes globals functions regs (Copy at dst src) = Goes-prop _ _
+KindsFit-prop shapes globals functions regs (Field at dst src part) = Goes-prop _ _
+KindsFit-prop shapes globals functions regs (Payload at dst src index) = hlevel props
+KindsFit-prop shapes globals functions regs (SetField at target part src) = Goes-prop _ _
+KindsFit-prop shapes globals functions regs (Make at dst shape tag args) =
     hlevel (props, all_go, Goes-prop)
-KindsFit-prop shapes globals functions regs (NewBox at r s) = Goes-prop _ _
-KindsFit-prop shapes globals functions regs (NewActor at r k ss) =
+KindsFit-prop shapes globals functions regs (NewObject at dst shape args) =
     hlevel (props, all_go, Goes-prop)
-KindsFit-prop shapes globals functions regs (LoadBox at r b) = Goes-prop _ _
-KindsFit-prop shapes globals functions regs (StoreBox at b s) = Goes-prop _ _
-KindsFit-prop shapes globals functions regs (LoadProp at r o i) = Goes-prop _ _
-KindsFit-prop shapes globals functions regs (StoreProp at o i s) = Goes-prop _ _
-KindsFit-prop shapes globals functions regs (LoadGlobal at r g) = Goes-prop _ _
-KindsFit-prop shapes globals functions regs (StoreGlobal at g s) = Goes-prop _ _
-KindsFit-prop shapes globals functions regs (NewClosure at r f cs) =
+KindsFit-prop shapes globals functions regs (NewBox at dst src) = Goes-prop _ _
+KindsFit-prop shapes globals functions regs (NewActor at dst shape args) =
+    hlevel (props, all_go, Goes-prop)
+KindsFit-prop shapes globals functions regs (LoadBox at dst cell) = Goes-prop _ _
+KindsFit-prop shapes globals functions regs (StoreBox at cell src) = Goes-prop _ _
+KindsFit-prop shapes globals functions regs (LoadProp at dst cell part) = Goes-prop _ _
+KindsFit-prop shapes globals functions regs (StoreProp at cell part src) = Goes-prop _ _
+KindsFit-prop shapes globals functions regs (LoadGlobal at dst global) = Goes-prop _ _
+KindsFit-prop shapes globals functions regs (StoreGlobal at global src) = Goes-prop _ _
+KindsFit-prop shapes globals functions regs (NewClosure at dst function captures) =
     hlevel (props, all_captured, Goes-prop)
-KindsFit-prop shapes globals functions regs (Call at r kind f ss) =
+KindsFit-prop shapes globals functions regs (Call at dst kind function args) =
     hlevel (props, all_go, Goes-prop)
-KindsFit-prop shapes globals functions regs (CallClosure at r c ss) =
+KindsFit-prop shapes globals functions regs (CallClosure at dst closure args) =
     hlevel (props, all_go, Goes-prop)
-KindsFit-prop shapes globals functions regs (NewTask at r f cs) =
+KindsFit-prop shapes globals functions regs (NewTask at dst function captures) =
     hlevel (props, all_captured, Goes-prop)
-KindsFit-prop shapes globals functions regs (Await at r t) = Goes-prop _ _
-KindsFit-prop shapes globals functions regs (Yield at r) =
-    Goes-prop (value Void) (slice_get regs r)
+KindsFit-prop shapes globals functions regs (Await at dst task) = Goes-prop _ _
+KindsFit-prop shapes globals functions regs (Yield at dst) =
+    Goes-prop (value Void) (slice_get regs dst)
 
 LastKindsFit-prop : (shapes : List Shape) (regs : List RegKind) (result : Ty) (last : Last)
     → IsProp (LastKindsFit shapes regs result last)
 LastKindsFit-prop shapes regs result (Jump to) = Unit-prop
-LastKindsFit-prop shapes regs result (Branch s holds fails) = hlevel (props, RegKind-set)
-LastKindsFit-prop shapes regs result (Switch s to) = hlevel props
-LastKindsFit-prop shapes regs result (Return (Some s)) = Goes-prop _ _
+LastKindsFit-prop shapes regs result (Branch condition holds fails) = hlevel (props, RegKind-set)
+LastKindsFit-prop shapes regs result (Switch subject to) = hlevel props
+LastKindsFit-prop shapes regs result (Return (Some operand)) = Goes-prop _ _
 LastKindsFit-prop shapes regs result (Return None) = Unit-prop
 
-Unpacks-prop : (shapes : List Shape) (regs : List RegKind) (last : Last) (tag : ℕ) (s : Operand)
-    (i r : ℕ) → IsProp (Unpacks shapes regs last tag s i r)
-Unpacks-prop shapes regs (Switch subject to) tag s i r = hlevel (props, Goes-prop)
-Unpacks-prop shapes regs _ tag s i r = hlevel props
+Unpacks-prop : (shapes : List Shape) (regs : List RegKind) (last : Last) (tag : ℕ) (src : Operand)
+    (index dst : ℕ) → IsProp (Unpacks shapes regs last tag src index dst)
+Unpacks-prop shapes regs (Switch subject to) tag src index dst = hlevel (props, Goes-prop)
+Unpacks-prop shapes regs _ tag src index dst = hlevel props
 
 PayloadFits-prop : (shapes : List Shape) (function : Function) (number : ℕ) (instr : Instr)
     → IsProp (PayloadFits shapes function number instr)
-PayloadFits-prop shapes function number (Payload at r s i) = hlevel (props, Unpacks-prop)
+PayloadFits-prop shapes function number (Payload at dst src index) = hlevel (props, Unpacks-prop)
 PayloadFits-prop shapes function number _ = Unit-prop
 
 pub IsWellFormed-prop : (shapes : List Shape) (globals : List GlobalKind)

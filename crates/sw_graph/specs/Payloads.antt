@@ -17,7 +17,7 @@ use Rattle.sw_graph.specs.Kinds.{Goes, shape_of, is_enum, payload}
 use Rattle.sw_graph.specs.Mentions.{blocks_of}
 
 abbrev pub is_payload : Instr → Bool
-is_payload (Payload at r s i) = true
+is_payload (Payload at dst src index) = true
 is_payload _ = false
 
 abbrev pub has_payload : List Instr → Bool
@@ -34,20 +34,22 @@ abbrev pub payload_at : List Shape → Option RegKind → ℕ → ℕ → Option
 payload_at shapes kind tag i =
     option_and_then (λ kinds. slice_get kinds i) (payload (shape_of shapes is_enum kind) tag)
 
--- The last instruction is a switch on the operand, and payload i of the case goes to the register.
+-- The last instruction is a switch on the operand, and the case's payload with that index goes to
+-- the register.
 abbrev pub Unpacks : List Shape → List RegKind → Last → ℕ → Operand → ℕ → ℕ → Type 0
-Unpacks shapes regs (Switch subject to) tag s i r =
-    (subject.reg ≡ s.reg) × Goes (payload_at shapes (slice_get regs s.reg) tag i) (slice_get regs r)
-Unpacks shapes regs _ tag s i r = ⊥
+Unpacks shapes regs (Switch subject to) tag src index dst =
+    (subject.reg ≡ src.reg)
+    × Goes (payload_at shapes (slice_get regs src.reg) tag index) (slice_get regs dst)
+Unpacks shapes regs _ tag src index dst = ⊥
 
 -- A payload stands in a block other than the first, and whatever leads to that block is a switch on
 -- its operand, for a case that has the payload. It leaves the operand as it is, which the payloads
 -- after it read.
 abbrev pub PayloadFits : List Shape → Function → ℕ → Instr → Type 0
-PayloadFits shapes function number (Payload at r s i) =
-    (0 < number) × (r ≢ s.reg) × (All (λ (block : Block). (tag : ℕ)
+PayloadFits shapes function number (Payload at dst src index) =
+    (0 < number) × (dst ≢ src.reg) × (All (λ (block : Block). (tag : ℕ)
     → slice_get (blocks_of block.last) tag ≡ Some number
-    → Unpacks shapes function.regs block.last tag s i r) function.blocks)
+    → Unpacks shapes function.regs block.last tag src index dst) function.blocks)
 PayloadFits shapes function number _ = Unit {0}
 
 -- in a block payloads are taken by its first instructions alone, and each where its case is known

@@ -62,8 +62,8 @@ pub record HasCallKind (body callee : Function) (operands : List Operand) (kind 
 
 -- each call of a body has the kind that isolation gives it
 abbrev pub CallPlaced : Graph → Function → Instr → Type 0
-CallPlaced graph body (Call at r kind f ss) = FunctionAt graph f
-    (λ callee. HasCallKind body callee ss kind)
+CallPlaced graph body (Call at dst kind function args) = FunctionAt graph function
+    (λ callee. HasCallKind body callee args kind)
 CallPlaced graph body _ = Unit {0}
 
 -- Whether a part of this cell is the body's own: a part of its own `self`, or of an object of a
@@ -95,24 +95,26 @@ is_inside_global globals body g =
 
 -- A part or a global is accessed in a body of its isolation, but for a `let` that is read.
 abbrev pub AccessPlaced : Graph → Function → Instr → Type 0
-AccessPlaced graph body (LoadProp at r o i) =
-    IsTrue (not (is_var_part graph.shapes body o i) || is_inside graph.shapes body o)
-AccessPlaced graph body (StoreProp at o i s) = IsTrue (is_inside graph.shapes body o)
-AccessPlaced graph body (LoadGlobal at r g) =
-    IsTrue (not (is_var_global graph.globals g) || is_inside_global graph.globals body g)
-AccessPlaced graph body (StoreGlobal at g s) = IsTrue (is_inside_global graph.globals body g)
+AccessPlaced graph body (LoadProp at dst cell part) =
+    IsTrue (not (is_var_part graph.shapes body cell part) || is_inside graph.shapes body cell)
+AccessPlaced graph body (StoreProp at cell part src) = IsTrue (is_inside graph.shapes body cell)
+AccessPlaced graph body (LoadGlobal at dst global) =
+    IsTrue (not (is_var_global graph.globals global) || is_inside_global graph.globals body global)
+AccessPlaced graph body (StoreGlobal at global src) =
+    IsTrue (is_inside_global graph.globals body global)
 AccessPlaced graph body _ = Unit {0}
 
 -- A `var` part is stored, and a global `let` by a function that gives a first value alone.
 abbrev pub StorePlaced : Graph → ℕ → Function → Instr → Type 0
-StorePlaced graph n body (StoreProp at o i s) = IsTrue (is_var_part graph.shapes body o i)
-StorePlaced graph n body (StoreGlobal at g s) = is_var_global graph.globals g ≡ false
+StorePlaced graph n body (StoreProp at cell part src) =
+    IsTrue (is_var_part graph.shapes body cell part)
+StorePlaced graph n body (StoreGlobal at global src) = is_var_global graph.globals global ≡ false
     → Contains graph.starts n
 StorePlaced graph n body _ = Unit {0}
 
 -- a block ends with a return
 abbrev pub IsReturn : Last → Type 0
-IsReturn (Return s) = Unit {0}
+IsReturn (Return value) = Unit {0}
 IsReturn _ = ⊥
 
 -- the instruction stands directly before a return
@@ -123,11 +125,11 @@ pub record IsLastOf (block : Block) (index : ℕ) : Type 0 where
 -- An actor is made as the last of its initialiser, and so is an object of a class with a global
 -- actor.
 abbrev pub MakerPlaced : Graph → Function → Block → ℕ → Instr → Type 0
-MakerPlaced graph body block index (NewActor at r k ss) =
-    IsTrue (is_own body.iso && names k body.result) × IsLastOf block index
-MakerPlaced graph body block index (NewObject at r k ss) =
-    (actor : ℕ) → actor_of graph.shapes k ≡ Some actor
-    → IsTrue (is_on actor body.iso && names k body.result) × IsLastOf block index
+MakerPlaced graph body block index (NewActor at dst shape args) =
+    IsTrue (is_own body.iso && names shape body.result) × IsLastOf block index
+MakerPlaced graph body block index (NewObject at dst shape args) =
+    (actor : ℕ) → actor_of graph.shapes shape ≡ Some actor
+    → IsTrue (is_on actor body.iso && names shape body.result) × IsLastOf block index
 MakerPlaced graph body block index _ = Unit {0}
 
 -- An isolated function stands in a body of its isolation, and one that is isolated to `self` gets
@@ -153,10 +155,10 @@ pub record IsRunApart (shapes : List Shape) (function : Function) : Type 0 where
 
 -- closures and tasks stand where their isolation lets them
 abbrev pub ApartPlaced : Graph → Function → Instr → Type 0
-ApartPlaced graph body (NewClosure at r f cs) = FunctionAt graph f
-    (λ function. MadeInside body cs function.iso × IsRunApart graph.shapes function)
-ApartPlaced graph body (NewTask at r f cs) = FunctionAt graph f
-    (λ function. TaskInside body cs function.iso × IsRunApart graph.shapes function)
+ApartPlaced graph body (NewClosure at dst number captures) = FunctionAt graph number
+    (λ function. MadeInside body captures function.iso × IsRunApart graph.shapes function)
+ApartPlaced graph body (NewTask at dst number captures) = FunctionAt graph number
+    (λ function. TaskInside body captures function.iso × IsRunApart graph.shapes function)
 ApartPlaced graph body _ = Unit {0}
 
 -- Where a body has its own `self`, that is the actor in register 0, which is taken and never set.
@@ -167,8 +169,8 @@ pub record HasSelf (shapes : List Shape) (function : Function) : Type 0 where
 
 -- the functions that an instruction leads to by a call or a closure
 abbrev pub leads_to : Instr → List ℕ
-leads_to (NewClosure at r f cs) = f ∷ []
-leads_to (Call at r kind f ss) = f ∷ []
+leads_to (NewClosure at dst function captures) = function ∷ []
+leads_to (Call at dst kind function args) = function ∷ []
 leads_to _ = []
 
 -- the functions that give first values, and those that they lead to
@@ -180,13 +182,13 @@ pub data GivesFirst (graph : Graph) : ℕ → Type 0 where
 
 -- It reads no global and makes no task.
 abbrev pub IsAlone : Instr → Type 0
-IsAlone (LoadGlobal at r g) = ⊥
-IsAlone (NewTask at r f cs) = ⊥
+IsAlone (LoadGlobal at dst global) = ⊥
+IsAlone (NewTask at dst function captures) = ⊥
 IsAlone _ = Unit {0}
 
 -- the functions that an instruction names
 abbrev pub named_by : Instr → List ℕ
-named_by (NewTask at r f cs) = f ∷ []
+named_by (NewTask at dst function captures) = function ∷ []
 named_by instr = leads_to instr
 
 -- isolated to no actor or to a global actor
@@ -204,10 +206,11 @@ pub record IsFirst (function : Function) : Type 0 where
 
 -- The register that is given a new value is none of the operands.
 abbrev pub SetsApart : Instr → Type 0
-SetsApart (Make at r k tag ss) = Contains (reads (Make at r k tag ss)) r → ⊥
-SetsApart (NewObject at r k ss) = Contains (reads (NewObject at r k ss)) r → ⊥
-SetsApart (NewBox at r s) = Contains (reads (NewBox at r s)) r → ⊥
-SetsApart (NewClosure at r f cs) = Contains (reads (NewClosure at r f cs)) r → ⊥
+SetsApart (Make at dst shape tag args) = Contains (reads (Make at dst shape tag args)) dst → ⊥
+SetsApart (NewObject at dst shape args) = Contains (reads (NewObject at dst shape args)) dst → ⊥
+SetsApart (NewBox at dst src) = Contains (reads (NewBox at dst src)) dst → ⊥
+SetsApart (NewClosure at dst function captures) =
+    Contains (reads (NewClosure at dst function captures)) dst → ⊥
 SetsApart _ = Unit {0}
 
 -- The graph is placed: its calls, accesses, makers, closures and tasks stand where their isolation

@@ -31,9 +31,9 @@ reads_in_order takes last done (instr ∷ instrs) =
 
 abbrev pub returns : Last → Bool
 returns (Jump to) = false
-returns (Branch s holds fails) = false
-returns (Switch s to) = false
-returns (Return s) = true
+returns (Branch condition holds fails) = false
+returns (Switch subject to) = false
+returns (Return value) = true
 
 abbrev pub is_straight_block : ℕ → Block → Bool
 is_straight_block takes block = returns block.last && not (has_payload block.instrs)

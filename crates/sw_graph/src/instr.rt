@@ -50,156 +50,167 @@ pub enum BinOp {
     Ge,
 }
 
-/// One instruction. `at` is its byte offset in the source, `r` the register that it sets, `k` a
-/// shape's number, `f` a function's, `g` a global's and `i` a part's or a payload's index.
+/// One instruction. `at` is its byte offset in the source and `dst` the register that it sets;
+/// shapes, functions and globals are given by number, parts and payloads by index.
 #[derive(Debug, Drop)]
 pub enum Instr {
     Const {
         at: u32,
-        r: u32,
-        v: Literal,
+        dst: u32,
+        value: Literal,
     },
     Un {
         at: u32,
-        r: u32,
+        dst: u32,
         op: UnOp,
-        s: Operand,
+        src: Operand,
     },
     Bin {
         at: u32,
-        r: u32,
+        dst: u32,
         op: BinOp,
-        s: Operand,
-        t: Operand,
+        left: Operand,
+        right: Operand,
     },
     Print {
         at: u32,
-        r: u32,
-        ss: OperandList,
+        dst: u32,
+        args: OperandList,
     },
     Copy {
         at: u32,
-        r: u32,
-        s: Operand,
+        dst: u32,
+        src: Operand,
     },
     Field {
         at: u32,
-        r: u32,
-        s: Operand,
-        i: u32,
+        dst: u32,
+        src: Operand,
+        part: u32,
     },
     Payload {
         at: u32,
-        r: u32,
-        s: Operand,
-        i: u32,
+        dst: u32,
+        src: Operand,
+        index: u32,
     },
     SetField {
         at: u32,
-        r: Operand,
-        i: u32,
-        s: Operand,
+        target: Operand,
+        part: u32,
+        src: Operand,
     },
     Make {
         at: u32,
-        r: u32,
-        k: u32,
+        dst: u32,
+        shape: u32,
         tag: Option<u32>,
-        ss: OperandList,
+        args: OperandList,
     },
     NewObject {
         at: u32,
-        r: u32,
-        k: u32,
-        ss: OperandList,
+        dst: u32,
+        shape: u32,
+        args: OperandList,
     },
     NewBox {
         at: u32,
-        r: u32,
-        s: Operand,
+        dst: u32,
+        src: Operand,
     },
     NewActor {
         at: u32,
-        r: u32,
-        k: u32,
-        ss: OperandList,
+        dst: u32,
+        shape: u32,
+        args: OperandList,
     },
     LoadBox {
         at: u32,
-        r: u32,
-        b: Operand,
+        dst: u32,
+        cell: Operand,
     },
     StoreBox {
         at: u32,
-        b: Operand,
-        s: Operand,
+        cell: Operand,
+        src: Operand,
     },
     LoadProp {
         at: u32,
-        r: u32,
-        o: Operand,
-        i: u32,
+        dst: u32,
+        cell: Operand,
+        part: u32,
     },
     StoreProp {
         at: u32,
-        o: Operand,
-        i: u32,
-        s: Operand,
+        cell: Operand,
+        part: u32,
+        src: Operand,
     },
     LoadGlobal {
         at: u32,
-        r: u32,
-        g: u32,
+        dst: u32,
+        global: u32,
     },
     StoreGlobal {
         at: u32,
-        g: u32,
-        s: Operand,
+        global: u32,
+        src: Operand,
     },
     NewClosure {
         at: u32,
-        r: u32,
-        f: u32,
-        cs: OperandList,
+        dst: u32,
+        function: u32,
+        captures: OperandList,
     },
     Call {
         at: u32,
-        r: u32,
+        dst: u32,
         kind: CallKind,
-        f: u32,
-        ss: OperandList,
+        function: u32,
+        args: OperandList,
     },
     CallClosure {
         at: u32,
-        r: u32,
-        c: Operand,
-        ss: OperandList,
+        dst: u32,
+        closure: Operand,
+        args: OperandList,
     },
     NewTask {
         at: u32,
-        r: u32,
-        f: u32,
-        cs: OperandList,
+        dst: u32,
+        function: u32,
+        captures: OperandList,
     },
     Await {
         at: u32,
-        r: u32,
-        t: Operand,
+        dst: u32,
+        task: Operand,
     },
     Yield {
         at: u32,
-        r: u32,
+        dst: u32,
     },
 }
 
 /// The last instruction of a block: where control goes.
 #[derive(Debug, Drop)]
 pub enum Last {
-    Jump { to: u32 },
-    Branch { s: Operand, yes: u32, no: u32 },
+    Jump {
+        to: u32,
+    },
+    Branch {
+        condition: Operand,
+        yes: u32,
+        no: u32,
+    },
     /// The block of each case of an enum, by the case's number.
-    Switch { s: Operand, to: IdList },
-    Return { s: Option<Operand> },
+    Switch {
+        subject: Operand,
+        to: IdList,
+    },
+    Return {
+        value: Option<Operand>,
+    },
 }
 
 /// A basic block.

@@ -6,37 +6,86 @@ use sw_graph::{Instr, Last};
 /// An instruction.
 pub fn instr_text(alloc: Global, instr: &Instr) -> Result<String, AllocError> {
     match instr {
-        Instr::Print { at, r, ss } => {
-            let ss = ss.as_slice();
-            format!(in alloc; "Print {{ at: {at}, r: {r}, ss: {ss:?} }}")
+        Instr::Print { at, dst, args } => {
+            let args = args.as_slice();
+            format!(in alloc; "Print {{ at: {at}, dst: {dst}, args: {args:?} }}")
         }
-        Instr::Make { at, r, k, tag, ss } => {
-            let ss = ss.as_slice();
-            format!(in alloc; "Make {{ at: {at}, r: {r}, k: {k}, tag: {tag:?}, ss: {ss:?} }}")
+        Instr::Make {
+            at,
+            dst,
+            shape,
+            tag,
+            args,
+        } => {
+            let args = args.as_slice();
+            format!(in alloc;
+                "Make {{ at: {at}, dst: {dst}, shape: {shape}, tag: {tag:?}, args: {args:?} }}"
+            )
         }
-        Instr::NewObject { at, r, k, ss } => {
-            let ss = ss.as_slice();
-            format!(in alloc; "NewObject {{ at: {at}, r: {r}, k: {k}, ss: {ss:?} }}")
+        Instr::NewObject {
+            at,
+            dst,
+            shape,
+            args,
+        } => {
+            let args = args.as_slice();
+            format!(in alloc;
+                "NewObject {{ at: {at}, dst: {dst}, shape: {shape}, args: {args:?} }}"
+            )
         }
-        Instr::NewActor { at, r, k, ss } => {
-            let ss = ss.as_slice();
-            format!(in alloc; "NewActor {{ at: {at}, r: {r}, k: {k}, ss: {ss:?} }}")
+        Instr::NewActor {
+            at,
+            dst,
+            shape,
+            args,
+        } => {
+            let args = args.as_slice();
+            format!(in alloc; "NewActor {{ at: {at}, dst: {dst}, shape: {shape}, args: {args:?} }}")
         }
-        Instr::NewClosure { at, r, f, cs } => {
-            let cs = cs.as_slice();
-            format!(in alloc; "NewClosure {{ at: {at}, r: {r}, f: {f}, cs: {cs:?} }}")
+        Instr::NewClosure {
+            at,
+            dst,
+            function,
+            captures,
+        } => {
+            let captures = captures.as_slice();
+            format!(in alloc;
+                "NewClosure {{ at: {at}, dst: {dst}, function: {function}, captures: {captures:?} }}"
+            )
         }
-        Instr::NewTask { at, r, f, cs } => {
-            let cs = cs.as_slice();
-            format!(in alloc; "NewTask {{ at: {at}, r: {r}, f: {f}, cs: {cs:?} }}")
+        Instr::NewTask {
+            at,
+            dst,
+            function,
+            captures,
+        } => {
+            let captures = captures.as_slice();
+            format!(in alloc;
+                "NewTask {{ at: {at}, dst: {dst}, function: {function}, captures: {captures:?} }}"
+            )
         }
-        Instr::Call { at, r, kind, f, ss } => {
-            let ss = ss.as_slice();
-            format!(in alloc; "Call {{ at: {at}, r: {r}, kind: {kind:?}, f: {f}, ss: {ss:?} }}")
+        Instr::Call {
+            at,
+            dst,
+            kind,
+            function,
+            args,
+        } => {
+            let args = args.as_slice();
+            format!(in alloc;
+                "Call {{ at: {at}, dst: {dst}, kind: {kind:?}, function: {function}, args: {args:?} }}"
+            )
         }
-        Instr::CallClosure { at, r, c, ss } => {
-            let ss = ss.as_slice();
-            format!(in alloc; "CallClosure {{ at: {at}, r: {r}, c: {c:?}, ss: {ss:?} }}")
+        Instr::CallClosure {
+            at,
+            dst,
+            closure,
+            args,
+        } => {
+            let args = args.as_slice();
+            format!(in alloc;
+                "CallClosure {{ at: {at}, dst: {dst}, closure: {closure:?}, args: {args:?} }}"
+            )
         }
         // These have no list.
         Instr::Const { .. }
@@ -61,9 +110,9 @@ pub fn instr_text(alloc: Global, instr: &Instr) -> Result<String, AllocError> {
 /// The last instruction of a block.
 pub fn last_text(alloc: Global, last: &Last) -> Result<String, AllocError> {
     match last {
-        Last::Switch { s, to } => {
+        Last::Switch { subject, to } => {
             let to = to.as_slice();
-            format!(in alloc; "Switch {{ s: {s:?}, to: {to:?} }}")
+            format!(in alloc; "Switch {{ subject: {subject:?}, to: {to:?} }}")
         }
         Last::Jump { .. } | Last::Branch { .. } | Last::Return { .. } => {
             format!(in alloc; "{last:?}")

@@ -24,5 +24,5 @@ pub record StoresBefore (g : ℕ) (function : Function) (stored : ℕ → Bool) 
   pub starts : stored 0 ≡ false
   pub leads : (p q : ℕ) → Leads function p q → IsTrue (stored q)
       → IsTrue (point_stores g (point_in function p) || stored p)
-  pub returns : (p : ℕ) (s : Option Operand) → point_in function p ≡ Some (End (Return s))
+  pub returns : (p : ℕ) (value : Option Operand) → point_in function p ≡ Some (End (Return value))
       → IsTrue (stored p)

@@ -17,7 +17,7 @@ use Rattle.sw_value.specs.declared.state.State.{State}
 use Rattle.sw_value.specs.Value.{value_at}
 
 abbrev pub point_stores : ℕ → Option Point → Bool
-point_stores g (Some (Middle (StoreGlobal at number s))) = number == g
+point_stores g (Some (Middle (StoreGlobal at global src))) = global == g
 point_stores g _ = false
 
 -- whether one of the points that were passed gives global g a value
@@ -28,8 +28,8 @@ has_stored function (p ∷ passed) g =
 
 -- the function gives global g a value before it returns, on every way
 abbrev pub StoresFirst : ℕ → Function → Type 0
-StoresFirst g function = (p : ℕ) (passed : List ℕ) (s : Option Operand) → Way function p passed
-    → point_in function p ≡ Some (End (Return s)) → IsTrue (has_stored function passed g)
+StoresFirst g function = (p : ℕ) (passed : List ℕ) (value : Option Operand) → Way function p passed
+    → point_in function p ≡ Some (End (Return value)) → IsTrue (has_stored function passed g)
 
 -- a frame is yet to give global g a value
 pub record IsDue (graph : Graph) (g : ℕ) (frame : Frame) : Type 0 where

@@ -37,5 +37,6 @@ pub record HasNext (graph : Graph) (cells : List RegKind) (state : State) (job :
   pub point : Point
   pub at : point_in function frame.point ≡ Some point
   pub operands : All (HasOperand graph.shapes cells function.regs frame.regs) (point_reads point)
-  pub global : (at r g : ℕ) → point ≡ Middle (LoadGlobal at r g) → HasValue state g
+  pub global : (at dst number : ℕ) → point ≡ Middle (LoadGlobal at dst number)
+      → HasValue state number
   pub unstuck : is_stuck (effect_of graph state (length job.frames) frame) ≡ false

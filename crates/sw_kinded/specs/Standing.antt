@@ -52,15 +52,15 @@ pub record Unpacked (function : Function) (awaits : Option ℕ) (number s : ℕ)
 -- Where a payload is taken next, its case is known.
 abbrev pub Front : Function → Option ℕ → List (Option Value) → ℕ → ℕ → Type 0
 Front function awaits regs number index = (block : Block)
-    → slice_get function.blocks number ≡ Some block → (at r : ℕ) (s : Operand) (i : ℕ)
-    → slice_get block.instrs index ≡ Some (Payload at r s i)
-    → Unpacked function awaits number s.reg regs
+    → slice_get function.blocks number ≡ Some block → (at dst : ℕ) (src : Operand) (i : ℕ)
+    → slice_get block.instrs index ≡ Some (Payload at dst src i)
+    → Unpacked function awaits number src.reg regs
 
 -- Where the instruction before gave a register a constant, the register has it, and the frame
 -- awaits nothing.
 abbrev pub HasConst : Option ℕ → List (Option Value) → Option Point → Type 0
-HasConst awaits regs (Some (Middle (Const at r v))) = (awaits ≡ None)
-    × (value_at regs r ≡ Some (value_of v))
+HasConst awaits regs (Some (Middle (Const at dst literal))) = (awaits ≡ None)
+    × (value_at regs dst ≡ Some (value_of literal))
 HasConst awaits regs _ = Unit {0}
 
 -- A frame has come to its point by a way through its function, and at each branch that a constant

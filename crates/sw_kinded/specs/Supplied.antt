@@ -30,9 +30,9 @@ pub record TakesActor (shapes : List Shape) (function : Function) : Type 0 where
 
 -- A strong call and a task that run on an actor's executor give that actor.
 abbrev pub GivesActor : Graph → Function → Instr → Type 0
-GivesActor graph body (Call at r Strong f ss) = FunctionAt graph f
+GivesActor graph body (Call at dst Strong number args) = FunctionAt graph number
     (λ function. function.iso ≡ Own → TakesActor graph.shapes function)
-GivesActor graph body (NewTask at r f cs) = FunctionAt graph f
+GivesActor graph body (NewTask at dst number captures) = FunctionAt graph number
     (λ function. function.iso ≡ Own → TakesActor graph.shapes function)
 GivesActor graph body _ = Unit {0}
 

@@ -26,7 +26,8 @@ side false = 1
 
 -- A last instruction may go to its block of index k, where `before` stands before it.
 abbrev pub MayTake : Last → Option Point → ℕ → Type 0
-MayTake (Branch s holds fails) (Some (Middle (Const at r (BoolOf b)))) k = r ≡ s.reg → k ≡ side b
+MayTake (Branch condition holds fails) (Some (Middle (Const at dst (BoolOf b)))) k =
+    dst ≡ condition.reg → k ≡ side b
 MayTake _ _ k = Unit {0}
 
 -- one point leads to another, by no side of a branch that a constant rules out

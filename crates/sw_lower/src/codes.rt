@@ -41,12 +41,17 @@ fn get_part(
     ensures { Gives ((getter_code (part_read key index ty.now)).run (making_of draft.old))
         result draft.new }
 {
-    let i = u32::try_from(index).map_err(|_| CodeFault::Memory)?;
-    let r = draft.reg(RegKind::Plain(copy_of(alloc, ty)?))?;
-    let o = Operand { reg: 0, at: key };
-    draft.emit(Instr::LoadProp { at: key, r, o, i })?;
+    let part = u32::try_from(index).map_err(|_| CodeFault::Memory)?;
+    let dst = draft.reg(RegKind::Plain(copy_of(alloc, ty)?))?;
+    let cell = Operand { reg: 0, at: key };
+    draft.emit(Instr::LoadProp {
+        at: key,
+        dst,
+        cell,
+        part,
+    })?;
     draft.close(Last::Return {
-        s: Some(Operand { reg: r, at: key }),
+        value: Some(Operand { reg: dst, at: key }),
     });
     Ok(())
 }
@@ -63,14 +68,14 @@ fn get_global(
     ensures { Gives ((getter_code (stored_read key index ty.now)).run (making_of draft.old))
         result draft.new }
 {
-    let r = draft.reg(RegKind::Plain(copy_of(alloc, ty)?))?;
+    let dst = draft.reg(RegKind::Plain(copy_of(alloc, ty)?))?;
     draft.emit(Instr::LoadGlobal {
         at: key,
-        r,
-        g: index,
+        dst,
+        global: index,
     })?;
     draft.close(Last::Return {
-        s: Some(Operand { reg: r, at: key }),
+        value: Some(Operand { reg: dst, at: key }),
     });
     Ok(())
 }
@@ -89,13 +94,13 @@ fn store_first(
         ((first_code key index (expr_code (tables_by known.now) None value.now).read).run
         (making_of draft.old)) result draft.new }
 {
-    let s = expr(alloc, known, None, value, draft)?;
+    let src = expr(alloc, known, None, value, draft)?;
     draft.emit(Instr::StoreGlobal {
         at: key,
-        g: index,
-        s,
+        global: index,
+        src,
     })?;
-    draft.close(Last::Return { s: None });
+    draft.close(Last::Return { value: None });
     Ok(())
 }
 
@@ -196,13 +201,23 @@ fn parts_given(
 }
 
 /// Makes an actor or an object of the values of its properties.
-fn made_instr(kind: ShapeKind, at: u32, r: u32, k: u32, ss: OperandList) -> Instr
-    ensures { result ≡ made_instr kind at r k ss }
+fn made_instr(kind: ShapeKind, at: u32, dst: u32, shape: u32, args: OperandList) -> Instr
+    ensures { result ≡ made_instr kind at dst shape args }
 {
     match kind {
-        ShapeKind::Actor => Instr::NewActor { at, r, k, ss },
+        ShapeKind::Actor => Instr::NewActor {
+            at,
+            dst,
+            shape,
+            args,
+        },
         ShapeKind::Struct | ShapeKind::Enum | ShapeKind::Class => {
-            Instr::NewObject { at, r, k, ss }
+            Instr::NewObject {
+                at,
+                dst,
+                shape,
+                args,
+            }
         }
     }
 }
@@ -244,11 +259,11 @@ fn initialise(
         (making_of draft.old)) result draft.new }
 {
     let values = given(alloc, known, number, props, block, draft)?;
-    let ss = parts_given(alloc, shape.parts.as_slice(), values.as_slice())?;
-    let r = draft.reg(RegKind::Plain(Ty::Named(number)))?;
-    draft.emit(made_instr(shape.kind, key, r, number, ss))?;
+    let args = parts_given(alloc, shape.parts.as_slice(), values.as_slice())?;
+    let dst = draft.reg(RegKind::Plain(Ty::Named(number)))?;
+    draft.emit(made_instr(shape.kind, key, dst, number, args))?;
     draft.close(Last::Return {
-        s: Some(Operand { reg: r, at: key }),
+        value: Some(Operand { reg: dst, at: key }),
     });
     Ok(())
 }

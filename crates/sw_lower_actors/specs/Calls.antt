@@ -48,8 +48,9 @@ pub record TaskOf (tables : Tables) (numbers : Numbers) (bodies : List Body) (f 
 
 -- What an instruction that calls a function or makes a task is of.
 abbrev pub IsOf : Tables → Numbers → List Body → Instr → Type 0
-IsOf tables numbers bodies (Call at r kind f ss) = CallOf tables numbers at kind f
-IsOf tables numbers bodies (NewTask at r f cs) = TaskOf tables numbers bodies f
+IsOf tables numbers bodies (Call at dst kind function args) = CallOf tables numbers at kind function
+IsOf tables numbers bodies (NewTask at dst function captures) =
+    TaskOf tables numbers bodies function
 IsOf tables numbers bodies _ = Unit {0}
 
 -- Each call and each task in a piece of code is of something.

@@ -34,7 +34,7 @@ module _ (tables : Tables) where
 
   -- the result of a task
   abbrev pub waited : ℕ → Operand → Code Operand
-  waited at task = typed tables at >>= λ ty. give at ty (λ r. instr.Await at r task)
+  waited at task = typed tables at >>= λ ty. give at ty (λ dst. instr.Await at dst task)
 
   -- what a closure captures, in order
   abbrev pub captured : ℕ → ℕ → Code (List Operand)
@@ -44,15 +44,15 @@ module _ (tables : Tables) where
   abbrev pub closure_made : ℕ → Code Operand
   closure_made at = captured at at
       >>= λ operands. number (plain at)
-      >>= λ f. typed tables at
-      >>= λ ty. give at ty (λ r. instr.NewClosure at r f operands)
+      >>= λ function. typed tables at
+      >>= λ ty. give at ty (λ dst. instr.NewClosure at dst function operands)
 
   -- a task, by the keys of its word and of its body
   abbrev pub task_made : ℕ → ℕ → Code Operand
   task_made at body = captured at body
       >>= λ operands. number (plain body)
-      >>= λ f. typed tables at
-      >>= λ ty. give at ty (λ r. instr.NewTask at r f operands)
+      >>= λ function. typed tables at
+      >>= λ ty. give at ty (λ dst. instr.NewTask at dst function operands)
 
   module _ (owner : Option ℕ) where
     unfoldable pub arg_codes : List Arg → List ArgCode

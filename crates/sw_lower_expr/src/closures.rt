@@ -23,14 +23,20 @@ pub fn closure_made(
     ensures { Gives ((closure_made (tables_by known.now) at).run (making_of draft.old))
         result draft.new }
 {
-    let cs = captures(alloc, known, at, at, draft)?;
-    let f = draft.number(FunctionName {
+    let captured = captures(alloc, known, at, at, draft)?;
+    let function = draft.number(FunctionName {
         key: at,
         getter: false,
     })?;
     let ty = type_of(alloc, known, at)?;
-    let r = draft.reg(RegKind::Plain(ty))?;
-    emit_value(at, r, Instr::NewClosure { at, r, f, cs }, draft)
+    let dst = draft.reg(RegKind::Plain(ty))?;
+    let instr = Instr::NewClosure {
+        at,
+        dst,
+        function,
+        captures: captured,
+    };
+    emit_value(at, dst, instr, draft)
 }
 
 /// The task whose word stands at `at`, and whose body has the key `body`.
@@ -44,12 +50,18 @@ pub fn task_made(
     ensures { Gives ((task_made (tables_by known.now) at body).run (making_of draft.old))
         result draft.new }
 {
-    let cs = captures(alloc, known, at, body, draft)?;
-    let f = draft.number(FunctionName {
+    let captured = captures(alloc, known, at, body, draft)?;
+    let function = draft.number(FunctionName {
         key: body,
         getter: false,
     })?;
     let ty = type_of(alloc, known, at)?;
-    let r = draft.reg(RegKind::Plain(ty))?;
-    emit_value(at, r, Instr::NewTask { at, r, f, cs }, draft)
+    let dst = draft.reg(RegKind::Plain(ty))?;
+    let instr = Instr::NewTask {
+        at,
+        dst,
+        function,
+        captures: captured,
+    };
+    emit_value(at, dst, instr, draft)
 }

@@ -76,8 +76,8 @@ fn write_word(
         }
         Meaning::GlobalOf(number) => draft.emit(Instr::StoreGlobal {
             at,
-            g: number,
-            s: given,
+            global: number,
+            src: given,
         }),
         Meaning::OwnFunc(_)
         | Meaning::FuncOf(_)
@@ -111,9 +111,9 @@ fn write_own(
             let cell = read_self(alloc, known, owner, at, draft)?;
             draft.emit(Instr::StoreProp {
                 at,
-                o: cell,
-                i: number,
-                s: given,
+                cell,
+                part: number,
+                src: given,
             })
         }
     }
@@ -199,9 +199,9 @@ fn write_cell(
     let cell = expr(alloc, known, owner, base, draft)?;
     draft.emit(Instr::StoreProp {
         at,
-        o: cell,
-        i: number,
-        s: given,
+        cell,
+        part: number,
+        src: given,
     })
 }
 
@@ -224,17 +224,17 @@ fn write_field(
         result draft.new }
 {
     let old = expr(alloc, known, owner, base, draft)?;
-    let r = draft.reg(RegKind::Plain(Ty::Named(shape)))?;
-    draft.emit(Instr::Copy { at, r, s: old })?;
+    let dst = draft.reg(RegKind::Plain(Ty::Named(shape)))?;
+    draft.emit(Instr::Copy { at, dst, src: old })?;
     let whole = Operand {
-        reg: r,
+        reg: dst,
         at: key_of(base),
     };
     draft.emit(Instr::SetField {
         at,
-        r: whole,
-        i: number,
-        s: given,
+        target: whole,
+        part: number,
+        src: given,
     })?;
     write(alloc, known, owner, base, whole, draft)
 }

@@ -19,21 +19,27 @@ use sw_tree::PrefixOp;
 use sw_types::Ty;
 
 /// The value of a literal.
-pub fn literal(at: u32, ty: Ty, v: Literal, draft: &mut Draft<'_>) -> Result<Operand, CodeFault>
-    ensures { Gives ((give at ty (λ r. instr.Const at r v)).run (making_of draft.old))
+pub fn literal(at: u32, ty: Ty, value: Literal, draft: &mut Draft<'_>) -> Result<Operand, CodeFault>
+    ensures { Gives ((give at ty (λ dst. instr.Const at dst value)).run (making_of draft.old))
         result draft.new }
 {
-    let r = draft.reg(RegKind::Plain(ty))?;
-    emit_value(at, r, Instr::Const { at, r, v }, draft)
+    let dst = draft.reg(RegKind::Plain(ty))?;
+    emit_value(at, dst, Instr::Const { at, dst, value }, draft)
 }
 
 /// What a prefix operator gives.
-fn unary(at: u32, ty: Ty, op: UnOp, s: Operand, draft: &mut Draft<'_>) -> Result<Operand, CodeFault>
-    ensures { Gives ((give at ty (λ r. instr.Un at r op s)).run (making_of draft.old))
+fn unary(
+    at: u32,
+    ty: Ty,
+    op: UnOp,
+    src: Operand,
+    draft: &mut Draft<'_>,
+) -> Result<Operand, CodeFault>
+    ensures { Gives ((give at ty (λ dst. instr.Un at dst op src)).run (making_of draft.old))
         result draft.new }
 {
-    let r = draft.reg(RegKind::Plain(ty))?;
-    emit_value(at, r, Instr::Un { at, r, op, s }, draft)
+    let dst = draft.reg(RegKind::Plain(ty))?;
+    emit_value(at, dst, Instr::Un { at, dst, op, src }, draft)
 }
 
 /// The value of an operator before its operand's value.
@@ -56,42 +62,53 @@ pub fn computed(
     at: u32,
     op: BinOp,
     ty: Ty,
-    s: Operand,
-    t: Operand,
+    left: Operand,
+    right: Operand,
     draft: &mut Draft<'_>,
 ) -> Result<Operand, CodeFault>
-    ensures { Gives ((give at ty (λ r. instr.Bin at r op s t)).run (making_of draft.old))
+    ensures { Gives ((give at ty (λ dst. instr.Bin at dst op left right)).run (making_of draft.old))
         result draft.new }
 {
-    let r = draft.reg(RegKind::Plain(ty))?;
-    emit_value(at, r, Instr::Bin { at, r, op, s, t }, draft)
+    let dst = draft.reg(RegKind::Plain(ty))?;
+    let instr = Instr::Bin {
+        at,
+        dst,
+        op,
+        left,
+        right,
+    };
+    emit_value(at, dst, instr, draft)
 }
 
 /// A register with a copy of a truth value.
 pub fn copied(at: u32, value: Operand, draft: &mut Draft<'_>) -> Result<u32, CodeFault>
     ensures { Gives ((copied at value).run (making_of draft.old)) result draft.new }
 {
-    let r = draft.reg(RegKind::Plain(Ty::Bool))?;
-    draft.emit(Instr::Copy { at, r, s: value })?;
-    Ok(r)
+    let dst = draft.reg(RegKind::Plain(Ty::Bool))?;
+    draft.emit(Instr::Copy {
+        at,
+        dst,
+        src: value,
+    })?;
+    Ok(dst)
 }
 
 /// The call of `print`.
-pub fn print(at: u32, ss: OperandList, draft: &mut Draft<'_>) -> Result<Operand, CodeFault>
-    ensures { Gives ((give at types.Unit (λ r. instr.Print at r ss)).run (making_of draft.old))
-        result draft.new }
+pub fn print(at: u32, args: OperandList, draft: &mut Draft<'_>) -> Result<Operand, CodeFault>
+    ensures { Gives ((give at types.Unit (λ dst. instr.Print at dst args)).run
+        (making_of draft.old)) result draft.new }
 {
-    let r = draft.reg(RegKind::Plain(Ty::Unit))?;
-    emit_value(at, r, Instr::Print { at, r, ss }, draft)
+    let dst = draft.reg(RegKind::Plain(Ty::Unit))?;
+    emit_value(at, dst, Instr::Print { at, dst, args }, draft)
 }
 
 /// The call of `Task.yield`.
 pub fn yielded(at: u32, draft: &mut Draft<'_>) -> Result<Operand, CodeFault>
-    ensures { Gives ((give at types.Unit (λ r. instr.Yield at r)).run (making_of draft.old))
+    ensures { Gives ((give at types.Unit (λ dst. instr.Yield at dst)).run (making_of draft.old))
         result draft.new }
 {
-    let r = draft.reg(RegKind::Plain(Ty::Unit))?;
-    emit_value(at, r, Instr::Yield { at, r }, draft)
+    let dst = draft.reg(RegKind::Plain(Ty::Unit))?;
+    emit_value(at, dst, Instr::Yield { at, dst }, draft)
 }
 
 /// The result of a task.
@@ -99,13 +116,13 @@ pub fn waited(
     alloc: Global,
     known: &Known<'_>,
     at: u32,
-    t: Operand,
+    task: Operand,
     draft: &mut Draft<'_>,
 ) -> Result<Operand, CodeFault>
-    ensures { Gives ((waited (tables_by known.now) at t).run (making_of draft.old))
+    ensures { Gives ((waited (tables_by known.now) at task).run (making_of draft.old))
         result draft.new }
 {
     let ty = type_of(alloc, known, at)?;
-    let r = draft.reg(RegKind::Plain(ty))?;
-    emit_value(at, r, Instr::Await { at, r, t }, draft)
+    let dst = draft.reg(RegKind::Plain(ty))?;
+    emit_value(at, dst, Instr::Await { at, dst, task }, draft)
 }

@@ -199,15 +199,15 @@ fn both(
     ensures { Gives ((both at (expr_code (tables_by known.now) owner right.now).read left).run
         (making_of draft.old)) result draft.new }
 {
-    let r = copied(at, left, draft)?;
+    let dst = copied(at, left, draft)?;
     let own = draft.block()?;
     let merge = draft.block()?;
     draft.close(Last::Branch {
-        s: left,
+        condition: left,
         yes: own,
         no: merge,
     });
-    right_in(alloc, known, owner, right, at, r, own, merge, draft)
+    right_in(alloc, known, owner, right, at, dst, own, merge, draft)
 }
 
 /// `||`: the right operand has a block of its own.
@@ -224,15 +224,15 @@ fn either(
     ensures { Gives ((either at (expr_code (tables_by known.now) owner right.now).read left).run
         (making_of draft.old)) result draft.new }
 {
-    let r = copied(at, left, draft)?;
+    let dst = copied(at, left, draft)?;
     let own = draft.block()?;
     let merge = draft.block()?;
     draft.close(Last::Branch {
-        s: left,
+        condition: left,
         yes: merge,
         no: own,
     });
-    right_in(alloc, known, owner, right, at, r, own, merge, draft)
+    right_in(alloc, known, owner, right, at, dst, own, merge, draft)
 }
 
 /// The right operand of `&&` or `||`, in the block `own`; then the block `merge` goes on.
@@ -243,20 +243,24 @@ fn right_in(
     owner: Option<u32>,
     right: &Expr,
     at: u32,
-    r: u32,
+    dst: u32,
     own: u32,
     merge: u32,
     draft: &mut Draft<'_>,
 ) -> Result<Operand, CodeFault>
-    ensures { Gives ((right_in at r (expr_code (tables_by known.now) owner right.now).read own
+    ensures { Gives ((right_in at dst (expr_code (tables_by known.now) owner right.now).read own
         merge).run (making_of draft.old)) result draft.new }
 {
     draft.resume(own)?;
     let given = expr(alloc, known, owner, right, draft)?;
-    draft.emit(Instr::Copy { at, r, s: given })?;
+    draft.emit(Instr::Copy {
+        at,
+        dst,
+        src: given,
+    })?;
     draft.close(Last::Jump { to: merge });
     draft.resume(merge)?;
-    Ok(Operand { reg: r, at })
+    Ok(Operand { reg: dst, at })
 }
 
 /// The member at `at` of the value of `base`.

@@ -32,10 +32,10 @@ pub record CallsQuiet (tables : Tables) (numbers : Numbers) (f : ℕ) : Type 0 w
   pub quiet : IsQuietName tables name
 
 abbrev pub IsQuiet : Tables → Numbers → Instr → Type 0
-IsQuiet tables numbers (LoadGlobal at r g) = ⊥
-IsQuiet tables numbers (NewClosure at r f cs) = ⊥
-IsQuiet tables numbers (NewTask at r f cs) = ⊥
-IsQuiet tables numbers (Call at r kind f ss) = CallsQuiet tables numbers f
+IsQuiet tables numbers (LoadGlobal at dst global) = ⊥
+IsQuiet tables numbers (NewClosure at dst function captures) = ⊥
+IsQuiet tables numbers (NewTask at dst function captures) = ⊥
+IsQuiet tables numbers (Call at dst kind function args) = CallsQuiet tables numbers function
 IsQuiet tables numbers _ = Unit {0}
 
 -- The code writes such instructions alone, where it runs to its end.

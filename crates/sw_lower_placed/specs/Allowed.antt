@@ -189,15 +189,15 @@ module _ (program : Program) where
 
     -- what an instruction uses
     abbrev pub UseOk : Instr → Type 0
-    UseOk (Call at r kind f ss) = CallOk r kind f ss
-    UseOk (LoadProp at r o i) = PartRead o i
-    UseOk (StoreProp at o i s) = PartWritten o i
-    UseOk (LoadGlobal at r g) = GlobalRead g
-    UseOk (StoreGlobal at g s) = GlobalWritten g
-    UseOk (NewClosure at r f cs) = ClosureOk r f cs
-    UseOk (NewTask at r f cs) = TaskOk f cs
-    UseOk (NewObject at r k ss) = ⊥
-    UseOk (NewActor at r k ss) = ⊥
+    UseOk (Call at dst kind function args) = CallOk dst kind function args
+    UseOk (LoadProp at dst cell part) = PartRead cell part
+    UseOk (StoreProp at cell part src) = PartWritten cell part
+    UseOk (LoadGlobal at dst global) = GlobalRead global
+    UseOk (StoreGlobal at global src) = GlobalWritten global
+    UseOk (NewClosure at dst function captures) = ClosureOk dst function captures
+    UseOk (NewTask at dst function captures) = TaskOk function captures
+    UseOk (NewObject at dst shape args) = ⊥
+    UseOk (NewActor at dst shape args) = ⊥
     UseOk _ = Unit {0}
 
     -- An instruction that may stand in the body: what it uses may be used there, it sets none of

@@ -73,7 +73,7 @@ module _ (program : Program) where
       → slice_get (function_of program.numbers body).blocks number ≡ Some block
       → slice_get block.instrs index ≡ Some instr
       → IsAllowed program host (function_of program.numbers body).regs instr
-      ⊎ ((at : ℕ) × (s : Operand) × (instr ≡ StoreGlobal at g s))
+      ⊎ ((at : ℕ) × (src : Operand) × (instr ≡ StoreGlobal at g src))
 
   -- the body that gives a global variable its first value
   pub record IsFirstValue (body : Body) : Type 0 where

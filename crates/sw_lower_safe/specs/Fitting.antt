@@ -35,7 +35,7 @@ pub record PayloadOk (w : Whole) (block r : ℕ) (s : Operand) (i : ℕ) : Type 
 
 -- An instruction that takes a payload may take it in this block.
 abbrev pub MayBePayload : Whole → ℕ → Instr → Type 0
-MayBePayload w block (Payload at r s i) = PayloadOk w block r s i
+MayBePayload w block (Payload at dst src index) = PayloadOk w block dst src index
 MayBePayload w block _ = Unit {0}
 
 -- An instruction of a block, after these of the function: its kinds fit, what it reads has a value,
@@ -50,7 +50,7 @@ pub record InstrOk (w : Whole) (before : List Written) (block : ℕ) (instr : In
 -- case is entered by a switch alone, at the number of the case.
 abbrev pub EntersBy : Last → ℕ → Entry → Type 0
 EntersBy last number Anywhere = Unit {0}
-EntersBy (Switch s to) number (OfCase reg shape tag) = (s.reg ≡ reg) × (number ≡ tag)
+EntersBy (Switch subject to) number (OfCase reg shape tag) = (subject.reg ≡ reg) × (number ≡ tag)
 EntersBy _ number (OfCase reg shape tag) = ⊥
 
 -- A way leads to a block that was made and may be entered so, and what has a value where that block

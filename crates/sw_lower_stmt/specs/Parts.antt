@@ -43,13 +43,13 @@ left_for to = known 0 to >>= λ number. ended (last.Jump number)
 -- a variable in a box, and one in a register of its own
 abbrev pub var_in_box : ℕ → Operand → Ty → Code (Unit {0})
 var_in_box key given ty = reg (BoxOf ty)
-    >>= λ r. emit (instr.NewBox key r given)
-    >> bind (record { key = key; reg = r; boxed = true })
+    >>= λ dst. emit (instr.NewBox key dst given)
+    >> bind (record { key = key; reg = dst; boxed = true })
 
 abbrev pub var_in_register : ℕ → Operand → Ty → Code (Unit {0})
 var_in_register key given ty = reg (Plain ty)
-    >>= λ r. emit (instr.Copy key r given)
-    >> bind (record { key = key; reg = r; boxed = false })
+    >>= λ dst. emit (instr.Copy key dst given)
+    >> bind (record { key = key; reg = dst; boxed = false })
 
 -- the operator that an assignment computes with
 abbrev pub op_of : AssignOp → Option BinOp

@@ -84,11 +84,11 @@ pub fn body(
     match value_of(gives, tree) {
         None => {
             block(alloc, known, owner, NO_TARGETS, tree, draft)?;
-            draft.close(Last::Return { s: None });
+            draft.close(Last::Return { value: None });
         }
         Some(value) => {
             let given = expr(alloc, known, owner, value, draft)?;
-            draft.close(Last::Return { s: Some(given) });
+            draft.close(Last::Return { value: Some(given) });
         }
     }
     Ok(())

@@ -136,7 +136,7 @@ fn open_blocks(
     let merge = draft.block()?;
     let rest = default.unwrap_or(merge);
     let to = goes_to(alloc, shape.cases.as_slice(), arms, blocks.as_slice(), rest)?;
-    draft.close(Last::Switch { s: subject, to });
+    draft.close(Last::Switch { subject, to });
     Ok(OpenSwitch {
         subject,
         numbers: blocks,

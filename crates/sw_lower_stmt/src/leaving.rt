@@ -46,10 +46,10 @@ pub fn give_back(
         result draft.new }
 {
     match value {
-        None => end(Last::Return { s: None }, draft),
+        None => end(Last::Return { value: None }, draft),
         Some(value) => {
             let given = expr(alloc, known, owner, value, draft)?;
-            end(Last::Return { s: Some(given) }, draft)
+            end(Last::Return { value: Some(given) }, draft)
         }
     }
 }

@@ -45,15 +45,15 @@ fn assign_by(
         (making_of draft.old)) result draft.new }
 {
     let old = expr(alloc, known, owner, place, draft)?;
-    let r = draft.reg(RegKind::Plain(Ty::Int))?;
+    let dst = draft.reg(RegKind::Plain(Ty::Int))?;
     draft.emit(Instr::Bin {
         at,
-        r,
+        dst,
         op,
-        s: old,
-        t: given,
+        left: old,
+        right: given,
     })?;
-    let new = Operand { reg: r, at };
+    let new = Operand { reg: dst, at };
     write(alloc, known, owner, place, new, draft)
 }
 

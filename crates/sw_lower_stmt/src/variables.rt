@@ -19,15 +19,15 @@ use sw_types::Ty;
 fn boxed_var(key: u32, given: Operand, ty: Ty, draft: &mut Draft<'_>) -> Result<(), CodeFault>
     ensures { Gives ((var_in_box key given ty).run (making_of draft.old)) result draft.new }
 {
-    let r = draft.reg(RegKind::BoxOf(ty))?;
+    let dst = draft.reg(RegKind::BoxOf(ty))?;
     draft.emit(Instr::NewBox {
         at: key,
-        r,
-        s: given,
+        dst,
+        src: given,
     })?;
     draft.bind(Bound {
         key,
-        reg: r,
+        reg: dst,
         boxed: true,
     })
 }
@@ -36,15 +36,15 @@ fn boxed_var(key: u32, given: Operand, ty: Ty, draft: &mut Draft<'_>) -> Result<
 fn plain_var(key: u32, given: Operand, ty: Ty, draft: &mut Draft<'_>) -> Result<(), CodeFault>
     ensures { Gives ((var_in_register key given ty).run (making_of draft.old)) result draft.new }
 {
-    let r = draft.reg(RegKind::Plain(ty))?;
+    let dst = draft.reg(RegKind::Plain(ty))?;
     draft.emit(Instr::Copy {
         at: key,
-        r,
-        s: given,
+        dst,
+        src: given,
     })?;
     draft.bind(Bound {
         key,
-        reg: r,
+        reg: dst,
         boxed: false,
     })
 }
@@ -83,18 +83,18 @@ fn pattern(
     match tree {
         Pattern::Skip { .. } => Ok(()),
         Pattern::Let { name } => {
-            let i = number_of(number)?;
+            let index = number_of(number)?;
             let ty = type_of(alloc, known, name.at)?;
-            let r = draft.reg(RegKind::Plain(ty))?;
+            let dst = draft.reg(RegKind::Plain(ty))?;
             draft.front(Instr::Payload {
                 at: name.at,
-                r,
-                s: subject,
-                i,
+                dst,
+                src: subject,
+                index,
             })?;
             draft.bind(Bound {
                 key: name.at,
-                reg: r,
+                reg: dst,
                 boxed: false,
             })
         }

@@ -137,7 +137,11 @@ fn if_arm(
     let yes = draft.block()?;
     let no = draft.block()?;
     let merge = draft.block()?;
-    draft.close(Last::Branch { s: given, yes, no });
+    draft.close(Last::Branch {
+        condition: given,
+        yes,
+        no,
+    });
     draft.resume(yes)?;
     block(alloc, known, owner, targets, &tree.body, draft)?;
     jump(merge, draft);
@@ -188,7 +192,7 @@ fn repeated(
     draft.resume(head)?;
     let given = expr(alloc, known, owner, cond, draft)?;
     draft.close(Last::Branch {
-        s: given,
+        condition: given,
         yes: inner,
         no: after,
     });

@@ -66,14 +66,14 @@ give_value given =
 
 -- An initialiser makes its actor or object of the values of all properties, in order.
 abbrev pub made_instr : ShapeKind → ℕ → ℕ → ℕ → List Operand → Instr
-made_instr shapes.Actor key r number operands = instr.NewActor key r number operands
-made_instr _ key r number operands = instr.NewObject key r number operands
+made_instr shapes.Actor key dst number operands = instr.NewActor key dst number operands
+made_instr _ key dst number operands = instr.NewObject key dst number operands
 
 unfoldable pub init_code : ℕ → ℕ → Shape → List Given → Code (Unit {0})
 init_code key number shape givens = each give_value givens
     >>= λ values. each (λ (part : Part). known no_operand (value_of values part.name)) shape.parts
     >>= λ operands. give key (types.Named number)
-    (λ r. made_instr shape.kind key r number operands)
+    (λ dst. made_instr shape.kind key dst number operands)
     >>= λ made. close (last.Return (Some made))
 
 -- A getter gives what it reads.
@@ -81,10 +81,10 @@ abbrev pub getter_code : Code Operand → Code (Unit {0})
 getter_code read = read >>= λ value. close (last.Return (Some value))
 
 abbrev pub part_read : ℕ → ℕ → Ty → Code Operand
-part_read key index ty = give key ty (λ r. instr.LoadProp key r (operand 0 key) index)
+part_read key index ty = give key ty (λ dst. instr.LoadProp key dst (operand 0 key) index)
 
 abbrev pub stored_read : ℕ → ℕ → Ty → Code Operand
-stored_read key index ty = give key ty (λ r. instr.LoadGlobal key r index)
+stored_read key index ty = give key ty (λ dst. instr.LoadGlobal key dst index)
 
 -- a global variable is given its first value
 abbrev pub first_code : ℕ → ℕ → Code Operand → Code (Unit {0})

@@ -53,29 +53,29 @@ jump to = close (last.Jump to)
 
 -- an operator between two values
 abbrev pub binary : ℕ → BinOp → Ty → Code Operand → Operand → Code Operand
-binary at op ty right left = right >>= λ other. give at ty (λ r. instr.Bin at r op left other)
+binary at op ty right left = right >>= λ other. give at ty (λ dst. instr.Bin at dst op left other)
 
 -- `&&` and `||` keep the left value where the right one isn't looked at.
 abbrev pub copied : ℕ → Operand → Code ℕ
-copied at value = reg (Plain types.Bool) >>= λ r. emit (instr.Copy at r value) >> done r
+copied at value = reg (Plain types.Bool) >>= λ dst. emit (instr.Copy at dst value) >> done dst
 
 -- the right value, in the block that is its own
 abbrev pub right_in : ℕ → ℕ → Code Operand → ℕ → ℕ → Code Operand
-right_in at r right own merge = resume own
-    >> right >>= λ other. emit (instr.Copy at r other)
-    >> jump merge >> resume merge >> done (operand r at)
+right_in at dst right own merge = resume own
+    >> right >>= λ other. emit (instr.Copy at dst other)
+    >> jump merge >> resume merge >> done (operand dst at)
 
 abbrev pub both : ℕ → Code Operand → Operand → Code Operand
 both at right left = copied at left
-    >>= λ r. block_made
+    >>= λ dst. block_made
     >>= λ own. block_made
-    >>= λ merge. close (last.Branch left own merge) >> right_in at r right own merge
+    >>= λ merge. close (last.Branch left own merge) >> right_in at dst right own merge
 
 abbrev pub either : ℕ → Code Operand → Operand → Code Operand
 either at right left = copied at left
-    >>= λ r. block_made
+    >>= λ dst. block_made
     >>= λ own. block_made
-    >>= λ merge. close (last.Branch left merge own) >> right_in at r right own merge
+    >>= λ merge. close (last.Branch left merge own) >> right_in at dst right own merge
 
 abbrev pub by_op : InfixOp → ℕ → Code Operand → Operand → Code Operand
 by_op infix_of.Or at right left = either at right left
@@ -98,8 +98,8 @@ links_read [] left = done left
 links_read (link ∷ links) left = by_op link.op link.at link.read left >>= links_read links
 
 abbrev pub prefixed : PrefixOp → ℕ → Operand → Code Operand
-prefixed prefix_of.Not at value = give at types.Bool (λ r. instr.Un at r un.Not value)
-prefixed prefix_of.Negate at value = give at types.Int (λ r. instr.Un at r un.Neg value)
+prefixed prefix_of.Not at value = give at types.Bool (λ dst. instr.Un at dst un.Not value)
+prefixed prefix_of.Negate at value = give at types.Int (λ dst. instr.Un at dst un.Neg value)
 
 abbrev pub args_read : List ArgCode → Code (List Operand)
 args_read args = each (λ (arg : ArgCode). arg.read) args
@@ -200,22 +200,22 @@ module _ (tables : Tables) (owner : Option ℕ) where
   abbrev pub fun_read : ClosureCode → Code Operand
   fun_read closure = captured closure.at closure.at
       >>= λ operands. number (plain closure.at)
-      >>= λ f. typed tables closure.at
-      >>= λ ty. give closure.at ty (λ r. instr.NewClosure closure.at r f operands)
+      >>= λ function. typed tables closure.at
+      >>= λ ty. give closure.at ty (λ dst. instr.NewClosure closure.at dst function operands)
 
   abbrev pub spawn_read : ℕ → ClosureCode → Code Operand
   spawn_read at closure = captured at closure.at
       >>= λ operands. number (plain closure.at)
-      >>= λ f. typed tables at
-      >>= λ ty. give at ty (λ r. instr.NewTask at r f operands)
+      >>= λ function. typed tables at
+      >>= λ ty. give at ty (λ dst. instr.NewTask at dst function operands)
 
   -- an assignment to a part of a cell, or of a struct's value, which is assigned with it
   abbrev pub set_part : ShapeKind → ℕ → ℕ → ℕ → ExprCode → Operand → Code (Unit {0})
   set_part shapes.Struct at shape number base given = base.read
       >>= λ old. reg (Plain (types.Named shape))
-      >>= λ r. emit (instr.Copy at r old)
-      >> emit (instr.SetField at (operand r base.key) number given)
-      >> base.write (operand r base.key)
+      >>= λ dst. emit (instr.Copy at dst old)
+      >> emit (instr.SetField at (operand dst base.key) number given)
+      >> base.write (operand dst base.key)
   set_part shapes.Enum at shape number base given = known tt None
   set_part shapes.Class at shape number base given = base.read
       >>= λ cell. emit (instr.StoreProp at cell number given)
@@ -247,7 +247,7 @@ module _ (tables : Tables) (owner : Option ℕ) where
   member_read at base (Some (means.CaseOf shape number)) = make_value at shape (Some number) []
   member_read at base (Some (means.PartOf number)) = read_of_base at base number
   member_read at base (Some means.TaskValue) = base.read
-      >>= λ task. typed tables at >>= λ ty. give at ty (λ r. instr.Await at r task)
+      >>= λ task. typed tables at >>= λ ty. give at ty (λ dst. instr.Await at dst task)
   member_read at base _ = unknown
 
   abbrev pub member_write : ℕ → ExprCode → Option Meaning → Operand → Code (Unit {0})
@@ -275,7 +275,7 @@ module _ (tables : Tables) (owner : Option ℕ) where
   call_read at args (Some (means.FuncOf number)) = args_read args >>= call_func tables at number
   call_read at args (Some (means.MakeOf shape)) = args_read args >>= make tables at shape
   call_read at args (Some means.Print) = args_read args
-      >>= λ operands. give at types.Unit (λ r. instr.Print at r operands)
+      >>= λ operands. give at types.Unit (λ dst. instr.Print at dst operands)
   call_read at args _ = unknown
 
   -- the code of a call by a member, by the member's meaning
@@ -344,9 +344,9 @@ module _ (tables : Tables) (owner : Option ℕ) where
   abbrev pub expr_layer : layer.Expr-F ExprCode StmtCode ArgCode ClosureCode LinkCode BlockCode
       CaseCode IfCode → ExprCode
   expr_layer (layer.Int at literal) =
-      value at (give at types.Int (λ r. instr.Const at r (literals.Int literal))) []
+      value at (give at types.Int (λ dst. instr.Const at dst (literals.Int literal))) []
   expr_layer (layer.Bool at literal) =
-      value at (give at types.Bool (λ r. instr.Const at r (literals.Bool literal))) []
+      value at (give at types.Bool (λ dst. instr.Const at dst (literals.Bool literal))) []
   expr_layer (layer.Use name) = word_code name.at
   expr_layer (layer.Me at) = self_code at
   expr_layer (layer.Member base name) = member_code base name.at name.id
@@ -363,4 +363,4 @@ module _ (tables : Tables) (owner : Option ℕ) where
   expr_layer (layer.Fun closure) = fun_code closure
   expr_layer (layer.Spawn at detached body) = spawn_code at body
   expr_layer (layer.Yield at) =
-      value at (give at types.Unit (λ r. instr.Yield at r)) []
+      value at (give at types.Unit (λ dst. instr.Yield at dst)) []

@@ -100,7 +100,7 @@ switch_to cases arms otherwise =
 -- a value goes by its operator: `x += e` adds
 abbrev pub assign_by : ℕ → BinOp → ExprCode → Operand → Code (Unit {0})
 assign_by at op place given = place.read
-    >>= λ old. give at types.Int (λ r. instr.Bin at r op old given)
+    >>= λ old. give at types.Int (λ dst. instr.Bin at dst op old given)
     >>= place.write
 
 abbrev pub assign : AssignOp → ℕ → ExprCode → Operand → Code (Unit {0})
@@ -138,13 +138,13 @@ module _ (tables : Tables) where
   -- A variable is kept in a box where a closure captures it by reference.
   abbrev pub boxed_var : ℕ → Operand → Ty → Code (Unit {0})
   boxed_var key given ty = reg (BoxOf ty)
-      >>= λ r. emit (instr.NewBox key r given)
-      >> bind (record { key = key; reg = r; boxed = true })
+      >>= λ dst. emit (instr.NewBox key dst given)
+      >> bind (record { key = key; reg = dst; boxed = true })
 
   abbrev pub plain_var : ℕ → Operand → Ty → Code (Unit {0})
   plain_var key given ty = reg (Plain ty)
-      >>= λ r. emit (instr.Copy key r given)
-      >> bind (record { key = key; reg = r; boxed = false })
+      >>= λ dst. emit (instr.Copy key dst given)
+      >> bind (record { key = key; reg = dst; boxed = false })
 
   unfoldable pub declare_var : ℕ → Operand → Code (Unit {0})
   declare_var key given = typed tables key
@@ -155,8 +155,8 @@ module _ (tables : Tables) where
   pattern_code subject number (Skip at) = done tt
   pattern_code subject number (Let name) = typed tables name.at
       >>= λ ty. reg (Plain ty)
-      >>= λ r. front (instr.Payload name.at r subject number)
-      >> bind (record { key = name.at; reg = r; boxed = false })
+      >>= λ dst. front (instr.Payload name.at dst subject number)
+      >> bind (record { key = name.at; reg = dst; boxed = false })
 
   unfoldable pub patterns_code : Operand → ℕ → List Pattern → Code (Unit {0})
   patterns_code subject number [] = done tt

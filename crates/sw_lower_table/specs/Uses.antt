@@ -80,7 +80,7 @@ write_bound at given bound =
 
 unfoldable pub make_value : ℕ → ℕ → Option ℕ → List Operand → Code Operand
 make_value at shape tag operands =
-    give at (types.Named shape) (λ r. instr.Make at r shape tag operands)
+    give at (types.Named shape) (λ dst. instr.Make at dst shape tag operands)
 
 module _ (tables : Tables) where
   -- the type of the expression or variable with a key
@@ -97,7 +97,7 @@ module _ (tables : Tables) where
   -- A variable's value is in its register, or in its box.
   abbrev pub from_box : ℕ → Bound → Code Operand
   from_box at bound = typed bound.key
-      >>= λ ty. give at ty (λ r. instr.LoadBox at r (operand bound.reg at))
+      >>= λ ty. give at ty (λ dst. instr.LoadBox at dst (operand bound.reg at))
 
   unfoldable pub read_bound : ℕ → Bound → Code Operand
   read_bound at bound = if bound.boxed then from_box at bound else done (operand bound.reg at)
@@ -111,16 +111,16 @@ module _ (tables : Tables) where
   -- What another actor stores is read by a call of its getter.
   unfoldable pub call_getter : ℕ → CallKind → Ty → ℕ → List Operand → Code Operand
   call_getter at kind ty key operands = number (getter_of key)
-      >>= λ f. give at ty (λ r. instr.Call at r kind f operands)
+      >>= λ function. give at ty (λ dst. instr.Call at dst kind function operands)
 
   abbrev pub part_by : Option CallKind → ℕ → ℕ → ℕ → Ty → Operand → Code Operand
-  part_by None at shape number ty cell = give at ty (λ r. instr.LoadProp at r cell number)
+  part_by None at shape number ty cell = give at ty (λ dst. instr.LoadProp at dst cell number)
   part_by (Some kind) at shape number ty cell = known 0 (tables.part_key shape number)
       >>= λ key. call_getter at kind ty key (cell ∷ [])
 
   abbrev pub part_in : ShapeKind → ℕ → ℕ → ℕ → Ty → Operand → Code Operand
   part_in shapes.Struct at shape number ty base =
-      give at ty (λ r. instr.Field at r base number)
+      give at ty (λ dst. instr.Field at dst base number)
   part_in shapes.Enum at shape number ty base = unknown
   part_in shapes.Class at shape number ty base =
       part_by (tables.isolation.kind_at at) at shape number ty base
@@ -136,7 +136,7 @@ module _ (tables : Tables) where
       >>= λ s. part_at number s >>= λ part. part_in s.kind at shape number part.ty base
 
   abbrev pub global_by : Option CallKind → ℕ → ℕ → GlobalVar → Code Operand
-  global_by None at number global = give at global.ty (λ r. instr.LoadGlobal at r number)
+  global_by None at number global = give at global.ty (λ dst. instr.LoadGlobal at dst number)
   global_by (Some kind) at number global = call_getter at kind global.ty global.key.at []
 
   unfoldable pub read_global : ℕ → ℕ → Code Operand
@@ -146,8 +146,8 @@ module _ (tables : Tables) where
   -- the call of a function
   abbrev pub call_signature : ℕ → List Operand → Signature → Code Operand
   call_signature at operands func = number (plain func.key.at)
-      >>= λ f. known kinds.Plain (tables.isolation.kind_at at)
-      >>= λ kind. give at func.result (λ r. instr.Call at r kind f operands)
+      >>= λ function. known kinds.Plain (tables.isolation.kind_at at)
+      >>= λ kind. give at func.result (λ dst. instr.Call at dst kind function operands)
 
   unfoldable pub call_func : ℕ → ℕ → List Operand → Code Operand
   call_func at number operands = known no_func (slice_get tables.world.funcs number)
@@ -156,7 +156,7 @@ module _ (tables : Tables) where
   -- the call of a closure
   unfoldable pub call_closure : ℕ → Operand → List Operand → Code Operand
   call_closure at closure operands = typed at
-      >>= λ ty. give at ty (λ r. instr.CallClosure at r closure operands)
+      >>= λ ty. give at ty (λ dst. instr.CallClosure at dst closure operands)
 
   -- An object or an actor is made by a call of its initialiser.
   abbrev pub make_by : ShapeKind → ℕ → ℕ → List Operand → Code Operand
@@ -176,8 +176,8 @@ module _ (tables : Tables) where
   abbrev pub listed_value : ℕ → Capture → Bound → Code Operand
   listed_value at capture bound = typed bound.key
       >>= λ ty. reg (Plain ty)
-      >>= λ r. emit (instr.LoadBox at r (operand bound.reg capture.first))
-      >> done (operand r capture.first)
+      >>= λ dst. emit (instr.LoadBox at dst (operand bound.reg capture.first))
+      >> done (operand dst capture.first)
 
   unfoldable pub capture_bound : ℕ → Capture → Bound → Code Operand
   capture_bound at capture bound =

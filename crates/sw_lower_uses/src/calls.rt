@@ -30,19 +30,19 @@ pub fn call_getter(
     draft: &mut Draft<'_>,
 ) -> Result<Operand, CodeFault>
     ensures { Gives ((andthen (number (getter_of key))
-        (λ f. give at ty (λ r. instr.Call at r kind f operands))).run (making_of draft.old))
-        result draft.new }
+        (λ function. give at ty (λ dst. instr.Call at dst kind function operands))).run
+        (making_of draft.old)) result draft.new }
 {
-    let f = draft.number(FunctionName { key, getter: true })?;
-    let r = draft.reg(RegKind::Plain(ty))?;
+    let function = draft.number(FunctionName { key, getter: true })?;
+    let dst = draft.reg(RegKind::Plain(ty))?;
     let instr = Instr::Call {
         at,
-        r,
+        dst,
         kind,
-        f,
-        ss: operands,
+        function,
+        args: operands,
     };
-    emit_value(at, r, instr, draft)
+    emit_value(at, dst, instr, draft)
 }
 
 /// Calls a function, method or initialiser.
@@ -62,17 +62,17 @@ fn call_signature(
         key: func.key.at,
         getter: false,
     };
-    let f = draft.number(name)?;
+    let function = draft.number(name)?;
     let kind = known.kind_at(at).ok_or(CodeFault::Memory)?;
-    let r = draft.reg(RegKind::Plain(copy_of(alloc, &func.result)?))?;
+    let dst = draft.reg(RegKind::Plain(copy_of(alloc, &func.result)?))?;
     let instr = Instr::Call {
         at,
-        r,
+        dst,
         kind,
-        f,
-        ss: operands,
+        function,
+        args: operands,
     };
-    emit_value(at, r, instr, draft)
+    emit_value(at, dst, instr, draft)
 }
 
 /// Calls the function or method with this number.
@@ -105,14 +105,14 @@ pub fn call_closure(
         result draft.new }
 {
     let ty = type_of(alloc, known, at)?;
-    let r = draft.reg(RegKind::Plain(ty))?;
+    let dst = draft.reg(RegKind::Plain(ty))?;
     let instr = Instr::CallClosure {
         at,
-        r,
-        c: closure,
-        ss: operands,
+        dst,
+        closure,
+        args: operands,
     };
-    emit_value(at, r, instr, draft)
+    emit_value(at, dst, instr, draft)
 }
 
 /// Makes a value of a struct, or of the case of an enum with the number `tag`.
@@ -126,15 +126,15 @@ pub fn make_value(
     ensures { Gives ((make_value at shape tag operands).run (making_of draft.old))
         result draft.new }
 {
-    let r = draft.reg(RegKind::Plain(Ty::Named(shape)))?;
+    let dst = draft.reg(RegKind::Plain(Ty::Named(shape)))?;
     let instr = Instr::Make {
         at,
-        r,
-        k: shape,
+        dst,
+        shape,
         tag,
-        ss: operands,
+        args: operands,
     };
-    emit_value(at, r, instr, draft)
+    emit_value(at, dst, instr, draft)
 }
 
 /// Makes a value of a type of this kind: an object or an actor by its initialiser.

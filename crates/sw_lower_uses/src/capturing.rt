@@ -30,13 +30,13 @@ fn listed_value(
         result draft.new }
 {
     let ty = type_of(alloc, known, bound.key)?;
-    let r = draft.reg(RegKind::Plain(ty))?;
-    let b = Operand {
+    let dst = draft.reg(RegKind::Plain(ty))?;
+    let cell = Operand {
         reg: bound.reg,
         at: capture.first,
     };
-    let instr = Instr::LoadBox { at, r, b };
-    emit_value(capture.first, r, instr, draft)
+    let instr = Instr::LoadBox { at, dst, cell };
+    emit_value(capture.first, dst, instr, draft)
 }
 
 /// What goes into a closure for a variable that was looked up. One that is captured by reference

@@ -9,16 +9,16 @@ use sw_draft::Draft;
 use sw_graph::{Instr, Operand};
 use sw_lower_run::CodeFault;
 
-/// Adds the instruction that sets the register `r`, and gives what it sets.
+/// Adds the instruction that sets the register `dst`, and gives what it sets.
 pub fn emit_value(
     at: u32,
-    r: u32,
+    dst: u32,
     instr: Instr,
     draft: &mut Draft<'_>,
 ) -> Result<Operand, CodeFault>
-    ensures { Gives ((andthen (emit instr) (λ _. done (operand r at))).run (making_of draft.old))
+    ensures { Gives ((andthen (emit instr) (λ _. done (operand dst at))).run (making_of draft.old))
         result draft.new }
 {
     draft.emit(instr)?;
-    Ok(Operand { reg: r, at })
+    Ok(Operand { reg: dst, at })
 }

@@ -20,12 +20,16 @@ use sw_typing_words::copy_of;
 
 /// Reads the global variable with this number, where that crosses nothing.
 fn load_global(at: u32, number: u32, ty: Ty, draft: &mut Draft<'_>) -> Result<Operand, CodeFault>
-    ensures { Gives ((give at ty (λ r. instr.LoadGlobal at r number)).run (making_of draft.old))
+    ensures { Gives ((give at ty (λ dst. instr.LoadGlobal at dst number)).run (making_of draft.old))
         result draft.new }
 {
-    let r = draft.reg(RegKind::Plain(ty))?;
-    let instr = Instr::LoadGlobal { at, r, g: number };
-    emit_value(at, r, instr, draft)
+    let dst = draft.reg(RegKind::Plain(ty))?;
+    let instr = Instr::LoadGlobal {
+        at,
+        dst,
+        global: number,
+    };
+    emit_value(at, dst, instr, draft)
 }
 
 /// Reads a global variable: by its getter where that crosses.

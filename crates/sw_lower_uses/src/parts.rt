@@ -26,17 +26,17 @@ fn field(
     base: Operand,
     draft: &mut Draft<'_>,
 ) -> Result<Operand, CodeFault>
-    ensures { Gives ((give at ty (λ r. instr.Field at r base number)).run (making_of draft.old))
+    ensures { Gives ((give at ty (λ dst. instr.Field at dst base number)).run (making_of draft.old))
         result draft.new }
 {
-    let r = draft.reg(RegKind::Plain(ty))?;
+    let dst = draft.reg(RegKind::Plain(ty))?;
     let instr = Instr::Field {
         at,
-        r,
-        s: base,
-        i: number,
+        dst,
+        src: base,
+        part: number,
     };
-    emit_value(at, r, instr, draft)
+    emit_value(at, dst, instr, draft)
 }
 
 /// Reads a property of an object or an actor, where that crosses nothing.
@@ -47,17 +47,17 @@ fn load_part(
     cell: Operand,
     draft: &mut Draft<'_>,
 ) -> Result<Operand, CodeFault>
-    ensures { Gives ((give at ty (λ r. instr.LoadProp at r cell number)).run (making_of draft.old))
-        result draft.new }
+    ensures { Gives ((give at ty (λ dst. instr.LoadProp at dst cell number)).run
+        (making_of draft.old)) result draft.new }
 {
-    let r = draft.reg(RegKind::Plain(ty))?;
+    let dst = draft.reg(RegKind::Plain(ty))?;
     let instr = Instr::LoadProp {
         at,
-        r,
-        o: cell,
-        i: number,
+        dst,
+        cell,
+        part: number,
     };
-    emit_value(at, r, instr, draft)
+    emit_value(at, dst, instr, draft)
 }
 
 /// Reads a property of an object or an actor: by its getter where that crosses.

@@ -26,10 +26,10 @@ fn from_box(
         result draft.new }
 {
     let ty = type_of(alloc, known, bound.key)?;
-    let r = draft.reg(RegKind::Plain(ty))?;
-    let b = Operand { reg: bound.reg, at };
-    let instr = Instr::LoadBox { at, r, b };
-    emit_value(at, r, instr, draft)
+    let dst = draft.reg(RegKind::Plain(ty))?;
+    let cell = Operand { reg: bound.reg, at };
+    let instr = Instr::LoadBox { at, dst, cell };
+    emit_value(at, dst, instr, draft)
 }
 
 /// Reads a variable that was looked up.
@@ -66,20 +66,15 @@ pub fn read_var(
 }
 
 /// Assigns to a variable that was looked up.
-fn write_bound(
-    at: u32,
-    given: Operand,
-    bound: Bound,
-    draft: &mut Draft<'_>,
-) -> Result<(), CodeFault>
-    ensures { Gives ((write_bound at given bound).run (making_of draft.old)) result draft.new }
+fn write_bound(at: u32, src: Operand, bound: Bound, draft: &mut Draft<'_>) -> Result<(), CodeFault>
+    ensures { Gives ((write_bound at src bound).run (making_of draft.old)) result draft.new }
 {
     if bound.boxed {
-        let b = Operand { reg: bound.reg, at };
-        draft.emit(Instr::StoreBox { at, b, s: given })
+        let cell = Operand { reg: bound.reg, at };
+        draft.emit(Instr::StoreBox { at, cell, src })
     } else {
-        let r = bound.reg;
-        draft.emit(Instr::Copy { at, r, s: given })
+        let dst = bound.reg;
+        draft.emit(Instr::Copy { at, dst, src })
     }
 }
 

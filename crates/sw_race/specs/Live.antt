@@ -22,20 +22,21 @@ var_part_of graph state frame o i =
 
 -- a load reads a location that has a value, and a store writes the value of its operand
 abbrev pub live_access : Graph → State → ℕ → Frame → Instr → Option Access
-live_access graph state j frame (instr.LoadBox at r b) =
-    option_map (read_by j at) (box_of state frame b)
-live_access graph state j frame (instr.StoreBox at b s) =
-    option_and_then (λ v. option_map (write_by j at) (box_of state frame b))
-    (operand_value frame.regs s)
-live_access graph state j frame (instr.LoadProp at r o i) =
-    option_map (read_by j at) (var_part_of graph state frame o i)
-live_access graph state j frame (instr.StoreProp at o i s) =
-    option_and_then (λ v. option_map (write_by j at) (var_part_of graph state frame o i))
-    (operand_value frame.regs s)
-live_access graph state j frame (instr.LoadGlobal at r g) =
-    option_and_then (λ v. option_map (read_by j at) (global_at graph g)) (value_at state.globals g)
-live_access graph state j frame (instr.StoreGlobal at g s) =
+live_access graph state j frame (instr.LoadBox at dst cell) =
+    option_map (read_by j at) (box_of state frame cell)
+live_access graph state j frame (instr.StoreBox at cell src) =
+    option_and_then (λ v. option_map (write_by j at) (box_of state frame cell))
+    (operand_value frame.regs src)
+live_access graph state j frame (instr.LoadProp at dst cell part) =
+    option_map (read_by j at) (var_part_of graph state frame cell part)
+live_access graph state j frame (instr.StoreProp at cell part src) =
+    option_and_then (λ v. option_map (write_by j at) (var_part_of graph state frame cell part))
+    (operand_value frame.regs src)
+live_access graph state j frame (instr.LoadGlobal at dst global) =
+    option_and_then (λ v. option_map (read_by j at) (global_at graph global))
+    (value_at state.globals global)
+live_access graph state j frame (instr.StoreGlobal at global src) =
     option_and_then
-    (λ v. option_and_then (λ old. option_map (write_by j at) (global_at graph g))
-    (slice_get state.globals g)) (operand_value frame.regs s)
+    (λ v. option_and_then (λ old. option_map (write_by j at) (global_at graph global))
+    (slice_get state.globals global)) (operand_value frame.regs src)
 live_access graph state j frame _ = None

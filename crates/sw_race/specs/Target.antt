@@ -26,16 +26,18 @@ write_of place = record { place = place; writes = true }
 
 -- loads and stores name a part or a box of the cell in a register, or a global `var`
 abbrev pub instr_target : Graph → Frame → Instr → Option Target
-instr_target graph frame (instr.LoadBox at r b) =
-    option_map (λ c. read_of (BoxOf c)) (reference_at frame.regs b)
-instr_target graph frame (instr.StoreBox at b s) =
-    option_map (λ c. write_of (BoxOf c)) (reference_at frame.regs b)
-instr_target graph frame (instr.LoadProp at r o i) =
-    option_map (λ c. read_of (Prop c i)) (reference_at frame.regs o)
-instr_target graph frame (instr.StoreProp at o i s) =
-    option_map (λ c. write_of (Prop c i)) (reference_at frame.regs o)
-instr_target graph frame (instr.LoadGlobal at r g) = option_map read_of (global_at graph g)
-instr_target graph frame (instr.StoreGlobal at g s) = option_map write_of (global_at graph g)
+instr_target graph frame (instr.LoadBox at dst cell) =
+    option_map (λ c. read_of (BoxOf c)) (reference_at frame.regs cell)
+instr_target graph frame (instr.StoreBox at cell src) =
+    option_map (λ c. write_of (BoxOf c)) (reference_at frame.regs cell)
+instr_target graph frame (instr.LoadProp at dst cell part) =
+    option_map (λ c. read_of (Prop c part)) (reference_at frame.regs cell)
+instr_target graph frame (instr.StoreProp at cell part src) =
+    option_map (λ c. write_of (Prop c part)) (reference_at frame.regs cell)
+instr_target graph frame (instr.LoadGlobal at dst global) =
+    option_map read_of (global_at graph global)
+instr_target graph frame (instr.StoreGlobal at global src) =
+    option_map write_of (global_at graph global)
 instr_target graph frame _ = None
 
 abbrev pub point_target : Graph → Frame → Point → Option Target

@@ -49,26 +49,31 @@ fn live_access(
     ensures { result ≡ live_access graph.now state.now job frame.now instr.now }
 {
     match instr {
-        Instr::LoadBox { at, b, .. } => Some(read_by(job, *at, box_of(state, frame, b)?)),
-        Instr::StoreBox { at, b, s } => {
-            let _value = frame.value_at(s.reg)?;
-            Some(write_by(job, *at, box_of(state, frame, b)?))
+        Instr::LoadBox { at, cell, .. } => Some(read_by(job, *at, box_of(state, frame, cell)?)),
+        Instr::StoreBox { at, cell, src } => {
+            let _value = frame.value_at(src.reg)?;
+            Some(write_by(job, *at, box_of(state, frame, cell)?))
         }
-        Instr::LoadProp { at, o, i, .. } => {
-            Some(read_by(job, *at, var_part_of(graph, state, frame, o, *i)?))
+        Instr::LoadProp { at, cell, part, .. } => {
+            Some(read_by(job, *at, var_part_of(graph, state, frame, cell, *part)?))
         }
-        Instr::StoreProp { at, o, i, s } => {
-            let _value = frame.value_at(s.reg)?;
-            Some(write_by(job, *at, var_part_of(graph, state, frame, o, *i)?))
+        Instr::StoreProp {
+            at,
+            cell,
+            part,
+            src,
+        } => {
+            let _value = frame.value_at(src.reg)?;
+            Some(write_by(job, *at, var_part_of(graph, state, frame, cell, *part)?))
         }
-        Instr::LoadGlobal { at, g, .. } => {
-            let _value = value_in(&state.globals, *g)?;
-            Some(read_by(job, *at, global_at(graph, *g)?))
+        Instr::LoadGlobal { at, global, .. } => {
+            let _value = value_in(&state.globals, *global)?;
+            Some(read_by(job, *at, global_at(graph, *global)?))
         }
-        Instr::StoreGlobal { at, g, s } => {
-            let _value = frame.value_at(s.reg)?;
-            let _old = state.globals.get(*g as usize)?;
-            Some(write_by(job, *at, global_at(graph, *g)?))
+        Instr::StoreGlobal { at, global, src } => {
+            let _value = frame.value_at(src.reg)?;
+            let _old = state.globals.get(*global as usize)?;
+            Some(write_by(job, *at, global_at(graph, *global)?))
         }
         Instr::Const { .. }
         | Instr::Un { .. }

@@ -45,18 +45,18 @@ fn instr_target(graph: &Graph, frame: &Frame, instr: &Instr) -> Option<Target>
     ensures { result ≡ instr_target graph.now frame.now instr.now }
 {
     match instr {
-        Instr::LoadBox { b, .. } => Some(read_of(Place::BoxOf(frame.reference_at(b)?))),
-        Instr::StoreBox { b, .. } => Some(write_of(Place::BoxOf(frame.reference_at(b)?))),
-        Instr::LoadProp { o, i, .. } => Some(read_of(Place::Prop {
-            cell: frame.reference_at(o)?,
-            part: *i,
+        Instr::LoadBox { cell, .. } => Some(read_of(Place::BoxOf(frame.reference_at(cell)?))),
+        Instr::StoreBox { cell, .. } => Some(write_of(Place::BoxOf(frame.reference_at(cell)?))),
+        Instr::LoadProp { cell, part, .. } => Some(read_of(Place::Prop {
+            cell: frame.reference_at(cell)?,
+            part: *part,
         })),
-        Instr::StoreProp { o, i, .. } => Some(write_of(Place::Prop {
-            cell: frame.reference_at(o)?,
-            part: *i,
+        Instr::StoreProp { cell, part, .. } => Some(write_of(Place::Prop {
+            cell: frame.reference_at(cell)?,
+            part: *part,
         })),
-        Instr::LoadGlobal { g, .. } => Some(read_of(global_at(graph, *g)?)),
-        Instr::StoreGlobal { g, .. } => Some(write_of(global_at(graph, *g)?)),
+        Instr::LoadGlobal { global, .. } => Some(read_of(global_at(graph, *global)?)),
+        Instr::StoreGlobal { global, .. } => Some(write_of(global_at(graph, *global)?)),
         Instr::Const { .. }
         | Instr::Un { .. }
         | Instr::Bin { .. }

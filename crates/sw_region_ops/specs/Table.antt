@@ -35,16 +35,17 @@ marks setting operands = marks_of setting.elements operands
 
 -- the element of a register that is set
 abbrev pub result : Setting → ℕ → Option ℕ
-result setting r = element_at setting.elements r
+result setting dst = element_at setting.elements dst
 
 -- A part of an actor, or of another cell that isn't tracked, is in the region of the code itself.
 abbrev pub load_ops : Setting → Option ℕ → ℕ → Operand → List Op
-load_ops setting (Some cell) r o = take_from (result setting r) (marks setting (o ∷ []))
-load_ops setting None r o = put_here (result setting r)
+load_ops setting (Some element) dst cell =
+    take_from (result setting dst) (marks setting (cell ∷ []))
+load_ops setting None dst cell = put_here (result setting dst)
 
 abbrev pub store_ops : Setting → Option ℕ → Operand → Operand → List Op
-store_ops setting (Some cell) o s = meet (marks setting (o ∷ s ∷ []))
-store_ops setting None o s = keep (marks setting (s ∷ []))
+store_ops setting (Some element) cell src = meet (marks setting (cell ∷ src ∷ []))
+store_ops setting None cell src = keep (marks setting (src ∷ []))
 
 -- what an isolated closure holds, and the closure, are with its actor
 abbrev pub closure_ops : Bool → Option ℕ → List Mark → List Op
@@ -68,38 +69,41 @@ iso_is setting test f =
     option_map_or (λ function. test function.iso) (slice_get setting.functions f) false
 
 abbrev pub instr_ops : Setting → Instr → List Op
-instr_ops setting (Const at r v) = []
-instr_ops setting (Un at r op s) = []
-instr_ops setting (Bin at r op s t) = []
-instr_ops setting (Print at r ss) = []
-instr_ops setting (Copy at r s) = take_from (result setting r) (marks setting (s ∷ []))
-instr_ops setting (Field at r s i) = take_from (result setting r) (marks setting (s ∷ []))
-instr_ops setting (Payload at r s i) = take_from (result setting r) (marks setting (s ∷ []))
-instr_ops setting (SetField at r i s) = meet (marks setting (r ∷ s ∷ []))
-instr_ops setting (Make at r k tag ss) = make_of (result setting r) (marks setting ss)
-instr_ops setting (NewObject at r k ss) = make_of (result setting r) (marks setting ss)
-instr_ops setting (NewBox at r s) = make_of (result setting r) (marks setting (s ∷ []))
-instr_ops setting (NewActor at r k ss) = need_each (marks setting ss)
-instr_ops setting (LoadBox at r b) = take_from (result setting r) (marks setting (b ∷ []))
-instr_ops setting (StoreBox at b s) = meet (marks setting (b ∷ s ∷ []))
-instr_ops setting (LoadProp at r o i) =
-    load_ops setting (element_at setting.elements o.reg) r o
-instr_ops setting (StoreProp at o i s) =
-    store_ops setting (element_at setting.elements o.reg) o s
-instr_ops setting (LoadGlobal at r g) = put_here (result setting r)
-instr_ops setting (StoreGlobal at g s) = keep (marks setting (s ∷ []))
-instr_ops setting (NewClosure at r f cs) =
-    closure_ops (iso_is setting is_isolated f) (result setting r) (marks setting cs)
-instr_ops setting (Call at r kind f ss) =
-    callee_ops kind (free_code setting.body.iso) at (result setting r) setting.elements ss
-    (slice_get setting.functions f)
-instr_ops setting (CallClosure at r c ss) =
-    meet (marks setting (c ∷ ss)) ++ put_first (result setting r) (marks setting (c ∷ ss))
-instr_ops setting (NewTask at r f cs) =
-    task_ops (iso_is setting (λ iso. shares_actor iso setting.body.iso) f)
-    (free_code setting.body.iso) at (marks setting cs)
-instr_ops setting (Await at r t) = []
-instr_ops setting (Yield at r) = []
+instr_ops setting (Const at dst value) = []
+instr_ops setting (Un at dst op src) = []
+instr_ops setting (Bin at dst op left right) = []
+instr_ops setting (Print at dst args) = []
+instr_ops setting (Copy at dst src) = take_from (result setting dst) (marks setting (src ∷ []))
+instr_ops setting (Field at dst src part) =
+    take_from (result setting dst) (marks setting (src ∷ []))
+instr_ops setting (Payload at dst src index) =
+    take_from (result setting dst) (marks setting (src ∷ []))
+instr_ops setting (SetField at target part src) = meet (marks setting (target ∷ src ∷ []))
+instr_ops setting (Make at dst shape tag args) = make_of (result setting dst) (marks setting args)
+instr_ops setting (NewObject at dst shape args) = make_of (result setting dst) (marks setting args)
+instr_ops setting (NewBox at dst src) = make_of (result setting dst) (marks setting (src ∷ []))
+instr_ops setting (NewActor at dst shape args) = need_each (marks setting args)
+instr_ops setting (LoadBox at dst cell) = take_from (result setting dst) (marks setting (cell ∷ []))
+instr_ops setting (StoreBox at cell src) = meet (marks setting (cell ∷ src ∷ []))
+instr_ops setting (LoadProp at dst cell part) =
+    load_ops setting (element_at setting.elements cell.reg) dst cell
+instr_ops setting (StoreProp at cell part src) =
+    store_ops setting (element_at setting.elements cell.reg) cell src
+instr_ops setting (LoadGlobal at dst global) = put_here (result setting dst)
+instr_ops setting (StoreGlobal at global src) = keep (marks setting (src ∷ []))
+instr_ops setting (NewClosure at dst function captures) =
+    closure_ops (iso_is setting is_isolated function) (result setting dst) (marks setting captures)
+instr_ops setting (Call at dst kind function args) =
+    callee_ops kind (free_code setting.body.iso) at (result setting dst) setting.elements args
+    (slice_get setting.functions function)
+instr_ops setting (CallClosure at dst closure args) =
+    meet (marks setting (closure ∷ args))
+    ++ put_first (result setting dst) (marks setting (closure ∷ args))
+instr_ops setting (NewTask at dst function captures) =
+    task_ops (iso_is setting (λ iso. shares_actor iso setting.body.iso) function)
+    (free_code setting.body.iso) at (marks setting captures)
+instr_ops setting (Await at dst task) = []
+instr_ops setting (Yield at dst) = []
 
 -- a `sending` result has to be free
 abbrev pub return_ops : Bool → List Mark → List Op
@@ -107,10 +111,10 @@ return_ops sends value = need_each value ++ (if sends then free_each NOT_DISCONN
 
 abbrev pub last_ops : Setting → Last → List Op
 last_ops setting (Jump to) = []
-last_ops setting (Branch s holds fails) = []
-last_ops setting (Switch s to) = need_each (marks setting (s ∷ []))
+last_ops setting (Branch condition holds fails) = []
+last_ops setting (Switch subject to) = need_each (marks setting (subject ∷ []))
 last_ops setting (Return None) = []
-last_ops setting (Return (Some s)) = return_ops setting.body.sends (marks setting (s ∷ []))
+last_ops setting (Return (Some value)) = return_ops setting.body.sends (marks setting (value ∷ []))
 
 -- the operations of what stands at a point
 abbrev pub point_ops : Setting → Point → List Op

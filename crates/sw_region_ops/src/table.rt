@@ -42,14 +42,14 @@ fn copied(
     alloc: Global,
     ops: &mut OpList,
     context: &Context,
-    r: u32,
+    dst: u32,
     operand: Operand,
 ) -> Result<(), AllocError>
     ensures { OnOk result (ops.new ≡ ops.old
-        ++ take_from (result_at context.now r) (marks context.now (operand ∷ []))) }
+        ++ take_from (result_at context.now dst) (marks context.now (operand ∷ []))) }
 {
     let marks = marks_of(alloc, context.elements(), &[operand])?;
-    take_from(ops, context.element(r), marks.as_slice())
+    take_from(ops, context.element(dst), marks.as_slice())
 }
 
 /// A register that is set to a new value of these operands.
@@ -57,14 +57,14 @@ fn made(
     alloc: Global,
     ops: &mut OpList,
     context: &Context,
-    r: u32,
+    dst: u32,
     operands: &[Operand],
 ) -> Result<(), AllocError>
     ensures { OnOk result (ops.new ≡ ops.old
-        ++ make_of (result_at context.now r) (marks context.now operands.now)) }
+        ++ make_of (result_at context.now dst) (marks context.now operands.now)) }
 {
     let marks = marks_of(alloc, context.elements(), operands)?;
-    make_of(ops, context.element(r), marks.as_slice())
+    make_of(ops, context.element(dst), marks.as_slice())
 }
 
 /// Two operands that come together.
@@ -95,25 +95,25 @@ fn kept(
 }
 
 /// A register that is set to what is in the region of the code itself.
-fn loaded_here(ops: &mut OpList, context: &Context, r: u32) -> Result<(), AllocError>
-    ensures { OnOk result (ops.new ≡ ops.old ++ put_here (result_at context.now r)) }
+fn loaded_here(ops: &mut OpList, context: &Context, dst: u32) -> Result<(), AllocError>
+    ensures { OnOk result (ops.new ≡ ops.old ++ put_here (result_at context.now dst)) }
 {
-    put_here(ops, context.element(r))
+    put_here(ops, context.element(dst))
 }
 
 fn load_ops(
     alloc: Global,
     ops: &mut OpList,
     context: &Context,
-    r: u32,
+    dst: u32,
     cell: Operand,
 ) -> Result<(), AllocError>
     ensures { OnOk result (ops.new ≡ ops.old
-        ++ load_ops context.now (element_at context.now.elements cell.reg) r cell) }
+        ++ load_ops context.now (element_at context.now.elements cell.reg) dst cell) }
 {
     match context.element(cell.reg) {
-        Some(_) => copied(alloc, ops, context, r, cell),
-        None => loaded_here(ops, context, r),
+        Some(_) => copied(alloc, ops, context, dst, cell),
+        None => loaded_here(ops, context, dst),
     }
 }
 
@@ -164,17 +164,17 @@ fn enclosed(
     alloc: Global,
     ops: &mut OpList,
     context: &Context,
-    r: u32,
+    dst: u32,
     function: u32,
     captures: &[Operand],
 ) -> Result<(), AllocError>
     ensures { OnOk result (ops.new ≡ ops.old
-        ++ closure_ops (iso_is context.now is_isolated function) (result_at context.now r)
+        ++ closure_ops (iso_is context.now is_isolated function) (result_at context.now dst)
         (marks context.now captures.now)) }
 {
     let marks = marks_of(alloc, context.elements(), captures)?;
     let isolated = is_isolated_function(context, function);
-    closure_ops(ops, isolated, context.element(r), marks.as_slice())
+    closure_ops(ops, isolated, context.element(dst), marks.as_slice())
 }
 
 /// A register that is set by a call.
@@ -183,13 +183,13 @@ fn called(
     ops: &mut OpList,
     context: &Context,
     at: u32,
-    r: u32,
+    dst: u32,
     kind: CallKind,
     function: u32,
     operands: &[Operand],
 ) -> Result<(), AllocError>
     ensures { OnOk result (ops.new ≡ ops.old
-        ++ callee_ops kind (free_code context.now.body.iso) at (result_at context.now r)
+        ++ callee_ops kind (free_code context.now.body.iso) at (result_at context.now dst)
         context.now.elements operands.now (slice_get context.now.functions function)) }
 {
     let Some(callee) = context.function(function) else {
@@ -207,7 +207,7 @@ fn called(
     call_ops(
         ops,
         form,
-        context.element(r),
+        context.element(dst),
         sent.as_slice(),
         kept.as_slice(),
     )
@@ -233,17 +233,17 @@ fn closure_called(
     alloc: Global,
     ops: &mut OpList,
     context: &Context,
-    r: u32,
+    dst: u32,
     closure: &Operand,
     operands: &[Operand],
 ) -> Result<(), AllocError>
     ensures { OnOk result (ops.new ≡ ops.old
         ++ meet (marks context.now (closure.now ∷ operands.now))
-        ++ put_first (result_at context.now r) (marks context.now (closure.now ∷ operands.now))) }
+        ++ put_first (result_at context.now dst) (marks context.now (closure.now ∷ operands.now))) }
 {
     let marks = closure_marks(alloc, context, closure, operands)?;
     meet(ops, marks.as_slice())?;
-    put_first(ops, context.element(r), marks.as_slice())
+    put_first(ops, context.element(dst), marks.as_slice())
 }
 
 /// Whether a task runs on the actor of the body that makes it.
@@ -323,31 +323,57 @@ pub(crate) fn instr_ops(
         | Instr::Print { .. }
         | Instr::Await { .. }
         | Instr::Yield { .. } => Ok(()),
-        Instr::Copy { r, s, .. } | Instr::Field { r, s, .. } | Instr::Payload { r, s, .. } => {
-            copied(alloc, ops, context, *r, *s)
+        Instr::Copy { dst, src, .. }
+        | Instr::Field { dst, src, .. }
+        | Instr::Payload { dst, src, .. } => copied(alloc, ops, context, *dst, *src),
+        Instr::SetField { target, src, .. } => met(alloc, ops, context, *target, *src),
+        Instr::Make { dst, args, .. } | Instr::NewObject { dst, args, .. } => {
+            made(alloc, ops, context, *dst, args.as_slice())
         }
-        Instr::SetField { r, s, .. } => met(alloc, ops, context, *r, *s),
-        Instr::Make { r, ss, .. } | Instr::NewObject { r, ss, .. } => {
-            made(alloc, ops, context, *r, ss.as_slice())
+        Instr::NewBox { dst, src, .. } => made(alloc, ops, context, *dst, &[*src]),
+        Instr::NewActor { args, .. } => needed(alloc, ops, context, args.as_slice()),
+        Instr::LoadBox { dst, cell, .. } => copied(alloc, ops, context, *dst, *cell),
+        Instr::StoreBox { cell, src, .. } => met(alloc, ops, context, *cell, *src),
+        Instr::LoadProp { dst, cell, .. } => load_ops(alloc, ops, context, *dst, *cell),
+        Instr::StoreProp { cell, src, .. } => store_ops(alloc, ops, context, *cell, *src),
+        Instr::LoadGlobal { dst, .. } => loaded_here(ops, context, *dst),
+        Instr::StoreGlobal { src, .. } => kept(alloc, ops, context, *src),
+        Instr::NewClosure {
+            dst,
+            function,
+            captures,
+            ..
+        } => { enclosed(alloc, ops, context, *dst, *function, captures.as_slice()) }
+        Instr::Call {
+            at,
+            dst,
+            kind,
+            function,
+            args,
+        } => {
+            called(
+                alloc,
+                ops,
+                context,
+                *at,
+                *dst,
+                *kind,
+                *function,
+                args.as_slice(),
+            )
         }
-        Instr::NewBox { r, s, .. } => made(alloc, ops, context, *r, &[*s]),
-        Instr::NewActor { ss, .. } => needed(alloc, ops, context, ss.as_slice()),
-        Instr::LoadBox { r, b, .. } => copied(alloc, ops, context, *r, *b),
-        Instr::StoreBox { b, s, .. } => met(alloc, ops, context, *b, *s),
-        Instr::LoadProp { r, o, .. } => load_ops(alloc, ops, context, *r, *o),
-        Instr::StoreProp { o, s, .. } => store_ops(alloc, ops, context, *o, *s),
-        Instr::LoadGlobal { r, .. } => loaded_here(ops, context, *r),
-        Instr::StoreGlobal { s, .. } => kept(alloc, ops, context, *s),
-        Instr::NewClosure { r, f, cs, .. } => {
-            enclosed(alloc, ops, context, *r, *f, cs.as_slice())
-        }
-        Instr::Call { at, r, kind, f, ss } => {
-            called(alloc, ops, context, *at, *r, *kind, *f, ss.as_slice())
-        }
-        Instr::CallClosure { r, c, ss, .. } => {
-            closure_called(alloc, ops, context, *r, c, ss.as_slice())
-        }
-        Instr::NewTask { at, f, cs, .. } => { spawned(alloc, ops, context, *at, *f, cs.as_slice()) }
+        Instr::CallClosure {
+            dst,
+            closure,
+            args,
+            ..
+        } => { closure_called(alloc, ops, context, *dst, closure, args.as_slice()) }
+        Instr::NewTask {
+            at,
+            function,
+            captures,
+            ..
+        } => { spawned(alloc, ops, context, *at, *function, captures.as_slice()) }
     }
 }
 
@@ -385,9 +411,9 @@ pub(crate) fn last_ops(
     ensures { OnOk result (ops.new ≡ ops.old ++ last_ops context.now last.now) }
 {
     match last {
-        Last::Jump { .. } | Last::Branch { .. } | Last::Return { s: None } => Ok(()),
-        Last::Switch { s, .. } => needed(alloc, ops, context, &[*s]),
-        Last::Return { s: Some(s) } => returned(alloc, ops, context, *s),
+        Last::Jump { .. } | Last::Branch { .. } | Last::Return { value: None } => Ok(()),
+        Last::Switch { subject, .. } => needed(alloc, ops, context, &[*subject]),
+        Last::Return { value: Some(value) } => returned(alloc, ops, context, *value),
     }
 }
 

@@ -55,48 +55,114 @@ fn instr_effect(
         effect ≡ instr_effect graph.now state.now depth frame.now next instr.now) }
 {
     match instr {
-        Instr::Const { r, v, .. } => Ok(Effect::Set {
-            reg: *r,
-            value: Value::from(*v),
+        Instr::Const { dst, value, .. } => Ok(Effect::Set {
+            reg: *dst,
+            value: Value::from(*value),
             next,
         }),
-        Instr::Un { at, r, op, s } => Ok(unary_effect(frame, next, *at, *r, *op, s)),
-        Instr::Bin { at, r, op, s, t } => Ok(binary_effect(frame, next, *at, *r, *op, s, t)),
-        Instr::Print { r, ss, .. } => print_effect(alloc, frame, next, *r, ss),
-        Instr::Copy { r, s, .. } => set_of(alloc, next, *r, frame.value_at(s.reg)),
-        Instr::Field { r, s, i, .. } => set_of(alloc, next, *r, field_at(frame, s, *i)),
-        Instr::Payload { r, s, i, .. } => set_of(alloc, next, *r, payload_at(frame, s, *i)),
-        Instr::SetField { r, i, s, .. } => field_write(alloc, frame, next, r, *i, s),
-        Instr::Make { r, tag, ss, .. } => make_effect(alloc, frame, next, *r, *tag, ss),
-        Instr::NewObject { r, k, ss, .. } => object_effect(alloc, state, frame, next, *r, *k, ss),
-        Instr::NewBox { r, s, .. } => box_effect(alloc, state, frame, next, *r, s),
-        Instr::NewActor { r, k, ss, .. } => actor_effect(alloc, state, frame, next, *r, *k, ss),
-        Instr::LoadBox { r, b, .. } => {
-            set_of(alloc, next, *r, loaded(state, frame, b, Slot::Content))
+        Instr::Un { at, dst, op, src } => Ok(unary_effect(frame, next, *at, *dst, *op, src)),
+        Instr::Bin {
+            at,
+            dst,
+            op,
+            left,
+            right,
+        } => Ok(binary_effect(frame, next, *at, *dst, *op, left, right)),
+        Instr::Print { dst, args, .. } => print_effect(alloc, frame, next, *dst, args),
+        Instr::Copy { dst, src, .. } => set_of(alloc, next, *dst, frame.value_at(src.reg)),
+        Instr::Field { dst, src, part, .. } => {
+            set_of(alloc, next, *dst, field_at(frame, src, *part))
         }
-        Instr::StoreBox { b, s, .. } => slot_write(alloc, state, frame, next, b, Slot::Content, s),
-        Instr::LoadProp { r, o, i, .. } => {
-            set_of(alloc, next, *r, loaded(state, frame, o, Slot::Part(*i)))
+        Instr::Payload {
+            dst,
+            src,
+            index,
+            ..
+        } => { set_of(alloc, next, *dst, payload_at(frame, src, *index)) }
+        Instr::SetField {
+            target,
+            part,
+            src,
+            ..
+        } => { field_write(alloc, frame, next, target, *part, src) }
+        Instr::Make { dst, tag, args, .. } => make_effect(alloc, frame, next, *dst, *tag, args),
+        Instr::NewObject {
+            dst,
+            shape,
+            args,
+            ..
+        } => { object_effect(alloc, state, frame, next, *dst, *shape, args) }
+        Instr::NewBox { dst, src, .. } => box_effect(alloc, state, frame, next, *dst, src),
+        Instr::NewActor {
+            dst,
+            shape,
+            args,
+            ..
+        } => { actor_effect(alloc, state, frame, next, *dst, *shape, args) }
+        Instr::LoadBox { dst, cell, .. } => {
+            set_of(alloc, next, *dst, loaded(state, frame, cell, Slot::Content))
         }
-        Instr::StoreProp { o, i, s, .. } => {
-            slot_write(alloc, state, frame, next, o, Slot::Part(*i), s)
+        Instr::StoreBox { cell, src, .. } => {
+            slot_write(alloc, state, frame, next, cell, Slot::Content, src)
         }
-        Instr::LoadGlobal { r, g, .. } => set_of(alloc, next, *r, value_in(&state.globals, *g)),
-        Instr::StoreGlobal { g, s, .. } => global_write(alloc, state, frame, next, *g, s),
-        Instr::NewClosure { r, f, cs, .. } => {
-            closure_effect(alloc, state, frame, next, *r, *f, cs)
+        Instr::LoadProp {
+            dst,
+            cell,
+            part,
+            ..
+        } => {
+            set_of(
+                alloc,
+                next,
+                *dst,
+                loaded(state, frame, cell, Slot::Part(*part)),
+            )
         }
-        Instr::Call { at, r, kind, f, ss } => {
-            call_effect(alloc, graph, depth, frame, next, *at, *r, *kind, *f, ss)
+        Instr::StoreProp {
+            cell,
+            part,
+            src,
+            ..
+        } => { slot_write(alloc, state, frame, next, cell, Slot::Part(*part), src) }
+        Instr::LoadGlobal { dst, global, .. } => {
+            set_of(alloc, next, *dst, value_in(&state.globals, *global))
         }
-        Instr::CallClosure { at, r, c, ss } => {
-            closure_call_effect(alloc, graph, state, depth, frame, next, *at, *r, c, ss)
+        Instr::StoreGlobal { global, src, .. } => {
+            global_write(alloc, state, frame, next, *global, src)
         }
-        Instr::NewTask { at, r, f, cs } => {
-            task_effect(alloc, graph, state, frame, next, *at, *r, *f, cs)
-        }
-        Instr::Await { r, t, .. } => Ok(await_effect(state, frame, next, *r, t)),
-        Instr::Yield { r, .. } => Ok(Effect::Rest { reg: *r, next }),
+        Instr::NewClosure {
+            dst,
+            function,
+            captures,
+            ..
+        } => { closure_effect(alloc, state, frame, next, *dst, *function, captures) }
+        Instr::Call {
+            at,
+            dst,
+            kind,
+            function,
+            args,
+        } => call_effect(
+            alloc, graph, depth, frame, next, *at, *dst, *kind, *function, args,
+        ),
+        Instr::CallClosure {
+            at,
+            dst,
+            closure,
+            args,
+        } => closure_call_effect(
+            alloc, graph, state, depth, frame, next, *at, *dst, closure, args,
+        ),
+        Instr::NewTask {
+            at,
+            dst,
+            function,
+            captures,
+        } => task_effect(
+            alloc, graph, state, frame, next, *at, *dst, *function, captures,
+        ),
+        Instr::Await { dst, task, .. } => Ok(await_effect(state, frame, next, *dst, task)),
+        Instr::Yield { dst, .. } => Ok(Effect::Rest { reg: *dst, next }),
     }
 }
 
@@ -111,10 +177,14 @@ fn last_effect(
 {
     match last {
         Last::Jump { to } => Ok(goto_of(graph, frame, *to)),
-        Last::Branch { s, yes, no } => Ok(branch_effect(graph, frame, s, *yes, *no)),
-        Last::Switch { s, to } => Ok(switch_effect(graph, frame, s, to)),
-        Last::Return { s: None } => Ok(Effect::Leave { value: Value::Unit }),
-        Last::Return { s: Some(operand) } => match frame.value_at(operand.reg) {
+        Last::Branch { condition, yes, no } => {
+            Ok(branch_effect(graph, frame, condition, *yes, *no))
+        }
+        Last::Switch { subject, to } => Ok(switch_effect(graph, frame, subject, to)),
+        Last::Return { value: None } => Ok(Effect::Leave { value: Value::Unit }),
+        Last::Return {
+            value: Some(operand),
+        } => match frame.value_at(operand.reg) {
             None => Ok(Effect::Stuck),
             Some(value) => Ok(Effect::Leave {
                 value: value.copied(alloc)?,
@@ -133,19 +203,19 @@ fn goto_of(graph: &Graph, frame: &Frame, block: u32) -> Effect
     }
 }
 
-fn branch_effect(graph: &Graph, frame: &Frame, operand: &Operand, yes: u32, no: u32) -> Effect
-    ensures { result ≡ last_effect graph.now frame.now (Branch operand.now yes no) }
+fn branch_effect(graph: &Graph, frame: &Frame, condition: &Operand, yes: u32, no: u32) -> Effect
+    ensures { result ≡ last_effect graph.now frame.now (Branch condition.now yes no) }
 {
-    match truth_at(frame, operand) {
+    match truth_at(frame, condition) {
         None => Effect::Stuck,
         Some(truth) => goto_of(graph, frame, if truth { yes } else { no }),
     }
 }
 
-fn switch_effect(graph: &Graph, frame: &Frame, operand: &Operand, to: &IdList) -> Effect
-    ensures { result ≡ last_effect graph.now frame.now (Switch operand.now to.now) }
+fn switch_effect(graph: &Graph, frame: &Frame, subject: &Operand, to: &IdList) -> Effect
+    ensures { result ≡ last_effect graph.now frame.now (Switch subject.now to.now) }
 {
-    let Some(tag) = tag_at(frame, operand) else {
+    let Some(tag) = tag_at(frame, subject) else {
         return Effect::Stuck;
     };
     match to.get(tag as usize) {

@@ -63,18 +63,20 @@ write_by j at place = record { job = j; at = at; place = place; writes = true }
 
 -- The access of an instruction: loads read and stores write. The `let`s are no locations.
 abbrev pub access_of : Graph → State → ℕ → Frame → Instr → Option Access
-access_of graph state j frame (instr.LoadBox at r b) =
-    option_map (read_by j at) (option_and_then (box_at state) (reference_at frame.regs b))
-access_of graph state j frame (instr.StoreBox at b s) =
-    option_map (write_by j at) (option_and_then (box_at state) (reference_at frame.regs b))
-access_of graph state j frame (instr.LoadProp at r o i) =
-    option_map (read_by j at) (option_and_then (part_at graph state i) (reference_at frame.regs o))
-access_of graph state j frame (instr.StoreProp at o i s) =
-    option_map (write_by j at) (option_and_then (part_at graph state i) (reference_at frame.regs o))
-access_of graph state j frame (instr.LoadGlobal at r g) =
-    option_map (read_by j at) (global_at graph g)
-access_of graph state j frame (instr.StoreGlobal at g s) =
-    option_map (write_by j at) (global_at graph g)
+access_of graph state j frame (instr.LoadBox at dst cell) =
+    option_map (read_by j at) (option_and_then (box_at state) (reference_at frame.regs cell))
+access_of graph state j frame (instr.StoreBox at cell src) =
+    option_map (write_by j at) (option_and_then (box_at state) (reference_at frame.regs cell))
+access_of graph state j frame (instr.LoadProp at dst cell part) =
+    option_map (read_by j at)
+    (option_and_then (part_at graph state part) (reference_at frame.regs cell))
+access_of graph state j frame (instr.StoreProp at cell part src) =
+    option_map (write_by j at)
+    (option_and_then (part_at graph state part) (reference_at frame.regs cell))
+access_of graph state j frame (instr.LoadGlobal at dst global) =
+    option_map (read_by j at) (global_at graph global)
+access_of graph state j frame (instr.StoreGlobal at global src) =
+    option_map (write_by j at) (global_at graph global)
 access_of graph state j frame _ = None
 
 abbrev pub point_access : Graph → State → ℕ → Frame → Point → Option Access

@@ -103,57 +103,61 @@ spawn_of state next at r frame =
 -- The effect of an instruction after which the frame goes on at `next`. The frame is the top one of
 -- `depth` frames.
 abbrev pub instr_effect : Graph → State → ℕ → Frame → ℕ → Instr → Effect
-instr_effect graph state depth frame next (instr.Const at r literal) = Set r (value_of literal) next
-instr_effect graph state depth frame next (instr.Un at r op s) =
-    needs (option_and_then (unary op) (operand_value frame.regs s)) (computed_of next at r)
-instr_effect graph state depth frame next (instr.Bin at r op s t) =
-    needs (operand_value frame.regs s)
-    (λ v. needs (option_and_then (binary op v) (operand_value frame.regs t))
-    (computed_of next at r))
-instr_effect graph state depth frame next (instr.Print at r ss) =
-    needs (printed_line frame.regs ss) (λ line. Print r line next)
-instr_effect graph state depth frame next (instr.Copy at r s) =
-    set_of next r (operand_value frame.regs s)
-instr_effect graph state depth frame next (instr.Field at r s i) =
-    set_of next r (option_and_then (field_of i) (operand_value frame.regs s))
-instr_effect graph state depth frame next (instr.Payload at r s i) =
-    set_of next r (option_and_then (payload_of i) (operand_value frame.regs s))
-instr_effect graph state depth frame next (instr.SetField at r i s) = field_write frame next r i s
-instr_effect graph state depth frame next (instr.Make at r k tag ss) =
-    needs (values_at frame.regs ss) (λ parts. Set r (made tag parts) next)
-instr_effect graph state depth frame next (instr.NewObject at r k ss) =
-    needs (values_at frame.regs ss) (λ parts. new_of state next r (Object k parts))
-instr_effect graph state depth frame next (instr.NewBox at r s) =
-    needs (operand_value frame.regs s) (λ v. new_of state next r (BoxOf v))
-instr_effect graph state depth frame next (instr.NewActor at r k ss) =
-    needs (values_at frame.regs ss) (λ parts. new_of state next r (Actor k parts))
-instr_effect graph state depth frame next (instr.LoadBox at r b) =
-    set_of next r (loaded state frame b Content)
-instr_effect graph state depth frame next (instr.StoreBox at b s) =
-    slot_write state frame next b Content s
-instr_effect graph state depth frame next (instr.LoadProp at r o i) =
-    set_of next r (loaded state frame o (Part i))
-instr_effect graph state depth frame next (instr.StoreProp at o i s) =
-    slot_write state frame next o (Part i) s
-instr_effect graph state depth frame next (instr.LoadGlobal at r g) =
-    set_of next r (value_at state.globals g)
-instr_effect graph state depth frame next (instr.StoreGlobal at g s) =
-    global_write state frame next g s
-instr_effect graph state depth frame next (instr.NewClosure at r f cs) =
-    needs (values_at frame.regs cs) (λ captures. new_of state next r (Closure f captures))
-instr_effect graph state depth frame next (instr.Call at r kind f ss) =
-    needs (values_at frame.regs ss)
-    (λ values. needs (called_frame graph frame f kind r values) (enter_of depth next at))
-instr_effect graph state depth frame next (instr.CallClosure at r c ss) =
-    needs (values_at frame.regs ss)
-    (λ values. needs (option_and_then (closure_frame graph frame r values) (cell_at state frame c))
+instr_effect graph state depth frame next (instr.Const at dst literal) =
+    Set dst (value_of literal) next
+instr_effect graph state depth frame next (instr.Un at dst op src) =
+    needs (option_and_then (unary op) (operand_value frame.regs src)) (computed_of next at dst)
+instr_effect graph state depth frame next (instr.Bin at dst op left right) =
+    needs (operand_value frame.regs left)
+    (λ v. needs (option_and_then (binary op v) (operand_value frame.regs right))
+    (computed_of next at dst))
+instr_effect graph state depth frame next (instr.Print at dst args) =
+    needs (printed_line frame.regs args) (λ line. Print dst line next)
+instr_effect graph state depth frame next (instr.Copy at dst src) =
+    set_of next dst (operand_value frame.regs src)
+instr_effect graph state depth frame next (instr.Field at dst src part) =
+    set_of next dst (option_and_then (field_of part) (operand_value frame.regs src))
+instr_effect graph state depth frame next (instr.Payload at dst src index) =
+    set_of next dst (option_and_then (payload_of index) (operand_value frame.regs src))
+instr_effect graph state depth frame next (instr.SetField at target part src) =
+    field_write frame next target part src
+instr_effect graph state depth frame next (instr.Make at dst shape tag args) =
+    needs (values_at frame.regs args) (λ parts. Set dst (made tag parts) next)
+instr_effect graph state depth frame next (instr.NewObject at dst shape args) =
+    needs (values_at frame.regs args) (λ parts. new_of state next dst (Object shape parts))
+instr_effect graph state depth frame next (instr.NewBox at dst src) =
+    needs (operand_value frame.regs src) (λ v. new_of state next dst (BoxOf v))
+instr_effect graph state depth frame next (instr.NewActor at dst shape args) =
+    needs (values_at frame.regs args) (λ parts. new_of state next dst (Actor shape parts))
+instr_effect graph state depth frame next (instr.LoadBox at dst cell) =
+    set_of next dst (loaded state frame cell Content)
+instr_effect graph state depth frame next (instr.StoreBox at cell src) =
+    slot_write state frame next cell Content src
+instr_effect graph state depth frame next (instr.LoadProp at dst cell part) =
+    set_of next dst (loaded state frame cell (Part part))
+instr_effect graph state depth frame next (instr.StoreProp at cell part src) =
+    slot_write state frame next cell (Part part) src
+instr_effect graph state depth frame next (instr.LoadGlobal at dst global) =
+    set_of next dst (value_at state.globals global)
+instr_effect graph state depth frame next (instr.StoreGlobal at global src) =
+    global_write state frame next global src
+instr_effect graph state depth frame next (instr.NewClosure at dst function captures) =
+    needs (values_at frame.regs captures)
+    (λ values. new_of state next dst (Closure function values))
+instr_effect graph state depth frame next (instr.Call at dst kind function args) =
+    needs (values_at frame.regs args)
+    (λ values. needs (called_frame graph frame function kind dst values) (enter_of depth next at))
+instr_effect graph state depth frame next (instr.CallClosure at dst closure args) =
+    needs (values_at frame.regs args)
+    (λ values. needs
+    (option_and_then (closure_frame graph frame dst values) (cell_at state frame closure))
     (enter_of depth next at))
-instr_effect graph state depth frame next (instr.NewTask at r f cs) =
-    needs (values_at frame.regs cs)
-    (λ captures. needs (first_frame graph f captures) (spawn_of state next at r))
-instr_effect graph state depth frame next (instr.Await at r t) =
-    needs (option_and_then task_of (cell_at state frame t)) (λ job. Wait job r next)
-instr_effect graph state depth frame next (instr.Yield at r) = Rest r next
+instr_effect graph state depth frame next (instr.NewTask at dst function captures) =
+    needs (values_at frame.regs captures)
+    (λ values. needs (first_frame graph function values) (spawn_of state next at dst))
+instr_effect graph state depth frame next (instr.Await at dst task) =
+    needs (option_and_then task_of (cell_at state frame task)) (λ job. Wait job dst next)
+instr_effect graph state depth frame next (instr.Yield at dst) = Rest dst next
 
 -- the frame goes on where a block begins
 abbrev pub goto_of : Graph → Frame → ℕ → Effect
@@ -167,11 +171,11 @@ returned_value regs (Some operand) = value_at regs operand.reg
 -- the effect of the last instruction of a block
 abbrev pub last_effect : Graph → Frame → Last → Effect
 last_effect graph frame (last.Jump to) = goto_of graph frame to
-last_effect graph frame (last.Branch s holds fails) =
-    needs (option_and_then truth_of (operand_value frame.regs s))
+last_effect graph frame (last.Branch condition holds fails) =
+    needs (option_and_then truth_of (operand_value frame.regs condition))
     (λ truth. goto_of graph frame (if truth then holds else fails))
-last_effect graph frame (last.Switch s to) =
-    needs (option_and_then tag_of (operand_value frame.regs s))
+last_effect graph frame (last.Switch subject to) =
+    needs (option_and_then tag_of (operand_value frame.regs subject))
     (λ tag. needs (slice_get to tag) (goto_of graph frame))
 last_effect graph frame (last.Return operand) = needs (returned_value frame.regs operand) Leave
 

@@ -9,10 +9,10 @@ use Rattle.sw_graph.specs.Points.{Point, Middle, End, points_of, IsNumbered}
 
 -- what stands at the point is a literal, a print, the start of a task or a return
 abbrev pub IsRunnablePoint : Point → Type 0
-IsRunnablePoint (Middle (instr.Const at r literal)) = Unit {0}
-IsRunnablePoint (Middle (instr.Print at r operands)) = Unit {0}
-IsRunnablePoint (Middle (instr.NewTask at r f captures)) = Unit {0}
-IsRunnablePoint (End (last.Return operand)) = Unit {0}
+IsRunnablePoint (Middle (instr.Const at dst value)) = Unit {0}
+IsRunnablePoint (Middle (instr.Print at dst args)) = Unit {0}
+IsRunnablePoint (Middle (instr.NewTask at dst function captures)) = Unit {0}
+IsRunnablePoint (End (last.Return value)) = Unit {0}
 IsRunnablePoint _ = ⊥
 
 -- the function is isolated to no actor, all its points are such, and these are numbered
