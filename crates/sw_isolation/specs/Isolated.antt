@@ -1,11 +1,13 @@
 -- What is known of the isolation of a program, or its first breach of isolation.
-use Rattle.std.specs.Prelude.{◌≡◌, ℕ, List, Option, Some, Contains}
+use Rattle.std.specs.Prelude.{◌≡◌, ℕ, List, Option, Some, Contains, nat_eq}
 use Rattle.std.specs.Ordering.{nat_cmp}
 use Rattle.std.specs.List.Sorted.{IsStrictlySortedBy}
+use Rattle.indexmap.specs.IndexMap.{get}
 use Rattle.sw_tree.specs.declared.decl.Decl.{Decl}
 use Rattle.sw_typing_rules.specs.Worlds.{World}
 use Rattle.sw_isolation_rules.specs.Answers.{Answers}
-use Rattle.sw_isolation_rules.specs.Lists.{bodies_in, boxes_in, captures_in, kinds_in, races_in}
+use Rattle.sw_isolation_rules.specs.Lists.{bodies_in, boxes_in, captures_in, kind_with}
+use Rattle.sw_isolation_rules.specs.Lists.{kinds_in, races_in}
 use Rattle.sw_isolation_rules.specs.Programs.{IsFirstRefusal, noted}
 use Rattle.sw_isolation_rules.specs.declared.note.Note.{Note}
 use Rattle.sw_isolation.specs.declared.isolated.Isolated as known
@@ -22,6 +24,8 @@ pub record AreBoxes (found boxes : List ℕ) : Type 0 where
 pub record HasNotes (notes : List Note) (isolated : known.Isolated) : Type 0 where
   pub bodies : isolated.bodies ≡ bodies_in notes
   pub kinds : isolated.kinds ≡ kinds_in notes
+  pub kinds_by_key : (key : ℕ) → get nat_eq isolated.kinds_by_key key
+      ≡ kind_with (kinds_in notes) key
   pub captures : isolated.captures ≡ captures_in notes
   pub boxes : AreBoxes (boxes_in notes) isolated.boxes
   pub crossings : isolated.crossings ≡ races_in notes

@@ -14,6 +14,7 @@ ghost use Rattle.sw_types.specs.declared.shape.CaseShape.{CaseShape};
 ghost use Rattle.sw_types.specs.declared.shape.Part.{Part};
 ghost use Rattle.sw_typing_rules.specs.Worlds.{world_of};
 
+use crate::by_key::note_first;
 use crate::isolated::Isolated;
 use indexmap::IndexMap;
 use std::alloc::{AllocError, Global};
@@ -127,18 +128,6 @@ fn add_shapes(world: &Decls, found: &mut ListOf<Placed>) -> Result<(), AllocErro
     Ok(())
 }
 
-/// Notes the number of the type whose word has a key, where none is noted of the key.
-fn note_number(numbers: &mut ShapeNumbers, key: u32, number: u32) -> Result<(), AllocError>
-    ensures { OnOk result ((other : ℕ) → get nat_eq numbers.new other
-        ≡ or_else (get nat_eq numbers.old other)
-        (if key == other then Some number else None)) }
-{
-    if !numbers.contains_key(&key) {
-        numbers.insert(key, number)?;
-    }
-    Ok(())
-}
-
 /// The numbers of types by the keys of their words.
 fn numbers_of(alloc: Global, shapes: &[Shape]) -> Result<ShapeNumbers, AllocError>
     requires { length shapes.now < 2 ^ 32 }
@@ -146,7 +135,7 @@ fn numbers_of(alloc: Global, shapes: &[Shape]) -> Result<ShapeNumbers, AllocErro
 {
     let mut numbers = IndexMap::new(alloc);
     for (number, shape) in shapes.iter().enumerate() {
-        note_number(&mut numbers, shape.at, number as u32)?;
+        note_first(&mut numbers, shape.at, number as u32)?;
     }
     Ok(numbers)
 }

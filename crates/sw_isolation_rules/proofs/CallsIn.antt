@@ -1,5 +1,5 @@
 -- Each call that stands in a tree has a kind among its notes.
-use Rattle.std.proofs.Common.{◌≡◌, ℕ, not, List, [], ◌∷◌, ◌++◌, map}
+use Rattle.std.proofs.Common.{◌≡◌, ℕ, Bool, true, false, not, ◌&&◌, cond, List, [], ◌∷◌, ◌++◌, map}
 use Rattle.std.proofs.Common.{Option, Some, None, option_map, unwrap_or, Contains, ap, sym, subst}
 use Rattle.std.proofs.Common.{refl, ◌∙◌, arith}
 use Rattle.std.proofs.lemmas.List.Concat.{flat_map-append}
@@ -13,18 +13,23 @@ use Rattle.sw_tree.specs.NodeKey.{last_or}
 use Rattle.sw_tree.specs.declared.expr.Expr.{Expr}
 use Rattle.sw_tree.specs.declared.expr.Expr.TheOpen as layer
 use Rattle.sw_tree.specs.declared.expr.Link.{Link}
+use Rattle.sw_tree.specs.declared.name.Name.{Name}
+use Rattle.sw_tree.specs.declared.operator.AssignOp.{AssignOp}
+use Rattle.sw_tree.specs.declared.operator.AssignOp.TheVariants as assigns
 use Rattle.sw_tree.specs.declared.stmt.Block.{Block}
 use Rattle.sw_typing_rules.specs.Worlds.{World}
 use Rattle.sw_isolation_rules.specs.Answers.{Answers}
-use Rattle.sw_isolation_rules.specs.CallKeys.{Keys, Calling, Operating, Closing, call_keys, joined}
+use Rattle.sw_isolation_rules.specs.CallKeys.{Keys, Calls, Calling, Operating, Closing, call_keys}
+use Rattle.sw_isolation_rules.specs.CallKeys.{calling, joined, no_calls, place_calls}
 use Rattle.sw_isolation_rules.specs.CallKeys.{HasNotedKind, HaveNotedKinds, call_steps, expr_calls}
-use Rattle.sw_isolation_rules.specs.CallKeys.{block_calls}
+use Rattle.sw_isolation_rules.specs.CallKeys.{block_calls, member_calls, word_calls}
 use Rattle.sw_isolation_rules.specs.Captures.{closed, is_mention, captured, taken, own_mentions}
 use Rattle.sw_isolation_rules.specs.Captures.{list_mentions}
-use Rattle.sw_isolation_rules.specs.Kinds.{kind_of}
+use Rattle.sw_isolation_rules.specs.Kinds.{accessor, is_outside, kind_of}
 use Rattle.sw_isolation_rules.specs.Lists.{kind_in, kinds_in}
 use Rattle.sw_isolation_rules.specs.Noting.{Notes, Seen, Within, Linked, no_notes, all_of}
-use Rattle.sw_isolation_rules.specs.Noting.{note_steps}
+use Rattle.sw_isolation_rules.specs.Noting.{closure_iso, in_closure, note_steps, place_notes, race_if, task_iso}
+use Rattle.sw_isolation_rules.specs.Noting.{call_notes, value}
 use Rattle.sw_isolation_rules.specs.Noting.{see, block_notes, use_notes, in_await, word_notes}
 use Rattle.sw_isolation_rules.specs.Noting.{member_notes, task_races, with_list}
 use Rattle.sw_isolation_rules.specs.Uses.{used, base_of, no_base}
@@ -34,6 +39,8 @@ use Rattle.sw_isolation_rules.specs.declared.note.Note.{Note}
 use Rattle.sw_isolation_rules.specs.declared.note.Note.TheVariants.{Body, Kind, Refused, Race, Var}
 use Rattle.sw_isolation_rules.specs.declared.note.Note.TheVariants.{Mentioned, Captures}
 use Rattle.sw_isolation_rules.specs.declared.uses.Context.{Context}
+use Rattle.sw_isolation_rules.specs.declared.uses.Callee.{Callee}
+use Rattle.sw_isolation_rules.specs.declared.uses.Storage.{Storage}
 use Rattle.sw_isolation_rules.specs.declared.uses.Used.{Used}
 use Rattle.sw_isolation_rules.specs.declared.uses.Used.TheVariants.{Called, Stored, Field, Waited}
 use Rattle.sw_isolation_rules.specs.declared.uses.Used.TheVariants.{Nothing}
@@ -131,9 +138,9 @@ after_body body notes keys have = record { all = go keys have.all } where
   go [] all = tt
   go (key ∷ more) all = (all.0, go more all.1)
 
-use_has : (context : Context) (at : ℕ) (used : Used)
-    → Has (use_notes context at used) (call_keys at used)
-use_has context at (Called callee sends) = record {
+call_has : (context : Context) (at : ℕ) (callee : Callee) (sends : Bool)
+    → Has (call_notes context at callee sends) (at ∷ [])
+call_has context at callee sends = record {
   all = (
     (
       record { at = at; kind = kind_of callee context.iso },
@@ -142,29 +149,47 @@ use_has context at (Called callee sends) = record {
     tt,
   );
 }
-use_has context at (Stored storage) = none _
+
+read_has : (context : Context) (at : ℕ) (storage : Storage)
+    → Has (use_notes context at (Stored storage)) (call_keys context at (Stored storage))
+read_has context at storage = by (is_outside context storage) storage.mutable where
+  by : (outside mutable : Bool)
+      → Has (cond outside
+      (cond mutable (call_notes context at (accessor storage) storage.may_cross)
+      (race_if (not storage.may_cross) at 606)) [])
+      (cond (outside && mutable) (at ∷ []) [])
+  by true true = call_has context at (accessor storage) storage.may_cross
+  by true false = none _
+  by false mutable = none _
+
+use_has : (context : Context) (at : ℕ) (used : Used)
+    → Has (use_notes context at used) (call_keys context at used)
+use_has context at (Called callee sends) = call_has context at callee sends
+use_has context at (Stored storage) = read_has context at storage
 use_has context at Field = none _
 use_has context at Waited = none _
 use_has context at Nothing = none _
 
-module _ (world : World) (answers : Answers) (owner : Option ℕ) where
+module _ (world : World) (answers : Answers) where
   abbrev noting : Steps
   noting = note_steps world answers
 
   abbrev counting : Steps
-  counting = call_steps world answers owner
+  counting = call_steps world answers
 
-  abbrev Have : Notes → Keys → Type 0
-  Have notes keys = (context : Context) (listed : List ℕ) → context.owner ≡ owner
-      → Has (notes context listed) keys
+  abbrev Have : Notes → Calls → Type 0
+  Have notes calls = (context : Context) (listed : List ℕ)
+      → Has (notes context listed) (calls context)
 
   record Match (seen : Seen) (calling : Calling) : Type 0 where
     key : seen.key ≡ calling.key
     is_self : seen.is_self ≡ calling.is_self
     notes : Have seen.notes calling.calls
+    before : Have seen.before calling.before
 
   record MatchWithin (within : Within) (closing : Closing) : Type 0 where
     at : within.at ≡ closing.at
+    mark : within.mark ≡ closing.mark
     inside : Have within.inside closing.calls
 
   record MatchLink (linked : Linked) (operating : Operating) : Type 0 where
@@ -183,20 +208,20 @@ module _ (world : World) (answers : Answers) (owner : Option ℕ) where
     if_arm = λ x. Have (fold_if_arm noting x) (fold_if_arm counting x);
   }
 
-  many : {X : Type 0} (f : X → Notes) (g : X → Keys) (xs : List X)
+  many : {X : Type 0} (f : X → Notes) (g : X → Calls) (xs : List X)
       → AllByRecursion (λ x. Have (f x) (g x)) xs → Have (all_of (map f xs)) (joined (map g xs))
-  many f g [] all context listed same = none _
-  many f g (x ∷ xs) all context listed same =
-      both (f x context listed) (all_of (map f xs) context listed) (g x) (joined (map g xs))
-      (all.0 context listed same) (many f g xs all.1 context listed same)
+  many f g [] all context listed = none _
+  many f g (x ∷ xs) all context listed =
+      both (f x context listed) (all_of (map f xs) context listed) (g x context)
+      (joined (map g xs) context) (all.0 context listed) (many f g xs all.1 context listed)
 
   operands : (links : List Link) → AllByRecursion claims.link links
       → Have (all_of (map (λ (link : Linked). link.operand) (map (fold_link noting) links)))
       (joined (map (λ (link : Operating). link.calls) (map (fold_link counting) links)))
-  operands [] all context listed same = none _
-  operands (link ∷ links) all context listed same =
-      both _ _ (fold_link counting link).calls _ (all.0.operand context listed same)
-      (operands links all.1 context listed same)
+  operands [] all context listed = none _
+  operands (link ∷ links) all context listed =
+      both _ _ ((fold_link counting link).calls context) _ (all.0.operand context listed)
+      (operands links all.1 context listed)
 
   places : (links : List Link) → AllByRecursion claims.link links
       → map (λ (link : Linked). link.at) (map (fold_link noting) links)
@@ -208,37 +233,82 @@ module _ (world : World) (answers : Answers) (owner : Option ℕ) where
 
   otherwise_has : (otherwise : Option Block) → Given claims.block otherwise
       → Have (unwrap_or (option_map (fold_block noting) otherwise) no_notes)
-      (unwrap_or (option_map (fold_block counting) otherwise) [])
-  otherwise_has None have = λ context listed same. none _
+      (unwrap_or (option_map (fold_block counting) otherwise) no_calls)
+  otherwise_has None have = λ context listed. none _
   otherwise_has (Some block) have = have
 
   returned_has : (at : ℕ) (given : Option Expr) → Given claims.expr given
       → Have (noting.stmt (layer.Return at (option_map (fold_expr noting) given)))
       (counting.stmt (layer.Return at (option_map (fold_expr counting) given)))
-  returned_has at None have = λ context listed same. none _
+  returned_has at None have = λ context listed. none _
   returned_has at (Some given) have = have.notes
 
-  word_has : (at : ℕ) (context : Context) → context.owner ≡ owner
-      → Has (word_notes world answers context at)
-      (call_keys at (used world answers owner no_base at))
-  word_has at context same =
+  word_has : (at : ℕ) (context : Context)
+      → Has (word_notes world answers context at) (word_calls world answers at context)
+  word_has at context =
       right _ (use_notes context at (used world answers context.owner no_base at)) _
-      (subst (λ one. Has
-      (use_notes context at (used world answers context.owner no_base at)) (call_keys at one))
-      (ap (λ o. used world answers o no_base at) same)
-      (use_has context at (used world answers context.owner no_base at)))
+      (use_has context at (used world answers context.owner no_base at))
 
   member_has : (seen : Seen) (calling : Calling) → Match seen calling → (at : ℕ)
-      (context : Context) → context.owner ≡ owner
+      (context : Context)
       → Has (member_notes world answers seen at context)
-      (call_keys at (used world answers owner (base_of answers calling.key calling.is_self) at))
-  member_has seen calling match at context same =
-      subst (λ one. Has (member_notes world answers seen at context) (call_keys at one))
-      (ap (λ o. used world answers o (base_of answers seen.key seen.is_self) at) same
-      ∙ (ap (λ key. used world answers owner (base_of answers key seen.is_self) at) match.key
-      ∙ ap (λ is. used world answers owner (base_of answers calling.key is) at) match.is_self))
+      (member_calls world answers calling at context)
+  member_has seen calling match at context =
+      subst (λ one. Has (member_notes world answers seen at context) (call_keys context at one))
+      (ap (λ key. used world answers context.owner (base_of answers key seen.is_self) at) match.key
+      ∙ ap (λ is. used world answers context.owner (base_of answers calling.key is) at)
+      match.is_self)
       (use_has context at
       (used world answers context.owner (base_of answers seen.key seen.is_self) at))
+
+  place_has : (op : AssignOp) (seen : Seen) (calling : Calling) → Match seen calling
+      → Have (place_notes world answers op seen) (place_calls world answers op calling)
+  place_has assigns.Set seen calling match context listed =
+      left _ _ _ (match.before context listed)
+  place_has assigns.Add seen calling match context listed =
+      left _ _ _ (match.notes context listed)
+  place_has assigns.Subtract seen calling match context listed =
+      left _ _ _ (match.notes context listed)
+  place_has assigns.Multiply seen calling match context listed =
+      left _ _ _ (match.notes context listed)
+  place_has assigns.Divide seen calling match context listed =
+      left _ _ _ (match.notes context listed)
+  place_has assigns.Remainder seen calling match context listed =
+      left _ _ _ (match.notes context listed)
+
+  -- an expression that is no place
+  value_has : (at other : ℕ) (notes : Notes) (calls : Calls) → at ≡ other → Have notes calls
+      → Match (value at notes) (calling other calls)
+  value_has at other notes calls is have = record {
+    key = is;
+    is_self = refl;
+    notes = have;
+    before = λ context listed. none _;
+  }
+
+  -- the body of a closure, and of a task
+  fun_has : (within : Within) (closing : Closing) → MatchWithin within closing
+      → (context : Context) (listed : List ℕ)
+      → Has (within.inside (in_closure context (closure_iso answers within.at context.iso) false)
+      listed)
+      (closing.calls (in_closure context (closure_iso answers closing.at context.iso) false))
+  fun_has within closing match context listed =
+      subst (λ at. Has
+      (within.inside (in_closure context (closure_iso answers within.at context.iso) false) listed)
+      (closing.calls (in_closure context (closure_iso answers at context.iso) false))) match.at
+      (match.inside _ listed)
+
+  task_has : (within : Within) (closing : Closing) → MatchWithin within closing
+      → (detached : Bool) (context : Context) (listed : List ℕ)
+      → Has (within.inside
+      (in_closure context (task_iso world within.mark detached context.iso) true) listed)
+      (closing.calls (in_closure context (task_iso world closing.mark detached context.iso) true))
+  task_has within closing match detached context listed =
+      subst (λ (mark : Option Name). Has
+      (within.inside (in_closure context (task_iso world within.mark detached context.iso) true)
+      listed)
+      (closing.calls (in_closure context (task_iso world mark detached context.iso) true)))
+      match.mark (match.inside _ listed)
 
   -- by the equations of both functions at a form
   at_form : {X Y : Type 0} (R : X → Y → Type 0) {x x' : X} {y y' : Y} → x ≡ x' → y ≡ y' → R x' y'
@@ -249,110 +319,100 @@ module _ (world : World) (answers : Answers) (owner : Option ℕ) where
   cases : Cases claims
   cases = record {
     int = λ at value.
-        at_form Match (eq.fold_expr-Int noting at value)
-        (eq.fold_expr-Int counting at value)
-        (record { key = refl; is_self = refl; notes = λ context listed same. none _ });
+        at_form Match (eq.fold_expr-Int noting at value) (eq.fold_expr-Int counting at value)
+        (value_has at at _ _ refl (λ context listed. none _));
     bool = λ at value.
-        at_form Match (eq.fold_expr-Bool noting at value)
-        (eq.fold_expr-Bool counting at value)
-        (record { key = refl; is_self = refl; notes = λ context listed same. none _ });
+        at_form Match (eq.fold_expr-Bool noting at value) (eq.fold_expr-Bool counting at value)
+        (value_has at at _ _ refl (λ context listed. none _));
     use_of = λ name.
         at_form Match (eq.fold_expr-Use noting name)
         (eq.fold_expr-Use counting name)
-        (record { key = refl; is_self = refl; notes = λ context listed same. none _ });
+        (record {
+          key = refl;
+          is_self = refl;
+          notes = λ context listed. word_has name.at context;
+          before = λ context listed. none _;
+        });
     me = λ at.
         at_form Match (eq.fold_expr-Me noting at)
         (eq.fold_expr-Me counting at)
-        (record { key = refl; is_self = refl; notes = λ context listed same. none _ });
+        (record {
+          key = refl;
+          is_self = refl;
+          notes = λ context listed. none _;
+          before = λ context listed. none _;
+        });
     member = λ base name of_base.
         at_form Match (eq.fold_expr-Member noting base name)
         (eq.fold_expr-Member counting base name)
         (record {
           key = refl;
           is_self = refl;
-          notes = λ context listed same.
-              left _ _ _ (of_base.notes context listed same);
+          notes = λ context listed.
+              both _ _ ((fold_expr counting base).calls context) _ (of_base.notes context listed)
+              (member_has (fold_expr noting base) (fold_expr counting base) of_base name.at
+              context);
+          before = of_base.notes;
         });
     call = λ name args all.
-        at_form Match (eq.fold_expr-Call noting name args)
-        (eq.fold_expr-Call counting name args)
-        (record {
-          key = refl;
-          is_self = refl;
-          notes = λ context listed same.
-              both _ _ (call_keys name.at (used world answers owner no_base name.at)) _
-              (word_has name.at context same)
-              (many (fold_arg noting) (fold_arg counting) args all context listed same);
-        });
+        at_form Match (eq.fold_expr-Call noting name args) (eq.fold_expr-Call counting name args)
+        (value_has name.at name.at _ _ refl (λ context listed.
+        both _ _ (word_calls world answers name.at context) _ (word_has name.at context)
+        (many (fold_arg noting) (fold_arg counting) args all context listed)));
     method = λ base name args of_base all.
         at_form Match (eq.fold_expr-Method noting base name args)
         (eq.fold_expr-Method counting base name args)
-        (record {
-          key = refl;
-          is_self = refl;
-          notes = λ context listed same.
-              both _ _ _ _
-              (both _ _ (fold_expr counting base).calls _ (of_base.notes context listed same)
-              (member_has (fold_expr noting base) (fold_expr counting base) of_base name.at context
-              same))
-              (many (fold_arg noting) (fold_arg counting) args all context listed same);
-        });
+        (value_has name.at name.at _ _ refl (λ context listed.
+        both _ _ _ _
+        (both _ _ ((fold_expr counting base).calls context) _ (of_base.notes context listed)
+        (member_has (fold_expr noting base) (fold_expr counting base) of_base name.at context))
+        (many (fold_arg noting) (fold_arg counting) args all context listed)));
     chain = λ first rest of_first all.
         at_form Match (eq.fold_expr-Chain noting first rest)
         (eq.fold_expr-Chain counting first rest)
-        (record {
-          key = ap (λ keys. last_or (fold_expr noting first).key keys) (places rest all)
-              ∙ ap (λ key. last_or key
-              (map (λ (link : Operating). link.at) (map (fold_link counting) rest))) of_first.key;
-          is_self = refl;
-          notes = λ context listed same.
-              both _ _ (fold_expr counting first).calls _ (of_first.notes context listed same)
-              (operands rest all context listed same);
-        });
+        (value_has _ _ _ _
+        (ap (λ keys. last_or (fold_expr noting first).key keys) (places rest all)
+        ∙ ap (λ key. last_or key
+        (map (λ (link : Operating). link.at) (map (fold_link counting) rest))) of_first.key)
+        (λ context listed.
+        both _ _ ((fold_expr counting first).calls context) _ (of_first.notes context listed)
+        (operands rest all context listed)));
     prefix = λ op at inner of_inner.
         at_form Match (eq.fold_expr-Prefix noting op at inner)
-        (eq.fold_expr-Prefix counting op at inner)
-        (record { key = refl; is_self = refl; notes = of_inner.notes });
+        (eq.fold_expr-Prefix counting op at inner) (value_has at at _ _ refl of_inner.notes);
     await = λ at inner of_inner.
         at_form Match (eq.fold_expr-Await noting at inner)
         (eq.fold_expr-Await counting at inner)
-        (record {
-          key = refl;
-          is_self = refl;
-          notes = λ context listed same.
-              of_inner.notes (in_await context) listed same;
-        });
+        (value_has at at _ _ refl (λ context listed.
+        of_inner.notes (in_await context) listed));
     fun = λ closure within.
-        at_form Match (eq.fold_expr-Fun noting closure)
-        (eq.fold_expr-Fun counting closure)
-        (record {
-          key = within.at;
-          is_self = refl;
-          notes = λ context listed same.
-              after_body _ _ _ (within.inside _ listed same);
-        });
+        at_form Match (eq.fold_expr-Fun noting closure) (eq.fold_expr-Fun counting closure)
+        (value_has _ _ _ _ within.at (λ context listed.
+        after_body _ _ _
+        (fun_has (fold_closure noting closure) (fold_closure counting closure) within context
+        listed)));
     spawn = λ at detached body within.
         at_form Match (eq.fold_expr-Spawn noting at detached body)
         (eq.fold_expr-Spawn counting at detached body)
-        (record {
-          key = refl;
-          is_self = refl;
-          notes = λ context listed same.
-              after_body _ _ _
-              (right (task_races world answers at) _ _ (within.inside _ listed same));
-        });
+        (value_has at at _ _ refl (λ context listed.
+        after_body _ _ _
+        (right (task_races world answers at) _ _
+        (task_has (fold_closure noting body) (fold_closure counting body) within detached context
+        listed))));
     yield = λ at.
-        at_form Match (eq.fold_expr-Yield noting at)
-        (eq.fold_expr-Yield counting at)
-        (record { key = refl; is_self = refl; notes = λ context listed same. none _ });
+        at_form Match (eq.fold_expr-Yield noting at) (eq.fold_expr-Yield counting at)
+        (value_has at at _ _ refl (λ context listed. none _));
     bind = λ mutable name ty value of_value.
         at_form Have (eq.fold_stmt-Bind noting mutable name ty value)
         (eq.fold_stmt-Bind counting mutable name ty value)
-        (λ context listed same. right _ _ _ (of_value.notes context listed same));
+        (λ context listed. right _ _ _ (of_value.notes context listed));
     assign = λ at op place value of_place of_value.
         at_form Have (eq.fold_stmt-Assign noting at op place value)
         (eq.fold_stmt-Assign counting at op place value)
-        (λ context listed same. right _ _ _ (of_value.notes context listed same));
+        (λ context listed.
+        both _ _ _ _
+        (place_has op (fold_expr noting place) (fold_expr counting place) of_place context listed)
+        (of_value.notes context listed));
     discard = λ at value of_value.
         at_form Have (eq.fold_stmt-Discard noting at value)
         (eq.fold_stmt-Discard counting at value)
@@ -360,24 +420,24 @@ module _ (world : World) (answers : Answers) (owner : Option ℕ) where
     if_of = λ arms otherwise all last.
         at_form Have (eq.fold_stmt-If noting arms otherwise)
         (eq.fold_stmt-If counting arms otherwise)
-        (λ context listed same.
+        (λ context listed.
         both _ _ _ _
-        (many (fold_if_arm noting) (fold_if_arm counting) arms all context listed same)
-        (otherwise_has otherwise last context listed same));
+        (many (fold_if_arm noting) (fold_if_arm counting) arms all context listed)
+        (otherwise_has otherwise last context listed));
     while_of = λ at cond body of_cond of_body.
         at_form Have (eq.fold_stmt-While noting at cond body)
         (eq.fold_stmt-While counting at cond body)
-        (λ context listed same.
-        both _ _ (fold_expr counting cond).calls _ (of_cond.notes context listed same)
-        (of_body context listed same));
+        (λ context listed.
+        both _ _ ((fold_expr counting cond).calls context) _ (of_cond.notes context listed)
+        (of_body context listed));
     switch = λ at subject arms otherwise of_subject all last.
         at_form Have (eq.fold_stmt-Switch noting at subject arms otherwise)
         (eq.fold_stmt-Switch counting at subject arms otherwise)
-        (λ context listed same.
+        (λ context listed.
         both _ _ _ _
-        (both _ _ (fold_expr counting subject).calls _ (of_subject.notes context listed same)
-        (many (fold_case_arm noting) (fold_case_arm counting) arms all context listed same))
-        (otherwise_has otherwise last context listed same));
+        (both _ _ ((fold_expr counting subject).calls context) _ (of_subject.notes context listed)
+        (many (fold_case_arm noting) (fold_case_arm counting) arms all context listed))
+        (otherwise_has otherwise last context listed));
     return_of = λ at value given.
         at_form Have (eq.fold_stmt-Return noting at value)
         (eq.fold_stmt-Return counting at value)
@@ -385,11 +445,11 @@ module _ (world : World) (answers : Answers) (owner : Option ℕ) where
     break_of = λ at.
         at_form Have (eq.fold_stmt-Break noting at)
         (eq.fold_stmt-Break counting at)
-        (λ context listed same. none _);
+        (λ context listed. none _);
     continue_of = λ at.
         at_form Have (eq.fold_stmt-Continue noting at)
         (eq.fold_stmt-Continue counting at)
-        (λ context listed same. none _);
+        (λ context listed. none _);
     plain = λ value of_value.
         at_form Have (eq.fold_stmt-Plain noting value)
         (eq.fold_stmt-Plain counting value)
@@ -403,10 +463,11 @@ module _ (world : World) (answers : Answers) (owner : Option ℕ) where
         (eq.fold_closure-roll counting at mark captures params result body)
         (record {
           at = refl;
-          inside = λ context listed same.
+          mark = refl;
+          inside = λ context listed.
               closed_has world context at (with_list world answers context listed captures) _ _
               (right (map Mentioned (list_mentions world answers context.owner captures)) _ _
-              (of_body context (with_list world answers context listed captures) same));
+              (of_body context (with_list world answers context listed captures)));
         });
     link = λ op at operand of_operand.
         at_form MatchLink (eq.fold_link-roll noting op at operand)
@@ -423,27 +484,19 @@ module _ (world : World) (answers : Answers) (owner : Option ℕ) where
     if_arm = λ at cond body of_cond of_body.
         at_form Have (eq.fold_if_arm-roll noting at cond body)
         (eq.fold_if_arm-roll counting at cond body)
-        (λ context listed same.
-        both _ _ (fold_expr counting cond).calls _ (of_cond.notes context listed same)
-        (of_body context listed same));
+        (λ context listed.
+        both _ _ ((fold_expr counting cond).calls context) _ (of_cond.notes context listed)
+        (of_body context listed));
   }
 
-  expr_has : (e : Expr) (context : Context) (listed : List ℕ) → context.owner ≡ owner
-      → Has ((fold_expr noting e).notes context listed) (fold_expr counting e).calls
-  expr_has e = (every_expr claims cases e).notes
-
-  block_has : (block : Block) (context : Context) (listed : List ℕ) → context.owner ≡ owner
-      → Has (fold_block noting block context listed) (fold_block counting block)
-  block_has block = every_block claims cases block
-
-module _ (world : World) (answers : Answers) (context : Context) (listed : List ℕ) where
-  pub expr_has_kinds : (e : Expr) → HaveNotedKinds ((see world answers e).notes context listed)
-      (expr_calls world answers context.owner e)
+  pub expr_has_kinds : (context : Context) (listed : List ℕ) (e : Expr)
+      → HaveNotedKinds ((see world answers e).notes context listed)
+      (expr_calls world answers e context)
   unfolding see expr_calls
-  expr_has_kinds e = (expr_has world answers context.owner e context listed refl).all
+  expr_has_kinds context listed e = ((every_expr claims cases e).notes context listed).all
 
-  pub block_has_kinds : (block : Block)
+  pub block_has_kinds : (context : Context) (listed : List ℕ) (block : Block)
       → HaveNotedKinds (block_notes world answers block context listed)
-      (block_calls world answers context.owner block)
+      (block_calls world answers block context)
   unfolding block_notes block_calls
-  block_has_kinds block = (block_has world answers context.owner block context listed refl).all
+  block_has_kinds context listed block = (every_block claims cases block context listed).all

@@ -1,5 +1,5 @@
 -- What is known of the nodes of a program by their keys.
-use Rattle.std.specs.Prelude.{ℕ, ◌==◌, List, [], ◌∷◌, Option, Some, None, if◌then◌else◌}
+use Rattle.std.specs.Prelude.{◌≡◌, ℕ, ◌==◌, List, [], ◌∷◌, Option, Some, None, if◌then◌else◌}
 use Rattle.sw_types.specs.declared.ty.Ty.{Ty}
 use Rattle.sw_resolve.specs.Words.{or_else}
 use Rattle.sw_typing_rules.specs.declared.row.Meaning.{Meaning}
@@ -38,3 +38,7 @@ answers_in rows = record { type_at = type_in rows; meaning_at = meaning_in rows 
 abbrev pub for_some : {A B : Type 0} → Option A → (A → List B) → List B
 for_some None f = []
 for_some (Some x) f = f x
+
+-- each key has one of these at most
+abbrev pub IsOnePerKey : {A : Type 0} → (ℕ → A → Type 0) → Type 0
+IsOnePerKey {A} has = (key : ℕ) (one other : A) → has key one → has key other → one ≡ other

@@ -1,6 +1,8 @@
 -- What is found among notes.
-use Rattle.std.specs.Prelude.{ℕ, not, ◌&&◌, List, [], ◌∷◌, map, flat_map}
+use Rattle.std.specs.Prelude.{ℕ, not, ◌&&◌, ◌==◌, List, [], ◌∷◌, map, flat_map, Option, Some, None}
+use Rattle.std.specs.Prelude.{if◌then◌else◌}
 use Rattle.std.specs.List.{filter}
+use Rattle.sw_types.specs.declared.isolation.CallKind.{CallKind}
 use Rattle.sw_resolve.specs.declared.placed.Placed.{Placed}
 use Rattle.sw_isolation_rules.specs.Captures.{is_among}
 use Rattle.sw_isolation_rules.specs.declared.note.BodyIso.{BodyIso}
@@ -72,6 +74,11 @@ bodies_in notes = flat_map body_in notes
 -- the kinds of calls and crossing reads
 abbrev pub kinds_in : List Note → List Kinded
 kinds_in notes = flat_map kind_in notes
+
+-- the first kind with a key
+abbrev pub kind_with : List Kinded → ℕ → Option CallKind
+kind_with [] key = None
+kind_with (one ∷ more) key = if one.at == key then Some one.kind else kind_with more key
 
 -- the breaches of isolation
 abbrev pub refusals_in : List Note → List Placed

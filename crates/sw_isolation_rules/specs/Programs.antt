@@ -1,6 +1,7 @@
 -- What is noted of a program, and its breaches of isolation.
 use Rattle.std.specs.Prelude.{ℕ, ◌+◌, Bool, false, not, ◌&&◌, ◌||◌, List, [], ◌∷◌, ◌++◌, Option}
-use Rattle.std.specs.Prelude.{Some, None, is_none, flat_map, slice_get, if◌then◌else◌}
+use Rattle.std.specs.Prelude.{Some, None, is_none, flat_map, slice_get, if◌then◌else◌, Contains}
+use Rattle.std.specs.Prelude.{MatchOption}
 use Rattle.sw_tree.specs.declared.decl.Decl.{Decl}
 use Rattle.sw_tree.specs.declared.decl.Decl.TheVariants.{Entry, Struct, Enum, Class, Actor}
 use Rattle.sw_tree.specs.declared.decl.Decl.TheVariants.{GlobalActor, Func, Global}
@@ -11,6 +12,7 @@ use Rattle.sw_tree.specs.declared.expr.Expr.{Expr}
 use Rattle.sw_tree.specs.declared.name.Name.{Name}
 use Rattle.sw_tree.specs.declared.stmt.Block.{Block}
 use Rattle.sw_types.specs.Sendable.{is_sendable}
+use Rattle.sw_types.specs.declared.isolation.CallKind.{CallKind}
 use Rattle.sw_types.specs.declared.isolation.Iso.{Iso}
 use Rattle.sw_types.specs.declared.shape.Shape.{Shape}
 use Rattle.sw_resolve.specs.Placed.{IsFirst}
@@ -23,7 +25,7 @@ use Rattle.sw_typing_rules.specs.decls.declared.signature.Signature.{Signature}
 use Rattle.sw_typing_rules.specs.Worlds.{World, item}
 use Rattle.sw_isolation_rules.specs.Answers.{Answers, for_some}
 use Rattle.sw_isolation_rules.specs.Kinds.{shape_iso, is_isolated}
-use Rattle.sw_isolation_rules.specs.Lists.{refusals_in}
+use Rattle.sw_isolation_rules.specs.Lists.{kinds_in, refusals_in}
 use Rattle.sw_isolation_rules.specs.Noting.{see, block_notes, body_note, placed}
 use Rattle.sw_isolation_rules.specs.declared.note.Note.{Note}
 use Rattle.sw_isolation_rules.specs.declared.uses.Context.{Context}
@@ -123,6 +125,15 @@ module _ (world : World) (answers : Answers) where
   -- all that is noted of a program
   abbrev pub noted : List Decl → List Note
   noted decls = notes_from 0 decls
+
+  -- the call or the crossing read with a key has the kind
+  abbrev pub HasKind : List Decl → ℕ → CallKind → Type 0
+  HasKind decls at kind = Contains (kinds_in (noted decls)) (record { at = at; kind = kind })
+
+  -- the kind of the call or the crossing read with a key, and None where none has it
+  abbrev pub IsKindAt : List Decl → ℕ → Option CallKind → Type 0
+  IsKindAt decls at found =
+      MatchOption found ((kind : CallKind) → HasKind decls at kind → ⊥) (HasKind decls at)
 
   -- the breaches of isolation, E501 to E505
   abbrev pub refusals : List Decl → List Placed

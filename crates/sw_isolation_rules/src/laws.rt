@@ -27,6 +27,7 @@ ghost use Rattle.sw_typing_rules.specs.Worlds.{World};
 ghost use Rattle.sw_typing_rules.specs.declared.row.Meaning.TheVariants as means;
 ghost use Rattle.sw_isolation_rules.specs.Answers.{Answers};
 ghost use Rattle.sw_isolation_rules.specs.CallKeys.{HaveNotedKinds, block_calls, expr_calls};
+ghost use Rattle.sw_isolation_rules.specs.CallKeys.{is_called};
 ghost use Rattle.sw_isolation_rules.specs.Kinds.{is_outside, kind_of, plain_callee};
 ghost use Rattle.sw_isolation_rules.specs.Lists.{captures_in, kinds_in, refusals_in};
 ghost use Rattle.sw_isolation_rules.specs.Noting.{block_notes, closure_iso, see, task_iso};
@@ -40,7 +41,7 @@ ghost use Rattle.sw_isolation_rules.specs.declared.uses.Callee.{Callee};
 ghost use Rattle.sw_isolation_rules.specs.declared.uses.Context.{Context};
 ghost use Rattle.sw_isolation_rules.specs.declared.uses.Storage.{Storage};
 ghost use Rattle.sw_isolation_rules.specs.declared.uses.Used.{Used};
-ghost use Rattle.sw_isolation_rules.specs.declared.uses.Used.TheVariants.{Called};
+ghost use Rattle.sw_isolation_rules.specs.declared.uses.Used.TheVariants.{Called, Stored};
 
 /// The table of kinds (SE-0306, SE-0316, SE-0338, SE-0461), a clause for each of its rows.
 pub fn kinds_are_those_of_the_table()
@@ -190,6 +191,24 @@ pub fn calls_have_kinds()
         (record { at = name.at; kind = kind_of callee context.iso }) }
 {}
 
+/// A `var` of another actor is read by a Strong call of its getter.
+pub fn crossing_reads_have_kinds()
+    ensures word { (world : World) (answers : Answers) (context : Context) (listed : List ℕ)
+        (name : Name) (storage : Storage)
+        → used world answers context.owner no_base name.at ≡ Stored storage
+        → is_called context storage ≡ true
+        → Contains (kinds_in ((see world answers (exprs.Use name)).notes context listed))
+        (record { at = name.at; kind = Strong }) }
+    ensures member { (world : World) (answers : Answers) (context : Context) (listed : List ℕ)
+        (base : Expr) (name : Name) (storage : Storage)
+        → used world answers context.owner
+        (base_of answers (see world answers base).key (see world answers base).is_self) name.at
+        ≡ Stored storage
+        → is_called context storage ≡ true
+        → Contains (kinds_in ((see world answers (exprs.Member base name)).notes context listed))
+        (record { at = name.at; kind = Strong }) }
+{}
+
 /// The breaches of isolation have the codes E501 to E505, and what may not be shared E601 to E606.
 pub fn breaches_have_codes_of_their_own()
     ensures refusals { (world : World) (answers : Answers) (decls : List Decl) (one : Placed)
@@ -211,12 +230,12 @@ pub fn merged_breaches_are_one_list()
 {}
 
 /// Each call of a function, a method or an initialiser that stands in an expression or a block,
-/// however deep, has a kind.
+/// however deep, has a kind, and so has each read of a `var` of another actor.
 pub fn calls_inside_have_kinds()
     ensures exprs { (world : World) (answers : Answers) (context : Context) (listed : List ℕ)
         (expr : Expr) → HaveNotedKinds ((see world answers expr).notes context listed)
-        (expr_calls world answers context.owner expr) }
+        (expr_calls world answers expr context) }
     ensures blocks { (world : World) (answers : Answers) (context : Context) (listed : List ℕ)
         (block : Block) → HaveNotedKinds (block_notes world answers block context listed)
-        (block_calls world answers context.owner block) }
+        (block_calls world answers block context) }
 {}

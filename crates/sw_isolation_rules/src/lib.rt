@@ -13,8 +13,9 @@ mod uses;
 pub use laws::{
     breaches_have_codes_of_their_own, calls_are_of_what_is_meant, calls_have_kinds,
     calls_inside_have_kinds, captures_are_outer_variables, closures_run_apart,
-    expressions_are_noted_by_key, kinds_are_those_of_placed_graphs, kinds_are_those_of_the_table,
-    merged_breaches_are_one_list, storage_is_inside_in_its_own_isolation, uses_are_refused_once,
+    crossing_reads_have_kinds, expressions_are_noted_by_key, kinds_are_those_of_placed_graphs,
+    kinds_are_those_of_the_table, merged_breaches_are_one_list,
+    storage_is_inside_in_its_own_isolation, uses_are_refused_once,
 };
 pub use merging::merged;
 pub use note::{BodyIso, Capture, Captured, Kinded, Mention, Note};

@@ -12,7 +12,9 @@ use Rattle.sw_lower_known.specs.declared.known.Known.{Known}
 -- what is known of the isolation of a program
 abbrev pub isolation_of : Isolated → Isolation
 isolation_of isolated =
-    isolation_by isolated.bodies isolated.kinds isolated.captures isolated.boxes
+    record (isolation_by isolated.bodies isolated.kinds isolated.captures isolated.boxes) {
+      kind_at = get nat_eq isolated.kinds_by_key;
+    }
 
 -- what is known of a program when its functions are made
 unfoldable pub tables_by : Known → Tables
@@ -21,7 +23,7 @@ tables_by known = record {
   answers = answers_of known.typed.now;
   isolation = record {
     body_at = get nat_eq known.bodies;
-    kind_at = get nat_eq known.kinds;
+    kind_at = get nat_eq known.isolated.now.kinds_by_key;
     captures_of = λ key. unwrap_or (get nat_eq known.captures key) [];
     is_boxed = contains nat_eq known.boxes;
   };

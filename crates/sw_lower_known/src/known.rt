@@ -10,7 +10,7 @@ ghost use Rattle.sw_lower_table.specs.Bodies.{tables_of};
 ghost use Rattle.sw_lower_table.specs.Uses.{self_key};
 ghost use Rattle.sw_typing_rules.specs.Worlds.{world_of};
 
-use crate::tables::{boxes_of, groups_of, isolations_of, kinds_of, part_keys_of};
+use crate::tables::{boxes_of, groups_of, isolations_of, part_keys_of};
 use indexmap::{IndexMap, IndexSet};
 use std::alloc::{AllocError, Global};
 use sw_decls::{Decls, GlobalVar, Signature};
@@ -27,10 +27,9 @@ use sw_typing_rules::Meaning;
 pub struct Known<'a> {
     pub world: &'a Decls,
     pub typed: &'a Typed,
+    pub isolated: &'a Isolated,
     /// The isolation of bodies by their keys.
     pub bodies: IndexMap<u32, BodyIso>,
-    /// How calls and crossing reads cross, by their keys.
-    pub kinds: IndexMap<u32, CallKind>,
     /// The captures of closures and tasks in order, by the keys of these.
     pub captures: IndexMap<u32, ListOf<Capture>>,
     /// The variables that are kept in boxes, by the keys of their declarations.
@@ -47,7 +46,7 @@ impl<'a> Known<'a> {
         decls: &[Decl],
         world: &'a Decls,
         typed: &'a Typed,
-        isolated: &Isolated,
+        isolated: &'a Isolated,
     ) -> Result<Known<'a>, AllocError>
         ensures { IfOk result (λ known. tables_by known ≡ tables_of (world_of world.now)
             (answers_of typed.now) (isolation_of isolated.now) decls.now) }
@@ -55,8 +54,8 @@ impl<'a> Known<'a> {
         Ok(Known {
             world,
             typed,
+            isolated,
             bodies: isolations_of(alloc, isolated.bodies.as_slice())?,
-            kinds: kinds_of(alloc, isolated.kinds.as_slice())?,
             captures: groups_of(alloc, isolated.captures.as_slice())?,
             boxes: boxes_of(alloc, isolated.boxes.as_slice())?,
             part_keys: part_keys_of(alloc, decls)?,
@@ -92,7 +91,7 @@ impl<'a> Known<'a> {
     pub fn kind_at(&self, key: u32) -> Option<CallKind>
         ensures { result ≡ (tables_by self.now).isolation.kind_at key }
     {
-        self.kinds.get(&key).copied()
+        self.isolated.kind_at(key)
     }
 
     /// The captures of the closure or task with this key, in order.

@@ -7,26 +7,14 @@ ghost use Rattle.indexmap.specs.IndexMap.{get};
 ghost use Rattle.indexmap.specs.IndexSet.{contains};
 ghost use Rattle.sw_isolation_rules.specs.Captures.{is_among};
 ghost use Rattle.sw_isolation_rules.specs.declared.note.Capture.{Capture};
-ghost use Rattle.sw_lower_table.specs.Tables.{body_with, kind_with, prop_keys, shape_keys};
-ghost use Rattle.sw_resolve.specs.Words.{or_else};
+ghost use Rattle.sw_lower_table.specs.Tables.{body_with, prop_keys, shape_keys};
 
 use indexmap::{IndexMap, IndexSet};
 use std::alloc::{AllocError, Global};
-use sw_isolation_rules::{BodyIso, Capture, Kinded};
+use sw_isolation::note_first;
+use sw_isolation_rules::{BodyIso, Capture};
 use sw_list::ListOf;
 use sw_tree::{Decl, PropTree};
-use sw_types::CallKind;
-
-/// Notes the value of a key, where none is noted of the key.
-fn note_first<T: Copy>(table: &mut IndexMap<u32, T>, key: u32, value: T) -> Result<(), AllocError>
-    ensures { OnOk result ((other : ℕ) → get nat_eq table.new other
-        ≡ or_else (get nat_eq table.old other) (if key == other then Some value else None)) }
-{
-    if !table.contains_key(&key) {
-        table.insert(key, value)?;
-    }
-    Ok(())
-}
 
 /// The isolation of bodies by their keys.
 pub fn isolations_of(
@@ -38,17 +26,6 @@ pub fn isolations_of(
     let mut table = IndexMap::new(alloc);
     for body in bodies {
         note_first(&mut table, body.key, *body)?;
-    }
-    Ok(table)
-}
-
-/// How calls and crossing reads cross, by their keys.
-pub fn kinds_of(alloc: Global, kinds: &[Kinded]) -> Result<IndexMap<u32, CallKind>, AllocError>
-    ensures { IfOk result (λ table. (key : ℕ) → get nat_eq table key ≡ kind_with kinds.now key) }
-{
-    let mut table = IndexMap::new(alloc);
-    for one in kinds {
-        note_first(&mut table, one.at, one.kind)?;
     }
     Ok(table)
 }

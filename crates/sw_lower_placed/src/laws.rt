@@ -1,12 +1,15 @@
 //! Laws, without code: the graphs of programs are placed, and clean where nothing is shared.
 ghost use Rattle.std.specs.Prelude.{List};
 ghost use Rattle.sw_tree.specs.CasePlaces.{CasesApart};
+ghost use Rattle.sw_tree.specs.Contents.{AreKeyed};
 ghost use Rattle.sw_tree.specs.declared.decl.Decl.{Decl};
 ghost use Rattle.sw_graph.specs.Clean.{IsClean};
 ghost use Rattle.sw_graph.specs.Placed.{IsPlaced};
 ghost use Rattle.sw_graph.specs.declared.graph.Graph.{Graph};
 ghost use Rattle.sw_decls.specs.declared.signature.AsyncDefault.{AsyncDefault};
-ghost use Rattle.sw_typing_rules.specs.Worlds.{World};
+ghost use Rattle.sw_typing_rules.specs.Worlds.{IsWorldOf, World};
+ghost use Rattle.sw_isolation_rules.specs.Answers.{Answers, IsOnePerKey};
+ghost use Rattle.sw_isolation_rules.specs.Programs.{HasKind};
 ghost use Rattle.sw_lower_total.specs.Programs.{IsWelltyped};
 ghost use Rattle.sw_lower_firsts.specs.Programs.{IsGraph};
 ghost use Rattle.sw_lower_placed.specs.Programs.{KeepsApart, KeepsUnshared};
@@ -31,4 +34,11 @@ pub fn graphs_are_clean()
     ensures { (decls : List Decl) (rule : AsyncDefault) (world : World) (graph : Graph)
         → IsWelltyped decls rule world → CasesApart decls → KeepsApart world decls
         → KeepsUnshared world decls → IsGraph world decls graph → IsClean graph }
+{}
+
+/// Each key of a program has one kind at most: that of its call, or of its read that crosses.
+pub fn keys_have_one_kind()
+    ensures { (decls : List Decl) (rule : AsyncDefault) (world : World) (answers : Answers)
+        → AreKeyed decls → IsWorldOf decls rule world
+        → IsOnePerKey (HasKind world answers decls) }
 {}

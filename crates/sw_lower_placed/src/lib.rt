@@ -4,4 +4,4 @@
 
 mod laws;
 
-pub use laws::{graphs_are_clean, graphs_are_placed};
+pub use laws::{graphs_are_clean, graphs_are_placed, keys_have_one_kind};

@@ -6,8 +6,9 @@ ghost use Rattle.sw_tree.specs.declared.decl.Decl.{Decl};
 ghost use Rattle.sw_graph.specs.WellFormed.{IsWellFormed};
 ghost use Rattle.sw_decls.specs.Declaring.{IsFirstBreach};
 ghost use Rattle.sw_decls.specs.declared.signature.AsyncDefault.{AsyncDefault};
-ghost use Rattle.sw_typing_rules.specs.Programs.{IsFirstIll};
+ghost use Rattle.sw_typing_rules.specs.Programs.{HasMeaning, HasType, IsFirstIll};
 ghost use Rattle.sw_typing_rules.specs.Worlds.{IsWorldOf, World};
+ghost use Rattle.sw_isolation_rules.specs.Answers.{IsOnePerKey};
 ghost use Rattle.sw_lower_code.specs.Whole.{Body};
 ghost use Rattle.sw_lower_table.specs.Bodies.{AreMade, AreNumbered, AreOrdered};
 ghost use Rattle.sw_lower_table.specs.Bodies.{AreStarts, IsEntry, functions_of, global_kind};
@@ -25,4 +26,12 @@ pub fn programs_have_well_formed_graphs()
         → AreMade ordered → IsEntry decls ordered entry → AreStarts world ordered starts
         → IsWellFormed world.shapes (map global_kind world.globals) (functions_of ordered) entry
         starts }
+{}
+
+/// Each key of a program has one type at most, and one meaning.
+pub fn keys_have_one_type_and_one_meaning()
+    ensures types { (world : World) (decls : List Decl) → AreKeyed decls
+        → IsOnePerKey (HasType world decls) }
+    ensures meanings { (world : World) (decls : List Decl) → AreKeyed decls
+        → IsOnePerKey (HasMeaning world decls) }
 {}

@@ -4,4 +4,4 @@
 
 mod laws;
 
-pub use laws::programs_have_well_formed_graphs;
+pub use laws::{keys_have_one_type_and_one_meaning, programs_have_well_formed_graphs};

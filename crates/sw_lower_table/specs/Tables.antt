@@ -15,7 +15,7 @@ use Rattle.sw_types.specs.declared.ty.Ty.TheVariants as types
 use Rattle.sw_isolation_rules.specs.typing_rules.Worlds.{World, and_then}
 use Rattle.sw_isolation_rules.specs.Answers.{Answers}
 use Rattle.sw_isolation_rules.specs.Captures.{is_among}
-use Rattle.sw_isolation_rules.specs.Lists.{bodies_in, boxes_in, captures_in, kinds_in}
+use Rattle.sw_isolation_rules.specs.Lists.{bodies_in, boxes_in, captures_in, kind_with, kinds_in}
 use Rattle.sw_isolation_rules.specs.declared.note.BodyIso.{BodyIso}
 use Rattle.sw_isolation_rules.specs.declared.note.Capture.{Capture}
 use Rattle.sw_isolation_rules.specs.declared.note.Kinded.{Kinded}
@@ -34,10 +34,6 @@ pub record Isolation : Type 0 where
 abbrev pub body_with : List BodyIso → ℕ → Option BodyIso
 body_with [] key = None
 body_with (body ∷ bodies) key = if body.key == key then Some body else body_with bodies key
-
-abbrev pub kind_with : List Kinded → ℕ → Option CallKind
-kind_with [] key = None
-kind_with (one ∷ more) key = if one.at == key then Some one.kind else kind_with more key
 
 -- what lists say: the first that says it
 abbrev pub isolation_by : List BodyIso → List Kinded → List Capture → List ℕ → Isolation

@@ -56,7 +56,9 @@ isolation_is_noted notes isolated is =
     (λ has. among isolated.boxes key (is.boxes.covers key (contained (boxes_in notes) key has))) in
     let lists : isolation_of isolated
     ≡ isolation_by (bodies_in notes) (kinds_in notes) (captures_in notes) isolated.boxes =
-    λ i. isolation_by (is.bodies i) (is.kinds i) (is.captures i) isolated.boxes in
+    λ i. record (isolation_by (is.bodies i) (is.kinds i) (is.captures i) isolated.boxes) {
+      kind_at = λ key. is.kinds_by_key key i;
+    } in
     let said = isolation_in notes in
     lists ∙ (λ i. record {
       body_at = said.body_at;

@@ -34,9 +34,8 @@ use Rattle.std.proofs.Common.{◌≡◌, Option, Some, None, refl, sym, ◌∙�
 use Rattle.std.specs.Prelude.{◌==◌}
 use Rattle.std.proofs.lemmas.Bool.{eqb-true}
 use Rattle.sw_types.specs.declared.isolation.CallKind.{CallKind}
-use Rattle.sw_isolation_rules.specs.Lists.{kinds_in}
+use Rattle.sw_isolation_rules.specs.Lists.{kind_with, kinds_in}
 use Rattle.sw_isolation_rules.specs.declared.note.Kinded.{Kinded}
-use Rattle.sw_lower_table.specs.Tables.{kind_with}
 use Rattle.sw_lower_actors.specs.Making.{KindMakes, NoteMakes}
 use Rattle.sw_lower_actors.proofs.KindNotes.Noted.{AllMake, join}
 use Rattle.sw_lower_actors.proofs.KindNotes.Trees.{block_makes, expr_makes}

@@ -12,16 +12,16 @@ use Rattle.sw_resolve.specs.declared.placed.Placed.{Placed}
 use Rattle.sw_decls.specs.declared.signature.AsyncDefault.{AsyncDefault}
 use Rattle.sw_typing_rules.specs.Worlds.{IsWorldOf, World}
 use Rattle.sw_typing_rules.proofs.Saying.{in_flat_map, none_in, of_flat_map}
-use Rattle.sw_isolation_rules.specs.Answers.{Answers}
-use Rattle.sw_isolation_rules.specs.Lists.{bodies_in, body_in, kind_in, kinds_in, refusals_in}
-use Rattle.sw_isolation_rules.specs.Lists.{refused_in}
-use Rattle.sw_isolation_rules.specs.Programs.{global_refusals, noted, refusals}
+use Rattle.sw_isolation_rules.specs.Answers.{Answers, IsOnePerKey}
+use Rattle.sw_isolation_rules.specs.Lists.{bodies_in, body_in, kind_in, kind_with, kinds_in}
+use Rattle.sw_isolation_rules.specs.Lists.{refusals_in, refused_in}
+use Rattle.sw_isolation_rules.specs.Programs.{HasKind, global_refusals, noted, refusals}
 use Rattle.sw_isolation_rules.specs.declared.note.BodyIso.{BodyIso}
 use Rattle.sw_isolation_rules.specs.declared.note.Kinded.{Kinded}
 use Rattle.sw_isolation_rules.specs.declared.note.Note.{Note}
 use Rattle.sw_isolation_rules.specs.declared.note.Note.TheVariants.{Body, Captures, Kind, Mentioned}
 use Rattle.sw_isolation_rules.specs.declared.note.Note.TheVariants.{Race, Refused, Var}
-use Rattle.sw_lower_table.specs.Tables.{body_with, kind_with}
+use Rattle.sw_lower_table.specs.Tables.{body_with}
 use Rattle.sw_lower_safe.proofs.Lists.Listed.{in_first, in_rest, only_in}
 use Rattle.sw_lower_total.proofs.Closures.Kept.{same_key}
 use Rattle.sw_lower_placed.proofs.Settling.Counts.{marks}
@@ -139,6 +139,18 @@ module _ (decls : List Decl) (rule : AsyncDefault) (world : World) (answers : An
       (one_note one.key decls rule world is answers keyed (Body other) (Body one)
       (of_bodies all other among) has (own_body other one.key same) (own_body one one.key refl)))
       (in_flat_map body_in all (Body one) one has (in_first one []))
+
+-- A key has one kind.
+pub one_kind : (decls : List Decl) (rule : AsyncDefault) (world : World) (answers : Answers)
+    → AreKeyed decls → IsWorldOf decls rule world → IsOnePerKey (HasKind world answers decls)
+one_kind decls rule world answers keyed is key one other has holds =
+    let notes = noted world answers decls in
+    let first : Kinded = record { at = key; kind = one } in
+    let second : Kinded = record { at = key; kind = other } in
+    let found = noted_kind decls rule world answers keyed is first (of_kinds notes first has) in
+    let again = noted_kind decls rule world answers keyed is second
+    (of_kinds notes second holds) in
+    cc
 
 -- Where nothing breaches the rules of isolation, nothing is noted as refused.
 pub none_noted : (decls : List Decl) (world : World) (answers : Answers)

@@ -19,7 +19,7 @@ use Rattle.sw_typing_rules.specs.Worlds.{IsWorldOf, World}
 use Rattle.sw_typing_rules.specs.declared.row.Meaning.{Meaning}
 use Rattle.sw_typing_rules.specs.declared.row.Row.{Row}
 use Rattle.sw_typing_rules.specs.declared.row.Row.TheVariants.{Typed, Means}
-use Rattle.sw_isolation_rules.specs.Answers.{answers_in}
+use Rattle.sw_isolation_rules.specs.Answers.{IsOnePerKey, answers_in}
 use Rattle.sw_lower_safe.proofs.Said.Counts.{Counts}
 use Rattle.sw_lower_safe.proofs.Said.OneAnswer.{meaning_answered, meanings_count, meanings_told}
 use Rattle.sw_lower_safe.proofs.Said.OneAnswer.{no_type_answered, type_answered, types_count}
@@ -67,6 +67,13 @@ typed_once world decls keyed at ty has =
     ))
     (said_is world decls (Typed at ty) has)
 
+pub one_type : (world : World) (decls : List Decl) → AreKeyed decls
+    → IsOnePerKey (HasType world decls)
+one_type world decls keyed at one other has holds =
+    let first = typed_once world decls keyed at one has in
+    let second = typed_once world decls keyed at other holds in
+    cc
+
 -- A name, a member or a call has one meaning.
 pub meant_once : (world : World) (decls : List Decl) → AreKeyed decls → (at : ℕ)
     (meaning : Meaning) → HasMeaning world decls at meaning
@@ -79,6 +86,13 @@ meant_once world decls keyed at meaning has =
       distinct_once (keys_of decls) keyed at,
     ))
     (said_is world decls (Means at meaning) has)
+
+pub one_meaning : (world : World) (decls : List Decl) → AreKeyed decls
+    → IsOnePerKey (HasMeaning world decls)
+one_meaning world decls keyed at one other has holds =
+    let first = meant_once world decls keyed at one has in
+    let second = meant_once world decls keyed at other holds in
+    cc
 
 -- The word of a declared type has no type of its own.
 pub selves_untyped : (world : World) (decls : List Decl) (rule : AsyncDefault) → AreKeyed decls

@@ -5,7 +5,7 @@ use Rattle.std.specs.List.{filter}
 use Rattle.std.specs.Prelude.{IsTrue, cond, not, ◌==◌, ◌&&◌, if◌then◌else◌}
 use Rattle.sw_types.specs.declared.isolation.CallKind.{CallKind}
 use Rattle.sw_isolation_rules.specs.Kinds.{accessor, is_outside, is_strong, kind_of, needs_await}
-use Rattle.sw_isolation_rules.specs.Lists.{kinds_in}
+use Rattle.sw_isolation_rules.specs.Lists.{kind_with, kinds_in}
 use Rattle.sw_isolation_rules.specs.Noting.{await_notes, call_notes, race_if, read_notes}
 use Rattle.sw_isolation_rules.specs.Noting.{refused_if, use_notes}
 use Rattle.sw_isolation_rules.specs.declared.note.Kinded.{Kinded}
@@ -19,7 +19,7 @@ use Rattle.sw_isolation_rules.specs.declared.uses.Used.{Used}
 use Rattle.sw_isolation_rules.specs.declared.uses.Used.TheVariants.{Called, Field, Nothing, Stored}
 use Rattle.sw_isolation_rules.specs.declared.uses.Used.TheVariants.{Waited}
 use Rattle.sw_lower_run.specs.Plan.{Numbers}
-use Rattle.sw_lower_table.specs.Tables.{Isolation, Tables, kind_with}
+use Rattle.sw_lower_table.specs.Tables.{Isolation, Tables}
 use Rattle.sw_lower_total.specs.Known.{Known}
 use Rattle.sw_lower_total.specs.Noted.{kinds_of}
 use Rattle.sw_lower_total.proofs.Standing.Noting.{kinds_join}

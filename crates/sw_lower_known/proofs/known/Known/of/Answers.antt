@@ -6,9 +6,8 @@ use Rattle.sw_isolation.specs.capture.Known.{answers_of}
 use Rattle.sw_isolation_rules.specs.Captures.{is_among}
 use Rattle.sw_isolation_rules.specs.declared.note.BodyIso.{BodyIso}
 use Rattle.sw_isolation_rules.specs.declared.note.Capture.{Capture}
-use Rattle.sw_isolation_rules.specs.declared.note.Kinded.{Kinded}
 use Rattle.sw_typing_rules.specs.Worlds.{and_then, world_of}
-use Rattle.sw_lower_table.specs.Tables.{body_with, kind_with}
+use Rattle.sw_lower_table.specs.Tables.{body_with}
 use Rattle.sw_lower_known.specs.Knowledge.{tables_by}
 use Rattle.sw_lower_known.proofs.known.Known.of.Goals as goal
 
@@ -21,24 +20,20 @@ returns c =
     ≡ body_with isolated.bodies key =
     λ key. c.in_ok-isolations_of.ensures key
     ∙ ap (λ (list : List BodyIso). body_with list key) c.as_slice.ensures in
-    let kinds : (key : ℕ) → get nat_eq c.in_ok-kinds_of.field-0 key
-    ≡ kind_with isolated.kinds key =
-    λ key. c.in_ok-kinds_of.ensures key
-    ∙ ap (λ (list : List Kinded). kind_with list key) c.as_slice-2.ensures in
     let captures : (key : ℕ) → unwrap_or (get nat_eq c.in_ok-groups_of.field-0 key) []
     ≡ filter (λ (one : Capture). one.closure == key) isolated.captures =
     λ key. c.in_ok-groups_of.ensures key
-    ∙ ap (filter (λ (one : Capture). one.closure == key)) c.as_slice-3.ensures in
+    ∙ ap (filter (λ (one : Capture). one.closure == key)) c.as_slice-2.ensures in
     let boxes : (key : ℕ) → contains nat_eq c.in_ok-boxes_of.field-0 key
     ≡ is_among isolated.boxes key =
     λ key. c.in_ok-boxes_of.ensures key
-    ∙ ap (λ (list : List ℕ). is_among list key) c.as_slice-4.ensures in
+    ∙ ap (λ (list : List ℕ). is_among list key) c.as_slice-3.ensures in
     λ i. record {
       world = world_of c.args.world.now;
       answers = answers_of c.args.typed.now;
       isolation = record {
         body_at = λ key. bodies key i;
-        kind_at = λ key. kinds key i;
+        kind_at = get nat_eq isolated.kinds_by_key;
         captures_of = λ key. captures key i;
         is_boxed = λ key. boxes key i;
       };

@@ -1,8 +1,8 @@
 use Rattle.std.proofs.Common.{◌≡◌, ℕ, drop, nat_eq}
 use Rattle.indexmap.specs.IndexMap.{get}
 use Rattle.sw_resolve.specs.Words.{or_else}
-use Rattle.sw_lower_table.specs.Tables.{kind_with}
-use Rattle.sw_lower_known.proofs.tables.kinds_of.Given as goal
+use Rattle.sw_isolation_rules.specs.Lists.{kind_with}
+use Rattle.sw_isolation.proofs.by_key.kinds_of.Given as goal
 
 -- the kinds so far, or else those that are left
 abbrev pub invariant-loop-one : goal.invariant-loop-one
