@@ -1,3 +1,4 @@
+pub mod GlobalActorLemmas
 pub mod KindLemmas
 pub mod LimitLemmas
 pub mod ListLemmas

@@ -75,7 +75,8 @@ abbrev pub conforms : Graph → Shape → Bool
 conforms graph shape = list_all (may_cross graph) (types_in shape)
     && (not (is_class shape.kind) || list_all (λ part. not part.mutable) shape.parts)
 
--- A declared type that says it is Sendable, and has no global actor, may say so.
+-- A declared type that says it is Sendable may say so, except for one with a global actor. In a
+-- placed graph that is a class.
 abbrev pub ShapeClean : Graph → Shape → Type 0
 ShapeClean graph shape = IsTrue shape.conforms → shape.actor ≡ None → IsTrue (conforms graph shape)
 

@@ -9,6 +9,7 @@ use Rattle.sw_types.specs.declared.isolation.Iso.TheVariants.{Free, Own, Global,
 use Rattle.sw_types.specs.declared.isolation.CallKind.{CallKind}
 use Rattle.sw_types.specs.declared.isolation.CallKind.TheVariants.{Same}
 use Rattle.sw_types.specs.declared.shape.Shape.{Shape}
+use Rattle.sw_types.specs.declared.shape.ShapeKind.TheVariants.{Class}
 use Rattle.sw_graph.specs.declared.graph.Graph.{Graph}
 use Rattle.sw_graph.specs.declared.function.Function.{Function}
 use Rattle.sw_graph.specs.declared.function.GlobalKind.{GlobalKind}
@@ -65,6 +66,10 @@ abbrev pub CallPlaced : Graph → Function → Instr → Type 0
 CallPlaced graph body (Call at dst kind function args) = FunctionAt graph function
     (λ callee. HasCallKind body callee args kind)
 CallPlaced graph body _ = Unit {0}
+
+-- Of declared types only classes have a global actor.
+abbrev pub ActorOfClass : Shape → Type 0
+ActorOfClass shape = IsSome shape.actor → shape.kind ≡ Class
 
 -- Whether a part of this cell is the body's own: a part of its own `self`, or of an object of a
 -- class that has the body's global actor or none.
@@ -214,8 +219,9 @@ SetsApart (NewClosure at dst function captures) =
 SetsApart _ = Unit {0}
 
 -- The graph is placed: its calls, accesses, makers, closures and tasks stand where their isolation
--- lets them.
+-- lets them, and only classes have a global actor.
 pub record IsPlaced (graph : Graph) : Type 0 where
+  pub actors : All ActorOfClass graph.shapes
   pub calls : EachInstr graph (CallPlaced graph)
   pub accesses : EachInstr graph (AccessPlaced graph)
   pub stores : (n : ℕ) (body : Function) (p : ℕ) (instr : Instr)

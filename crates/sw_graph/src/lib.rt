@@ -19,5 +19,7 @@ pub use graph::Graph;
 pub use instr::{
     BinOp, Block, BlockList, IdList, Instr, InstrList, Last, Literal, Operand, OperandList, UnOp,
 };
-pub use laws::{function_limits, registers_are_set, straight_graphs_fit};
+pub use laws::{
+    function_limits, only_classes_have_global_actors, registers_are_set, straight_graphs_fit,
+};
 pub use point::Point;

@@ -23,7 +23,7 @@ use Rattle.sw_graph.specs.declared.graph.Graph.{Graph}
 use Rattle.sw_graph.specs.declared.instr.Instr.TheVariants as instr
 use Rattle.sw_graph.specs.declared.instr.Operand.{Operand}
 use Rattle.sw_graph.specs.Kinds.{Goes, IsCaptured, value, form_of, taken, types_of, closure_of}
-use Rattle.sw_graph.specs.Kinds.{result_of, params, given, awaited}
+use Rattle.sw_graph.specs.Kinds.{Each, kinds_of, result_of, params, given, awaited}
 use Rattle.sw_value.specs.declared.cell.HeapCell.{HeapCell}
 use Rattle.sw_value.specs.declared.cell.HeapCell.TheVariants as cell
 use Rattle.sw_value.specs.declared.effect.Effect.TheVariants as effect
@@ -38,16 +38,18 @@ use Rattle.sw_value.specs.Call.{called_frame, closure_frame}
 use Rattle.sw_value.specs.Cell.{task_of}
 use Rattle.sw_value.specs.Effect.{needs, instr_effect, new_of, cell_at, enter_of, spawn_of}
 use Rattle.sw_value.specs.Frame.{first_frame}
+use Rattle.sw_value.specs.Value.{values_at}
 use Rattle.sw_value.proofs.ListLemmas.{some_injective}
 use Rattle.sw_kinded.specs.Kinds.{HaveKinds, World, CellFits, ClosureFits, TaskFits}
+use Rattle.sw_kinded.specs.Operands.{HasOperand}
 use Rattle.sw_kinded.specs.Standing.{Links}
 use Rattle.sw_kinded.specs.Supplied.{TakesActor, GivesActor}
 use Rattle.sw_kinded.proofs.BeginLemmas.{IsBegun, call_begins, first_begins}
 use Rattle.sw_kinded.proofs.CellLemmas.{cell_of, makes, stands_new}
 use Rattle.sw_kinded.proofs.ComputeLemmas.{void_has}
 use Rattle.sw_kinded.proofs.KindLemmas.{goes_to, goes_captured, layers_accept, forms_captured}
-use Rattle.sw_kinded.proofs.KindLemmas.{sort_form}
-use Rattle.sw_kinded.proofs.OperandLemmas.{gathered_in, have_more}
+use Rattle.sw_kinded.proofs.KindLemmas.{captured-refl, sort_form}
+use Rattle.sw_kinded.proofs.OperandLemmas.{gathered, gathered_in, have_more}
 use Rattle.sw_kinded.proofs.PartLemmas.{goes_there, unformed}
 use Rattle.sw_kinded.proofs.TopLemmas.{TopFits, IsAt, kinds_at, operand_at, puts, goes_on}
 use Rattle.sw_kinded.proofs.TopLemmas.{SpawnFits, StandsAt}
@@ -171,6 +173,35 @@ makes_closure graph regs number count r captured are goes =
                   form = form.1;
                 }
 
+-- the kinds of the registers of operands
+own_kinds : (shapes : List Shape) (cells kinds : List RegKind) (regs : List (Option Value))
+    (ss : List Operand)
+    → ((k : ℕ) (o : Operand) → slice_get ss k ≡ Some o → HasOperand shapes cells kinds regs o.reg)
+    → (own : List RegKind) × (kinds_of kinds ss ≡ map Some own)
+own_kinds shapes cells kinds regs [] has = ([], refl)
+own_kinds shapes cells kinds regs (o ∷ ss) has =
+    let first = has 0 o refl in
+    let rest = own_kinds shapes cells kinds regs ss (λ k. has (suc k)) in (
+      first.kind ∷ rest.0,
+      ap (λ kind. kind ∷ kinds_of kinds ss) first.is ∙ ap (λ l. Some first.kind ∷ l) rest.1,
+    )
+
+each_captured : (kinds : List RegKind) → Each IsCaptured (map Some kinds) kinds
+each_captured [] = tt
+each_captured (kind ∷ kinds) = (captured-refl kind, each_captured kinds)
+
+-- The values of operands have the kinds of the operands' registers.
+have_own : (shapes : List Shape) (cells kinds : List RegKind) (regs : List (Option Value))
+    (ss : List Operand)
+    → ((k : ℕ) (o : Operand) → slice_get ss k ≡ Some o → HasOperand shapes cells kinds regs o.reg)
+    → (own : List RegKind) → kinds_of kinds ss ≡ map Some own → (values : List Value)
+    → values_at regs ss ≡ Some values → HaveKinds shapes cells values own
+have_own shapes cells kinds regs ss has own are values found =
+    let gathers = gathered shapes cells kinds regs IsCaptured captured_itself ss own has
+    (subst (λ l. Each IsCaptured l own) (sym are) (each_captured own)) in
+    subst (λ vs. HaveKinds shapes cells vs own) (some_injective (sym gathers.are ∙ found))
+    gathers.have
+
 pub new_closure_fits : (graph : Graph) (world : World) (state : State) (frame : Frame)
     (depth at r f : ℕ) (cs : List Operand)
     → (x : IsAt graph world state frame (instr.NewClosure at r f cs))
@@ -180,10 +211,12 @@ unfolding TopFits
 new_closure_fits graph world state frame depth at r f cs x =
     let regs = x.run.function.regs in
     let kinds = kinds_at graph world state frame (instr.NewClosure at r f cs) x in
+    let operands = operand_at graph world state frame (instr.NewClosure at r f cs) x in
     let all = gathered_in graph.shapes world.cells regs frame.regs IsCaptured captured_itself cs
     (option_map (λ function. take (length cs) (taken function)) (slice_get graph.functions f))
-    (operand_at graph world state frame (instr.NewClosure at r f cs) x) kinds.0 in
+    operands kinds.0 in
     let closure = makes_closure graph regs f (length cs) r all.kinds all.are kinds.1 in
+    let own = own_kinds graph.shapes world.cells regs frame.regs cs operands in
     subst (λ o. TopFits graph world state x.run.function frame
     (needs o (λ captures. new_of state (frame.point + 1) r (cell.Closure f captures))))
     (sym all.gathers.are)
@@ -201,6 +234,23 @@ new_closure_fits graph world state frame depth at r f cs x =
       have = all.gathers.have;
       sendable = closure.marked;
       form = closure.form;
+      made = record {
+        body = x.run.function;
+        at = at;
+        register = r;
+        operands = cs;
+        maker = record {
+          number = frame.function;
+          is = x.run.is;
+          point = frame.point;
+          here = x.here;
+        };
+        given = closure.at;
+        kinds = own.0;
+        are = own.1;
+        have = have_own graph.shapes world.cells regs frame.regs cs operands own.0 own.1
+            all.gathers.values all.gathers.are;
+      };
     }))
 
 -- a frame is put on top, or the machine halts
@@ -292,7 +342,7 @@ closure_is graph world (cell.TaskOf j) kind sendable ps result fits form =
 record IsTask (graph : Graph) (world : World) (c : HeapCell) (kind : RegKind) : Type 0 where
   job : ℕ
   is : c ≡ cell.TaskOf job
-  fits : TaskFits world.results job kind
+  fits : TaskFits graph world.results job kind
 
 task_is : (graph : Graph) (world : World) (c : HeapCell) (kind : RegKind) (result : Ty)
     → CellFits graph world c kind → form_of (Some kind) ≡ Some (type.Task result)
@@ -354,6 +404,9 @@ same_results : (s t : Bool) (ps qs : List Ty) (r q : Ty)
     → type.Func s ps r ≡ type.Func t qs q → (ps ≡ qs) × (r ≡ q)
 same_results s t ps qs r q e = (cc, cc)
 
+plain_not_strong : kind.Plain ≡ kind.Strong → ⊥
+plain_not_strong is = cc
+
 pub call_closure_fits : (graph : Graph) (world : World) (state : State) (frame : Frame)
     (depth at r : ℕ) (c : Operand) (ss : List Operand)
     → (x : IsAt graph world state frame (instr.CallClosure at r c ss))
@@ -390,7 +443,7 @@ call_closure_fits graph world state frame depth at r c ss x =
     values (subst (HaveKinds graph.shapes world.cells values) given_kinds
     (have_append graph.shapes world.cells closure.captures all.gathers.values fits.captured
     all.kinds
-    fits.have all.gathers.have)) (λ strong. absurd (let wrong : ⊥ = cc in wrong)) in
+    fits.have all.gathers.have)) (λ strong. absurd (plain_not_strong strong)) in
     let frame_is : option_and_then (closure_frame graph frame r all.gathers.values)
     (cell_at state frame c) ≡ Some begins.frame =
     ap (option_and_then (closure_frame graph frame r all.gathers.values))
@@ -462,6 +515,22 @@ new_task_fits graph world state frame depth at r f cs x =
       fits = begins.begins.fits None;
       kind = there.1;
       form = result_form;
+      made = record {
+        body = run.function;
+        at = at;
+        register = r;
+        number = f;
+        operands = cs;
+        maker = record {
+          number = frame.function;
+          is = run.is;
+          point = frame.point;
+          here = x.here;
+        };
+        function = callee.0;
+        is = callee.1;
+        gives = ap (λ (g : Function). g.result) (sym (begins.begins.same None));
+      };
       stands = stands;
     })))
 

@@ -107,7 +107,7 @@ spawn_kept graph world state j job below top runs x r first made cell next new =
     ap (slice_get (world.results ++ result ∷ [])) (new.job_is ∙ job_count)
     ∙ slice_get_end world.results result in
     let cell_fits = cell_added graph middle with_job (TaskOf made) new.kind job_fits
-    (record { result = result; is = made_is; form = new.form }) in
+    (record { result = result; is = made_is; form = new.form; made = new.made }) in
     record {
       world = more;
       grows = record {

@@ -125,11 +125,24 @@ cell_grows graph before after grows (cell.Closure f vs) kind fits = record {
   have = have_grows graph.shapes before.cells after.cells grows.cells vs fits.captured fits.have;
   sendable = fits.sendable;
   form = fits.form;
+  made = record {
+    body = fits.made.body;
+    at = fits.made.at;
+    register = fits.made.register;
+    operands = fits.made.operands;
+    maker = fits.made.maker;
+    given = fits.made.given;
+    kinds = fits.made.kinds;
+    are = fits.made.are;
+    have = have_grows graph.shapes before.cells after.cells grows.cells vs fits.made.kinds
+        fits.made.have;
+  };
 }
 cell_grows graph before after grows (cell.TaskOf j) kind fits = record {
   result = fits.result;
   is = grows.results j fits.result fits.is;
   form = fits.form;
+  made = fits.made;
 }
 
 pub status_grows : (graph : Graph) (before after : World) → Grows before after → (top : Frame)

@@ -30,7 +30,7 @@ use Rattle.sw_value.specs.Effect.{set_of}
 use Rattle.sw_value.specs.Lists.{changed_at}
 use Rattle.sw_value.specs.Value.{with_field}
 use Rattle.sw_kinded.specs.Kinded.{global_kinds, StateFits}
-use Rattle.sw_kinded.specs.Kinds.{HasKind, World, CellFits}
+use Rattle.sw_kinded.specs.Kinds.{HasKind, World, CellFits, TaskMade}
 use Rattle.sw_kinded.specs.Operands.{HasOperand}
 use Rattle.sw_kinded.specs.Standing.{HasConst, Stands, FrameFits, Links}
 use Rattle.sw_kinded.specs.Supplied.{IsSupplied}
@@ -102,6 +102,7 @@ pub record SpawnFits (graph : Graph) (world : World) (state : State) (function :
   pub fits : FrameFits graph world.cells None first
   pub kind : RegKind
   pub form : form_of (Some kind) ≡ Some (type.Task fits.function.result)
+  pub made : TaskMade graph fits.function.result
   pub stands : StandsAt graph (world.cells ++ kind ∷ []) function None next
       (slice_set frame.regs r (Some (value.Cell cell)))
 

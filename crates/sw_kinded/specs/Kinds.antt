@@ -10,9 +10,13 @@ use Rattle.sw_graph.specs.declared.function.Function.{Function}
 use Rattle.sw_graph.specs.declared.function.RegKind.{RegKind}
 use Rattle.sw_graph.specs.declared.function.RegKind.TheVariants.{Plain, BoxOf}
 use Rattle.sw_graph.specs.declared.graph.Graph.{Graph}
-use Rattle.sw_graph.specs.Kinds.{IsCaptured, form_of, shape_of, shape_at, is_struct, is_enum}
-use Rattle.sw_graph.specs.Kinds.{is_class}
+use Rattle.sw_graph.specs.declared.instr.Instr.{Instr}
+use Rattle.sw_graph.specs.declared.instr.Instr.TheVariants.{NewClosure, NewTask}
+use Rattle.sw_graph.specs.declared.instr.Operand.{Operand}
+use Rattle.sw_graph.specs.Kinds.{IsCaptured, form_of, kinds_of, shape_of, shape_at, is_struct}
+use Rattle.sw_graph.specs.Kinds.{is_enum, is_class}
 use Rattle.sw_graph.specs.Kinds.{is_actor, parts, payload, box_content, taken}
+use Rattle.sw_graph.specs.Points.{Middle, point_in}
 use Rattle.sw_value.specs.declared.value.Value.{Value, out-Value}
 use Rattle.sw_value.specs.declared.value.Value.TheOpen as layer
 use Rattle.sw_value.specs.declared.cell.HeapCell.{HeapCell}
@@ -118,6 +122,28 @@ pub record BoxFits (shapes : List Shape) (cells : List RegKind) (v : Value) (kin
   pub is : box_content (Some kind) ≡ Some inner
   pub fits : HasKind shapes cells v inner
 
+-- A function of the graph has the instruction.
+pub record HasInstr (graph : Graph) (body : Function) (instr : Instr) : Type 0 where
+  pub number : ℕ
+  pub is : slice_get graph.functions number ≡ Some body
+  pub point : ℕ
+  pub here : point_in body point ≡ Some (Middle instr)
+
+-- How a closure was made: by an instruction that puts it into a register of this kind, of operands
+-- whose registers have these kinds. They say more than the kinds of the captures, which may lack a
+-- mark `@Sendable` that an operand's type has.
+pub record ClosureMade (graph : Graph) (cells : List RegKind) (number : ℕ) (captures : List Value)
+    (kind : RegKind) : Type 0 where
+  pub body : Function
+  pub at : ℕ
+  pub register : ℕ
+  pub operands : List Operand
+  pub maker : HasInstr graph body (NewClosure at register number operands)
+  pub given : slice_get body.regs register ≡ Some kind
+  pub kinds : List RegKind
+  pub are : kinds_of body.regs operands ≡ map Some kinds
+  pub have : HaveKinds graph.shapes cells captures kinds
+
 -- A closure has captured what its function takes first; it takes the rest, and gives the result.
 pub record ClosureFits (graph : Graph) (cells : List RegKind) (number : ℕ) (captures : List Value)
     (kind : RegKind) : Type 0 where
@@ -129,12 +155,26 @@ pub record ClosureFits (graph : Graph) (cells : List RegKind) (number : ℕ) (ca
   pub have : HaveKinds graph.shapes cells captures captured
   pub sendable : Bool
   pub form : form_of (Some kind) ≡ Some (type.Func sendable params function.result)
+  pub made : ClosureMade graph cells number captures kind
+
+-- How a task was made: by an instruction with a function that gives this.
+pub record TaskMade (graph : Graph) (result : Ty) : Type 0 where
+  pub body : Function
+  pub at : ℕ
+  pub register : ℕ
+  pub number : ℕ
+  pub operands : List Operand
+  pub maker : HasInstr graph body (NewTask at register number operands)
+  pub function : Function
+  pub is : slice_get graph.functions number ≡ Some function
+  pub gives : function.result ≡ result
 
 -- A task gives the result of its job.
-pub record TaskFits (results : List Ty) (job : ℕ) (kind : RegKind) : Type 0 where
+pub record TaskFits (graph : Graph) (results : List Ty) (job : ℕ) (kind : RegKind) : Type 0 where
   pub result : Ty
   pub is : slice_get results job ≡ Some result
   pub form : form_of (Some kind) ≡ Some (type.Task result)
+  pub made : TaskMade graph result
 
 -- A cell is of the sort that its kind names, and holds what that asks for.
 abbrev pub CellFits : Graph → World → HeapCell → RegKind → Type 0
@@ -144,4 +184,4 @@ CellFits graph world (cell.Actor k vs) kind = (form_of (Some kind) ≡ Some (typ
     × HavePlaces graph.shapes world.cells vs (parts (shape_at graph.shapes is_actor k))
 CellFits graph world (cell.BoxOf v) kind = BoxFits graph.shapes world.cells v kind
 CellFits graph world (cell.Closure f vs) kind = ClosureFits graph world.cells f vs kind
-CellFits graph world (cell.TaskOf j) kind = TaskFits world.results j kind
+CellFits graph world (cell.TaskOf j) kind = TaskFits graph world.results j kind

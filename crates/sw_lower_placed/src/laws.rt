@@ -18,8 +18,8 @@ ghost use Rattle.sw_lower_placed.specs.Programs.{KeepsApart, KeepsUnshared};
 /// call has the kind that its callee and its caller's isolation give; parts and global variables
 /// are accessed in their isolation, but for a `let` that is read; actors, and objects of classes
 /// with global actors, are made as the last of their initialisers; closures and tasks stand where
-/// their isolation lets them; and each body that is isolated to `self` has its own in register 0,
-/// but for initialisers (SE-0306, SE-0316).
+/// their isolation lets them; each body that is isolated to `self` has its own in register 0, but
+/// for initialisers; and only classes have a global actor (SE-0306, SE-0316).
 pub fn graphs_are_placed()
     ensures { (decls : List Decl) (rule : AsyncDefault) (world : World) (graph : Graph)
         → IsWelltyped decls rule world → CasesApart decls → KeepsApart world decls

@@ -261,9 +261,18 @@ spawned old new j sound m = is_entered old new (bottom j) sound (record {
   runs = λ r. absurd (not_running m.ready r.running);
   stands = λ {a} e. (stands a e).0;
   isolated = λ {a} e. (stands a e).1;
-  owned = λ h. subst (IsOwnedBy j (new.shape (bottom j)).executor) (m.held h) owned;
-  actors = λ h. m.held h;
-  apart = λ h k. m.held k;
+  owned = λ h. elim (m.held h) [
+    | inl e ↦ subst (IsOwnedBy j (new.shape (bottom j)).executor) e owned
+    | inr s ↦ subst (IsOwnedBy j (new.shape (bottom j)).executor) (sym s.owner) refl
+  ];
+  actors = λ h. elim (m.held h) [
+    | inl e ↦ e
+    | inr s ↦ absurd (cc (s.owner))
+  ];
+  apart = λ {p} {x} h k. elim (m.held k) [
+    | inl e ↦ e
+    | inr s ↦ absurd (s.unheld p x h)
+  ];
   entered = λ {a} how on. entered a on;
   inherited = λ p e. absurd (nothing_below p e);
   linked = λ r p e. absurd (nothing_below p e);

@@ -303,6 +303,38 @@ closed old new q sound m = carried old new (Elsewhere q) sound (record {
         absurd (cc (k.not_closing, ap (λ (s : Shape). s.closing) m.shape))
     other {p} {x} {c} (inr n) h = n
 
+-- A colour of the job that a frame held when only its return is left, nothing holds, if no frame
+-- below holds it.
+closed_is_unheld : (old new : View) (q : Frame) (x : Element) (number : ℕ) → IsSound old
+    → Closed old new q → HoldsLive old q x (OfJob q.job number)
+    → ((p : Frame) (y : Element) → IsBelow p q → ¬ (HoldsLive old p y (OfJob q.job number)))
+    → IsUnheld new (OfJob q.job number)
+closed_is_unheld old new q x number sound m h alone p y k = elim (cases_frame p q) [
+  | inl e ↦ (let at_q = subst (λ f. HoldsLive new f y (OfJob q.job number)) e k in
+      cc (at_q.not_closing, ap (λ (s : Shape). s.closing) m.shape))
+  | inr n ↦ elim (top_or_below old p q m.top (same_job (held_back n)) (held_back n).frame) [
+    | inl e ↦ n e
+    | inr below ↦ alone p y below (held_back n)
+  ]
+]
+  where
+    held_back : p ≢ q → HoldsLive old p y (OfJob q.job number)
+    held_back n = (m.others p (omega (arith, k.frame, m.jobs.height p.job)) n).held k
+
+    same_job : HoldsLive old p y (OfJob q.job number) → p.job ≡ q.job
+    same_job back = let o : IsOwnedBy p.job (old.shape p).executor (OfJob q.job number)
+        = sound.owned.owned back in
+        sym o
+
+-- None below holds one where the frame's `Here` has an actor's colour, as that of an initialiser of
+-- a class with a global actor.
+pub closed_class_is_unheld : (old new : View) (q : Frame) (x : Element) (a : Actor) (number : ℕ)
+    → IsSound old → Closed old new q → old.here q ≡ OfActor a
+    → HoldsLive old q x (OfJob q.job number) → IsUnheld new (OfJob q.job number)
+closed_class_is_unheld old new q x a number sound m here h =
+    closed_is_unheld old new q x number sound m h (λ p y below k.
+    let is : old.here q ≡ OfJob q.job number = sound.owned.apart below k h in cc (is, here))
+
 -- what an actor's initialiser held when only its return is left, nothing holds
 pub closed_is_disconnected : (old new : View) (q : Frame) → IsSound old → Closed old new q
     → (old.shape q).isolation ≡ MakesActor
@@ -310,7 +342,9 @@ pub closed_is_disconnected : (old new : View) (q : Frame) → IsSound old → Cl
 closed_is_disconnected old new q sound m makes x c h = record {
   number = (owner c h).0;
   owner = (owner c h).1;
-  unheld = nobody;
+  unheld = subst (IsUnheld new) (sym (owner c h).1)
+      (closed_is_unheld old new q x (owner c h).0 sound m of_job (λ p y below k.
+      sound.initialisers.alone makes below (q_here (sound.owned.apart below k of_job)) k));
 }
   where
     q_here : {c : Colour} → old.here q ≡ c → HoldsLive old q Here c
@@ -342,24 +376,8 @@ closed_is_disconnected old new q sound m makes x c h = record {
     owner (OfJob j n) k = (n, ap (λ j. OfJob j n) (sound.owned.owned k))
     owner (OfActor a) k = absurd (no_actor a k)
 
-    held_back : {p : Frame} {y : Element} → p ≢ q → HoldsLive new p y c → HoldsLive old p y c
-    held_back {p} n k = (m.others p (omega (arith, k.frame, m.jobs.height p.job)) n).held k
-
-    same_job : {p : Frame} {y : Element} → HoldsLive old p y c → p.job ≡ q.job
-    same_job {p} {y} k = let o : IsOwnedBy p.job (old.shape p).executor (OfJob q.job (owner c h).0)
-        = subst (IsOwnedBy p.job (old.shape p).executor) (owner c h).1 (sound.owned.owned k) in
-        sym o
-
-    nobody : IsUnheld new c
-    nobody p y k = elim (cases_frame p q) [
-      | inl e ↦ (let at_q = subst (λ f. HoldsLive new f y c) e k in
-          cc (at_q.not_closing, ap (λ (s : Shape). s.closing) m.shape))
-      | inr n ↦ elim (top_or_below old p q m.top (same_job (held_back n k)) (held_back n k).frame) [
-        | inl e ↦ n e
-        | inr below ↦ sound.initialisers.alone makes below
-            (q_here (sound.owned.apart below (held_back n k) h)) (held_back n k)
-      ]
-    ]
+    of_job : HoldsLive old q x (OfJob q.job (owner c h).0)
+    of_job = subst (HoldsLive old q x) (owner c h).1 h
 
 -- what nothing live holds may be recoloured, and each frame that isn't closing stays as it is
 pub unheld_stay : (old new : View) (j number : ℕ) (kept : Colour) → IsUnheld old (OfJob j number)

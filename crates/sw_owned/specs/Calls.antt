@@ -98,12 +98,14 @@ pub record IsOnNone (w : View) (p : Frame) : Type 0 where
   pub executor : (w.shape p).executor ≡ Generic
   pub here : (number : ℕ) × (w.here p ≡ OfJob p.job number)
 
--- A task: a new job of one frame, which holds the colour of its `Here` alone.
+-- A task: a new job of one frame. It holds the colour of its `Here`, and colours of its own that
+-- nothing else holds: of what it is to hand over to its actor when it runs.
 pub record Spawned (old new : View) (j : ℕ) : Type 0 where
   pub pushed : Pushed old new (bottom j)
   pub others : (p : Frame) → IsFrame old p → Kept old new p
   pub ready : new.running j ≡ false
-  pub held : {x : Element} {c : Colour} → HoldsLive new (bottom j) x c → new.here (bottom j) ≡ c
+  pub held : {x : Element} {c : Colour} → HoldsLive new (bottom j) x c
+      → (new.here (bottom j) ≡ c) ⊎ IsDisconnected old j c
   pub stands : ((a : Actor) × IsOnActor new (bottom j) a) ⊎ IsOnNone new (bottom j)
 
 -- frame q is taken off the top of its job's stack

@@ -251,7 +251,7 @@ spawned_says old new j Pushes = Pushed old new (bottom j)
 spawned_says old new j Others = (p : Frame) → IsFrame old p → Kept old new p
 spawned_says old new j Ready = new.running j ≡ false
 spawned_says old new j Held = (x : Element) (c : Colour) → HoldsLive new (bottom j) x c
-    → new.here (bottom j) ≡ c
+    → (new.here (bottom j) ≡ c) ⊎ IsDisconnected old j c
 spawned_says old new j Stands = ((a : Actor) × IsOnActor new (bottom j) a) ⊎ IsOnNone new (bottom j)
 
 pub data ReturnedPremise : Type 0 where

@@ -81,12 +81,16 @@ pub fn giving_keeps_soundness()
 {}
 
 /// An initialiser has only its return left. What an actor's initialiser held by then may become the
-/// actor's.
+/// actor's. The initialiser of a class with a global actor may have held that actor's colour too:
+/// of what it held, the colours of its job may become the actor's.
 pub fn closing_keeps_soundness()
     ensures closed { (old new : View) (q : Frame) → IsSound old → Closed old new q → IsSound new }
     ensures disconnected { (old new : View) (q : Frame) (x : Element) (c : Colour)
         → IsSound old → Closed old new q → (old.shape q).isolation ≡ MakesActor
         → HoldsLive old q x c → IsDisconnected new q.job c }
+    ensures unheld { (old new : View) (q : Frame) (x : Element) (a : Actor) (number : ℕ)
+        → IsSound old → Closed old new q → old.here q ≡ OfActor a
+        → HoldsLive old q x (OfJob q.job number) → IsUnheld new (OfJob q.job number) }
 {}
 
 /// Each kind of call.
@@ -101,7 +105,7 @@ pub fn calls_keep_soundness()
     ensures make { (old new : View) (p : Frame) → IsSound old → CalledMake old new p → IsSound new }
 {}
 
-/// A task.
+/// A task, which may carry what only its job holds.
 pub fn tasks_keep_soundness()
     ensures { (old new : View) (j : ℕ) → IsSound old → Spawned old new j → IsSound new }
 {}

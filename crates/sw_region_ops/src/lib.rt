@@ -18,5 +18,6 @@ mod table;
 pub use context::Context;
 pub use entry::{enter, ops_of};
 pub use laws::{entries_are_one, operations_are_monotone, operations_fit};
+pub use marks::Mark;
 pub use op::{ISOLATED_TO_ACTOR, ISOLATED_TO_TASK, NOT_DISCONNECTED, Op, OpList};
 pub use running::{apply, run};

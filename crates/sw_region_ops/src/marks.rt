@@ -10,7 +10,7 @@ use sw_list::ListOf;
 
 /// A tracked operand: its element, and the byte offset of the expression that gave it.
 #[derive(Clone, Copy, Debug, PartialEq, Eq)]
-pub(crate) struct Mark {
+pub struct Mark {
     pub x: u32,
     pub at: u32,
 }

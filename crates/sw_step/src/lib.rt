@@ -14,5 +14,5 @@ mod reading;
 mod stepping;
 
 pub use event::Event;
-pub use stepping::step;
+pub use stepping::{act_of, perform, step};
 pub use sw_value::Line;

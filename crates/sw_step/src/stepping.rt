@@ -46,9 +46,14 @@ fn do_item(alloc: Global, graph: &Graph, state: &mut State, item: u32) -> Result
     }
 }
 
-/// What an item makes its job do.
+/// What an item makes its job do, if anything. It changes nothing: `perform` lets the job do it.
 #[tactic(auto, unfolding(sw_value::specs::Act::act_of))]
-fn act_of(alloc: Global, graph: &Graph, state: &State, item: u32) -> Result<Option<Act>, AllocError>
+pub fn act_of(
+    alloc: Global,
+    graph: &Graph,
+    state: &State,
+    item: u32,
+) -> Result<Option<Act>, AllocError>
     requires cells { length state.now.cells < 4294967295 }
     ensures { IfOk result (λ act. act ≡ act_of graph.now state.now item) }
 {
@@ -111,8 +116,9 @@ fn execution_of(effect: Effect) -> Option<Act>
     Some(Act::Execute { effect })
 }
 
-/// Lets a job do an act. Where memory runs out it leaves the state as it was.
-fn perform(alloc: Global, state: &mut State, item: u32, act: Act) -> Result<Event, AllocError>
+/// Lets a job do an act. Where memory runs out it leaves the state as it was. With the act of an
+/// item this is the item's step.
+pub fn perform(alloc: Global, state: &mut State, item: u32, act: Act) -> Result<Event, AllocError>
     ensures ok { OnOk result (state.new ≡ after_act item act state.old) }
     ensures event { IfOk result (λ event. event ≡ act_event act) }
     ensures err { OnErr result (state.new ≡ state.old) }

@@ -1,7 +1,7 @@
 -- Parts and global variables are accessed in bodies of their isolation, but for a `let` that is
 -- read.
 use Rattle.std.proofs.Common.{◌≡◌, ℕ, Bool, true, false, not, ◌||◌, List, Option, Some, None, refl}
-use Rattle.std.proofs.Common.{sym, ap, subst, ◌∙◌, map, slice_get}
+use Rattle.std.proofs.Common.{All, sym, ap, subst, ◌∙◌, map, slice_get}
 use Rattle.std.proofs.lemmas.Bool.{eq-eqb, not_from_false, or_left, or_right}
 use Rattle.std.proofs.lemmas.Option.{slice_get-map}
 use Rattle.std.specs.Option.{option_and_then, option_map, option_map_or}
@@ -17,7 +17,8 @@ use Rattle.sw_types.specs.declared.ty.Ty.TheVariants as types
 use Rattle.sw_graph.specs.Bodies.{is_on, is_own, is_self}
 use Rattle.sw_graph.specs.CallKinds.{global_kind, kind_by, own_kind}
 use Rattle.sw_graph.specs.Kinds.{is_actor, is_cell, number_of, part, shape_at, shape_of}
-use Rattle.sw_graph.specs.Placed.{AccessPlaced, EachInstr, is_inside, is_inside_global}
+use Rattle.sw_graph.specs.Placed.{AccessPlaced, ActorOfClass, EachInstr, is_inside}
+use Rattle.sw_graph.specs.Placed.{is_inside_global}
 use Rattle.sw_graph.specs.Placed.{is_inside_shape, is_var_global, is_var_part}
 use Rattle.sw_graph.specs.declared.function.Function.{Function}
 use Rattle.sw_graph.specs.declared.function.GlobalKind.{GlobalKind}
@@ -28,6 +29,7 @@ use Rattle.sw_graph.specs.declared.instr.Instr.{Instr}
 use Rattle.sw_graph.specs.declared.instr.Instr.TheVariants.{LoadGlobal, LoadProp}
 use Rattle.sw_graph.specs.declared.instr.Instr.TheVariants.{StoreGlobal, StoreProp}
 use Rattle.sw_graph.specs.declared.instr.Operand.{Operand}
+use Rattle.sw_graph.proofs.GlobalActorLemmas.{actor_alone}
 use Rattle.sw_decls.specs.Signatures.{actor_iso}
 use Rattle.sw_decls.specs.declared.signature.GlobalVar.{GlobalVar}
 use Rattle.sw_typing_rules.specs.Worlds.{is_object_kind}
@@ -42,11 +44,6 @@ use Rattle.sw_lower_placed.proofs.Graphs.Functions.{InOrder}
 use Rattle.sw_lower_placed.proofs.Graphs.Initialisers.{made}
 use Rattle.sw_lower_placed.proofs.Graphs.Selves.{own_is_self}
 use Rattle.sw_lower_placed.proofs.Graphs.Standing.{InEach, HostOf, at_points, made_either}
-
--- An actor has no global actor.
-abbrev pub ActorsAlone : List Shape → Type 0
-ActorsAlone shapes = (k : ℕ) (shape : Shape) → slice_get shapes k ≡ Some shape
-    → shape.kind ≡ kinds.Actor → shape.actor ≡ None
 
 cell_kind : (kind : ShapeKind) → is_object_kind kind ≡ true → is_cell kind ≡ true
 cell_kind kinds.Struct object = cc
@@ -135,7 +132,7 @@ module _ (program : Program) where
       slice_get-map kind_of_global program.tables.world.globals g
       ∙ ap (option_map kind_of_global) is
 
-  module _ (alone : ActorsAlone shapes) (function : Function) (host : Host)
+  module _ (actors : All ActorOfClass shapes) (function : Function) (host : Host)
       (of : HostOf function host) where
     -- A part that isn't another isolation's is inside.
     pub part_inside : (o : Operand) (i : ℕ) (used : PartUsed program host function.regs o i)
@@ -145,7 +142,7 @@ module _ (program : Program) where
         ap (λ found. option_map_or (is_inside_shape function o) found false)
         (cell_is shapes function.regs o.reg used.k used.shape used.held used.is_shape used.object)
         ∙ inside_by used.shape.kind used.shape.actor used.on_self (is_self function o) function.iso
-        used.object (alone used.k used.shape used.is_shape)
+        used.object (actor_alone shapes used.k used.shape actors used.is_shape)
         (λ on own. own_is_self function host of o (used.own on) own)
         (ap (λ around. is_away around (used_storage program host function.regs o i used))
         (sym of.iso) ∙ near)
@@ -222,14 +219,14 @@ module _ (program : Program) where
       ∙ own_global one.global.actor body.iso one.iso
 
   module _ (ordered : List Body) (is : InOrder program ordered) (placed : ArePlaced program)
-      (alone : ActorsAlone shapes) (graph : Graph) (same_shapes : graph.shapes ≡ shapes)
+      (actors : All ActorOfClass shapes) (graph : Graph) (same_shapes : graph.shapes ≡ shapes)
       (same_globals : graph.globals ≡ globals)
       (functions : graph.functions ≡ program.functions) where
     each : InEach program ordered
         (λ n function block index instr. AccessPlaced graph function instr)
     each = record {
       allowed = λ n body at host of block index instr ok.
-          allowed alone _ host of graph same_shapes same_globals instr ok;
+          allowed actors _ host of graph same_shapes same_globals instr ok;
       makes = λ n body at one block index key r operands apart last.
           made_either (AccessPlaced graph (made program body)) one.shape.kind key r
           one.k operands tt tt;

@@ -1,6 +1,6 @@
 -- Where nothing is shared that may not be, the instructions of a graph keep to it.
 use Rattle.std.proofs.Common.{◌≡◌, ℕ, Bool, true, false, not, ◌&&◌, ◌||◌, List, [], ◌∷◌, Option}
-use Rattle.std.proofs.Common.{Some}
+use Rattle.std.proofs.Common.{All, Some}
 use Rattle.std.proofs.Common.{Contains, IsTrue, refl, sym, ap, subst, ◌∙◌, slice_get, true≢false}
 use Rattle.std.proofs.lemmas.Bool.{and_from, not_from_false, true_from_ne_false}
 use Rattle.std.proofs.lemmas.Option.{same_Some}
@@ -17,7 +17,8 @@ use Rattle.sw_types.specs.declared.ty.Ty.{Ty}
 use Rattle.sw_graph.specs.Clean.{CallClean, ClosureClean, ReadClean, TaskClean, is_marked_kind}
 use Rattle.sw_graph.specs.Clean.{is_untracked}
 use Rattle.sw_graph.specs.Kinds.{is_cell, kinds_of, part, shape_of}
-use Rattle.sw_graph.specs.Placed.{EachInstr, FunctionAt, is_inside, is_inside_global}
+use Rattle.sw_graph.specs.Placed.{ActorOfClass, EachInstr, FunctionAt, is_inside}
+use Rattle.sw_graph.specs.Placed.{is_inside_global}
 use Rattle.sw_graph.specs.Placed.{is_var_global, is_var_part}
 use Rattle.sw_graph.specs.declared.function.Function.{Function}
 use Rattle.sw_graph.specs.declared.function.GlobalKind.{GlobalKind}
@@ -38,7 +39,7 @@ use Rattle.sw_lower_placed.specs.Allowed.{CallOk, ClosureOk, GlobalRead, IsAllow
 use Rattle.sw_lower_placed.specs.Allowed.{SharesNone, TaskOk, global_storage, is_away, used_storage}
 use Rattle.sw_lower_placed.specs.Bodies.{ArePlaced}
 use Rattle.sw_lower_placed.specs.Hosts.{Program, Host}
-use Rattle.sw_lower_placed.proofs.Graphs.Accesses.{ActorsAlone, global_at, global_inside}
+use Rattle.sw_lower_placed.proofs.Graphs.Accesses.{global_at, global_inside}
 use Rattle.sw_lower_placed.proofs.Graphs.Accesses.{global_variable, globals, part_holds}
 use Rattle.sw_lower_placed.proofs.Graphs.Accesses.{part_inside, part_variable, shapes}
 use Rattle.sw_lower_placed.proofs.Graphs.Closures.{closure_runs, task_runs}
@@ -47,7 +48,7 @@ use Rattle.sw_lower_placed.proofs.Graphs.Initialisers.{made}
 use Rattle.sw_lower_placed.proofs.Graphs.Standing.{HostOf, at_points, made_either}
 
 module _ (program : Program) (ordered : List Body) (is : InOrder program ordered)
-    (placed : ArePlaced program) (alone : ActorsAlone (shapes program))
+    (placed : ArePlaced program) (actors : All ActorOfClass (shapes program))
     (shares : SharesNone program) (graph : Graph) (same_shapes : graph.shapes ≡ shapes program)
     (same_globals : graph.globals ≡ globals program)
     (functions : graph.functions ≡ program.functions) where
@@ -125,16 +126,16 @@ module _ (program : Program) (ordered : List Body) (is : InOrder program ordered
         let used = ok.used in
         let away : is_away host.iso (used_storage program host body.regs o i used) ≡ true =
         true_from_ne_false (is_away host.iso (used_storage program host body.regs o i used))
-        (λ near. true≢false (sym (part_inside program alone body host of o i used near)
+        (λ near. true≢false (sym (part_inside program actors body host of o i used near)
         ∙ ap (λ all. is_inside all body o) (sym same_shapes) ∙ outside)) in
         and_from (not (is_var_part graph.shapes body o i)) _
         (not_from_false (is_var_part graph.shapes body o i)
         (ap (λ all. is_var_part all body o i) same_shapes
-        ∙ part_variable program alone body host of o i used ∙ ok.ok.constant away))
+        ∙ part_variable program actors body host of o i used ∙ ok.ok.constant away))
         (untracked_is (part (shape_of graph.shapes is_cell (slice_get body.regs o.reg)) i)
         used.part.ty
         (ap (λ all. part (shape_of all is_cell (slice_get body.regs o.reg)) i) same_shapes
-        ∙ part_holds program alone body host of o i used) ∙ ok.ok.crosses shares away)
+        ∙ part_holds program actors body host of o i used) ∙ ok.ok.crosses shares away)
 
     global_clean : (g : ℕ) → GlobalRead program host body.regs g
         → is_inside_global graph.globals body g ≡ false
@@ -145,12 +146,12 @@ module _ (program : Program) (ordered : List Body) (is : InOrder program ordered
         let storage = global_storage program ok.global in
         let away : is_away host.iso storage ≡ true =
         true_from_ne_false (is_away host.iso storage) (λ near.
-        true≢false (sym (global_inside program alone body host of g ok.global ok.is near)
+        true≢false (sym (global_inside program actors body host of g ok.global ok.is near)
         ∙ ap (λ all. is_inside_global all body g) (sym same_globals) ∙ outside)) in
         and_from (not (is_var_global graph.globals g)) _
         (not_from_false (is_var_global graph.globals g)
         (ap (λ all. is_var_global all g) same_globals
-        ∙ global_variable program alone body host of g ok.global ok.is ∙ ok.ok.constant away))
+        ∙ global_variable program actors body host of g ok.global ok.is ∙ ok.ok.constant away))
         (ap (λ all. option_map_or (λ (one : GlobalKind). is_sendable graph.shapes one.ty)
         (slice_get all g) false) same_globals
         ∙ ap (λ found. option_map_or (λ (one : GlobalKind). is_sendable graph.shapes one.ty) found

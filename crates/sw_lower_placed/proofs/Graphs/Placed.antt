@@ -1,11 +1,11 @@
 -- The graph of a program is placed, by what is shown of its bodies.
 use Rattle.std.proofs.Common.{◌≡◌, ℕ, true, false, List, Some, Contains, refl, sym, ap, subst, ◌∙◌}
-use Rattle.std.proofs.Common.{slice_get, true≢false}
+use Rattle.std.proofs.Common.{All, slice_get, true≢false}
 use Rattle.std.proofs.lemmas.Bool.{and_parts, not-true}
 use Rattle.sw_types.specs.declared.shape.ShapeKind.{ShapeKind}
 use Rattle.sw_types.specs.declared.shape.ShapeKind.TheVariants as kinds
 use Rattle.sw_graph.specs.Bodies.{has_self, is_actor_initialiser, is_own}
-use Rattle.sw_graph.specs.Placed.{EachFunction, EachInstr, FunctionAt, GivesFirst, HasSelf, IsAlone}
+use Rattle.sw_graph.specs.Placed.{ActorOfClass, EachFunction, EachInstr, FunctionAt, GivesFirst, HasSelf, IsAlone}
 use Rattle.sw_graph.specs.Placed.{IsFirst, IsPlaced, SetsApart, named_by}
 use Rattle.sw_graph.specs.Points.{Middle, point_in}
 use Rattle.sw_graph.specs.declared.function.Function.{Function}
@@ -16,7 +16,7 @@ use Rattle.sw_lower_placed.specs.Bodies.{ArePlaced, IsFirstValue, IsMaker, IsPla
 use Rattle.sw_lower_placed.specs.Bodies.IsPlacedBody.{first, maker, ordinary}
 use Rattle.sw_lower_placed.specs.Claims.{IsOrdinary}
 use Rattle.sw_lower_placed.specs.Hosts.{Program}
-use Rattle.sw_lower_placed.proofs.Graphs.Accesses.{ActorsAlone, accesses_placed, globals, shapes}
+use Rattle.sw_lower_placed.proofs.Graphs.Accesses.{accesses_placed, globals, shapes}
 use Rattle.sw_lower_placed.proofs.Graphs.Calls.{calls_placed}
 use Rattle.sw_lower_placed.proofs.Graphs.Closures.{apart_placed}
 use Rattle.sw_lower_placed.proofs.Graphs.Functions.{InOrder, of_body}
@@ -79,7 +79,7 @@ module _ (program : Program) where
   body_has body (first one) has = absurd (first_has body one has)
 
   module _ (ordered : List Body) (is : InOrder program ordered) (placed : ArePlaced program)
-      (alone : ActorsAlone (shapes program)) (graph : Graph)
+      (actors : All ActorOfClass (shapes program)) (graph : Graph)
       (same_shapes : graph.shapes ≡ shapes program) (same_globals : graph.globals ≡ globals program)
       (functions : graph.functions ≡ program.functions) where
     here : (f : ℕ) (function : Function) → slice_get graph.functions f ≡ Some function
@@ -103,10 +103,11 @@ module _ (program : Program) where
 
     pub graph_placed : AreStarts program graph.starts → BeginsRight graph → IsPlaced graph
     graph_placed starts begins = record {
+      actors = subst (All ActorOfClass) (sym same_shapes) actors;
       calls = calls_placed program ordered is placed graph functions;
-      accesses = accesses_placed program ordered is placed alone graph same_shapes same_globals
+      accesses = accesses_placed program ordered is placed actors graph same_shapes same_globals
           functions;
-      stores = stores_placed program ordered is placed alone graph same_shapes same_globals
+      stores = stores_placed program ordered is placed actors graph same_shapes same_globals
           functions starts;
       makers = makers_placed program graph same_shapes ordered is placed functions;
       apart = apart_placed program ordered is placed graph same_shapes functions;

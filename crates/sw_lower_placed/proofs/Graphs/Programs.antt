@@ -7,7 +7,7 @@ use Rattle.std.specs.Prelude.{if◌then◌else◌}
 use Rattle.sw_tree.specs.declared.decl.Decl.{Decl}
 use Rattle.sw_graph.specs.Clean.{IsClean}
 use Rattle.sw_graph.specs.Limits.{IsWithinLimits, excess_of}
-use Rattle.sw_graph.specs.Placed.{EachInstr, IsPlaced, named_by}
+use Rattle.sw_graph.specs.Placed.{ActorOfClass, EachInstr, IsPlaced, named_by}
 use Rattle.sw_graph.specs.Points.{Middle, point_in, points_of}
 use Rattle.sw_graph.specs.declared.function.Excess.TheVariants.{Points, Registers}
 use Rattle.sw_graph.specs.declared.function.Function.{Function}
@@ -16,7 +16,6 @@ use Rattle.sw_graph.specs.declared.function.TheConstants.{MAX_POINTS, MAX_REGIST
 use Rattle.sw_graph.specs.declared.graph.Graph.{Graph}
 use Rattle.sw_graph.specs.declared.instr.Instr.{Instr}
 use Rattle.sw_graph.specs.declared.instr.Instr.TheVariants.{NewClosure}
-use Rattle.sw_graph.proofs.ListLemmas.{at_index}
 use Rattle.sw_decls.specs.declared.signature.AsyncDefault.{AsyncDefault}
 use Rattle.sw_typing_rules.specs.Programs.{said}
 use Rattle.sw_typing_rules.specs.Worlds.{World}
@@ -37,13 +36,12 @@ use Rattle.sw_lower_firsts.proofs.Quiet.Alone.{firsts_alone}
 use Rattle.sw_lower_placed.specs.Allowed.{IsAllowed, SharesNone}
 use Rattle.sw_lower_placed.specs.Bodies.{ArePlaced}
 use Rattle.sw_lower_placed.specs.Hosts.{Program, Host}
-use Rattle.sw_lower_placed.proofs.Graphs.Accesses.{ActorsAlone}
 use Rattle.sw_lower_placed.proofs.Graphs.Clean.{calls_are_clean, closures_are_clean}
 use Rattle.sw_lower_placed.proofs.Graphs.Clean.{reads_are_clean, tasks_are_clean}
 use Rattle.sw_lower_placed.proofs.Graphs.Functions.{InOrder}
 use Rattle.sw_lower_placed.proofs.Graphs.Placed.{BeginsRight, graph_placed}
-use Rattle.sw_lower_placed.proofs.Graphs.Shapes.{ActorBare, actors_bare, globals_clean}
-use Rattle.sw_lower_placed.proofs.Graphs.Shapes.{shapes_clean}
+use Rattle.sw_lower_placed.proofs.Graphs.Shapes.{IsDeclared, actors_of_classes, globals_clean}
+use Rattle.sw_lower_placed.proofs.Graphs.Shapes.{shapes_clean, shapes_declared}
 use Rattle.sw_lower_placed.proofs.Graphs.Standing.{at_points, made_either}
 use Rattle.sw_lower_placed.proofs.Settling.Program.{program_of}
 use Rattle.sw_lower_placed.proofs.Settling.Unnamed.{ClosuresFrom, firsts_unnamed, name_at}
@@ -110,11 +108,11 @@ module _ (decls : List Decl) (rule : AsyncDefault) (world : World) (graph : Grap
     named = name_at decls rule world ordered is lowered.are_ordered numbered;
   }
 
-  bare : All ActorBare world.shapes
-  bare = actors_bare decls rule world is.declared
+  declared : All IsDeclared world.shapes
+  declared = shapes_declared decls rule world is.declared
 
-  actors_alone : ActorsAlone world.shapes
-  actors_alone k shape at actor = (at_index ActorBare world.shapes k shape bare at actor).0
+  actors : All ActorOfClass world.shapes
+  actors = actors_of_classes world.shapes declared
 
   module _ (placed : ArePlaced program) where
     closures_from : (n : ℕ) (function : Function)
@@ -149,7 +147,7 @@ module _ (decls : List Decl) (rule : AsyncDefault) (world : World) (graph : Grap
 
     pub graph_is_placed : IsPlaced graph
     graph_is_placed =
-        graph_placed program ordered in_order placed actors_alone graph lowered.shapes
+        graph_placed program ordered in_order placed actors graph lowered.shapes
         lowered.globals lowered.functions lowered.starts begins
 
     -- what is noted of a program, and what it says
@@ -172,15 +170,15 @@ module _ (decls : List Decl) (rule : AsyncDefault) (world : World) (graph : Grap
           captures = none_right (in_shapes ++ in_notes) in_captures shared;
         } in record {
           placed = graph_is_placed;
-          closures = closures_are_clean program ordered in_order placed actors_alone shares graph
+          closures = closures_are_clean program ordered in_order placed actors shares graph
               lowered.shapes lowered.globals lowered.functions;
-          calls = calls_are_clean program ordered in_order placed actors_alone shares graph
+          calls = calls_are_clean program ordered in_order placed actors shares graph
               lowered.shapes lowered.globals lowered.functions;
-          tasks = tasks_are_clean program ordered in_order placed actors_alone shares graph
+          tasks = tasks_are_clean program ordered in_order placed actors shares graph
               lowered.shapes lowered.globals lowered.functions;
-          reads = reads_are_clean program ordered in_order placed actors_alone shares graph
+          reads = reads_are_clean program ordered in_order placed actors shares graph
               lowered.shapes lowered.globals lowered.functions;
-          conformances = shapes_clean world graph lowered.shapes bare
+          conformances = shapes_clean world graph lowered.shapes declared
               (none_left in_shapes in_notes before);
           globals = globals_clean world graph lowered.shapes lowered.globals
               (none_right (refusals_in notes) (flat_map (global_refusals world) world.globals)

@@ -16,6 +16,7 @@ use Rattle.sw_types.specs.declared.shape.ShapeKind.{ShapeKind}
 use Rattle.sw_types.specs.declared.shape.ShapeKind.TheVariants as kinds
 use Rattle.sw_graph.specs.Clean.{GlobalClean, ShapeClean}
 use Rattle.sw_graph.specs.Kinds.{is_class}
+use Rattle.sw_graph.specs.Placed.{ActorOfClass}
 use Rattle.sw_graph.specs.declared.graph.Graph.{Graph}
 use Rattle.sw_resolve.specs.Evident.{Meanings, meanings_of}
 use Rattle.sw_resolve.specs.Shaped.{shape_of}
@@ -29,31 +30,43 @@ use Rattle.sw_lower_table.specs.Bodies.{global_kind}
 use Rattle.sw_lower_safe.proofs.Programs.DeclStands.{none_left, none_right}
 use Rattle.sw_lower_safe.proofs.Programs.MadeOf.{each_shape}
 
--- An actor has no global actor, and doesn't declare that it is Sendable.
-abbrev pub ActorBare : Shape → Type 0
-ActorBare shape = shape.kind ≡ kinds.Actor → (shape.actor ≡ None) × (shape.conforms ≡ false)
+-- Only a class has a global actor, and an actor doesn't declare that it is Sendable.
+pub record IsDeclared (shape : Shape) : Type 0 where
+  pub actors : ActorOfClass shape
+  pub unsaid : shape.kind ≡ kinds.Actor → shape.conforms ≡ false
 
-one_bare : (shape : Shape) → ActorBare shape → All ActorBare (shape ∷ [])
-one_bare shape bare = All-cons ActorBare shape [] bare (All-nil ActorBare)
+one_declared : (shape : Shape) → ActorOfClass shape
+    → (shape.kind ≡ kinds.Actor → shape.conforms ≡ false) → All IsDeclared (shape ∷ [])
+one_declared shape actors unsaid =
+    All-cons IsDeclared shape [] (record { actors = actors; unsaid = unsaid })
+    (All-nil IsDeclared)
 
-decl_bare : (known : Meanings) (number : ℕ) (decl : Decl)
-    → All ActorBare (shape_of known number decl)
+decl_declared : (known : Meanings) (number : ℕ) (decl : Decl)
+    → All IsDeclared (shape_of known number decl)
 unfolding shape_of
-decl_bare known number (Entry word written at is_async body) = All-nil ActorBare
-decl_bare known number (Struct word conforms fields funcs) = one_bare _ (λ never. cc)
-decl_bare known number (Enum word conforms cases funcs) = one_bare _ (λ never. cc)
-decl_bare known number (Class written word conforms props inits funcs) = one_bare _ (λ never. cc)
-decl_bare known number (Actor word props inits funcs) = one_bare _ (λ is. (refl, refl))
-decl_bare known number (GlobalActor word made) = All-nil ActorBare
-decl_bare known number (Func func) = All-nil ActorBare
-decl_bare known number (Global prop) = All-nil ActorBare
+decl_declared known number (Entry word written at is_async body) = All-nil IsDeclared
+decl_declared known number (Struct word conforms fields funcs) =
+    one_declared _ (λ never. cc) (λ never. cc)
+decl_declared known number (Enum word conforms cases funcs) =
+    one_declared _ (λ never. cc) (λ never. cc)
+decl_declared known number (Class written word conforms props inits funcs) =
+    one_declared _ (λ actors. refl) (λ never. cc)
+decl_declared known number (Actor word props inits funcs) =
+    one_declared _ (λ never. cc) (λ is. refl)
+decl_declared known number (GlobalActor word made) = All-nil IsDeclared
+decl_declared known number (Func func) = All-nil IsDeclared
+decl_declared known number (Global prop) = All-nil IsDeclared
 
 -- the declared types of a program
-pub actors_bare : (decls : List Decl) (rule : AsyncDefault) (world : World)
-    → IsWorldOf decls rule world → All ActorBare world.shapes
-actors_bare decls rule world is =
-    subst (All ActorBare) (sym is.shapes)
-    (each_shape ActorBare (meanings_of decls) (decl_bare (meanings_of decls)) 0 decls)
+pub shapes_declared : (decls : List Decl) (rule : AsyncDefault) (world : World)
+    → IsWorldOf decls rule world → All IsDeclared world.shapes
+shapes_declared decls rule world is =
+    subst (All IsDeclared) (sym is.shapes)
+    (each_shape IsDeclared (meanings_of decls) (decl_declared (meanings_of decls)) 0 decls)
+
+pub actors_of_classes : (shapes : List Shape) → All IsDeclared shapes
+    → All ActorOfClass shapes
+actors_of_classes shapes declared = λ k d below. (declared k d below).actors
 
 -- where no element passes a test, each passes the other
 all_of_none : {X : Type 0} (test : X → Bool) (xs : List X) → list_any test xs ≡ false
@@ -115,20 +128,20 @@ module _ (world : World) (graph : Graph) (same_shapes : graph.shapes ≡ world.s
       (all_of_none (λ (part : Part). part.mutable) shape.parts parts.0)
   keeps kinds.Actor shape other alone none = absurd (other refl)
 
-  shape_clean : (shape : Shape) → ActorBare shape → shape_races world shape ≡ []
+  shape_clean : (shape : Shape) → IsDeclared shape → shape_races world shape ≡ []
       → ShapeClean graph shape
-  shape_clean shape bare none says alone =
-      keeps shape.kind shape (λ actor. true≢false (sym says ∙ (bare actor).1)) alone
+  shape_clean shape declared none says alone =
+      keeps shape.kind shape (λ actor. true≢false (sym says ∙ declared.unsaid actor)) alone
       (sym (ap (λ said. said && breaks_promise world shape.kind shape) says)
       ∙ no_fault (shape.conforms && breaks_promise world shape.kind shape) _ none)
 
   -- Each type that declares that it is Sendable may.
-  pub shapes_clean : All ActorBare world.shapes → flat_map (shape_races world) world.shapes ≡ []
+  pub shapes_clean : All IsDeclared world.shapes → flat_map (shape_races world) world.shapes ≡ []
       → All (ShapeClean graph) graph.shapes
-  shapes_clean bare none =
+  shapes_clean declared none =
       subst (All (ShapeClean graph)) (sym same_shapes)
-      (all_also ActorBare (λ shape. shape_races world shape ≡ []) (ShapeClean graph) world.shapes
-      shape_clean bare (none_in_each (shape_races world) world.shapes none))
+      (all_also IsDeclared (λ shape. shape_races world shape ≡ []) (ShapeClean graph) world.shapes
+      shape_clean declared (none_in_each (shape_races world) world.shapes none))
 
   global_clean : (global : GlobalVar) → global_refusals world global ≡ []
       → GlobalClean graph (global_kind global)

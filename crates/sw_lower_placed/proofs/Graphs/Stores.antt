@@ -1,9 +1,9 @@
 -- A `var` part is stored, and a global `let` by a function that gives a first value alone.
 use Rattle.std.proofs.Common.{◌≡◌, ℕ, true, List, Some, Contains, sym, ap, subst}
-use Rattle.std.proofs.Common.{◌∙◌, map, slice_get, true≢false}
+use Rattle.std.proofs.Common.{All, ◌∙◌, map, slice_get, true≢false}
 use Rattle.std.proofs.lemmas.Option.{slice_get-map}
 use Rattle.std.specs.Option.{option_map}
-use Rattle.sw_graph.specs.Placed.{StorePlaced, is_var_global, is_var_part}
+use Rattle.sw_graph.specs.Placed.{ActorOfClass, StorePlaced, is_var_global, is_var_part}
 use Rattle.sw_graph.specs.Points.{Middle, point_in}
 use Rattle.sw_graph.specs.declared.function.Function.{Function}
 use Rattle.sw_graph.specs.declared.graph.Graph.{Graph}
@@ -17,7 +17,7 @@ use Rattle.sw_lower_safe.proofs.Lists.Listed.{in_place}
 use Rattle.sw_lower_placed.specs.Allowed.{IsAllowed}
 use Rattle.sw_lower_placed.specs.Bodies.{ArePlaced}
 use Rattle.sw_lower_placed.specs.Hosts.{Program, Host}
-use Rattle.sw_lower_placed.proofs.Graphs.Accesses.{ActorsAlone, global_variable, globals}
+use Rattle.sw_lower_placed.proofs.Graphs.Accesses.{global_variable, globals}
 use Rattle.sw_lower_placed.proofs.Graphs.Accesses.{part_variable, shapes}
 use Rattle.sw_lower_placed.proofs.Graphs.Functions.{InOrder}
 use Rattle.sw_lower_placed.proofs.Graphs.Initialisers.{made}
@@ -43,7 +43,7 @@ start_has program starts are g n global is found =
     in_place starts g n (at ∙ ap Some here)
 
 module _ (program : Program) (ordered : List Body) (is : InOrder program ordered)
-    (placed : ArePlaced program) (alone : ActorsAlone (shapes program)) (graph : Graph)
+    (placed : ArePlaced program) (actors : All ActorOfClass (shapes program)) (graph : Graph)
     (same_shapes : graph.shapes ≡ shapes program) (same_globals : graph.globals ≡ globals program)
     (functions : graph.functions ≡ program.functions)
     (starts : AreStarts program graph.starts) where
@@ -52,10 +52,10 @@ module _ (program : Program) (ordered : List Body) (is : InOrder program ordered
       → IsAllowed program host function.regs instr → StorePlaced graph n function instr
   allowed n function host of (StoreProp at o i s) ok =
       subst (λ all. is_var_part all function o i ≡ true) (sym same_shapes)
-      (part_variable program alone function host of o i ok.uses.used ∙ ok.uses.ok.variable)
+      (part_variable program actors function host of o i ok.uses.used ∙ ok.uses.ok.variable)
   allowed n function host of (StoreGlobal at g s) ok =
       λ constant. absurd (true≢false (sym ok.uses.ok.variable
-      ∙ sym (global_variable program alone function host of g ok.uses.global ok.uses.is)
+      ∙ sym (global_variable program actors function host of g ok.uses.global ok.uses.is)
       ∙ ap (λ all. is_var_global all g) (sym same_globals) ∙ constant))
   allowed n function host of _ ok = tt
 

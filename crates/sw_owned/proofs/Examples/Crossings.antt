@@ -352,18 +352,19 @@ both_on_bank = runs (row on_bank banks [] ∷ []) ∷ runs (row on_bank banks []
 abbrev robbed : Row
 robbed = row free (mine 0) (slot 1 (nobodys ∷ []) ∷ dead 1 ∷ [])
 
+-- a task on an actor, which carries a colour of its own until it runs there
+abbrev carrying : Row
+carrying = new_task on_bank banks (yours 0)
+
 pub spawned_possible : IsPossible spawned_says
 spawned_possible = record {
   old = view_of (alone caller);
-  new = view_of (tasked caller (new_task free (yours 0) (yours 0)));
+  new = view_of (tasked caller carrying);
   at = 1;
   sound = sound_view (alone caller) refl;
   all = elim [
-    | Pushes ↦ spawned_by (alone caller) (tasked caller (new_task free (yours 0) (yours 0))) 1
-        Pushes
-        refl
-    | other ↦ spawned_by (alone caller) (tasked caller (new_task free (yours 0) (yours 0))) 1 other
-        refl
+    | Pushes ↦ spawned_by (alone caller) (tasked caller carrying) 1 Pushes refl
+    | other ↦ spawned_by (alone caller) (tasked caller carrying) 1 other refl
   ];
 }
 

@@ -271,39 +271,45 @@ kept_live old new p e =
           (eq-eqb (region_in (row_at old p) x) (region_in (row_at old p) y) t));
     }
 
+-- a new frame holds the colour, as that of its `Here` or of what was handed to it
 abbrev pub handed_in : List Job → List Job → Frame → Element × Colour → Bool
-handed_in old new p h = same_colour (row_at new (above p)).here h.1 || disconnected_test old p.job
-    h.1
+handed_in old new q h = same_colour (row_at new q).here h.1 || disconnected_test old q.job h.1
+
+abbrev pub handed_test : List Job → List Job → Frame → Bool
+handed_test old new q = list_all (handed_in old new q) (holders (row_at new q))
+
+pub handed : (old new : List Job) (q : Frame) → handed_test old new q ≡ true → (x : Element)
+    (c : Colour) → HoldsLive (view_of new) q x c
+    → ((view_of new).here q ≡ c) ⊎ IsDisconnected (view_of old) q.job c
+handed old new q e x c h = elim (or_cases (same_colour (row_at new q).here c)
+    (disconnected_test old q.job c)
+    (in_all (handed_in old new q) (x, c) (holders (row_at new q)) e (held_in new q x c h))) [
+      | inl here ↦ inl (same_colour_true (row_at new q).here c here)
+      | inr given ↦ inr (disconnected old q.job c given)
+    ]
 
 abbrev pub called_test : List Job → List Job → Frame → Bool
 called_test old new p = pushed_test old new (above p) &&
     (not (row_at old p).shape.closing && (kept_live_test old new p
-    && (all_kept_but p old old new && list_all (handed_in old new p)
-    (holders (row_at new (above p))))))
+    && (all_kept_but p old old new && handed_test old new (above p))))
 
 pub calls : (old new : List Job) (p : Frame) → called_test old new p ≡ true
     → Called (view_of old) (view_of new) p
 calls old new p e =
-    let handed = list_all (handed_in old new p) (holders (row_at new (above p))) in
+    let given = handed_test old new (above p) in
     let a = and_parts (pushed_test old new (above p))
     (not (row_at old p).shape.closing &&
-    (kept_live_test old new p && (all_kept_but p old old new && handed))) e in
+    (kept_live_test old new p && (all_kept_but p old old new && given))) e in
     let b = and_parts (not (row_at old p).shape.closing)
-    (kept_live_test old new p && (all_kept_but p old old new && handed)) a.1 in
-    let c = and_parts (kept_live_test old new p) (all_kept_but p old old new && handed) b.1 in
-    let d = and_parts (all_kept_but p old old new) handed c.1 in
+    (kept_live_test old new p && (all_kept_but p old old new && given)) a.1 in
+    let c = and_parts (kept_live_test old new p) (all_kept_but p old old new && given) b.1 in
+    let d = and_parts (all_kept_but p old old new) given c.1 in
     record {
       pushed = pushed old new (above p) a.0;
       not_closing = not-true (row_at old p).shape.closing b.0;
       caller = kept_live old new p c.0;
       others = kept_but p old old new d.0;
-      held = λ {x} {c = colour} h. elim (or_cases (same_colour (row_at new (above p)).here colour)
-          (disconnected_test old p.job colour)
-          (in_all (handed_in old new p) (x, colour) (holders (row_at new (above p))) d.1
-          (held_in new (above p) x colour h))) [
-            | inl here ↦ inl (same_colour_true (row_at new (above p)).here colour here)
-            | inr sent ↦ inr (disconnected old p.job colour sent)
-          ];
+      held = λ {x} {c = colour} h. handed old new (above p) d.1 x colour h;
     }
 
 -- the result register k is with what x was with
@@ -375,14 +381,6 @@ popped old new q e =
       running = running old new c.1;
     }
 
--- ---- all that a frame holds is the colour of its `Here`
-pub holds_here : (jobs : List Job) (p : Frame)
-    → list_all (λ h. same_colour (row_at jobs p).here h.1) (holders (row_at jobs p)) ≡ true
-    → (x : Element) (c : Colour) → HoldsLive (view_of jobs) p x c → (view_of jobs).here p ≡ c
-holds_here jobs p e x c h = same_colour_true (row_at jobs p).here c
-    (in_all (λ h. same_colour (row_at jobs p).here h.1) (x, c) (holders (row_at jobs p)) e
-    (held_in jobs p x c h))
-
 -- ---- single premises
 pub fits_new : (new : List Job) (q : Frame) → together_in new q ≡ true
     → (x y : Element) (c : Colour)
@@ -412,18 +410,6 @@ live_joined old new p e x y c d h k t = eqb-true (region_in (row_at new p) x)
     (region_in (row_at new p) h.0 == region_in (row_at new p) k.0))
     (x, c) (y, d) e (held_in new p x c h) (held_in new p y d k))
     (eq-eqb (region_in (row_at old p) x) (region_in (row_at old p) y) t))
-
-pub sent : (old new : List Job) (p : Frame)
-    → list_all (handed_in old new p) (holders (row_at new (above p))) ≡ true
-    → (x : Element) (c : Colour) → HoldsLive (view_of new) (above p) x c
-    → ((view_of new).here (above p) ≡ c) ⊎ IsDisconnected (view_of old) p.job c
-sent old new p e x c h = elim (or_cases (same_colour (row_at new (above p)).here c)
-    (disconnected_test old p.job c)
-    (in_all (handed_in old new p) (x, c) (holders (row_at new (above p))) e
-    (held_in new (above p) x c h))) [
-      | inl here ↦ inl (same_colour_true (row_at new (above p)).here c here)
-      | inr given ↦ inr (disconnected old p.job c given)
-    ]
 
 pub all_shapes : (old new : List Job)
     → each_frame old (λ j d. same_shapes (row_of new j d).shape (row_of old j d).shape) ≡ true

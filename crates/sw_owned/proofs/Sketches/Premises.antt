@@ -44,8 +44,9 @@ use Rattle.sw_owned.proofs.Sketches.Moves.{all_shapes, all_heres, all_lesser, al
 use Rattle.sw_owned.proofs.Sketches.Moves.{all_joined, weakens, same_jobs, changes_top}
 use Rattle.sw_owned.proofs.Sketches.Moves.{changes_test, is_unheld, unheld_test, calls, called_test}
 use Rattle.sw_owned.proofs.Sketches.Moves.{disconnected, disconnected_test, pushed, pushed_test}
-use Rattle.sw_owned.proofs.Sketches.Moves.{holds_here, fits_new, together_in, live_joined}
-use Rattle.sw_owned.proofs.Sketches.Moves.{live_joined_test, sent, handed_in, is_of_job, of_job}
+use Rattle.sw_owned.proofs.Sketches.Moves.{fits_new, together_in, live_joined}
+use Rattle.sw_owned.proofs.Sketches.Moves.{live_joined_test, handed, handed_test, is_of_job}
+use Rattle.sw_owned.proofs.Sketches.Moves.{of_job}
 
 -- ---- single tests
 abbrev pub is_top : List Job → Frame → Bool
@@ -344,7 +345,7 @@ plain_met old new p CallerShape = same_shapes (row_at new p).shape (row_at old p
 plain_met old new p CallerHeld = all_held old new p (λ x. x)
 plain_met old new p CallerJoined = live_joined_test old new p
 plain_met old new p Others = all_kept_but p old old new
-plain_met old new p Sent = list_all (handed_in old new p) (holders (row_at new (above p)))
+plain_met old new p Sent = handed_test old new (above p)
 plain_met old new p Stays = same_bool (row_at new (above p)).shape.crossing false
 plain_met old new p SameExecutor = same_executor (row_at new (above p)).shape.executor
     (row_at new p).shape.executor
@@ -368,7 +369,7 @@ plain_by old new p CallerShape e = same_shapes_true (row_at new p).shape (row_at
 plain_by old new p CallerHeld e = held_by old new p (λ x. x) e
 plain_by old new p CallerJoined e = live_joined old new p e
 plain_by old new p Others e = kept_but p old old new e
-plain_by old new p Sent e = sent old new p e
+plain_by old new p Sent e = handed old new (above p) e
 plain_by old new p Stays e = same_bool_true (row_at new (above p)).shape.crossing false e
 plain_by old new p SameExecutor e = same_executor_true (row_at new (above p)).shape.executor
     (row_at new p).shape.executor e
@@ -486,8 +487,7 @@ abbrev pub spawned_met : List Job → List Job → ℕ → SpawnedPremise → Bo
 spawned_met old new j Pushes = pushed_test old new (bottom j)
 spawned_met old new j Others = all_kept old old new
 spawned_met old new j Ready = not (item no_job new j).running
-spawned_met old new j Held = list_all (λ h. same_colour (row_at new (bottom j)).here h.1)
-    (holders (row_at new (bottom j)))
+spawned_met old new j Held = handed_test old new (bottom j)
 spawned_met old new j Stands = stands_test j (row_at new (bottom j)).shape.isolation
     (row_at new (bottom j)).shape.executor (row_at new (bottom j)).here
 
@@ -497,7 +497,7 @@ pub spawned_by : (old new : List Job) (j : ℕ) (premise : SpawnedPremise)
 spawned_by old new j Pushes e = pushed old new (bottom j) e
 spawned_by old new j Others e = kept old old new e
 spawned_by old new j Ready e = not-true (item no_job new j).running e
-spawned_by old new j Held e = holds_here new (bottom j) e
+spawned_by old new j Held e = handed old new (bottom j) e
 spawned_by old new j Stands e = stands_by new (bottom j) (row_at new (bottom j)).shape.isolation
     refl e
 
