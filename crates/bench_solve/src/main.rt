@@ -1,6 +1,6 @@
-//! How `solve` fares on a chain, a ring and a ladder of points over partitions of 100 elements and
-//! 50 sites, and how one join of two wide states does. It prints how many joins each takes, which
-//! is the same on each machine; with an argument it prints times too.
+//! How long `solve` takes on a chain, a ring and a ladder of points over partitions of 100 elements
+//! and 50 sites, and one join of two wide states. It prints how many joins each takes, which is the
+//! same on each machine; with an argument it prints times too.
 #![tactic(auto)]
 
 mod graph;

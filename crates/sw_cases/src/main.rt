@@ -1,20 +1,20 @@
 //! Calls of the tool as data. Each file `data/cases/TOPIC/NAME.case` has the words of a call, its
-//! files and the reply that it has; each file `data/differing/NAME.case` has a reply that its call
-//! doesn't have, and so tests the comparison. The calls that `data/shown.md` shows are made too.
-//! The program prints each call that is wrong, with what the tool replied, and at the end the
-//! numbers of calls.
+//! files and its reply; each file `data/differing/NAME.case` has a reply that its call doesn't
+//! have, and so tests the comparison. The calls that `data/shown.md` shows are made too. The
+//! program prints each call that is wrong, with what the tool replied, and at the end the numbers
+//! of calls.
 //!
 //! Each call of a case in `data/cases` whose first word is `run` is made once more with `trace` in
 //! the place of that word, unless its reply is a refusal, and should have the very same reply. That
-//! is so of words that have no form and of files that can't be had too, which end both commands
-//! alike. A refusal is left out, since `trace` judges programs by fewer phases and may go on.
+//! includes words that have no form and files that can't be read, which end both commands alike. A
+//! refusal is left out, since `trace` judges programs by fewer phases and may go on.
 //!
-//! A case file begins with the words, one a line. A line `---- NAME` begins the text of a file, and
-//! `---- exit STATUS` the reply. `---- NAME times N` repeats the text that follows; after `open`
-//! its last line feed isn't part of the text; after `hex` it is bytes in hexadecimal. Texts of one
-//! file that follow one another are one text. A line `---- fetches` begins the numbers of the
-//! fetches that fail, and `---- puts STEP ROOM` those of the puts that fail, into a sink of that
-//! room that writes at most `STEP` bytes in a put.
+//! A case file begins with the words, one on each line. A line `---- NAME` begins the text of a
+//! file, and `---- exit STATUS` the reply. `---- NAME times N` repeats the text that follows; after
+//! `open` its last line feed isn't part of the text; after `hex` it is bytes in hexadecimal. Texts
+//! of one file that follow one another are one text. A line `---- fetches` begins the numbers of
+//! the fetches that fail, and `---- puts STEP ROOM` those of the puts that fail, into a sink of
+//! that room that writes at most `STEP` bytes in a put.
 #![tactic(auto)]
 
 mod case;

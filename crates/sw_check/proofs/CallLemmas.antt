@@ -3,18 +3,18 @@ use Rattle.std.proofs.Common.{◌≡◌, ◌≢◌, ℕ, ◌≤◌, List, length
 use Rattle.std.specs.Prelude.{String, string_bytes, map}
 use Rattle.std.specs.declared.alloc.Global.{Global}
 use Rattle.sw_graph.specs.declared.graph.Graph.{Graph}
-use Rattle.sw_outside.specs.Shelf.{Known, file_of}
+use Rattle.sw_outside.specs.Shelf.{KnownShelf, file_of}
 use Rattle.sw_value.specs.Runnable.{IsRunnable}
-use Rattle.sw_course.specs.declared.TheConstants.{PROGRAM_LIMIT}
-use Rattle.sw_course.specs.declared.exit.Exit.{Exit}
-use Rattle.sw_course.specs.declared.exit.Exit.TheVariants.{Done, Breached, Raced}
-use Rattle.sw_course.specs.declared.outcome.Outcome.{Outcome}
-use Rattle.sw_course.specs.Course.{Read, AreOf}
+use Rattle.sw_check_parts.specs.declared.TheConstants.{PROGRAM_LIMIT}
+use Rattle.sw_check_parts.specs.declared.exit.Exit.{Exit}
+use Rattle.sw_check_parts.specs.declared.exit.Exit.TheVariants.{Done, Breached, Raced}
+use Rattle.sw_check_parts.specs.declared.outcome.Outcome.{Outcome}
+use Rattle.sw_check_parts.specs.Course.{Read, AreOf}
 use Rattle.sw_decls.specs.declared.signature.AsyncDefault.{AsyncDefault}
 use Rattle.sw_verdict.specs.Phases.{all_phases, IsGraphOf}
 use Rattle.sw_verdict.specs.Verdict.{Accepts, Refuses}
 use Rattle.sw_check.specs.Call.{Answered}
-use Rattle.sw_check.specs.Claims.{NeverRaces, Says, default_of, phases_of, program_of}
+use Rattle.sw_check.specs.Claims.{NeverRaces, ExitSays, default_of, phases_of, program_of}
 use Rattle.sw_check.specs.Reply.{Reply}
 use Rattle.sw_check.specs.Words.{Command, Check, command_of, command_in}
 use Rattle.sw_check.proofs.ClaimLemmas.{reply_says, says_no_race, says_not_raced}
@@ -22,51 +22,53 @@ use Rattle.sw_check.proofs.Courses.{one_reply}
 use Rattle.sw_check.proofs.OneExit.{one_exit, says_accepted, says_breached}
 
 -- the words as the call has them
-pub of_words : (words lent : List (String Global)) {before after : Option Known} {outcome : Outcome}
+pub of_words : (words lent : List (String Global)) {before after : Option KnownShelf}
+    {outcome : Outcome}
     → lent ≡ words → Answered (command_of (map string_bytes lent)) before outcome after
     → Answered (command_in words) before outcome after
 of_words words lent {before} {after} {outcome} same answered =
     subst (λ words. Answered (command_in words) before outcome after) same answered
 
 -- where the files are known, the reply is one over them
-reads_of : {command : Option Command} {before after : Option Known} {outcome : Outcome}
-    (answered : Answered command before outcome after) (known : Known) → before ≡ Some known
+reads_of : {command : Option Command} {before after : Option KnownShelf} {outcome : Outcome}
+    (answered : Answered command before outcome after) (known : KnownShelf) → before ≡ Some known
     → AreOf (file_of known.files) answered.reads
 reads_of answered known is =
     subst (λ shelf. IfSome shelf (λ known. AreOf (file_of known.files) answered.reads)) is
     answered.has_read.of_files
 
-pub answer_says : {command : Option Command} {before after : Option Known} {outcome : Outcome}
+pub answer_says : {command : Option Command} {before after : Option KnownShelf} {outcome : Outcome}
     → Answered command before outcome after
-    → IfSome before (λ known. Says (file_of known.files) command outcome.exit)
+    → IfSome before (λ known. ExitSays (file_of known.files) command outcome.exit)
 answer_says {command} {before} {after} {outcome} answered =
     by before answered.has_read.of_files where
-      by : (shelf : Option Known)
+      by : (shelf : Option KnownShelf)
           → IfSome shelf (λ known. AreOf (file_of known.files) answered.reads)
-          → IfSome shelf (λ known. Says (file_of known.files) command outcome.exit)
+          → IfSome shelf (λ known. ExitSays (file_of known.files) command outcome.exit)
       by None of_files = tt
       by (Some known) of_files =
           reply_says (file_of known.files) command answered.reads outcome of_files answered.reply
 
-answer_says_of : {command : Option Command} {before after : Option Known} {outcome : Outcome}
-    → Answered command before outcome after → (known : Known) (given : Command)
+answer_says_of : {command : Option Command} {before after : Option KnownShelf} {outcome : Outcome}
+    → Answered command before outcome after → (known : KnownShelf) (given : Command)
     → before ≡ Some known → command ≡ Some given
-    → Says (file_of known.files) (Some given) outcome.exit
+    → ExitSays (file_of known.files) (Some given) outcome.exit
 answer_says_of {command} {before} {after} {outcome} answered known given is same =
-    subst (λ command. Says (file_of known.files) command outcome.exit) same
+    subst (λ command. ExitSays (file_of known.files) command outcome.exit) same
     (reply_says (file_of known.files) command answered.reads outcome
     (reads_of answered known is) answered.reply)
 
-pub answer_only : {command : Option Command} {before after : Option Known} {outcome : Outcome}
-    → Answered command before outcome after → (known : Known) (exit : Exit)
-    → before ≡ Some known → Says (file_of known.files) command exit → outcome.exit ≡ exit
+pub answer_only : {command : Option Command} {before after : Option KnownShelf} {outcome : Outcome}
+    → Answered command before outcome after → (known : KnownShelf) (exit : Exit)
+    → before ≡ Some known → ExitSays (file_of known.files) command exit → outcome.exit ≡ exit
 answer_only {command} {outcome = outcome} answered known exit is =
     one_exit (file_of known.files) command outcome.exit exit
     (reply_says (file_of known.files) command answered.reads outcome
     (reads_of answered known is) answered.reply)
 
-pub answer_no_race : {command : Option Command} {before after : Option Known} {outcome : Outcome}
-    → Answered command before outcome after → (known : Known) (given : Command)
+pub answer_no_race : {command : Option Command} {before after : Option KnownShelf}
+    {outcome : Outcome}
+    → Answered command before outcome after → (known : KnownShelf) (given : Command)
     → before ≡ Some known → command ≡ Some given → phases_of given ≡ all_phases
     → length (program_of (file_of known.files) given) ≤ PROGRAM_LIMIT → outcome.exit ≢ Breached
     → (graph : Graph) × IsGraphOf (default_of given) (program_of (file_of known.files) given) graph
@@ -75,8 +77,9 @@ answer_no_race {outcome = outcome} answered known given is same all =
     says_no_race (file_of known.files) given outcome.exit
     (answer_says_of answered known given is same) all
 
-pub answer_not_raced : {command : Option Command} {before after : Option Known} {outcome : Outcome}
-    → Answered command before outcome after → (known : Known) (given : Command) (graph : Graph)
+pub answer_not_raced : {command : Option Command} {before after : Option KnownShelf}
+    {outcome : Outcome}
+    → Answered command before outcome after → (known : KnownShelf) (given : Command) (graph : Graph)
     → before ≡ Some known → command ≡ Some given
     → IsGraphOf (default_of given) (program_of (file_of known.files) given) graph → IsRunnable graph
     → outcome.exit ≢ Raced
@@ -84,16 +87,18 @@ answer_not_raced {outcome = outcome} answered known given graph is same of_text 
     says_not_raced (file_of known.files) given graph outcome.exit of_text runs
     (answer_says_of answered known given is same)
 
-pub answer_exact : {command : Option Command} {before after : Option Known} {outcome : Outcome}
-    → Answered command before outcome after → (known : Known) (reads : List Read) (other : Outcome)
+pub answer_exact : {command : Option Command} {before after : Option KnownShelf} {outcome : Outcome}
+    → Answered command before outcome after → (known : KnownShelf) (reads : List Read)
+    (other : Outcome)
     → before ≡ Some known → AreOf (file_of known.files) reads → Reply command reads other
     → outcome.exit ≡ other.exit
 answer_exact {command} {outcome = outcome} answered known reads other is of_files reply =
     ap (λ o. o.exit) (one_reply command (file_of known.files) answered.reads reads outcome other
     (reads_of answered known is) of_files answered.reply reply).1
 
-pub answer_breached : {command : Option Command} {before after : Option Known} {outcome : Outcome}
-    → Answered command before outcome after → (known : Known) (given : Command)
+pub answer_breached : {command : Option Command} {before after : Option KnownShelf}
+    {outcome : Outcome}
+    → Answered command before outcome after → (known : KnownShelf) (given : Command)
     → before ≡ Some known → command ≡ Some given
     → length (program_of (file_of known.files) given) ≤ PROGRAM_LIMIT
     → Refuses (default_of given) (phases_of given) (program_of (file_of known.files) given)
@@ -102,8 +107,10 @@ answer_breached {outcome = outcome} answered known given is same =
     says_breached (file_of known.files) given outcome.exit
     (answer_says_of answered known given is same)
 
-pub answer_accepted : {command : Option Command} {before after : Option Known} {outcome : Outcome}
-    → Answered command before outcome after → (known : Known) (rule : AsyncDefault) (file : List ℕ)
+pub answer_accepted : {command : Option Command} {before after : Option KnownShelf}
+    {outcome : Outcome}
+    → Answered command before outcome after → (known : KnownShelf) (rule : AsyncDefault)
+    (file : List ℕ)
     → before ≡ Some known
     → command ≡ Some (Check rule file) → length (file_of known.files file) ≤ PROGRAM_LIMIT
     → Accepts rule (file_of known.files file) → outcome.exit ≡ Done

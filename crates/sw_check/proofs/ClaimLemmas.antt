@@ -13,27 +13,29 @@ use Rattle.sw_replay.specs.declared.output.End.TheVariants as ends
 use Rattle.sw_replay.specs.Items.{IsItems, IsFirstFault}
 use Rattle.sw_replay.specs.declared.text.SchedFault.{SchedFault}
 use Rattle.sw_replay.proofs.ScheduleLaws.{one_list as one_items}
-use Rattle.sw_course.specs.declared.TheConstants.{PROGRAM_LIMIT}
-use Rattle.sw_course.specs.declared.exit.Exit.{Exit}
-use Rattle.sw_course.specs.declared.exit.Exit.TheVariants.{Done, Breached, Usage, NotRead, TooLong}
-use Rattle.sw_course.specs.declared.exit.Exit.TheVariants.{NotWritten, Memory, Trapped, BadSchedule}
-use Rattle.sw_course.specs.declared.exit.Exit.TheVariants.{Raced}
-use Rattle.sw_course.specs.declared.outcome.Outcome.{Outcome}
-use Rattle.sw_course.specs.Course.{Read, AreOf, Ended, Part, Alone, ◌>>=◌}
-use Rattle.sw_course.proofs.Inversions.{EndsAfterFetch, too_long, fetched, after_fetch}
-use Rattle.sw_course.proofs.Inversions.{EndsAfterRule, refuses, gives, after_rule, by_rule}
+use Rattle.sw_check_parts.specs.declared.TheConstants.{PROGRAM_LIMIT}
+use Rattle.sw_check_parts.specs.declared.exit.Exit.{Exit}
+use Rattle.sw_check_parts.specs.declared.exit.Exit.TheVariants.{Done, Breached, Usage, NotRead, TooLong}
+use Rattle.sw_check_parts.specs.declared.exit.Exit.TheVariants.{NotWritten, Memory, Trapped, BadSchedule}
+use Rattle.sw_check_parts.specs.declared.exit.Exit.TheVariants.{Raced}
+use Rattle.sw_check_parts.specs.declared.outcome.Outcome.{Outcome}
+use Rattle.sw_check_parts.specs.Course.{Read, AreOf, Ended, Part, Alone, ◌>>=◌}
+use Rattle.sw_check_parts.proofs.Inversions.{EndsAfterFetch, too_long, fetched, after_fetch}
+use Rattle.sw_check_parts.proofs.Inversions.{EndsAfterRule, refuses, gives, after_rule, by_rule}
 use Rattle.sw_decls.specs.declared.signature.AsyncDefault.{AsyncDefault}
 use Rattle.sw_verdict.specs.Phases.{all_phases, IsGraphOf}
 use Rattle.sw_verdict.specs.Verdict.{Breaches}
 use Rattle.sw_verdict.proofs.LoweredTexts.{some_graph_of}
 use Rattle.sw_verdict.proofs.OneLowered.{one_graph_of}
-use Rattle.sw_check.specs.Claims.{NeverRaces, EndsSo, Ends, Passes, Says, SaysOf, SecondFits}
+use Rattle.sw_check.specs.Claims.{NeverRaces, EndsSo, Ends, ProgramPasses, ExitSays, ExitSaysOf}
+use Rattle.sw_check.specs.Claims.{SecondFits}
 use Rattle.sw_check.specs.Claims.{SecondIsLong, ScheduleIsBad, default_of, phases_of, program_of}
 use Rattle.sw_check.proofs.Pieces.{program_then}
 use Rattle.sw_replay.specs.declared.output.Replay.{Replay}
 use Rattle.sw_replay.specs.Output.{end_by, end_of}
 use Rattle.sw_replay.specs.Replay.{IsReplay, whole_replay}
-use Rattle.sw_check.specs.Reply.{usage, accepted, end_outcome, Answers, Judged, passes, breached}
+use Rattle.sw_check.specs.Reply.{usage, accepted, end_outcome, EndsWithReply, IsJudgement, passes}
+use Rattle.sw_check.specs.Reply.{breached}
 use Rattle.sw_check.specs.Reply.{Scheduled, has_items, has_fault, Replayed, ends, course_of, Reply}
 use Rattle.sw_check.specs.Reply.{at_end, before_end, replay_by, replay_course}
 use Rattle.sw_check.specs.Words.{Command, Check, Run, Trace}
@@ -47,17 +49,18 @@ outcome_of (Err outcome) = outcome
 module _ (files : List ℕ → List ℕ) (command : Command) where
   -- what is said of a result
   abbrev SaysSo : Result Outcome Outcome → Type 0
-  SaysSo result = SaysOf files command (outcome_of result).exit
+  SaysSo result = ExitSaysOf files command (outcome_of result).exit
 
   -- how a program is judged for the command
   abbrev JudgedSo : List ℕ → Result Graph Outcome → Type 0
-  JudgedSo = Judged (default_of command) (phases_of command)
+  JudgedSo = IsJudgement (default_of command) (phases_of command)
 
   -- A command that begins with its program: it is too long, or refused, or the rest ended.
   module _ (file : List ℕ) (is : program_of files command ≡ files file)
       (rest : List ℕ → Graph → Part Outcome)
       (goes_on : (graph : Graph) (reads : List Read) (result : Result Outcome Outcome)
-      → AreOf files reads → Passes files command → IsGraphOf (default_of command) (files file) graph
+      → AreOf files reads → ProgramPasses files command
+      → IsGraphOf (default_of command) (files file) graph
       → rest (files file) graph reads (Ended result) → SaysSo result) where
     says_judged : (reads : List Read) (result : Result Outcome Outcome) → AreOf files reads
         → length (files file) ≤ PROGRAM_LIMIT
@@ -98,7 +101,7 @@ module _ (files : List ℕ → List ℕ) (command : Command) where
         result of_files ended)
 
   -- A command that ends with a replay of its program by a schedule.
-  module _ (text schedule_file : List ℕ) (graph : Graph) (whole : Passes files command)
+  module _ (text schedule_file : List ℕ) (graph : Graph) (whole : ProgramPasses files command)
       (of_text : IsGraphOf (default_of command) text graph)
       (replays : (end : End) → EndsSo (default_of command) end text (files schedule_file)
       → Ends end files command)
@@ -108,7 +111,7 @@ module _ (files : List ℕ → List ℕ) (command : Command) where
       (long : SCHEDULE_LIMIT < length (files schedule_file) → SecondIsLong files command) where
     says_end : (lines : List ℕ) (ended jobs : ℕ) (end : End) → SecondFits files command
         → EndsSo (default_of command) end text (files schedule_file)
-        → SaysOf files command (end_outcome text lines ended jobs end).exit
+        → ExitSaysOf files command (end_outcome text lines ended jobs end).exit
     says_end lines ended jobs ends.Ran fitting so = (whole, fitting, replays ends.Ran so)
     says_end lines ended jobs (ends.Trapped kind at) fitting so =
         (whole, fitting, kind, at, replays (ends.Trapped kind at) so)
@@ -156,18 +159,18 @@ module _ (files : List ℕ → List ℕ) (command : Command) where
         reads result of_files ended)
 
 answers_exit : (outcome : Outcome) (reads : List Read) (result : Result Outcome Outcome)
-    → Alone (Answers outcome) reads (Ended result) → outcome_of result ≡ outcome
+    → Alone (EndsWithReply outcome) reads (Ended result) → outcome_of result ≡ outcome
 answers_exit outcome reads result ended =
-    ap outcome_of (by_rule (Answers outcome) reads result ended)
+    ap outcome_of (by_rule (EndsWithReply outcome) reads result ended)
 
 -- an accepted program is answered at the end
 says_accepted_at : (files : List ℕ → List ℕ) (rule : AsyncDefault) (file : List ℕ)
     (reads : List Read)
-    (result : Result Outcome Outcome) → Passes files (Check rule file)
-    → Alone (Answers accepted) reads (Ended result)
-    → SaysOf files (Check rule file) (outcome_of result).exit
+    (result : Result Outcome Outcome) → ProgramPasses files (Check rule file)
+    → Alone (EndsWithReply accepted) reads (Ended result)
+    → ExitSaysOf files (Check rule file) (outcome_of result).exit
 says_accepted_at files rule file reads result whole ended =
-    subst (λ outcome. SaysOf files (Check rule file) outcome.exit)
+    subst (λ outcome. ExitSaysOf files (Check rule file) outcome.exit)
     (sym (answers_exit accepted reads result ended)) (whole, tt, refl)
 
 -- a command that judges its program by its phases and replays it by a schedule
@@ -181,7 +184,7 @@ says_course : (files : List ℕ → List ℕ) (command : Command) (file schedule
     → (SCHEDULE_LIMIT < length (files schedule_file) → SecondIsLong files command)
     → (reads : List Read) (result : Result Outcome Outcome) → AreOf files reads
     → replay_course (default_of command) (phases_of command) file schedule_file reads (Ended result)
-    → SaysOf files command (outcome_of result).exit
+    → ExitSaysOf files command (outcome_of result).exit
 says_course files command file schedule_file is replays fits bad long =
     says_program files command file is (replay_by schedule_file)
     (λ graph others result of_files whole of_text.
@@ -191,11 +194,11 @@ says_course files command file schedule_file is replays fits bad long =
 
 says : (files : List ℕ → List ℕ) (command : Option Command) (reads : List Read)
     (result : Result Outcome Outcome) → AreOf files reads → course_of command reads (Ended result)
-    → Says files command (outcome_of result).exit
+    → ExitSays files command (outcome_of result).exit
 says files None reads result of_files ended =
     ap (λ o. o.exit) (answers_exit usage reads result ended)
 says files (Some (Check rule file)) reads result of_files ended =
-    says_program files (Check rule file) file refl (λ text graph. Alone (Answers accepted))
+    says_program files (Check rule file) file refl (λ text graph. Alone (EndsWithReply accepted))
     (λ graph others result _ whole _. says_accepted_at files rule file others result whole) reads
     result
     of_files ended
@@ -208,15 +211,17 @@ says files (Some (Trace rule file schedule_file)) reads result of_files ended =
 
 pub reply_says : (files : List ℕ → List ℕ) (command : Option Command) (reads : List Read)
     (outcome : Outcome) → AreOf files reads → Reply command reads outcome
-    → Says files command outcome.exit
+    → ExitSays files command outcome.exit
 reply_says files command reads outcome of_files (at_end ended) =
     says files command reads (Ok outcome) of_files ended
 reply_says files command reads outcome of_files (before_end ended) =
     says files command reads (Err outcome) of_files ended
 
 -- an exit that isn't that of a refused program says that a program within the limit passes
-passes_at : (files : List ℕ → List ℕ) (command : Command) (exit : Exit) → SaysOf files command exit
-    → length (program_of files command) ≤ PROGRAM_LIMIT → exit ≢ Breached → Passes files command
+passes_at : (files : List ℕ → List ℕ) (command : Command) (exit : Exit)
+    → ExitSaysOf files command exit
+    → length (program_of files command) ≤ PROGRAM_LIMIT → exit ≢ Breached
+    → ProgramPasses files command
 passes_at files command Done says _ _ = says.0
 passes_at files command Breached says _ not = absurd (not refl)
 passes_at files command TooLong (inl long) short _ = absurd (omega (arith, short, long))
@@ -230,7 +235,7 @@ passes_at files command NotWritten says _ _ = absurd says
 passes_at files command Memory says _ _ = absurd says
 
 pub says_no_race : (files : List ℕ → List ℕ) (command : Command) (exit : Exit)
-    → Says files (Some command) exit → phases_of command ≡ all_phases
+    → ExitSays files (Some command) exit → phases_of command ≡ all_phases
     → length (program_of files command) ≤ PROGRAM_LIMIT → exit ≢ Breached → (graph : Graph)
     × IsGraphOf (default_of command) (program_of files command) graph
     × (IsRunnable graph → NeverRaces graph)
@@ -277,9 +282,9 @@ never_raced_at files (Trace rule file schedule_file) graph of_text runs race rac
 -- so no such program has the exit of a race
 pub says_not_raced : (files : List ℕ → List ℕ) (command : Command) (graph : Graph) (exit : Exit)
     → IsGraphOf (default_of command) (program_of files command) graph → IsRunnable graph
-    → Says files (Some command) exit → exit ≢ Raced
+    → ExitSays files (Some command) exit → exit ≢ Raced
 says_not_raced files command graph exit of_text runs says raced =
-    let (_, _, race, ends_so) = subst (SaysOf files command) raced says in
+    let (_, _, race, ends_so) = subst (ExitSaysOf files command) raced says in
     never_raced_at files command graph of_text runs race ends_so
 
 -- a replay of a program ends in one way by a schedule

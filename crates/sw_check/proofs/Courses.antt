@@ -2,19 +2,20 @@
 use Rattle.std.proofs.Common.{◌≡◌, ◌⊎◌, ℕ, List, [], ◌++◌, Option, Some, None, Result, Ok, Err}
 use Rattle.sw_graph.specs.declared.graph.Graph.{Graph}
 use Rattle.sw_replay.specs.declared.text.TheConstants.{SCHEDULE_LIMIT}
-use Rattle.sw_course.specs.declared.TheConstants.{PROGRAM_LIMIT}
-use Rattle.sw_course.specs.declared.outcome.Outcome.{Outcome}
-use Rattle.sw_course.specs.Course.{Read, AreOf, Underway, Ended, Part, Alone, Fetched, ◌>>=◌}
-use Rattle.sw_course.specs.Lawful.{CanEnd, IsLawful, IsPrefixOf}
-use Rattle.sw_course.proofs.LawfulParts.{can_end_alone, can_end_fetched, can_end_then}
-use Rattle.sw_course.proofs.LawfulParts.{lawful_alone, lawful_fetched, lawful_then}
+use Rattle.sw_check_parts.specs.declared.TheConstants.{PROGRAM_LIMIT}
+use Rattle.sw_check_parts.specs.declared.outcome.Outcome.{Outcome}
+use Rattle.sw_check_parts.specs.Course.{Read, AreOf, Underway, Ended, Part, Alone, Fetched, ◌>>=◌}
+use Rattle.sw_check_parts.specs.Lawful.{CanEnd, IsLawful, IsPrefixOf}
+use Rattle.sw_check_parts.proofs.LawfulParts.{can_end_alone, can_end_fetched, can_end_then}
+use Rattle.sw_check_parts.proofs.LawfulParts.{lawful_alone, lawful_fetched, lawful_then}
 use Rattle.sw_decls.specs.declared.signature.AsyncDefault.{AsyncDefault}
 use Rattle.sw_verdict.specs.Phases.{Phase, all_phases, phases_to_size, IsGraphOf}
 use Rattle.sw_verdict.specs.Verdict.{Breaches, Refuses}
 use Rattle.sw_verdict.proofs.GraphsExist.{some_graph}
 use Rattle.sw_verdict.proofs.LoweredTexts.{decided_to_size, some_graph_of}
 use Rattle.sw_verdict.proofs.Verdicts.{decided}
-use Rattle.sw_check.specs.Reply.{usage, accepted, Answers, Judged, Scheduled, Replayed, course_of}
+use Rattle.sw_check.specs.Reply.{usage, accepted, EndsWithReply, IsJudgement, Scheduled, Replayed}
+use Rattle.sw_check.specs.Reply.{course_of}
 use Rattle.sw_check.specs.Reply.{Reply, at_end, before_end, replay_by}
 use Rattle.sw_check.specs.Words.{Command, Check, Run, Trace}
 use Rattle.sw_check.proofs.Pieces.{program_then}
@@ -28,10 +29,10 @@ module _ (rule : AsyncDefault) (phases : List Phase) (file : List ℕ)
       → IsLawful (program_then rule phases file next)
   lawful_program each =
       lawful_then (Fetched file PROGRAM_LIMIT)
-      (λ text. Alone (Judged rule phases text) >>= next text)
+      (λ text. Alone (IsJudgement rule phases text) >>= next text)
       (lawful_fetched file PROGRAM_LIMIT)
-      (λ text. lawful_then (Alone (Judged rule phases text)) (next text)
-      (lawful_alone (Judged rule phases text) (judged_one rule phases text)) (each text))
+      (λ text. lawful_then (Alone (IsJudgement rule phases text)) (next text)
+      (lawful_alone (IsJudgement rule phases text) (judged_one rule phases text)) (each text))
 
   can_end_program : ((text : List ℕ) → Breaches rule phases text []
       → (graph : Graph) × IsGraphOf rule text graph)
@@ -40,10 +41,10 @@ module _ (rule : AsyncDefault) (phases : List Phase) (file : List ℕ)
       → CanEnd (program_then rule phases file next)
   can_end_program have either each =
       can_end_then (Fetched file PROGRAM_LIMIT)
-      (λ text. Alone (Judged rule phases text) >>= next text)
+      (λ text. Alone (IsJudgement rule phases text) >>= next text)
       (can_end_fetched file PROGRAM_LIMIT)
-      (λ text. can_end_then (Alone (Judged rule phases text)) (next text)
-      (can_end_alone (Judged rule phases text)
+      (λ text. can_end_then (Alone (IsJudgement rule phases text)) (next text)
+      (can_end_alone (IsJudgement rule phases text)
       (judged_some rule phases text (have text) (either text)))
       (each text))
 
@@ -69,20 +70,20 @@ module _ (file text : List ℕ) (graph : Graph) where
       (λ items. can_end_alone (Replayed text graph items) (replayed_some text graph items)))
 
 pub lawful : (command : Option Command) → IsLawful (course_of command)
-lawful None = lawful_alone (Answers usage) (answers_one usage)
+lawful None = lawful_alone (EndsWithReply usage) (answers_one usage)
 lawful (Some (Check rule file)) =
     lawful_program rule all_phases file _
-    (λ text graph. lawful_alone (Answers accepted) (answers_one accepted))
+    (λ text graph. lawful_alone (EndsWithReply accepted) (answers_one accepted))
 lawful (Some (Run rule file schedule_file)) =
     lawful_program rule all_phases file (replay_by schedule_file) (lawful_replay schedule_file)
 lawful (Some (Trace rule file schedule_file)) =
     lawful_program rule phases_to_size file (replay_by schedule_file) (lawful_replay schedule_file)
 
 pub can_end : (command : Option Command) → CanEnd (course_of command)
-can_end None = can_end_alone (Answers usage) (answers_some usage)
+can_end None = can_end_alone (EndsWithReply usage) (answers_some usage)
 can_end (Some (Check rule file)) =
     can_end_program rule all_phases file _ (some_graph_of rule) (decided rule)
-    (λ text graph. can_end_alone (Answers accepted) (answers_some accepted))
+    (λ text graph. can_end_alone (EndsWithReply accepted) (answers_some accepted))
 can_end (Some (Run rule file schedule_file)) =
     can_end_program rule all_phases file (replay_by schedule_file) (some_graph_of rule)
     (decided rule)

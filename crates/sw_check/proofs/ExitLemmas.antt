@@ -6,19 +6,19 @@ use Rattle.sw_graph.specs.declared.graph.Graph.{Graph}
 use Rattle.sw_replay.specs.declared.output.End.{End}
 use Rattle.sw_replay.specs.declared.output.End.TheVariants.{Ran, Trapped, Raced}
 use Rattle.sw_replay.specs.declared.text.TheConstants.{SCHEDULE_LIMIT}
-use Rattle.sw_course.specs.declared.TheConstants.{PROGRAM_LIMIT}
-use Rattle.sw_course.specs.declared.exit.Exit.{Exit}
-use Rattle.sw_course.specs.declared.exit.Exit.TheVariants as exits
-use Rattle.sw_course.specs.declared.outcome.Outcome.{Outcome}
-use Rattle.sw_course.specs.Course.{Read, Ended, Part, Alone, Fetched, too_long_file}
-use Rattle.sw_course.specs.Exit.{IsOneOf, is_failure, is_silent}
-use Rattle.sw_course.specs.Lawful.{RefusesBy}
-use Rattle.sw_course.specs.Written.{Appended}
-use Rattle.sw_course.proofs.Inversions.{EndsBy, refuses_alone}
-use Rattle.sw_course.proofs.Inversions.{refuses_fetched, refuses_then, ends_alone, ends_then}
+use Rattle.sw_check_parts.specs.declared.TheConstants.{PROGRAM_LIMIT}
+use Rattle.sw_check_parts.specs.declared.exit.Exit.{Exit}
+use Rattle.sw_check_parts.specs.declared.exit.Exit.TheVariants as exits
+use Rattle.sw_check_parts.specs.declared.outcome.Outcome.{Outcome}
+use Rattle.sw_check_parts.specs.Course.{Read, Ended, Part, Alone, Fetched, too_long_file}
+use Rattle.sw_check_parts.specs.Exit.{IsOneOf, is_failure, is_silent}
+use Rattle.sw_check_parts.specs.Lawful.{RefusesBy}
+use Rattle.sw_check_parts.specs.Written.{Appended}
+use Rattle.sw_check_parts.proofs.Inversions.{EndsBy, refuses_alone}
+use Rattle.sw_check_parts.proofs.Inversions.{refuses_fetched, refuses_then, ends_alone, ends_then}
 use Rattle.sw_decls.specs.declared.signature.AsyncDefault.{AsyncDefault}
 use Rattle.sw_verdict.specs.Phases.{Phase, all_phases, phases_to_size}
-use Rattle.sw_check.specs.Reply.{usage, accepted, end_outcome, Answers, Judged, breached}
+use Rattle.sw_check.specs.Reply.{usage, accepted, end_outcome, EndsWithReply, IsJudgement, breached}
 use Rattle.sw_check.specs.Reply.{Scheduled, has_fault, Replayed, ends, course_of, Reply, at_end}
 use Rattle.sw_check.specs.Reply.{before_end, exits_of, replay_by, replay_exits}
 use Rattle.sw_check.specs.Words.{Command, Check, Run, Trace}
@@ -42,7 +42,8 @@ too_long_exit : (among : List Exit) → IsOneOf among exits.TooLong → HasExit 
 too_long_exit among one = record { exit = one; plain = refl; silent = λ _. refl }
 
 judged_exit : (among : List Exit) (rule : AsyncDefault) (phases : List Phase) (text : List ℕ)
-    → IsOneOf among exits.Breached → (outcome : Outcome) → Judged rule phases text (Err outcome)
+    → IsOneOf among exits.Breached → (outcome : Outcome)
+    → IsJudgement rule phases text (Err outcome)
     → HasExit among outcome
 judged_exit among rule phases text one _ (breached list _) =
     record { exit = one; plain = refl; silent = λ e. cc }
@@ -54,7 +55,7 @@ scheduled_exit among schedule one _ (has_fault fault _) =
 
 -- the last parts refuse nothing
 answers_nothing_else : (Q : Outcome → Type 0) (outcome other : Outcome)
-    → Answers outcome (Err other) → Q other
+    → EndsWithReply outcome (Err other) → Q other
 answers_nothing_else Q outcome other is = cc
 
 replayed_nothing_else : (Q : Outcome → Type 0) (text : List ℕ) (graph : Graph) (items : List ℕ)
@@ -70,8 +71,8 @@ program_refusals : (among : List Exit) (rule : AsyncDefault) (phases : List Phas
 program_refusals among rule phases file rest long refused others =
     refuses_then (HasExit among) (Fetched file PROGRAM_LIMIT) _
     (refuses_fetched (HasExit among) file PROGRAM_LIMIT (too_long_exit among long))
-    (λ text. refuses_then (HasExit among) (Alone (Judged rule phases text)) (rest text)
-    (refuses_alone (HasExit among) (Judged rule phases text)
+    (λ text. refuses_then (HasExit among) (Alone (IsJudgement rule phases text)) (rest text)
+    (refuses_alone (HasExit among) (IsJudgement rule phases text)
     (judged_exit among rule phases text refused))
     (others text))
 
@@ -88,10 +89,10 @@ replay_refusals among file text graph long bad =
     (replayed_nothing_else (HasExit among) text graph items)))
 
 refusals : (command : Option Command) → RefusesBy (HasExit (exits_of command)) (course_of command)
-refusals None = refuses_alone _ (Answers usage) (answers_nothing_else _ usage)
+refusals None = refuses_alone _ (EndsWithReply usage) (answers_nothing_else _ usage)
 refusals (Some (Check rule file)) =
     program_refusals _ rule all_phases file _ (inl refl) (inr (inl refl))
-    (λ text graph. refuses_alone _ (Answers accepted) (answers_nothing_else _ accepted))
+    (λ text graph. refuses_alone _ (EndsWithReply accepted) (answers_nothing_else _ accepted))
 refusals (Some (Run rule file schedule_file)) =
     program_refusals _ rule all_phases file _ (inl refl) (inr (inl refl))
     (λ text graph. replay_refusals _ schedule_file text graph (inl refl) (inr (inr (inl refl))))
@@ -101,7 +102,7 @@ refusals (Some (Trace rule file schedule_file)) =
 
 -- the replies at the end
 answers_end : (among : List Exit) (outcome other : Outcome) → HasEndExit among outcome
-    → Answers outcome (Ok other) → HasEndExit among other
+    → EndsWithReply outcome (Ok other) → HasEndExit among other
 answers_end among outcome other end is =
     let same : outcome ≡ other = cc (is) in
     subst (HasEndExit among) same end
@@ -123,7 +124,7 @@ program_ends : (among : List Exit) (rule : AsyncDefault) (phases : List Phase) (
     → EndsBy (HasEndExit among) (program_then rule phases file rest)
 program_ends among rule phases file rest others =
     ends_then (HasEndExit among) (Fetched file PROGRAM_LIMIT) _
-    (λ _ text _. ends_then (HasEndExit among) (Alone (Judged rule phases text)) (rest text)
+    (λ _ text _. ends_then (HasEndExit among) (Alone (IsJudgement rule phases text)) (rest text)
     (λ _ graph _. others text graph))
 
 replay_ends : (file text : List ℕ) (graph : Graph)
@@ -135,12 +136,12 @@ replay_ends file text graph =
     (replayed_end text graph items)))
 
 at_ends : (command : Option Command) → EndsBy (HasEndExit (exits_of command)) (course_of command)
-at_ends None = ends_alone _ (Answers usage)
+at_ends None = ends_alone _ (EndsWithReply usage)
     (λ outcome is. answers_end _ usage outcome
     (record { exit = inl refl; plain = refl; speaks = refl }) is)
 at_ends (Some (Check rule file)) =
     program_ends _ rule all_phases file _
-    (λ text graph. ends_alone _ (Answers accepted)
+    (λ text graph. ends_alone _ (EndsWithReply accepted)
     (λ outcome is. answers_end _ accepted outcome
     (record { exit = inr (inr (inl refl)); plain = refl; speaks = refl }) is))
 at_ends (Some (Run rule file schedule_file)) =

@@ -5,15 +5,16 @@ use Rattle.std.proofs.Common.{ap, ◌∙◌, arith}
 use Rattle.sw_replay.specs.declared.output.End.{End}
 use Rattle.sw_replay.specs.declared.output.End.TheVariants as ends
 use Rattle.sw_replay.proofs.ScheduleLaws.{never_both as items_and_fault}
-use Rattle.sw_course.specs.declared.TheConstants.{PROGRAM_LIMIT}
-use Rattle.sw_course.specs.declared.exit.Exit.{Exit}
-use Rattle.sw_course.specs.declared.exit.Exit.TheVariants.{Done, Breached, Usage, NotRead, TooLong}
-use Rattle.sw_course.specs.declared.exit.Exit.TheVariants.{NotWritten, Memory, Trapped, BadSchedule}
-use Rattle.sw_course.specs.declared.exit.Exit.TheVariants.{Raced}
+use Rattle.sw_check_parts.specs.declared.TheConstants.{PROGRAM_LIMIT}
+use Rattle.sw_check_parts.specs.declared.exit.Exit.{Exit}
+use Rattle.sw_check_parts.specs.declared.exit.Exit.TheVariants.{Done, Breached, Usage, NotRead, TooLong}
+use Rattle.sw_check_parts.specs.declared.exit.Exit.TheVariants.{NotWritten, Memory, Trapped, BadSchedule}
+use Rattle.sw_check_parts.specs.declared.exit.Exit.TheVariants.{Raced}
 use Rattle.sw_decls.specs.declared.signature.AsyncDefault.{AsyncDefault}
 use Rattle.sw_verdict.specs.Verdict.{Accepts, Refuses}
 use Rattle.sw_verdict.proofs.Verdicts.{never_both}
-use Rattle.sw_check.specs.Claims.{Ends, IsRefused, Passes, Says, SaysOf, ScheduleIsBad, SecondFits}
+use Rattle.sw_check.specs.Claims.{Ends, ProgramIsRefused, ProgramPasses, ExitSays, ExitSaysOf}
+use Rattle.sw_check.specs.Claims.{ScheduleIsBad, SecondFits}
 use Rattle.sw_check.specs.Claims.{SecondIsLong, default_of, phases_of, program_of}
 use Rattle.sw_check.specs.Words.{Command, Check, Run, Trace}
 use Rattle.sw_check.proofs.ClaimLemmas.{one_end}
@@ -51,16 +52,17 @@ exit_of (ends.Raced race) = Raced
 
 -- why a command has an exit over these files
 data Cause (files : List ℕ → List ℕ) (command : Command) : Exit → Type 0 where
-  refused : IsRefused files command → Cause files command Breached
+  refused : ProgramIsRefused files command → Cause files command Breached
   first_long : PROGRAM_LIMIT < length (program_of files command) → Cause files command TooLong
-  second_long : Passes files command → SecondIsLong files command → Cause files command TooLong
-  bad : Passes files command → SecondFits files command → ScheduleIsBad files command
+  second_long : ProgramPasses files command → SecondIsLong files command
+      → Cause files command TooLong
+  bad : ProgramPasses files command → SecondFits files command → ScheduleIsBad files command
       → Cause files command BadSchedule
-  ended : (end : End) → Passes files command → SecondFits files command
+  ended : (end : End) → ProgramPasses files command → SecondFits files command
       → Ends end files command → Cause files command (exit_of end)
 
 module _ (files : List ℕ → List ℕ) (command : Command) where
-  cause_of : (exit : Exit) → SaysOf files command exit → Cause files command exit
+  cause_of : (exit : Exit) → ExitSaysOf files command exit → Cause files command exit
   cause_of Done (passes, fits, is) = ended ends.Ran passes fits is
   cause_of Breached it = refused it
   cause_of TooLong (inl long) = first_long long
@@ -73,7 +75,7 @@ module _ (files : List ℕ → List ℕ) (command : Command) where
   cause_of NotWritten says = absurd says
   cause_of Memory says = absurd says
 
-  passes_or_refused : Passes files command → IsRefused files command → ⊥
+  passes_or_refused : ProgramPasses files command → ProgramIsRefused files command → ⊥
   passes_or_refused passes it =
       never_both (default_of command) (phases_of command) (program_of files command)
       passes.no_breach it.breaches
@@ -114,17 +116,17 @@ module _ (files : List ℕ → List ℕ) (command : Command) where
   one_cause _ _ (ended a _ _ is_a) (ended b _ _ is_b) =
       ap exit_of (one_end_of files command a b is_a is_b)
 
-  one_exit_of : (a b : Exit) → SaysOf files command a → SaysOf files command b → a ≡ b
+  one_exit_of : (a b : Exit) → ExitSaysOf files command a → ExitSaysOf files command b → a ≡ b
   one_exit_of a b says_a says_b = one_cause a b (cause_of a says_a) (cause_of b says_b)
 
 pub one_exit : (files : List ℕ → List ℕ) (command : Option Command) (a b : Exit)
-    → Says files command a → Says files command b → a ≡ b
+    → ExitSays files command a → ExitSays files command b → a ≡ b
 one_exit files None a b is_a is_b = is_a ∙ sym is_b
 one_exit files (Some command) a b says_a says_b = one_exit_of files command a b says_a says_b
 
 -- a program that is refused and within the limit has that exit
 pub says_breached : (files : List ℕ → List ℕ) (command : Command) (exit : Exit)
-    → Says files (Some command) exit → length (program_of files command) ≤ PROGRAM_LIMIT
+    → ExitSays files (Some command) exit → length (program_of files command) ≤ PROGRAM_LIMIT
     → Refuses (default_of command) (phases_of command) (program_of files command)
     → exit ≡ Breached
 says_breached files command exit says short found =
@@ -132,7 +134,7 @@ says_breached files command exit says short found =
 
 -- a program that `check` accepts, within the limit, has that exit
 pub says_accepted : (files : List ℕ → List ℕ) (rule : AsyncDefault) (file : List ℕ) (exit : Exit)
-    → Says files (Some (Check rule file)) exit → length (files file) ≤ PROGRAM_LIMIT
+    → ExitSays files (Some (Check rule file)) exit → length (files file) ≤ PROGRAM_LIMIT
     → Accepts rule (files file) → exit ≡ Done
 says_accepted files rule file exit says short accepts =
     one_exit_of files (Check rule file) exit Done says

@@ -8,27 +8,29 @@ use Rattle.sw_replay.specs.declared.text.SchedFault.{SchedFault}
 use Rattle.sw_replay.specs.declared.text.SchedFault.TheVariants.{Memory}
 use Rattle.sw_replay.specs.declared.output.Replay.{Replay}
 use Rattle.sw_replay.specs.Items.{IsFirstFault}
-use Rattle.sw_course.specs.declared.exit.Exit.TheVariants.{TooLong}
-use Rattle.sw_course.specs.declared.outcome.Outcome.{Outcome}
-use Rattle.sw_course.specs.declared.stop.Stop.{Stop}
-use Rattle.sw_course.specs.Leaves.{Seen, Does, Decides}
-use Rattle.sw_course.proofs.Doing.{does_alone}
+use Rattle.sw_check_parts.specs.declared.exit.Exit.TheVariants.{TooLong}
+use Rattle.sw_check_parts.specs.declared.outcome.Outcome.{Outcome}
+use Rattle.sw_check_parts.specs.declared.stop.Stop.{Stop}
+use Rattle.sw_check_parts.specs.Leaves.{SeenShelf, Does, Decides}
+use Rattle.sw_check_parts.proofs.Doing.{does_alone}
 use Rattle.sw_decls.specs.declared.signature.AsyncDefault.{AsyncDefault}
 use Rattle.sw_verdict.specs.Phases.{Phase}
 use Rattle.sw_verdict.specs.Verdict.{IsVerdict}
 use Rattle.sw_replay.specs.Replay.{IsReplay}
 use Rattle.sw_check.specs.Words.{Command}
-use Rattle.sw_check.specs.Reply.{usage, course_of, Answers, refusal, bad_schedule_outcome}
-use Rattle.sw_check.specs.Reply.{replay_outcome, Judged, breached, Scheduled, has_fault, Replayed}
+use Rattle.sw_check.specs.Reply.{usage, course_of, EndsWithReply, refusal, bad_schedule_outcome}
+use Rattle.sw_check.specs.Reply.{replay_outcome, IsJudgement, breached, Scheduled, has_fault}
+use Rattle.sw_check.specs.Reply.{Replayed}
 use Rattle.sw_check.specs.Reply.{ends, replay_by}
 
 pub judged_refused : (rule : AsyncDefault) (phases : List Phase) (text : List ℕ)
     (breaches : List Breach)
     (outcome : Outcome) → outcome ≡ refusal text breaches
     → IsVerdict rule phases text (Err breaches)
-    → Judged rule phases text (Err outcome) × (outcome.exit ≢ TooLong)
+    → IsJudgement rule phases text (Err outcome) × (outcome.exit ≢ TooLong)
 judged_refused rule phases text breaches outcome is judges =
-    subst (λ outcome. Judged rule phases text (Err outcome) × (outcome.exit ≢ TooLong)) (sym is)
+    subst (λ outcome. IsJudgement rule phases text (Err outcome) × (outcome.exit ≢ TooLong))
+    (sym is)
     (breached breaches judges, λ e. cc)
 
 pub scheduled_refused : (text : List ℕ) (fault : SchedFault) (outcome : Outcome) → (fault ≢ Memory)
@@ -47,7 +49,7 @@ replay_answered text graph items replay (Ok outcome) is same =
 replay_answered text graph items replay (Err error) is same = tt
 
 -- the last parts, for a text that was lent
-pub replays_lent : {text lent : List ℕ} {before after : Seen} {result : Result Outcome Stop}
+pub replays_lent : {text lent : List ℕ} {before after : SeenShelf} {result : Result Outcome Stop}
     (file : List ℕ) (graph : Graph) → lent ≡ text
     → Does (replay_by file lent graph) before result after
     → Does (replay_by file text graph) before result after
@@ -55,12 +57,12 @@ replays_lent {before = before} {after} {result} file graph same does =
     subst (λ text. Does (replay_by file text graph) before result after) same does
 
 -- words of no form
-pub no_form : {command : Option Command} {shelf : Seen} → None ≡ command
-    → (result : Result Outcome Stop) → Decides (Answers usage) result
+pub no_form : {command : Option Command} {shelf : SeenShelf} → None ≡ command
+    → (result : Result Outcome Stop) → Decides (EndsWithReply usage) result
     → Does (course_of command) shelf result shelf
 no_form {shelf = shelf} is result decides =
     subst (λ command. Does (course_of command) shelf result shelf) is
-    (does_alone (Answers usage) result decides)
+    (does_alone (EndsWithReply usage) result decides)
 
 -- what is answered has a breach
 pub some_breach : (breaches : List Breach) → breaches ≢ [] → 0 < length breaches

@@ -1,12 +1,12 @@
 -- A piece that commands have in common.
 use Rattle.std.proofs.Common.{ℕ, List}
 use Rattle.sw_graph.specs.declared.graph.Graph.{Graph}
-use Rattle.sw_course.specs.declared.TheConstants.{PROGRAM_LIMIT}
-use Rattle.sw_course.specs.declared.outcome.Outcome.{Outcome}
-use Rattle.sw_course.specs.Course.{Part, Alone, Fetched, ◌>>=◌}
+use Rattle.sw_check_parts.specs.declared.TheConstants.{PROGRAM_LIMIT}
+use Rattle.sw_check_parts.specs.declared.outcome.Outcome.{Outcome}
+use Rattle.sw_check_parts.specs.Course.{Part, Alone, Fetched, ◌>>=◌}
 use Rattle.sw_decls.specs.declared.signature.AsyncDefault.{AsyncDefault}
 use Rattle.sw_verdict.specs.Phases.{Phase}
-use Rattle.sw_check.specs.Reply.{Judged}
+use Rattle.sw_check.specs.Reply.{IsJudgement}
 
 -- A program is fetched and judged by these phases under a default, and the rest goes on from its
 -- text and its graph.
@@ -14,5 +14,5 @@ abbrev pub program_then : AsyncDefault → List Phase → List ℕ → (List ℕ
     → Part Outcome
 program_then rule phases file rest = do
   text ← Fetched file PROGRAM_LIMIT
-  graph ← Alone (Judged rule phases text)
+  graph ← Alone (IsJudgement rule phases text)
   rest text graph

@@ -7,24 +7,25 @@ use Rattle.sw_replay.specs.Reading.{items_or_fault}
 use Rattle.sw_replay.proofs.ReplayLemmas.{some_replay, one_replay}
 use Rattle.sw_replay.proofs.ScheduleLaws.{items_or_fault-HasItems, one_list, one_fault}
 use Rattle.sw_replay.proofs.ScheduleLaws.{never_both as items_and_fault}
-use Rattle.sw_course.specs.declared.outcome.Outcome.{Outcome}
-use Rattle.sw_course.specs.Lawful.{HasOneResult, HasResult}
+use Rattle.sw_check_parts.specs.declared.outcome.Outcome.{Outcome}
+use Rattle.sw_check_parts.specs.Lawful.{HasOneResult, HasResult}
 use Rattle.sw_decls.specs.declared.signature.AsyncDefault.{AsyncDefault}
 use Rattle.sw_verdict.specs.Phases.{Phase, IsGraphOf}
 use Rattle.sw_verdict.specs.Verdict.{Breaches, Refuses}
 use Rattle.sw_verdict.proofs.OneLowered.{one_graph_of}
 use Rattle.sw_verdict.proofs.Verdicts.{never_both, one_list as one_verdict}
-use Rattle.sw_check.specs.Reply.{refusal, bad_schedule_outcome, replay_outcome, Answers, Judged}
+use Rattle.sw_check.specs.Reply.{refusal, bad_schedule_outcome, replay_outcome, EndsWithReply}
+use Rattle.sw_check.specs.Reply.{IsJudgement}
 use Rattle.sw_check.specs.Reply.{passes, breached, Scheduled, has_items, has_fault, Replayed, ends}
 
-pub answers_one : (outcome : Outcome) → HasOneResult (Answers outcome)
+pub answers_one : (outcome : Outcome) → HasOneResult (EndsWithReply outcome)
 answers_one outcome a b is_a is_b = is_a ∙ sym is_b
 
-pub answers_some : (outcome : Outcome) → HasResult (Answers outcome)
+pub answers_some : (outcome : Outcome) → HasResult (EndsWithReply outcome)
 answers_some outcome = (Ok outcome, refl)
 
 module _ (rule : AsyncDefault) (phases : List Phase) (text : List ℕ) where
-  pub judged_one : HasOneResult (Judged rule phases text)
+  pub judged_one : HasOneResult (IsJudgement rule phases text)
   judged_one _ _ (passes a is_a) (passes b is_b) = ap Ok (one_graph_of rule text a b is_a.1 is_b.1)
   judged_one _ _ (passes a is_a) (breached list is_b) =
       absurd (never_both rule phases text is_a.0 (list, is_b.0, is_b.1))
@@ -36,7 +37,7 @@ module _ (rule : AsyncDefault) (phases : List Phase) (text : List ℕ) where
   -- where it has a graph if it passes
   pub judged_some : (Breaches rule phases text [] → (graph : Graph) × IsGraphOf rule text graph)
       → Breaches rule phases text [] ⊎ Refuses rule phases text
-      → HasResult (Judged rule phases text)
+      → HasResult (IsJudgement rule phases text)
   judged_some have (inl pass) = let (graph, is) = have pass in (Ok graph, passes graph (pass, is))
   judged_some have (inr (list, not, found)) = (Err (refusal text list), breached list (not, found))
 

@@ -11,11 +11,11 @@ use Rattle.sw_replay.specs.declared.output.End.{End}
 use Rattle.sw_replay.specs.declared.output.End.TheVariants as ends
 use Rattle.sw_replay.specs.declared.output.Replay.{Replay}
 use Rattle.sw_replay.specs.Items.{IsItems, IsFirstFault}
-use Rattle.sw_course.specs.declared.exit.Exit.{Exit}
-use Rattle.sw_course.specs.declared.exit.Exit.TheVariants.{Done, Breached, Usage, NotRead, TooLong}
-use Rattle.sw_course.specs.declared.exit.Exit.TheVariants.{NotWritten, Memory, Trapped, BadSchedule}
-use Rattle.sw_course.specs.declared.exit.Exit.TheVariants.{Raced}
-use Rattle.sw_course.specs.declared.TheConstants.{PROGRAM_LIMIT}
+use Rattle.sw_check_parts.specs.declared.exit.Exit.{Exit}
+use Rattle.sw_check_parts.specs.declared.exit.Exit.TheVariants.{Done, Breached, Usage, NotRead, TooLong}
+use Rattle.sw_check_parts.specs.declared.exit.Exit.TheVariants.{NotWritten, Memory, Trapped, BadSchedule}
+use Rattle.sw_check_parts.specs.declared.exit.Exit.TheVariants.{Raced}
+use Rattle.sw_check_parts.specs.declared.TheConstants.{PROGRAM_LIMIT}
 use Rattle.sw_decls.specs.declared.signature.AsyncDefault.{AsyncDefault}
 use Rattle.sw_verdict.specs.Phases.{Phase, all_phases, phases_to_size, IsGraphOf}
 use Rattle.sw_verdict.specs.Verdict.{Breaches, Refuses}
@@ -45,12 +45,12 @@ phases_of (Run rule file schedule_file) = all_phases
 phases_of (Trace rule file schedule_file) = phases_to_size
 
 -- the program of the command is within the limit, and no phase that counts finds a breach in it
-pub record Passes (files : List ℕ → List ℕ) (command : Command) : Type 0 where
+pub record ProgramPasses (files : List ℕ → List ℕ) (command : Command) : Type 0 where
   pub short : length (program_of files command) ≤ PROGRAM_LIMIT
   pub no_breach : Breaches (default_of command) (phases_of command) (program_of files command) []
 
 -- The program of the command is within the limit, and a phase that counts finds a breach in it.
-pub record IsRefused (files : List ℕ → List ℕ) (command : Command) : Type 0 where
+pub record ProgramIsRefused (files : List ℕ → List ℕ) (command : Command) : Type 0 where
   pub short : length (program_of files command) ≤ PROGRAM_LIMIT
   pub breaches : Refuses (default_of command) (phases_of command) (program_of files command)
 
@@ -93,29 +93,29 @@ ScheduleIsBad files (Trace rule file schedule_file) = (fault : SchedFault)
 -- What an exit says of a command and its files: how the command ends over them. No two exits say
 -- what holds of the same command and files. Those that report a failure say nothing of them; they
 -- are no exits of a reply.
-abbrev pub SaysOf : (List ℕ → List ℕ) → Command → Exit → Type 0
+abbrev pub ExitSaysOf : (List ℕ → List ℕ) → Command → Exit → Type 0
 -- the program passes, and `check` accepts it, or its replay takes all items and no trap halts it
-SaysOf files command Done =
-    Passes files command × SecondFits files command × Ends ends.Ran files command
-SaysOf files command Breached = IsRefused files command
+ExitSaysOf files command Done =
+    ProgramPasses files command × SecondFits files command × Ends ends.Ran files command
+ExitSaysOf files command Breached = ProgramIsRefused files command
 -- the program's file is too long, or the program passes and the schedule's file is too long
-SaysOf files command TooLong = (PROGRAM_LIMIT < length (program_of files command))
-    ⊎ (Passes files command × SecondIsLong files command)
+ExitSaysOf files command TooLong = (PROGRAM_LIMIT < length (program_of files command))
+    ⊎ (ProgramPasses files command × SecondIsLong files command)
 -- the program passes, and its replay ends with a trap
-SaysOf files command Trapped = Passes files command × SecondFits files command
+ExitSaysOf files command Trapped = ProgramPasses files command × SecondFits files command
     × (kind : TrapKind) × (at : ℕ) × Ends (ends.Trapped kind at) files command
 -- the program passes, and the schedule's text has a fault
-SaysOf files command BadSchedule =
-    Passes files command × SecondFits files command × ScheduleIsBad files command
+ExitSaysOf files command BadSchedule =
+    ProgramPasses files command × SecondFits files command × ScheduleIsBad files command
 -- the program passes, and its replay ends with a race
-SaysOf files command Raced = Passes files command × SecondFits files command
+ExitSaysOf files command Raced = ProgramPasses files command × SecondFits files command
     × (race : Race) × Ends (ends.Raced race) files command
-SaysOf files command Usage = ⊥
-SaysOf files command NotRead = ⊥
-SaysOf files command NotWritten = ⊥
-SaysOf files command Memory = ⊥
+ExitSaysOf files command Usage = ⊥
+ExitSaysOf files command NotRead = ⊥
+ExitSaysOf files command NotWritten = ⊥
+ExitSaysOf files command Memory = ⊥
 
 -- The same of any words. Those without a form have one exit.
-abbrev pub Says : (List ℕ → List ℕ) → Option Command → Exit → Type 0
-Says files None exit = exit ≡ Usage
-Says files (Some command) exit = SaysOf files command exit
+abbrev pub ExitSays : (List ℕ → List ℕ) → Option Command → Exit → Type 0
+ExitSays files None exit = exit ≡ Usage
+ExitSays files (Some command) exit = ExitSaysOf files command exit

@@ -10,11 +10,11 @@ use Rattle.sw_replay.specs.declared.output.Replay.{Replay}
 use Rattle.sw_replay.specs.Items.{IsItems, IsFirstFault}
 use Rattle.sw_breach.specs.declared.Breach.{Breach}
 use Rattle.sw_breach.specs.Lines.{line_feed, verdict_text}
-use Rattle.sw_course.specs.declared.exit.Exit.{Exit}
-use Rattle.sw_course.specs.declared.exit.Exit.TheVariants as exits
-use Rattle.sw_course.specs.declared.outcome.Outcome.{Outcome}
-use Rattle.sw_course.specs.declared.TheConstants.{PROGRAM_LIMIT}
-use Rattle.sw_course.specs.Course.{Read, Ended, Part, Alone, Fetched, ◌>>=◌}
+use Rattle.sw_check_parts.specs.declared.exit.Exit.{Exit}
+use Rattle.sw_check_parts.specs.declared.exit.Exit.TheVariants as exits
+use Rattle.sw_check_parts.specs.declared.outcome.Outcome.{Outcome}
+use Rattle.sw_check_parts.specs.declared.TheConstants.{PROGRAM_LIMIT}
+use Rattle.sw_check_parts.specs.Course.{Read, Ended, Part, Alone, Fetched, ◌>>=◌}
 use Rattle.sw_decls.specs.declared.signature.AsyncDefault.{AsyncDefault}
 use Rattle.sw_verdict.specs.Phases.{Phase, all_phases, phases_to_size}
 use Rattle.sw_verdict.specs.Verdict.{IsVerdict}
@@ -57,16 +57,16 @@ abbrev pub replay_outcome : List ℕ → Replay → Outcome
 replay_outcome text replay = end_outcome text replay.lines replay.ended replay.jobs replay.end
 
 -- The part ends with this reply.
-abbrev pub Answers : Outcome → Result Outcome Outcome → Type 0
-Answers outcome result = result ≡ Ok outcome
+abbrev pub EndsWithReply : Outcome → Result Outcome Outcome → Type 0
+EndsWithReply outcome result = result ≡ Ok outcome
 
 -- A program is judged by these phases under a default: it has a graph, or it is refused.
-pub data Judged (rule : AsyncDefault) (phases : List Phase) (text : List ℕ)
+pub data IsJudgement (rule : AsyncDefault) (phases : List Phase) (text : List ℕ)
     : Result Graph Outcome → Type 0 where
   passes : (graph : Graph) → IsVerdict rule phases text (Ok graph)
-      → Judged rule phases text (Ok graph)
+      → IsJudgement rule phases text (Ok graph)
   breached : (breaches : List Breach) → IsVerdict rule phases text (Err breaches)
-      → Judged rule phases text (Err (refusal text breaches))
+      → IsJudgement rule phases text (Err (refusal text breaches))
 
 -- The text of a schedule has items, or a fault.
 pub data Scheduled (schedule : List ℕ) : Result (List ℕ) Outcome → Type 0 where
@@ -91,16 +91,16 @@ replay_by schedule_file text graph = do
 abbrev pub replay_course : AsyncDefault → List Phase → List ℕ → List ℕ → Part Outcome
 replay_course rule phases file schedule_file = do
   text ← Fetched file PROGRAM_LIMIT
-  graph ← Alone (Judged rule phases text)
+  graph ← Alone (IsJudgement rule phases text)
   replay_by schedule_file text graph
 
 -- the parts of each command
 abbrev pub course_of : Option Command → Part Outcome
-course_of None = Alone (Answers usage)
+course_of None = Alone (EndsWithReply usage)
 course_of (Some (Check rule file)) = do
   text ← Fetched file PROGRAM_LIMIT
-  graph ← Alone (Judged rule all_phases text)
-  Alone (Answers accepted)
+  graph ← Alone (IsJudgement rule all_phases text)
+  Alone (EndsWithReply accepted)
 course_of (Some (Run rule file schedule_file)) =
     replay_course rule all_phases file schedule_file
 course_of (Some (Trace rule file schedule_file)) =

@@ -1,7 +1,7 @@
 //! The commands. Each does its parts in order.
 
 ghost use Rattle.std.specs.Prelude.{◌≤◌, Some, length, map, string_bytes};
-ghost use Rattle.sw_course.specs.Leaves.{Does, seen};
+ghost use Rattle.sw_check_parts.specs.Leaves.{Does, seen};
 ghost use Rattle.sw_check.specs.Phases.{list_of};
 ghost use Rattle.sw_check.specs.Reply.{course_of, replay_by, replay_course};
 ghost use Rattle.sw_check.specs.Words.{Check, command_of};
@@ -9,7 +9,7 @@ ghost use Rattle.sw_check.specs.Words.{Check, command_of};
 use crate::parts::{Phases, judged, replayed, scheduled};
 use crate::words::{self, Command};
 use std::alloc::Global;
-use sw_course::{Exit, Outcome, PROGRAM_LIMIT, Stop, fetch, lines};
+use sw_check_parts::{Exit, Outcome, PROGRAM_LIMIT, Stop, fetch, lines};
 use sw_decls::AsyncDefault;
 use sw_graph::Graph;
 use sw_outside::Shelf;

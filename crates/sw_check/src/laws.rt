@@ -1,9 +1,9 @@
 ghost use Rattle.std.specs.Prelude.{◌≡◌, ℕ, List, ◌++◌, Option};
 ghost use Rattle.sw_replay.specs.declared.output.End.{End};
-ghost use Rattle.sw_course.specs.declared.outcome.Outcome.{Outcome};
+ghost use Rattle.sw_check_parts.specs.declared.outcome.Outcome.{Outcome};
 ghost use Rattle.sw_decls.specs.declared.signature.AsyncDefault.{AsyncDefault};
-ghost use Rattle.sw_course.specs.Course.{AreOf, Read, Underway};
-ghost use Rattle.sw_course.specs.Lawful.{IsPrefixOf};
+ghost use Rattle.sw_check_parts.specs.Course.{AreOf, Read, Underway};
+ghost use Rattle.sw_check_parts.specs.Lawful.{IsPrefixOf};
 ghost use Rattle.sw_check.specs.Claims.{EndsSo};
 ghost use Rattle.sw_check.specs.Reply.{Reply, course_of};
 ghost use Rattle.sw_check.specs.Words.{Command};

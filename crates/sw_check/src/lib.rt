@@ -1,21 +1,22 @@
-//! The commands of the tool, and the call that the program's `main` makes.
+//! The commands of the tool, and the call that the program's `main` makes. The crate knows the
+//! words of the command line and the replies. It knows nothing of how a phase finds a breach.
 #![tactic(auto)]
 
 ghost use Rattle.std.specs.Prelude.{◌≡◌, ◌≢◌, ◌<◌, ◌≤◌, ℕ, List, Some, None, IfSome, IfNone};
 ghost use Rattle.std.specs.Prelude.{IsTrue, IsFalse, length};
 ghost use Rattle.sw_outside.specs.Rise.{Rose};
-ghost use Rattle.sw_outside.specs.Shelf.{Known, file_of};
-ghost use Rattle.sw_course.specs.declared.exit.Exit.{Exit};
-ghost use Rattle.sw_course.specs.declared.outcome.Outcome.{Outcome};
-ghost use Rattle.sw_course.specs.Course.{AreOf, Read};
-ghost use Rattle.sw_course.specs.Exit.{IsOneOf, is_failure, is_silent};
+ghost use Rattle.sw_outside.specs.Shelf.{KnownShelf, file_of};
+ghost use Rattle.sw_check_parts.specs.declared.exit.Exit.{Exit};
+ghost use Rattle.sw_check_parts.specs.declared.outcome.Outcome.{Outcome};
+ghost use Rattle.sw_check_parts.specs.Course.{AreOf, Read};
+ghost use Rattle.sw_check_parts.specs.Exit.{IsOneOf, is_failure, is_silent};
 ghost use Rattle.sw_decls.specs.declared.signature.AsyncDefault.{AsyncDefault};
 ghost use Rattle.sw_graph.specs.declared.graph.Graph.{Graph};
 ghost use Rattle.sw_value.specs.Runnable.{IsRunnable};
 ghost use Rattle.sw_verdict.specs.Phases.{IsGraphOf, all_phases};
 ghost use Rattle.sw_verdict.specs.Verdict.{Accepts, Refuses};
 ghost use Rattle.sw_check.specs.Call.{Interrupted, Replied, Unanswered};
-ghost use Rattle.sw_check.specs.Claims.{NeverRaces, Says, default_of, phases_of, program_of};
+ghost use Rattle.sw_check.specs.Claims.{NeverRaces, ExitSays, default_of, phases_of, program_of};
 ghost use Rattle.sw_check.specs.Reply.{Reply, exits_of};
 ghost use Rattle.sw_check.specs.Words.{Check, Command, command_in};
 
@@ -29,8 +30,8 @@ mod words;
 pub use laws::{program_limit, words_have_one_reply};
 use reply::{NoReply, reply};
 use std::alloc::Global;
-use sw_course::write_all;
-pub use sw_course::{Exit, PROGRAM_LIMIT};
+use sw_check_parts::write_all;
+pub use sw_check_parts::{Exit, PROGRAM_LIMIT};
 use sw_outside::{Shelf, Sink, SinkFault};
 pub use sw_verdict::{accepted_graphs_pass, texts_have_one_graph, texts_have_one_verdict};
 
@@ -56,16 +57,16 @@ pub fn run_words<S: Shelf, K: Sink>(
 
     // Where the files are known, what the exit says of them holds: from the exit to the files.
     ensures says { IsFalse (is_failure result) → IfSome (S.known shelf.old) (λ known.
-        Says (file_of known.files) (command_in words.now.items) result) }
+        ExitSays (file_of known.files) (command_in words.now.items) result) }
     // And from the files to the exit: where what some exit says of them holds, the call has that
     // exit. So a replay that runs to its end, traps or races has exit 0, 7 or 9, and no other call
     // has.
-    ensures only { (known : Known) (exit : Exit) → S.known shelf.old ≡ Some known
-        → Says (file_of known.files) (command_in words.now.items) exit
+    ensures only { (known : KnownShelf) (exit : Exit) → S.known shelf.old ≡ Some known
+        → ExitSays (file_of known.files) (command_in words.now.items) exit
         → IsFalse (is_failure result) → result ≡ exit }
     // The exit is that of every reply over the known files. There is one such reply, by the law
     // `words_have_one_reply`, and it was written, by `replied`.
-    ensures exact { (known : Known) (reads : List Read) (outcome : Outcome)
+    ensures exact { (known : KnownShelf) (reads : List Read) (outcome : Outcome)
         → S.known shelf.old ≡ Some known
         → AreOf (file_of known.files) reads → Reply (command_in words.now.items) reads outcome
         → IsFalse (is_failure result) → result ≡ outcome.exit }
@@ -74,14 +75,14 @@ pub fn run_words<S: Shelf, K: Sink>(
     ensures usage { command_in words.now.items ≡ None → IsFalse (is_failure result)
         → result ≡ Exit.Usage }
     // A program within the limit in which a phase that counts finds a breach is refused.
-    ensures breached { (known : Known) (command : Command) → S.known shelf.old ≡ Some known
+    ensures breached { (known : KnownShelf) (command : Command) → S.known shelf.old ≡ Some known
         → command_in words.now.items ≡ Some command
         → length (program_of (file_of known.files) command) ≤ PROGRAM_LIMIT
         → Refuses (default_of command) (phases_of command)
         (program_of (file_of known.files) command)
         → IsFalse (is_failure result) → result ≡ Exit.Breached }
     // `check` accepts a program within the limit in which no phase finds a breach.
-    ensures accepted { (known : Known) (rule : AsyncDefault) (file : List ℕ)
+    ensures accepted { (known : KnownShelf) (rule : AsyncDefault) (file : List ℕ)
         → S.known shelf.old ≡ Some known → command_in words.now.items ≡ Some (Check rule file)
         → length (file_of known.files file) ≤ PROGRAM_LIMIT
         → Accepts rule (file_of known.files file) → IsFalse (is_failure result)
@@ -90,14 +91,14 @@ pub fn run_words<S: Shelf, K: Sink>(
     // Where all phases count for a command and don't refuse its program, which is within the limit,
     // the program has a graph, and if that is runnable, no schedule leads it to a race. A program
     // that is longer isn't judged, and nothing is said of it.
-    ensures no_race { (known : Known) (command : Command) → S.known shelf.old ≡ Some known
+    ensures no_race { (known : KnownShelf) (command : Command) → S.known shelf.old ≡ Some known
         → command_in words.now.items ≡ Some command → phases_of command ≡ all_phases
         → length (program_of (file_of known.files) command) ≤ PROGRAM_LIMIT
         → IsFalse (is_failure result) → result ≢ Exit.Breached → (graph : Graph)
         × IsGraphOf (default_of command) (program_of (file_of known.files) command) graph
         × (IsRunnable graph → NeverRaces graph) }
     // Where a program has a runnable graph, a race stops no replay of it.
-    ensures not_raced { (known : Known) (command : Command) (graph : Graph)
+    ensures not_raced { (known : KnownShelf) (command : Command) (graph : Graph)
         → S.known shelf.old ≡ Some known → command_in words.now.items ≡ Some command
         → IsGraphOf (default_of command) (program_of (file_of known.files) command) graph
         → IsRunnable graph → result ≢ Exit.Raced }

@@ -4,17 +4,18 @@ ghost use Rattle.std.specs.Prelude.{◌≡◌, ◌≢◌, ◌<◌, ◌≤◌, If
 ghost use Rattle.std.specs.List.{AllByRecursion};
 ghost use Rattle.sw_breach.specs.Codes.{IsCode};
 ghost use Rattle.sw_breach.specs.declared.Breach.{Breach};
-ghost use Rattle.sw_course.specs.Leaves.{Decides};
+ghost use Rattle.sw_check_parts.specs.Leaves.{Decides};
 ghost use Rattle.sw_verdict.specs.Verdict.{IsVerdict};
 ghost use Rattle.sw_check.specs.Lines.{schedule_line};
 ghost use Rattle.sw_check.specs.Phases.{list_of};
-ghost use Rattle.sw_check.specs.Reply.{Judged, Replayed, Scheduled, bad_schedule_outcome, refusal};
+ghost use Rattle.sw_check.specs.Reply.{IsJudgement, Replayed, Scheduled, bad_schedule_outcome};
+ghost use Rattle.sw_check.specs.Reply.{refusal};
 ghost use Rattle.sw_check.specs.Reply.{replay_outcome};
 
 use crate::lines::{race_lines, schedule_line, summary, trap_line};
 use std::alloc::{AllocError, Global};
 use sw_breach::{Breach, render};
-use sw_course::{Exit, Outcome, PROGRAM_LIMIT, Stop, lines, with_last_line};
+use sw_check_parts::{Exit, Outcome, PROGRAM_LIMIT, Stop, lines, with_last_line};
 use sw_decls::AsyncDefault;
 use sw_graph::Graph;
 use sw_list::ListOf;
@@ -72,7 +73,7 @@ pub fn judged(
     phases: Phases,
 ) -> Result<Graph, Stop>
     requires { length text.now ≤ PROGRAM_LIMIT }
-    ensures { Decides (Judged default (list_of phases) text.now) result }
+    ensures { Decides (IsJudgement default (list_of phases) text.now) result }
 {
     match verdict(alloc, default, text, phases) {
         Ok(graph) => Ok(graph),

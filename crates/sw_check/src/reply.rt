@@ -1,14 +1,14 @@
 ghost use Rattle.std.specs.Prelude.{◌≡◌, IfOk, IfNone, OnOk, IsErrOf, IsFalse, ◌<◌, map};
 ghost use Rattle.std.specs.Prelude.{string_bytes};
 ghost use Rattle.sw_outside.specs.Rise.{Rose};
-ghost use Rattle.sw_course.specs.Exit.{IsOneOf, is_failure};
+ghost use Rattle.sw_check_parts.specs.Exit.{IsOneOf, is_failure};
 ghost use Rattle.sw_check.specs.Call.{Answered, Unanswered};
 ghost use Rattle.sw_check.specs.Reply.{exits_of};
 ghost use Rattle.sw_check.specs.Words.{command_of};
 
 use crate::commands::answer;
 use std::alloc::Global;
-use sw_course::{Exit, Outcome, PROGRAM_LIMIT, Stop};
+use sw_check_parts::{Exit, Outcome, PROGRAM_LIMIT, Stop};
 use sw_outside::Shelf;
 
 /// Why there is no reply.

@@ -17,26 +17,27 @@ use Rattle.sw_tree.specs.declared.stmt.Stmt.TheVariants as stmts
 use Rattle.sw_tree.specs.declared.type_tree.TypeTree.{TypeTree, roll-TypeTree}
 use Rattle.sw_tree.specs.declared.type_tree.TypeTree.TheFolds as folds
 use Rattle.sw_tree.specs.declared.type_tree.TypeTree.TheOpen as tree
-use Rattle.sw_resolve.specs.TypeWords.{bad_layer, bad_words, type_meaning}
-use Rattle.sw_resolve.specs.declared.placed.Placed.{Placed}
-use Rattle.sw_resolve.specs.declared.words.Meaning.{Meaning}
-use Rattle.sw_resolve.specs.declared.words.Meaning.TheVariants as means
-use Rattle.sw_names.specs.Bodies.{Inside, Marked, all_found, bad_actor, bad_attribute, bad_mark}
-use Rattle.sw_names.specs.Bodies.{bad_type, body_steps, in_body, in_expr, otherwise_found}
-use Rattle.sw_names.specs.Bodies.{params_found, pattern_names, scope_found}
-use Rattle.sw_names.specs.Repeats.{first_place, is_repeated, repeated, repeats}
+use Rattle.sw_decl_words.specs.TypeWords.{bad_layer, bad_words, type_meaning}
+use Rattle.sw_decl_words.specs.declared.placed.Placed.{Placed}
+use Rattle.sw_decl_words.specs.declared.words.Meaning.{Meaning}
+use Rattle.sw_decl_words.specs.declared.words.Meaning.TheVariants as means
+use Rattle.sw_decl_names.specs.Bodies.{DeclaredInside, MarkedClosure, all_found, bad_actor}
+use Rattle.sw_decl_names.specs.Bodies.{bad_attribute, bad_mark}
+use Rattle.sw_decl_names.specs.Bodies.{bad_type, body_steps, in_body, in_expr, otherwise_found}
+use Rattle.sw_decl_names.specs.Bodies.{params_found, pattern_names, scope_found}
+use Rattle.sw_decl_names.specs.Repeats.{first_place, is_repeated, repeated, repeats}
 use Rattle.sw_decls.proofs.Coded.{AreCoded, coded_each, coded_if, coded_join, coded_made, coded_one}
 
 same : {found made : List Placed} → found ≡ made → AreCoded made → AreCoded found
 same is = subst AreCoded (sym is)
 
-same_inside : {inside made : Inside} → inside ≡ made → AreCoded made.found
+same_inside : {inside made : DeclaredInside} → inside ≡ made → AreCoded made.found
     → AreCoded inside.found
-same_inside is = subst (λ (one : Inside). AreCoded one.found) (sym is)
+same_inside is = subst (λ (one : DeclaredInside). AreCoded one.found) (sym is)
 
-same_marked : {marked made : Marked} → marked ≡ made → AreCoded made.found
+same_marked : {marked made : MarkedClosure} → marked ≡ made → AreCoded made.found
     → AreCoded marked.found
-same_marked is = subst (λ (one : Marked). AreCoded one.found) (sym is)
+same_marked is = subst (λ (one : MarkedClosure). AreCoded one.found) (sym is)
 
 pub coded_repeats : (names : List Name) → AreCoded (repeats names)
 coded_repeats names = coded_each (repeated (first_place names))
@@ -111,7 +112,7 @@ module _ (known : ℕ → Option Meaning) where
       (λ param. coded_words param.ty) params)
       (coded_repeats (map (λ (param : ClosureParam). param.name) params))
 
-  coded_scope : (names : List Name) (inside : Inside) → AreCoded inside.found
+  coded_scope : (names : List Name) (inside : DeclaredInside) → AreCoded inside.found
       → AreCoded (scope_found names inside)
   coded_scope names inside are =
       coded_join inside.found (repeats (names ++ inside.names)) are
@@ -123,7 +124,7 @@ module _ (known : ℕ → Option Meaning) where
   abbrev of_expr : Expr → List Placed
   of_expr = fold_expr steps
 
-  abbrev of_block : Block → Inside
+  abbrev of_block : Block → DeclaredInside
   of_block = fold_block steps
 
   abbrev of_scope : Block → List Placed
@@ -232,7 +233,7 @@ module _ (known : ℕ → Option Meaning) where
     link = λ op at operand has_operand.
         same (equations.fold_link-roll steps op at operand) has_operand;
     block = λ body has_body. same_inside (equations.fold_block-roll steps body)
-        (coded_made (fold_stmt steps) (λ (one : Inside). one.found) body has_body);
+        (coded_made (fold_stmt steps) (λ (one : DeclaredInside). one.found) body has_body);
     case_arm = λ name patterns body has_body.
         same (equations.fold_case_arm-roll steps name patterns body)
         (coded_scope (flat_map pattern_names patterns) (of_block body) has_body);

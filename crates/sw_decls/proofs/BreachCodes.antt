@@ -14,19 +14,19 @@ use Rattle.sw_tree.specs.declared.expr.Expr.TheOpen as layer
 use Rattle.sw_tree.specs.declared.stmt.Stmt.{Stmt, out-Stmt}
 use Rattle.sw_tree.specs.declared.type_tree.TypeTree.{TypeTree}
 use Rattle.sw_types.specs.declared.shape.Shape.{Shape}
-use Rattle.sw_resolve.specs.Evident.{Meanings, meanings_of}
-use Rattle.sw_resolve.specs.Words.{shapes_made, top_meaning}
-use Rattle.sw_resolve.specs.declared.placed.Placed.{Placed}
-use Rattle.sw_names.specs.Repeats.{first_place}
-use Rattle.sw_members.specs.Members.{in_program}
-use Rattle.sw_values.specs.Counts.{times_in}
-use Rattle.sw_values.specs.Profile.{first_value, in_first_init, in_object, in_stmt, in_stmts}
-use Rattle.sw_values.specs.Profile.{is_filled, is_typed, outside, param_names, unless_simple}
-use Rattle.sw_values.specs.Profile.{value_found, value_layer, values_from, values_of, wanted_names}
-use Rattle.sw_values.specs.Simple.{is_simple}
-use Rattle.sw_values.specs.Values.{StmtLayer, has_value, lacking, set_by, set_first, set_in}
-use Rattle.sw_values.specs.Values.{without_value}
-use Rattle.sw_values.specs.declared.counts.Times.{Times}
+use Rattle.sw_decl_words.specs.Evident.{Meanings, meanings_of}
+use Rattle.sw_decl_words.specs.Words.{shapes_made, top_meaning}
+use Rattle.sw_decl_words.specs.declared.placed.Placed.{Placed}
+use Rattle.sw_decl_names.specs.Repeats.{first_place}
+use Rattle.sw_decl_members.specs.Members.{in_program}
+use Rattle.sw_decl_values.specs.Counts.{times_in}
+use Rattle.sw_decl_values.specs.Profile.{first_value, in_first_init, in_object, in_stmt, in_stmts}
+use Rattle.sw_decl_values.specs.Profile.{is_filled, is_typed, outside, param_names, unless_simple}
+use Rattle.sw_decl_values.specs.Profile.{value_found, value_layer, values_from, values_of, wanted_names}
+use Rattle.sw_decl_values.specs.Simple.{is_simple}
+use Rattle.sw_decl_values.specs.Values.{StmtLayer, has_value, lacking, set_by, set_first, set_in}
+use Rattle.sw_decl_values.specs.Values.{without_value}
+use Rattle.sw_decl_values.specs.declared.counts.Times.{Times}
 use Rattle.sw_decls.specs.Declaring.{IsFirstBreach, breaches_of, breaches_of_decls}
 use Rattle.sw_decls.specs.Declaring.{breaches_of_shapes, made_shapes}
 use Rattle.sw_decls.specs.Holders.{holder, holders, holders_from}

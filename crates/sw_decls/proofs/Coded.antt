@@ -1,7 +1,7 @@
 -- Lists of breaches whose codes are those of declarations.
 use Rattle.std.proofs.Common.{ℕ, ◌≤◌, Bool, true, false, cond, List, [], ◌∷◌, ◌++◌, map, flat_map}
 use Rattle.std.specs.List.{AllByRecursion}
-use Rattle.sw_resolve.specs.declared.placed.Placed.{Placed}
+use Rattle.sw_decl_words.specs.declared.placed.Placed.{Placed}
 
 -- a code of a breach of the rules on declarations
 abbrev pub IsDeclCode : ℕ → Type 0

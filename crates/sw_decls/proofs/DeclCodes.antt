@@ -14,19 +14,19 @@ use Rattle.sw_tree.specs.declared.decl.Written.TheVariants.{Absent, At, Nonisola
 use Rattle.sw_tree.specs.declared.decl.Written.TheVariants.{Nonsending}
 use Rattle.sw_tree.specs.declared.expr.Expr.{Expr}
 use Rattle.sw_tree.specs.declared.name.Name.{Name}
-use Rattle.sw_resolve.specs.TypeWords.{bad_words}
-use Rattle.sw_resolve.specs.Words.{word_of}
-use Rattle.sw_resolve.specs.declared.placed.Placed.{Placed}
-use Rattle.sw_resolve.specs.declared.words.Meaning.{Meaning}
-use Rattle.sw_names.specs.Bodies.{bad_type, in_body}
-use Rattle.sw_names.specs.Repeats.{repeats}
-use Rattle.sw_members.specs.Members as members
-use Rattle.sw_members.specs.Members.{bad_entries, bad_in_actor, bad_made, bad_written, case_words}
-use Rattle.sw_members.specs.Members.{entry_place, func_words, funcs_in_actor, funcs_written}
-use Rattle.sw_members.specs.Members.{in_cases, in_decl, in_func}
-use Rattle.sw_members.specs.Members.{in_funcs, in_init, in_inits, in_params}
-use Rattle.sw_members.specs.Members.{in_program, in_prop, in_props, in_value, later_inits}
-use Rattle.sw_members.specs.Members.{prop_words}
+use Rattle.sw_decl_words.specs.TypeWords.{bad_words}
+use Rattle.sw_decl_words.specs.Words.{word_of}
+use Rattle.sw_decl_words.specs.declared.placed.Placed.{Placed}
+use Rattle.sw_decl_words.specs.declared.words.Meaning.{Meaning}
+use Rattle.sw_decl_names.specs.Bodies.{bad_type, in_body}
+use Rattle.sw_decl_names.specs.Repeats.{repeats}
+use Rattle.sw_decl_members.specs.Members as members
+use Rattle.sw_decl_members.specs.Members.{bad_entries, bad_in_actor, bad_made, bad_written, case_words}
+use Rattle.sw_decl_members.specs.Members.{entry_place, func_words, funcs_in_actor, funcs_written}
+use Rattle.sw_decl_members.specs.Members.{in_cases, in_decl, in_func}
+use Rattle.sw_decl_members.specs.Members.{in_funcs, in_init, in_inits, in_params}
+use Rattle.sw_decl_members.specs.Members.{in_program, in_prop, in_props, in_value, later_inits}
+use Rattle.sw_decl_members.specs.Members.{prop_words}
 use Rattle.sw_decls.proofs.BodyCodes.{coded_attribute, coded_body, coded_expr, coded_repeats}
 use Rattle.sw_decls.proofs.BodyCodes.{coded_type, coded_words}
 use Rattle.sw_decls.proofs.Coded.{AreCoded, coded_each, coded_join, coded_map, coded_one}

@@ -3,8 +3,8 @@ use Rattle.std.proofs.Common.{◌≡◌, List, [], ◌∷◌, ◌++◌, Bool, Op
 use Rattle.std.proofs.Common.{refl, sym, arith}
 use Rattle.sw_tree.specs.declared.decl.Decl.{Decl}
 use Rattle.sw_types.specs.declared.shape.Shape.{Shape}
-use Rattle.sw_resolve.specs.Placed.{IsFirst}
-use Rattle.sw_resolve.specs.declared.placed.Placed.{Placed}
+use Rattle.sw_decl_words.specs.Placed.{IsFirstPlaced}
+use Rattle.sw_decl_words.specs.declared.placed.Placed.{Placed}
 use Rattle.sw_decls.specs.Declaring.{IsFirstBreach, breaches_of_decls, breaches_of_shapes}
 use Rattle.sw_decls.specs.Declaring.{made_shapes}
 use Rattle.sw_decls.specs.Holders.{AreHolders, holders}
@@ -25,12 +25,12 @@ module _ (decls : List Decl) (shapes : List Shape) (marks : List Bool) (before f
   where
     -- the first of the breaches that were found is that of the program
     pub first_found : AreHolders shapes marks → before ≡ breaches_of_decls decls
-        → (first : Option Placed) → IsFirst found first → IsFirstBreach decls first
+        → (first : Option Placed) → IsFirstPlaced found first → IsFirstBreach decls first
     first_found are begins first one = (
       marks,
       (
         subst (λ s. AreHolders s marks) made are,
-        subst (λ f. IsFirst f first)
+        subst (λ f. IsFirstPlaced f first)
             (is ∙ ap (λ b. b ++ breaches_of_shapes shapes marks) begins
             ∙ ap (λ s. breaches_of_decls decls ++ breaches_of_shapes s marks) made) one,
       ),

@@ -8,9 +8,9 @@ use Rattle.std.proofs.lemmas.List.Elements.{All-nil, All-cons}
 use Rattle.sw_types.specs.Cycles.{HoldsItself}
 use Rattle.sw_types.specs.Held.{AreWithin, edges_of, held_by, types_in}
 use Rattle.sw_types.specs.Named.{is_within}
-use Rattle.sw_types.specs.Paths.{Leads, Path, one, more}
+use Rattle.sw_types.specs.Paths.{IsEdge, Path, one, more}
 use Rattle.sw_types.specs.declared.shape.Shape.{Shape}
-use Rattle.sw_resolve.specs.declared.placed.Placed.{Placed}
+use Rattle.sw_decl_words.specs.declared.placed.Placed.{Placed}
 use Rattle.sw_decls.specs.Holders.{AreHolders, holder, holders, holders_from}
 use Rattle.sw_decls.specs.Hollow.{hollow_if, hollowed, hollowed_from}
 
@@ -63,8 +63,8 @@ leads_by_mark true row b (k, lt, e) = absurd (let gone : k < 0 = lt in omega ari
 leads_by_mark false row b has = (refl, has)
 
 leads_hollowed : (marks : List Bool) (shapes : List Shape) (a b : ℕ)
-    → Leads (edges_of (hollowed marks shapes)) a b
-    → (get_or marks a false ≡ false) × Leads (edges_of shapes) a b
+    → IsEdge (edges_of (hollowed marks shapes)) a b
+    → (get_or marks a false ≡ false) × IsEdge (edges_of shapes) a b
 leads_hollowed marks shapes a b leads =
     leads_by_mark (get_or marks a false) (get_or (edges_of shapes) a []) b
     (subst (λ row. Contains row b) (edges_hollowed marks 0 a a shapes (omega arith)) leads)

@@ -8,8 +8,8 @@ use Rattle.std.specs.Ordering.{is_lt, nat_cmp, ordering_then}
 use Rattle.std.specs.declared.cmp.Ordering.TheVariants.{Less, Equal}
 use Rattle.sw_tree.specs.declared.decl.Decl.{Decl}
 use Rattle.sw_types.specs.declared.shape.Shape.{Shape}
-use Rattle.sw_resolve.specs.Placed.{IsFirst, placed_cmp}
-use Rattle.sw_resolve.specs.declared.placed.Placed.{Placed}
+use Rattle.sw_decl_words.specs.Placed.{IsFirstPlaced, placed_cmp}
+use Rattle.sw_decl_words.specs.declared.placed.Placed.{Placed}
 use Rattle.sw_decls.specs.Declaring.{IsFirstBreach, breaches_of, breaches_of_decls, made_shapes}
 use Rattle.sw_decls.specs.Holders.{AreHolders, holder, holders, holders_from}
 use Rattle.sw_decls.specs.Hollow.{hollow_if, hollowed, hollowed_from}
@@ -51,13 +51,14 @@ same_placed a b one other =
     let code : a.code ≡ b.code = omega (arith, less, more) in
     λ i. record { at = at i; code = code i }
 
-none_in_nil : (found : List Placed) (one : Placed) → found ≡ [] → IsFirst found (Some one) → ⊥
+none_in_nil : (found : List Placed) (one : Placed) → found ≡ [] → IsFirstPlaced found (Some one) → ⊥
 none_in_nil found one none is =
     let some = is.0.1 in
     let empty = ap length none in
     omega (arith, some, empty)
 
-pub one_first : (found : List Placed) (a b : Option Placed) → IsFirst found a → IsFirst found b
+pub one_first : (found : List Placed) (a b : Option Placed) → IsFirstPlaced found a
+    → IsFirstPlaced found b
     → a ≡ b
 one_first found None None one other = refl
 one_first found None (Some b) one other = absurd (none_in_nil found b one other)
@@ -106,4 +107,5 @@ pub one_first_breach : (decls : List Decl) (a b : Option Placed) → IsFirstBrea
 one_first_breach decls a b one other =
     let agree = same_marks (made_shapes decls) one.0 other.0 one.1.0 other.1.0 in
     one_first (breaches_of decls other.0) a b
-    (subst (λ found. IsFirst found a) (same_breaches one.0 other.0 agree decls) one.1.1) other.1.1
+    (subst (λ found. IsFirstPlaced found a) (same_breaches one.0 other.0 agree decls) one.1.1)
+    other.1.1

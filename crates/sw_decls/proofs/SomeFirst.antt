@@ -8,8 +8,8 @@ use Rattle.std.specs.Ordering.{is_lt}
 use Rattle.sw_tree.specs.declared.decl.Decl.{Decl}
 use Rattle.sw_types.specs.Held.{edges_of}
 use Rattle.sw_types.specs.declared.shape.Shape.{Shape}
-use Rattle.sw_resolve.specs.Placed.{IsFirst, placed_cmp}
-use Rattle.sw_resolve.specs.declared.placed.Placed.{Placed}
+use Rattle.sw_decl_words.specs.Placed.{IsFirstPlaced, placed_cmp}
+use Rattle.sw_decl_words.specs.declared.placed.Placed.{Placed}
 use Rattle.sw_decls.specs.Declaring.{IsFirstBreach, breaches_of, made_shapes}
 use Rattle.sw_decls.specs.Holders.{AreHolders}
 use Rattle.sw_decls.proofs.ReturnLemmas.{returning_marks}
@@ -31,7 +31,7 @@ NoneBefore one found = All (λ other. is_lt (placed_cmp other one) ≡ false) fo
 
 by_order : (one first : Placed) (found : List Placed) → Contains found first
     → NoneBefore first found → (before : Bool) → is_lt (placed_cmp first one) ≡ before
-    → (first : Option Placed) × IsFirst (one ∷ found) first
+    → (first : Option Placed) × IsFirstPlaced (one ∷ found) first
 by_order one first found has all true is = (
   Some first,
   (
@@ -49,8 +49,8 @@ by_order one first found has all false is = (
   ),
 )
 
-with_one : (one : Placed) (found : List Placed) (first : Option Placed) → IsFirst found first
-    → (first : Option Placed) × IsFirst (one ∷ found) first
+with_one : (one : Placed) (found : List Placed) (first : Option Placed) → IsFirstPlaced found first
+    → (first : Option Placed) × IsFirstPlaced (one ∷ found) first
 with_one one found None none = (
   Some one,
   (
@@ -63,7 +63,7 @@ with_one one found None none = (
 with_one one found (Some first) (has, all) =
     by_order one first found has all (is_lt (placed_cmp first one)) refl
 
-pub some_first : (found : List Placed) → (first : Option Placed) × IsFirst found first
+pub some_first : (found : List Placed) → (first : Option Placed) × IsFirstPlaced found first
 some_first [] = (None, refl)
 some_first (one ∷ found) = let rest = some_first found in with_one one found rest.0 rest.1
 

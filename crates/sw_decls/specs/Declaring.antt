@@ -9,14 +9,14 @@ use Rattle.sw_tree.specs.declared.decl.Decl.TheVariants.{Entry, Struct, Enum, Cl
 use Rattle.sw_tree.specs.declared.decl.Decl.TheVariants.{GlobalActor, Func, Global}
 use Rattle.sw_tree.specs.declared.decl.InitTree.{InitTree}
 use Rattle.sw_types.specs.declared.shape.Shape.{Shape}
-use Rattle.sw_resolve.specs.Evident.{meanings_of}
-use Rattle.sw_resolve.specs.Members.{member_at, member_of}
-use Rattle.sw_resolve.specs.Placed.{IsFirst}
-use Rattle.sw_resolve.specs.Shaped.{shapes_from}
-use Rattle.sw_resolve.specs.Words.{or_else, top_meaning}
-use Rattle.sw_resolve.specs.declared.placed.Placed.{Placed}
-use Rattle.sw_members.specs.Members.{entry_place, in_program}
-use Rattle.sw_values.specs.Profile.{values_from}
+use Rattle.sw_decl_words.specs.Evident.{meanings_of}
+use Rattle.sw_decl_words.specs.Members.{member_at, member_of}
+use Rattle.sw_decl_words.specs.Placed.{IsFirstPlaced}
+use Rattle.sw_decl_words.specs.Shaped.{shapes_from}
+use Rattle.sw_decl_words.specs.Words.{or_else, top_meaning}
+use Rattle.sw_decl_words.specs.declared.placed.Placed.{Placed}
+use Rattle.sw_decl_members.specs.Members.{entry_place, in_program}
+use Rattle.sw_decl_values.specs.Profile.{values_from}
 use Rattle.sw_decls.specs.Holders.{AreHolders, holders}
 use Rattle.sw_decls.specs.Hollow.{hollowed}
 use Rattle.sw_decls.specs.Signatures.{funcs_from, global_of}
@@ -50,12 +50,13 @@ breaches_of decls marks =
 abbrev pub IsFirstBreach : List Decl → Option Placed → Type 0
 IsFirstBreach decls first =
     (marks : List Bool) × (AreHolders (made_shapes decls) marks
-    × IsFirst (breaches_of decls marks) first)
+    × IsFirstPlaced (breaches_of decls marks) first)
 
 -- The fault is the first breach of a program. Nothing is said of memory.
-abbrev pub IsRefusal : List Decl → DeclFault → Type 0
-IsRefusal decls (Breach code at) = IsFirstBreach decls (Some (record { at = at; code = code }))
-IsRefusal decls Memory = Unit {0}
+abbrev pub IsDeclarationFault : List Decl → DeclFault → Type 0
+IsDeclarationFault decls (Breach code at) =
+    IsFirstBreach decls (Some (record { at = at; code = code }))
+IsDeclarationFault decls Memory = Unit {0}
 
 -- the words of the declared global actors
 abbrev pub actor_ids : Decl → List ℕ

@@ -15,16 +15,16 @@ use Rattle.sw_tree.specs.declared.name.Name.{Name}
 use Rattle.sw_types.specs.declared.isolation.Iso.{Iso}
 use Rattle.sw_types.specs.declared.isolation.Iso.TheVariants as iso
 use Rattle.sw_types.specs.declared.ty.Ty.TheVariants as types
-use Rattle.sw_resolve.specs.Evident.{Meanings}
-use Rattle.sw_resolve.specs.Shaped.{prop_type, stated_type, written_actor}
-use Rattle.sw_resolve.specs.TypeWords.{type_of}
-use Rattle.sw_resolve.specs.Words.{shapes_made}
+use Rattle.sw_decl_words.specs.Evident.{Meanings}
+use Rattle.sw_decl_words.specs.Shaped.{prop_type, stated_type, written_actor}
+use Rattle.sw_decl_words.specs.TypeWords.{type_of}
+use Rattle.sw_decl_words.specs.Words.{shapes_made}
 use Rattle.sw_decls.specs.declared.signature.AsyncDefault.{AsyncDefault}
 use Rattle.sw_decls.specs.declared.signature.AsyncDefault.TheVariants as default
 use Rattle.sw_decls.specs.declared.signature.GlobalVar.{GlobalVar}
 use Rattle.sw_decls.specs.declared.signature.Param.{Param}
 use Rattle.sw_decls.specs.declared.signature.Signature.{Signature}
-use Rattle.sw_resolve.specs.declared.words.Meaning.{Meaning}
+use Rattle.sw_decl_words.specs.declared.words.Meaning.{Meaning}
 
 -- a global actor's isolation, or none
 abbrev pub actor_iso : Option ℕ → Iso

@@ -4,7 +4,7 @@ use Rattle.sw_types.specs.Parts.{object_parts, parts_at}
 use Rattle.sw_types.specs.declared.shape.Shape.{Shape}
 use Rattle.sw_types.specs.declared.shape.ShapeKind.{ShapeKind}
 use Rattle.sw_types.specs.declared.shape.ShapeKind.TheVariants.{Struct, Enum, Class, Actor}
-use Rattle.sw_resolve.specs.declared.placed.Placed.{Placed}
+use Rattle.sw_decl_words.specs.declared.placed.Placed.{Placed}
 
 abbrev pub parts_by_kind : ShapeKind → List Shape → ℕ → Shape → ℕ
 parts_by_kind Struct shapes number shape = parts_at shapes number

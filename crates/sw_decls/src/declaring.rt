@@ -3,8 +3,9 @@ ghost use Rattle.std.specs.Prelude.{◌≡◌, ◌++◌, ◌<◌, ◌^◌, ◌�
 ghost use Rattle.std.specs.Prelude.{IfErr, OnOk};
 ghost use Rattle.sw_tree.specs.Names.{main_actor_id};
 ghost use Rattle.sw_types.specs.Held.{AreWithin};
-ghost use Rattle.sw_resolve.specs.Evident.{meanings_of, tabled};
-ghost use Rattle.sw_decls.specs.Declaring.{IsDeclared, IsFirstBreach, IsRefusal, actor_ids};
+ghost use Rattle.sw_decl_words.specs.Evident.{meanings_of, tabled};
+ghost use Rattle.sw_decls.specs.Declaring.{IsDeclared, IsFirstBreach, IsDeclarationFault};
+ghost use Rattle.sw_decls.specs.Declaring.{actor_ids};
 ghost use Rattle.sw_decls.specs.Declaring.{breaches_of_decls, breaches_of_shapes, entry_key};
 ghost use Rattle.sw_decls.specs.Declaring.{init_key, made_shapes, maker_keys};
 ghost use Rattle.sw_decls.specs.declared.declaring.DeclFault.{DeclFault};
@@ -17,12 +18,12 @@ use crate::ordered::{Numbers, in_key_order};
 use crate::signature::{AsyncDefault, GlobalList, SignatureList, globals_of, signatures_of};
 use crate::wide::add_wide;
 use std::alloc::{AllocError, Global};
+use sw_decl_members::in_program;
+use sw_decl_values::add_values;
+use sw_decl_words::{MAIN_ACTOR, Members, Placed, Words, first_of, shapes_of};
 use sw_list::ListOf;
-use sw_members::in_program;
-use sw_resolve::{MAIN_ACTOR, Members, Placed, Words, first_of, shapes_of};
 use sw_tree::{Decl, InitTree, Name, Program};
 use sw_types::{ShapeFault, ShapeList, Shapes, which_hold_themselves};
-use sw_values::add_values;
 use thiserror::Error;
 
 /// Why nothing was declared.
@@ -153,7 +154,7 @@ fn checked(alloc: Global, known: &Known, decls: &[Decl]) -> Result<Shapes, DeclF
     requires known { tabled known.now.words known.now.members ≡ meanings_of decls.now }
     ensures shapes { IfOk result (λ shapes. shapes ≡ made_shapes decls.now) }
     ensures none { OnOk result (IsFirstBreach decls.now None) }
-    ensures refused { IfErr result (IsRefusal decls.now) }
+    ensures refused { IfErr result (IsDeclarationFault decls.now) }
 {
     let list = made_shapes(alloc, known, decls)?;
     let marks = which_hold_themselves(alloc, list.as_slice())?;
@@ -267,7 +268,7 @@ pub fn declare(alloc: Global, program: &Program, default: AsyncDefault) -> Resul
     requires { length program.now.decls < 2 ^ 31 }
     ensures declared { IfOk result (IsDeclared program.now.decls default) }
     ensures none { OnOk result (IsFirstBreach program.now.decls None) }
-    ensures refused { IfErr result (IsRefusal program.now.decls) }
+    ensures refused { IfErr result (IsDeclarationFault program.now.decls) }
 {
     let decls = program.decls();
     let known = known_of(alloc, decls)?;

@@ -3,8 +3,8 @@ ghost use Rattle.std.specs.Prelude.{◌≡◌, ◌++◌, false, slice_index_or, 
 ghost use Rattle.sw_decls.specs.Holders.{holders};
 
 use std::alloc::AllocError;
+use sw_decl_words::Placed;
 use sw_list::ListOf;
-use sw_resolve::Placed;
 use sw_types::Shape;
 
 /// Whether the shape with this number is marked.

@@ -1,7 +1,7 @@
 //! A law, without code: what the first breach of a program is.
 ghost use Rattle.std.specs.Prelude.{◌≡◌, ◌≤◌, List, Option, Some};
 ghost use Rattle.sw_tree.specs.declared.decl.Decl.{Decl};
-ghost use Rattle.sw_resolve.specs.declared.placed.Placed.{Placed};
+ghost use Rattle.sw_decl_words.specs.declared.placed.Placed.{Placed};
 ghost use Rattle.sw_decls.specs.Declaring.{IsFirstBreach};
 
 /// A program has one first breach, or none; its code is one of those of declarations.

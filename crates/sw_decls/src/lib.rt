@@ -1,8 +1,8 @@
 //! What a program declares: its shapes, global actors, functions and global variables, and what its
 //! words mean; or the first breach of the rules on declarations (E301 to E307). It finds for itself
 //! the types that hold themselves (E303) and those with more than 64 parts (E307), and puts all
-//! breaches in order. It knows nothing of the types of expressions, but for those that are evident
-//! from a first value.
+//! breaches in order. It knows nothing of the types of expressions, except of those that are
+//! evident from a first value.
 #![tactic(auto)]
 
 mod declaring;

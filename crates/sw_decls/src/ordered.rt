@@ -28,7 +28,7 @@ impl Numbers {
     ghost use Rattle.std.specs.Prelude.{◌≡◌, ◌==◌, ℕ, Some, None, nat_eq, IfOk, OnOk};
     ghost use Rattle.std.specs.Prelude.{if◌then◌else◌};
     ghost use Rattle.indexmap.specs.IndexMap.{get};
-    ghost use Rattle.sw_resolve.specs.Words.{or_else};
+    ghost use Rattle.sw_decl_words.specs.Words.{or_else};
     ghost use Rattle.sw_decls.specs.Declaring.{numbered};
 
     /// The number of the function with this key, if there is one.

@@ -3,14 +3,14 @@ ghost use Rattle.std.specs.Prelude.{◌≡◌, ◌++◌, ◌+◌, ◌<◌, ◌^�
 ghost use Rattle.std.specs.Prelude.{IfOk, OnOk};
 ghost use Rattle.indexmap.specs.IndexMap.{get};
 ghost use Rattle.sw_tree.specs.declared.decl.InitTree.{InitTree};
-ghost use Rattle.sw_resolve.specs.Evident.{tabled};
+ghost use Rattle.sw_decl_words.specs.Evident.{tabled};
 ghost use Rattle.sw_decls.specs.Signatures.{actor_iso, func_iso, func_of, funcs_from, funcs_of};
 ghost use Rattle.sw_decls.specs.Signatures.{global_of, init_of, inits_of, label_id, param_of};
 ghost use Rattle.sw_decls.specs.Signatures.{with_default};
 
 use std::alloc::{AllocError, Global};
+use sw_decl_words::{Members, Words, prop_type, shapes_made, type_of, written_actor};
 use sw_list::ListOf;
-use sw_resolve::{Members, Words, prop_type, shapes_made, type_of, written_actor};
 use sw_tree::{Decl, FuncTree, InitTree, Name, ParamTree, Written};
 use sw_types::{Iso, Ty};
 

@@ -3,8 +3,8 @@ ghost use Rattle.std.specs.Prelude.{◌≡◌, ◌++◌, ◌<◌, ◌^◌, Some,
 ghost use Rattle.sw_decls.specs.Wide.{declared_parts, wide};
 
 use std::alloc::AllocError;
+use sw_decl_words::Placed;
 use sw_list::ListOf;
-use sw_resolve::Placed;
 use sw_types::{Shape, ShapeKind, Shapes, Ty};
 
 /// How many parts a type may have.

@@ -1,14 +1,14 @@
 -- Which tokens blocks, expressions and types have doesn't depend on the indices of names.
 use Rattle.std.proofs.Common.{ℕ, Bool, List}
-use Rattle.sw_reader.specs.Reader.{Reader}
-use Rattle.sw_reader.proofs.Alike.{Alike, Any, alike_inside}
+use Rattle.sw_grammar_forms.specs.Reader.{Reader}
+use Rattle.sw_grammar_forms.proofs.Alike.{Alike, Any, alike_inside}
 use Rattle.sw_grammar.specs.Nests.{Nest, El, shape_of}
 use Rattle.sw_grammar.specs.Nests.Nest.{in_types, in_payload, in_result, in_task_type, in_round}
 use Rattle.sw_grammar.specs.Nests.Nest.{in_args, in_member, in_empty, in_captures}
 use Rattle.sw_grammar.specs.Nests.Nest.{in_closure_params, in_closure, in_task, in_block, in_switch}
 use Rattle.sw_grammar.specs.Nests.Nest.{in_patterns, in_params, in_isolation, in_entry}
 use Rattle.sw_grammar.specs.Nests.Nest.{in_global_actor, in_struct, in_enum, in_class}
-use Rattle.sw_reader.specs.Spells.{read_inside}
+use Rattle.sw_grammar_forms.specs.Spells.{read_inside}
 use Rattle.sw_grammar.specs.Grammar.{body}
 use Rattle.sw_grammar.specs.Reading.{read}
 use Rattle.sw_grammar.specs.Types.{type}

@@ -1,12 +1,12 @@
 -- Which tokens a closure has before its statements doesn't depend on the indices of names.
 use Rattle.std.proofs.Common.{ℕ, List, codes}
-use Rattle.sw_reader.specs.Sets.{Set, quoted, word}
-use Rattle.sw_reader.specs.Form.{Shape}
-use Rattle.sw_reader.specs.Form.Form.{done, terminal, nest}
-use Rattle.sw_reader.specs.Quotes.{quote}
-use Rattle.sw_reader.specs.Reader.{Reader}
-use Rattle.sw_reader.specs.Terminals.{◌>>=◌, expect, skip}
-use Rattle.sw_reader.proofs.Alike.{Alike, Any, same_done, same_then, same_either, same_rule}
+use Rattle.sw_grammar_forms.specs.Sets.{Set, quoted, word}
+use Rattle.sw_grammar_forms.specs.Form.{Shape}
+use Rattle.sw_grammar_forms.specs.Form.Form.{done, terminal, nest}
+use Rattle.sw_grammar_forms.specs.Quotes.{quote}
+use Rattle.sw_grammar_forms.specs.Reader.{Reader}
+use Rattle.sw_grammar_forms.specs.Terminals.{◌>>=◌, expect, skip}
+use Rattle.sw_grammar_forms.proofs.Alike.{Alike, Any, same_done, same_then, same_either, same_rule}
 use Rattle.sw_grammar.specs.Nests.{Nest, El, Form}
 use Rattle.sw_grammar.specs.Nests.Nest.{in_captures, in_closure_params, in_empty}
 use Rattle.sw_grammar.specs.Tokens.{name_in, at_in, at_word}

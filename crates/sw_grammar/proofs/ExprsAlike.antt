@@ -2,14 +2,14 @@
 use Rattle.std.proofs.Common.{◌≡◌, ℕ, Bool, true, Option, Some, None, List, [], ◌∷◌, ◌++◌}
 use Rattle.std.proofs.Common.{codes, refl, sym, ◌∙◌}
 use Rattle.std.specs.Prelude.{is_none}
-use Rattle.sw_reader.specs.Sets.{Set, quoted, word}
-use Rattle.sw_reader.specs.Form.{Shape}
-use Rattle.sw_reader.specs.Form.Form.{done, terminal, turns, nest}
-use Rattle.sw_reader.specs.Quotes.{quote, quote_on_line, an_integer}
-use Rattle.sw_reader.specs.Reader.{Reader}
-use Rattle.sw_reader.specs.Terminals.{◌>>=◌, expect, literal}
-use Rattle.sw_reader.proofs.Alike.{Alike, Any, same_done, same_token, same_then, same_either}
-use Rattle.sw_reader.proofs.Alike.{same_when, same_turns, same_nest, same_rule, same_weaker}
+use Rattle.sw_grammar_forms.specs.Sets.{Set, quoted, word}
+use Rattle.sw_grammar_forms.specs.Form.{Shape}
+use Rattle.sw_grammar_forms.specs.Form.Form.{done, terminal, turns, nest}
+use Rattle.sw_grammar_forms.specs.Quotes.{quote, quote_on_line, an_integer}
+use Rattle.sw_grammar_forms.specs.Reader.{Reader}
+use Rattle.sw_grammar_forms.specs.Terminals.{◌>>=◌, expect, literal}
+use Rattle.sw_grammar_forms.proofs.Alike.{Alike, Any, same_done, same_token, same_then, same_either}
+use Rattle.sw_grammar_forms.proofs.Alike.{same_when, same_turns, same_nest, same_rule, same_weaker}
 use Rattle.sw_tree.proofs.FoldEquations.{fold_expr-Use, fold_expr-Member, fold_expr-Call}
 use Rattle.sw_tree.proofs.FoldEquations.{fold_expr-Method}
 use Rattle.sw_tree.specs.Place.{is_place, place_steps}

@@ -1,9 +1,9 @@
 -- The laws of every grammar, for programs.
 use Rattle.std.proofs.Common.{◌≡◌, ℕ, ◌⊎◌, inl, inr, List, refl}
 use Rattle.sw_token.specs.Spelling.{Spelled, IsSpelling}
-use Rattle.sw_reader.proofs.GrammarLaws.{one_value, value_or_unexpected, value_or_fault}
-use Rattle.sw_reader.proofs.GrammarLaws.{spelled_is_shallow}
-use Rattle.sw_reader.proofs.WholeLaws as wholes
+use Rattle.sw_grammar_forms.proofs.GrammarLaws.{one_value, value_or_unexpected, value_or_fault}
+use Rattle.sw_grammar_forms.proofs.GrammarLaws.{spelled_is_shallow}
+use Rattle.sw_grammar_forms.proofs.WholeLaws as wholes
 use Rattle.sw_tree.specs.declared.decl.Decl.{Decl}
 use Rattle.sw_grammar.specs.Nests.{El, shape_of}
 use Rattle.sw_grammar.specs.Decls.{program}

@@ -2,15 +2,15 @@
 use Rattle.std.proofs.Common.{◌≡◌, ℕ, Bool, true, false, not, List, codes, refl, sym}
 use Rattle.std.proofs.Common.{ap, ◌∙◌}
 use Rattle.std.specs.Prelude.{is_none}
-use Rattle.sw_reader.specs.Sets.{Set, word}
-use Rattle.sw_reader.specs.Form.{Shape}
-use Rattle.sw_reader.specs.Form.Form.{terminal, nest}
-use Rattle.sw_reader.specs.Quotes.{quote}
-use Rattle.sw_reader.specs.Reader.{Reader}
-use Rattle.sw_reader.specs.Terminals.{expect, items}
-use Rattle.sw_reader.proofs.Alike.{Alike, Any, EndAlike, same_done, same_token, same_then}
-use Rattle.sw_reader.proofs.Alike.{same_either, same_when, same_turns, same_more_items}
-use Rattle.sw_reader.proofs.Alike.{same_some_items, same_line_start, same_same_line, same_rule}
+use Rattle.sw_grammar_forms.specs.Sets.{Set, word}
+use Rattle.sw_grammar_forms.specs.Form.{Shape}
+use Rattle.sw_grammar_forms.specs.Form.Form.{terminal, nest}
+use Rattle.sw_grammar_forms.specs.Quotes.{quote}
+use Rattle.sw_grammar_forms.specs.Reader.{Reader}
+use Rattle.sw_grammar_forms.specs.Terminals.{expect, items}
+use Rattle.sw_grammar_forms.proofs.Alike.{Alike, Any, EndAlike, same_done, same_token, same_then}
+use Rattle.sw_grammar_forms.proofs.Alike.{same_either, same_when, same_turns, same_more_items}
+use Rattle.sw_grammar_forms.proofs.Alike.{same_some_items, same_line_start, same_same_line, same_rule}
 use Rattle.sw_tree.specs.declared.expr.Expr.{Expr}
 use Rattle.sw_tree.specs.declared.expr.Expr.TheVariants as exprs
 use Rattle.sw_tree.specs.Place.{is_place, place_steps}

@@ -6,11 +6,11 @@ use Rattle.std.specs.List.{list_any}
 use Rattle.sw_token.specs.declared.Fixity.TheVariants as fixities
 use Rattle.sw_token.specs.Kinds.{kind_of}
 use Rattle.sw_token.specs.Spelling.{Spelled}
-use Rattle.sw_reader.specs.Outcome.{stands}
-use Rattle.sw_reader.specs.Sets.{has, is_quoted_operator, is_name, is_at, quoted, one_of, word}
-use Rattle.sw_reader.specs.Sets.{attribute}
-use Rattle.sw_reader.proofs.SetLaws.{has-quoted, has-word}
-use Rattle.sw_reader.proofs.KindSets.{has-standing, has-attribute, has-one_of, starts-without}
+use Rattle.sw_grammar_forms.specs.Outcome.{stands}
+use Rattle.sw_grammar_forms.specs.Sets.{has, is_quoted_operator, is_name, is_at, quoted, one_of, word}
+use Rattle.sw_grammar_forms.specs.Sets.{attribute}
+use Rattle.sw_grammar_forms.proofs.SetLaws.{has-quoted, has-word}
+use Rattle.sw_grammar_forms.proofs.KindSets.{has-standing, has-attribute, has-one_of, starts-without}
 use Rattle.sw_grammar.specs.Tokens.{infix_op, prefix_op, value_word, at_word, plain_at_word}
 
 pub has-infix_op : (text : List ℕ) (token : Spelled) → is_quoted_operator text ≡ true

@@ -1,15 +1,15 @@
 -- Which tokens a type has doesn't depend on the indices of names; and lists that commas part.
 use Rattle.std.proofs.Common.{◌≡◌, ℕ, List, [], ◌∷◌, ◌++◌, codes, refl}
 use Rattle.sw_token.specs.declared.Fixity.TheVariants as fixities
-use Rattle.sw_reader.specs.Sets.{Set, quoted}
-use Rattle.sw_reader.specs.Form.{Shape}
-use Rattle.sw_reader.specs.Form.Form.{terminal, nest}
-use Rattle.sw_reader.specs.Quotes.{quote}
-use Rattle.sw_reader.specs.Reader.{Reader}
-use Rattle.sw_reader.specs.Terminals.{expect}
-use Rattle.sw_reader.proofs.Alike.{Alike, Any, Same, same_done, same_token, same_token_of}
-use Rattle.sw_reader.proofs.Alike.{same_then, same_either, same_unless, same_turns, same_nest}
-use Rattle.sw_reader.proofs.Alike.{same_rule}
+use Rattle.sw_grammar_forms.specs.Sets.{Set, quoted}
+use Rattle.sw_grammar_forms.specs.Form.{Shape}
+use Rattle.sw_grammar_forms.specs.Form.Form.{terminal, nest}
+use Rattle.sw_grammar_forms.specs.Quotes.{quote}
+use Rattle.sw_grammar_forms.specs.Reader.{Reader}
+use Rattle.sw_grammar_forms.specs.Terminals.{expect}
+use Rattle.sw_grammar_forms.proofs.Alike.{Alike, Any, Same, same_done, same_token, same_token_of}
+use Rattle.sw_grammar_forms.proofs.Alike.{same_then, same_either, same_unless, same_turns, same_nest}
+use Rattle.sw_grammar_forms.proofs.Alike.{same_rule}
 use Rattle.sw_tree.specs.declared.expr.Expr.{Expr}
 use Rattle.sw_tree.specs.declared.type_tree.TypeTree.{TypeTree}
 use Rattle.sw_tree.specs.Place.{is_place}

@@ -1,16 +1,17 @@
 -- Closures and tasks.
 use Rattle.std.specs.Prelude.{ℕ, Option, Some, None, List, [], ◌∷◌, ◌++◌, codes}
-use Rattle.sw_reader.specs.Sets.{Set, quoted, one_of, word}
-use Rattle.sw_reader.specs.Form.{solid}
-use Rattle.sw_reader.specs.Form.Form.{done, terminal, either, nest, shaped}
-use Rattle.sw_reader.specs.Terminals.{◌>>=◌, expect, skip}
-use Rattle.sw_reader.specs.Quotes.{quote}
+use Rattle.sw_grammar_forms.specs.Sets.{Set, quoted, one_of, word}
+use Rattle.sw_grammar_forms.specs.Form.{solid}
+use Rattle.sw_grammar_forms.specs.Form.Form.{done, terminal, either, nest, shaped}
+use Rattle.sw_grammar_forms.specs.Terminals.{◌>>=◌, expect, skip}
+use Rattle.sw_grammar_forms.specs.Quotes.{quote}
 use Rattle.sw_tree.specs.declared.name.Name.{Name}
 use Rattle.sw_tree.specs.declared.type_tree.TypeTree.{TypeTree}
 use Rattle.sw_tree.specs.declared.expr.ClosureParam.{ClosureParam}
 use Rattle.sw_tree.specs.declared.stmt.Stmt.{Stmt}
 use Rattle.sw_grammar.specs.Tokens.{at_word, type_ext, name_in, at_in}
-use Rattle.sw_grammar.specs.Nests.{in_captures, in_closure_params, in_empty, shape_of, Form, Inside}
+use Rattle.sw_grammar.specs.Nests.{in_captures, in_closure_params, in_empty, shape_of, Form}
+use Rattle.sw_grammar.specs.Nests.{ClosureInside}
 use Rattle.sw_grammar.specs.Types.{type, some_of, list_of}
 use Rattle.sw_grammar.specs.Exprs.{loose}
 
@@ -32,7 +33,7 @@ abbrev pub header_of : Option Name → List Name → Signature → Header
 header_of mark captures signature =
     record { mark = mark; captures = captures; params = signature.0; result = signature.1 }
 
-abbrev pub inside_of : Header → List Stmt → Inside
+abbrev pub inside_of : Header → List Stmt → ClosureInside
 inside_of header body = record {
   mark = header.mark;
   captures = header.captures;

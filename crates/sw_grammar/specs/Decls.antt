@@ -1,11 +1,11 @@
 -- Declarations.
 use Rattle.std.specs.Prelude.{ℕ, Bool, true, false, not, Option, Some, None, List, [], ◌∷◌, ◌++◌}
 use Rattle.std.specs.Prelude.{codes}
-use Rattle.sw_reader.specs.Sets.{Set, quoted, one_of, word}
-use Rattle.sw_reader.specs.Form.{Shape, solid}
-use Rattle.sw_reader.specs.Form.Form.{done, terminal, either, unless, nest, shaped}
-use Rattle.sw_reader.specs.Terminals.{◌>>=◌, expect, skip, items}
-use Rattle.sw_reader.specs.Quotes.{quote}
+use Rattle.sw_grammar_forms.specs.Sets.{Set, quoted, one_of, word}
+use Rattle.sw_grammar_forms.specs.Form.{Shape, solid}
+use Rattle.sw_grammar_forms.specs.Form.Form.{done, terminal, either, unless, nest, shaped}
+use Rattle.sw_grammar_forms.specs.Terminals.{◌>>=◌, expect, skip, items}
+use Rattle.sw_grammar_forms.specs.Quotes.{quote}
 use Rattle.sw_tree.specs.declared.name.Name.{Name}
 use Rattle.sw_tree.specs.declared.type_tree.TypeTree.{TypeTree}
 use Rattle.sw_tree.specs.declared.expr.Expr.{Expr}

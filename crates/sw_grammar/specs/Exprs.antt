@@ -1,10 +1,10 @@
 -- Expressions. Where closures stand outside brackets is said by `closures`: not in a condition.
 use Rattle.std.specs.Prelude.{ℕ, Bool, true, false, Option, Some, None, List, [], ◌∷◌, ◌++◌, codes}
-use Rattle.sw_reader.specs.Sets.{Set, quoted, word, not_first}
-use Rattle.sw_reader.specs.Form.{Shape, solid}
-use Rattle.sw_reader.specs.Form.Form.{done, terminal, either, when, nest, turns, shaped}
-use Rattle.sw_reader.specs.Terminals.{◌>>=◌, expect, literal}
-use Rattle.sw_reader.specs.Quotes.{quote, quote_on_line}
+use Rattle.sw_grammar_forms.specs.Sets.{Set, quoted, word, not_first}
+use Rattle.sw_grammar_forms.specs.Form.{Shape, solid}
+use Rattle.sw_grammar_forms.specs.Form.Form.{done, terminal, either, when, nest, turns, shaped}
+use Rattle.sw_grammar_forms.specs.Terminals.{◌>>=◌, expect, literal}
+use Rattle.sw_grammar_forms.specs.Quotes.{quote, quote_on_line}
 use Rattle.sw_tree.specs.declared.name.Name.{Name}
 use Rattle.sw_tree.specs.declared.operator.InfixOp.{InfixOp}
 use Rattle.sw_tree.specs.declared.expr.Expr.{Expr}
@@ -17,7 +17,7 @@ use Rattle.sw_grammar.specs.Tokens.{value_word, literal_first, expr_first, expr_
 use Rattle.sw_grammar.specs.Tokens.{times, plus, compares, infix_op, prefix_ops, infix_in, a_prefix}
 use Rattle.sw_grammar.specs.Tokens.{name_in}
 use Rattle.sw_grammar.specs.Nests.{in_round, in_args, in_member, in_empty, in_closure, in_task}
-use Rattle.sw_grammar.specs.Nests.{shape_of, Form, Inside, Link}
+use Rattle.sw_grammar.specs.Nests.{shape_of, Form, ClosureInside, Link}
 use Rattle.sw_grammar.specs.Types.{list_of}
 
 -- the shape that a rule claims, where no tokens may be a spelling and are the short one, by the
@@ -49,7 +49,7 @@ abbrev pub linked : InfixOp × ℕ → Expr → Operand
 linked op operand = roll-Link (record { op = op.0; at = op.1; operand = operand })
 
 -- a closure from its `{` and what it has beside it
-abbrev pub closure_at : ℕ → Inside → Closure
+abbrev pub closure_at : ℕ → ClosureInside → Closure
 closure_at at inside = roll-Closure (record {
   at = at;
   mark = inside.mark;

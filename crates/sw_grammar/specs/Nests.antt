@@ -1,8 +1,8 @@
 -- The nests: what stands after a token that opens one.
 use Rattle.std.specs.Prelude.{ℕ, Bool, Option, List, [], ◌∷◌, ◌++◌, codes}
-use Rattle.sw_reader.specs.Sets.{Set, quoted, one_of, word}
-use Rattle.sw_reader.specs.Form.{Shape, solid}
-use Rattle.sw_reader.specs.Form as forms
+use Rattle.sw_grammar_forms.specs.Sets.{Set, quoted, one_of, word}
+use Rattle.sw_grammar_forms.specs.Form.{Shape, solid}
+use Rattle.sw_grammar_forms.specs.Form as forms
 use Rattle.sw_tree.specs.declared.name.Name.{Name}
 use Rattle.sw_tree.specs.declared.type_tree.TypeTree.{TypeTree}
 use Rattle.sw_tree.specs.declared.expr.Expr.{Expr}
@@ -67,7 +67,7 @@ abbrev pub Link : Type 0
 Link = Name × Option (List Arg)
 
 -- what a closure has beside its `{`
-pub record Inside : Type 0 where
+pub record ClosureInside : Type 0 where
   pub mark : Option Name
   pub captures : List Name
   pub params : List ClosureParam
@@ -99,8 +99,8 @@ El in_member = List Link
 El in_empty = ℕ
 El in_captures = List Name
 El in_closure_params = List ClosureParam
-El in_closure = Inside
-El in_task = Inside
+El in_closure = ClosureInside
+El in_task = ClosureInside
 El in_block = List Stmt
 El in_switch = List CaseArm × Option Block
 El in_patterns = List Pattern

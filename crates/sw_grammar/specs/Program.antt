@@ -1,10 +1,10 @@
 -- Programs as tokens. `id_of` gives the index of a text among the texts of names.
 use Rattle.std.specs.Prelude.{ℕ, List}
 use Rattle.sw_token.specs.Spelling.{Spelled}
-use Rattle.sw_reader.specs.Spells.{spells, Wide}
-use Rattle.sw_reader.specs.Whole.{IsSpelledAs, IsSpelled, IsUnexpectedIn, IsTooDeepIn}
-use Rattle.sw_reader.specs.Whole.{IsShallow}
-use Rattle.sw_reader.specs.Opens.{opens}
+use Rattle.sw_grammar_forms.specs.Spells.{spells, Wide}
+use Rattle.sw_grammar_forms.specs.Whole.{IsSpelledAs, IsSpelled, IsUnexpectedIn, IsTooDeepIn}
+use Rattle.sw_grammar_forms.specs.Whole.{IsShallow}
+use Rattle.sw_grammar_forms.specs.Opens.{opens}
 use Rattle.sw_tree.specs.declared.decl.Decl.{Decl}
 use Rattle.sw_grammar.specs.Nests.{El, shape_of}
 use Rattle.sw_grammar.specs.Decls.{program}

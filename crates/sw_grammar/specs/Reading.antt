@@ -1,8 +1,8 @@
 -- The readers of this grammar's forms.
 use Rattle.std.specs.Prelude.{ℕ, List}
-use Rattle.sw_reader.specs.Form.{Shape}
-use Rattle.sw_reader.specs.Reader.{Reader}
-use Rattle.sw_reader.specs.Spells.{reads}
+use Rattle.sw_grammar_forms.specs.Form.{Shape}
+use Rattle.sw_grammar_forms.specs.Reader.{Reader}
+use Rattle.sw_grammar_forms.specs.Spells.{reads}
 use Rattle.sw_grammar.specs.Nests.{El, shape_of, Form}
 use Rattle.sw_grammar.specs.Grammar.{body}
 

@@ -1,12 +1,12 @@
 -- Statements.
 use Rattle.std.specs.Prelude.{ℕ, Bool, true, false, not, Option, Some, None, is_none, List, [], ◌∷◌}
 use Rattle.std.specs.Prelude.{◌++◌, codes}
-use Rattle.sw_reader.specs.Sets.{Set, quoted, one_of, word, not_first}
-use Rattle.sw_reader.specs.Form.{solid}
-use Rattle.sw_reader.specs.Form.Form.{done, terminal, either, when, nest, turns, line_start}
-use Rattle.sw_reader.specs.Form.Form.{same_line, some_items, shaped}
-use Rattle.sw_reader.specs.Terminals.{◌>>=◌, expect, items}
-use Rattle.sw_reader.specs.Quotes.{quote}
+use Rattle.sw_grammar_forms.specs.Sets.{Set, quoted, one_of, word, not_first}
+use Rattle.sw_grammar_forms.specs.Form.{solid}
+use Rattle.sw_grammar_forms.specs.Form.Form.{done, terminal, either, when, nest, turns, line_start}
+use Rattle.sw_grammar_forms.specs.Form.Form.{same_line, some_items, shaped}
+use Rattle.sw_grammar_forms.specs.Terminals.{◌>>=◌, expect, items}
+use Rattle.sw_grammar_forms.specs.Quotes.{quote}
 use Rattle.sw_tree.specs.Place.{is_place}
 use Rattle.sw_tree.specs.declared.name.Name.{Name}
 use Rattle.sw_tree.specs.declared.type_tree.TypeTree.{TypeTree}
@@ -23,7 +23,7 @@ use Rattle.sw_grammar.specs.Tokens.{value_word, type_ext, plain_first, expr_firs
 use Rattle.sw_grammar.specs.Tokens.{stmt_first, stmt_ext, assign_ops, an_assignment, an_equals}
 use Rattle.sw_grammar.specs.Tokens.{infix_op, binding_first, name_in}
 use Rattle.sw_grammar.specs.Nests.{in_block, in_switch, in_patterns, in_closure, in_task, shape_of}
-use Rattle.sw_grammar.specs.Nests.{Form, Inside}
+use Rattle.sw_grammar.specs.Nests.{Form, ClosureInside}
 use Rattle.sw_grammar.specs.Types.{type, some_of}
 use Rattle.sw_grammar.specs.Exprs.{loose, operators, after_word, after_operand, after_task}
 use Rattle.sw_grammar.specs.Exprs.{a_literal, negated, more_operands, awaited, expr}
@@ -207,14 +207,14 @@ module _ (id_of : List ℕ → ℕ) where
     done read.0)
 
   -- a closure's header, { stmt } and "}"
-  unfoldable pub closure_inside : Form (shape_of in_closure) Inside
+  unfoldable pub closure_inside : Form (shape_of in_closure) ClosureInside
   closure_inside = shaped _ (do
     head ← header id_of
     read ← items stmt
     _ ← expect (codes "}")
     done (inside_of head read.0))
 
-  unfoldable pub task_inside : Form (shape_of in_task) Inside
+  unfoldable pub task_inside : Form (shape_of in_task) ClosureInside
   task_inside = shaped _ (do
     head ← task_header id_of
     read ← items stmt

@@ -2,9 +2,9 @@
 use Rattle.std.specs.Prelude.{ℕ, if◌then◌else◌, List, [], ◌∷◌, ◌++◌, drop, codes, bytes_eq}
 use Rattle.sw_token.specs.declared.Fixity.TheVariants as fixities
 use Rattle.sw_token.specs.Spelling.{Spelled}
-use Rattle.sw_reader.specs.Sets.{Set, quoted, standing, one_of, unquoted_word, word, integer}
-use Rattle.sw_reader.specs.Sets.{unquoted_attribute, not_first}
-use Rattle.sw_reader.specs.Form.{Terminal}
+use Rattle.sw_grammar_forms.specs.Sets.{Set, quoted, standing, one_of, unquoted_word, word, integer}
+use Rattle.sw_grammar_forms.specs.Sets.{unquoted_attribute, not_first}
+use Rattle.sw_grammar_forms.specs.Form.{Terminal}
 use Rattle.sw_tree.specs.declared.name.Name.{Name}
 use Rattle.sw_tree.specs.declared.operator.PrefixOp.{PrefixOp}
 use Rattle.sw_tree.specs.declared.operator.PrefixOp.TheVariants as prefixes

@@ -1,10 +1,10 @@
 -- Types.
 use Rattle.std.specs.Prelude.{ℕ, Bool, true, false, Some, None, List, [], ◌∷◌, ◌++◌, codes}
-use Rattle.sw_reader.specs.Sets.{quoted}
-use Rattle.sw_reader.specs.Form.{Shape, solid, one, empty, seq, alt, star}
-use Rattle.sw_reader.specs.Form.Form.{done, terminal, either, unless, nest, turns, shaped}
-use Rattle.sw_reader.specs.Terminals.{◌>>=◌, expect}
-use Rattle.sw_reader.specs.Quotes.{quote}
+use Rattle.sw_grammar_forms.specs.Sets.{quoted}
+use Rattle.sw_grammar_forms.specs.Form.{Shape, solid, one, empty, seq, alt, star}
+use Rattle.sw_grammar_forms.specs.Form.Form.{done, terminal, either, unless, nest, turns, shaped}
+use Rattle.sw_grammar_forms.specs.Terminals.{◌>>=◌, expect}
+use Rattle.sw_grammar_forms.specs.Quotes.{quote}
 use Rattle.sw_tree.specs.declared.type_tree.TypeTree.{TypeTree}
 use Rattle.sw_tree.specs.declared.type_tree.TypeTree.TheVariants as trees
 use Rattle.sw_grammar.specs.Tokens.{value_word, type_first, type_ext, name_in, at_in}

@@ -4,15 +4,15 @@ ghost use Rattle.std.specs.List.{list_any};
 ghost use Rattle.sw_token.specs.declared.Fixity.TheVariants as fixities;
 ghost use Rattle.sw_token.specs.Kinds.{kind_of};
 ghost use Rattle.sw_token.specs.Spelling.{IsSpelling, Spelled};
-ghost use Rattle.sw_reader.specs.Outcome.{stands};
-ghost use Rattle.sw_reader.specs.Sets.{has, is_quoted_operator, is_name, is_at};
+ghost use Rattle.sw_grammar_forms.specs.Outcome.{stands};
+ghost use Rattle.sw_grammar_forms.specs.Sets.{has, is_quoted_operator, is_name, is_at};
 ghost use Rattle.sw_tree.specs.declared.decl.Decl.{Decl};
 ghost use Rattle.sw_grammar.specs.Tokens.{infix_op, prefix_op, value_word, at_word, plain_at_word};
 ghost use Rattle.sw_grammar.specs.Program.{IsProgram, IsProgramWithin, IsTooDeep, IsUnexpected};
 ghost use Rattle.sw_grammar.specs.Program.{IsFirstUnexpected};
 ghost use Rattle.sw_grammar.specs.Program.{Spells, SpellsWithin};
 
-/// Which tokens the sets have that this grammar adds to those of `sw_reader`.
+/// Which tokens the sets have that this grammar adds to those of `sw_grammar_forms`.
 pub fn grammar_sets_have_their_tokens()
     ensures infix_op { (text : List ℕ) (token : Spelled) → IsTrue (is_quoted_operator text)
         → has (infix_op text) token

@@ -13,7 +13,7 @@ use Rattle.sw_graph.specs.Placed.{ActorOfClass, IsPlaced, is_inside_shape}
 use Rattle.sw_graph.specs.declared.function.Function.{Function}
 use Rattle.sw_graph.specs.declared.graph.Graph.{Graph}
 use Rattle.sw_graph.specs.declared.instr.Operand.{Operand}
-use Rattle.sw_graph.proofs.ListLemmas.{at_index}
+use Rattle.sw_list.proofs.ListLemmas.{at_index}
 
 -- What is no class has no global actor.
 none_of : (actor : Option ℕ) (kind : ShapeKind) → (IsSome actor → kind ≡ Class)

@@ -6,7 +6,7 @@ use Rattle.sw_types.specs.declared.ty.Ty.TheOpen as layer
 use Rattle.sw_types.specs.declared.ty.Ty.TheVariants.{Int, Bool as BoolType, Unit as Void, Task}
 use Rattle.sw_types.specs.declared.ty.Ty.TheVariants.{rolls-Int, rolls-Bool, rolls-Unit, rolls-Task}
 use Rattle.sw_types.specs.declared.ty.Ty.TheVariants.{outs-Int, outs-Bool}
-use Rattle.sw_types.specs.Accepts.{Accepts}
+use Rattle.sw_types.specs.Accepts.{IsAcceptedAs}
 use Rattle.sw_types.specs.Named.{is_within, layer_is_within}
 use Rattle.sw_graph.specs.declared.function.RegKind.{RegKind}
 use Rattle.sw_graph.specs.declared.function.RegKind.TheVariants.{Plain}
@@ -23,7 +23,7 @@ pub record IsAccepted (from to : Option RegKind) : Type 0 where
   pub expected : Ty
   pub from_is : from ≡ value given
   pub to_is : to ≡ value expected
-  pub accepts : Accepts given expected
+  pub accepts : IsAcceptedAs given expected
 
 pub goes-accepted : (from to : Option RegKind) → Goes from to → IsAccepted from to
 goes-accepted (Some (Plain given)) (Some (Plain expected)) goes = record {

@@ -1,7 +1,6 @@
 pub mod GlobalActorLemmas
 pub mod KindLemmas
 pub mod LimitLemmas
-pub mod ListLemmas
 pub mod PayloadLemmas
 pub mod PointLemmas
 pub mod StraightLemmas

@@ -10,7 +10,7 @@ use Rattle.std.specs.List.{slice_get}
 use Rattle.sw_graph.specs.declared.instr.Block.{Block}
 use Rattle.sw_graph.specs.declared.instr.Instr.{Instr}
 use Rattle.sw_graph.specs.Points.{Middle, End, points_of_block, points_of}
-use Rattle.sw_graph.proofs.ListLemmas.{slice_get_before, slice_get_after}
+use Rattle.sw_list.proofs.ListLemmas.{slice_get_before, slice_get_after}
 
 -- the point is an instruction of the first block
 pub middle_here : (block : Block) (rest : List Block) (index : ℕ) (i : Instr)

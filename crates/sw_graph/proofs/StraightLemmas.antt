@@ -26,7 +26,7 @@ use Rattle.sw_graph.specs.Straight.{has_value, reads_in_order, returns, are_stra
 use Rattle.sw_graph.specs.Ways.{on, to, Way, begin, further, is_number, is_set, point_sets}
 use Rattle.sw_graph.specs.Ways.{SetsBeforeReads}
 use Rattle.sw_graph.specs.WellFormed.{FunctionFits, IsWellFormed}
-use Rattle.sw_graph.proofs.ListLemmas.{at_index}
+use Rattle.sw_list.proofs.ListLemmas.{at_index}
 use Rattle.sw_graph.proofs.PayloadLemmas.{no_payloads_fit}
 use Rattle.sw_graph.proofs.PointLemmas.{middle_here, end_here, further as after_instrs}
 

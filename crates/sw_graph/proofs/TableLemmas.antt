@@ -14,7 +14,7 @@ use Rattle.sw_graph.specs.declared.table.Place.{Place}
 use Rattle.sw_graph.specs.declared.table.PointTable.{PointTable}
 use Rattle.sw_graph.specs.Points.{points_of, points_of_block, point_in, block_start}
 use Rattle.sw_graph.specs.Table.{places_in, places_from, starts_from, table_of, at_place}
-use Rattle.sw_graph.proofs.ListLemmas.{slice_get_before, slice_get_first, slice_get_second, at_seam}
+use Rattle.sw_list.proofs.ListLemmas.{slice_get_before, slice_get_first, slice_get_second, at_seam}
 use Rattle.sw_graph.proofs.PointLemmas.{length-points_of_block, at_block}
 
 length-places_in : (block n : ℕ) → length (places_in block n) ≡ n

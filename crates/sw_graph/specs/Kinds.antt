@@ -13,7 +13,7 @@ use Rattle.sw_types.specs.declared.ty.Ty.TheVariants.{Named}
 use Rattle.sw_types.specs.declared.shape.Shape.{Shape}
 use Rattle.sw_types.specs.declared.shape.ShapeKind.{ShapeKind}
 use Rattle.sw_types.specs.declared.shape.ShapeKind.TheVariants.{Struct, Enum, Class, Actor}
-use Rattle.sw_types.specs.Accepts.{Accepts}
+use Rattle.sw_types.specs.Accepts.{IsAcceptedAs}
 use Rattle.sw_graph.specs.declared.function.Function.{Function}
 use Rattle.sw_graph.specs.declared.function.GlobalKind.{GlobalKind}
 use Rattle.sw_graph.specs.declared.function.RegKind.{RegKind}
@@ -37,12 +37,12 @@ use Rattle.sw_graph.specs.declared.instr.Last.TheVariants.{Jump, Branch, Switch,
 
 -- A value goes where its type is accepted. Whether the register or part is there is part of it.
 abbrev pub Goes : Option RegKind → Option RegKind → Type 0
-Goes (Some (Plain from)) (Some (Plain to)) = Accepts from to
+Goes (Some (Plain from)) (Some (Plain to)) = IsAcceptedAs from to
 Goes _ _ = ⊥
 
 -- A capture is a value, or a box of the same type.
 abbrev pub IsCaptured : Option RegKind → Option RegKind → Type 0
-IsCaptured (Some (Plain from)) (Some (Plain to)) = Accepts from to
+IsCaptured (Some (Plain from)) (Some (Plain to)) = IsAcceptedAs from to
 IsCaptured (Some (BoxOf from)) (Some (BoxOf to)) = from ≡ to
 IsCaptured _ _ = ⊥
 

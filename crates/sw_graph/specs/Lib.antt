@@ -1,5 +1,4 @@
 pub mod Bodies
-pub mod CallKinds
 pub mod Clean
 pub mod Kinds
 pub mod Lent
@@ -13,3 +12,7 @@ pub mod Straight
 pub mod Table
 pub mod Ways
 pub mod WellFormed
+pub mod Sure
+pub mod Annotations
+pub mod Supplied
+pub mod Stores

@@ -23,7 +23,7 @@ use Rattle.sw_graph.specs.declared.instr.Last.TheVariants.{Return}
 use Rattle.sw_graph.specs.declared.instr.Operand.{Operand}
 use Rattle.sw_graph.specs.Bodies.{is_own, is_on, names, actor_of, is_actor_initialiser}
 use Rattle.sw_graph.specs.Bodies.{is_class_initialiser, has_self, is_self, first_is_self}
-use Rattle.sw_graph.specs.CallKinds.{Callee, call_kind}
+use Rattle.sw_types.specs.CallKinds.{Callee, call_kind}
 use Rattle.sw_graph.specs.Kinds.{shape_of, is_actor, is_cell}
 use Rattle.sw_graph.specs.Mentions.{reads}
 use Rattle.sw_graph.specs.Points.{Middle, point_in}

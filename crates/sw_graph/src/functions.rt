@@ -92,7 +92,7 @@ impl Functions {
     }
 
     /// The function with a number.
-    #[tactic(auto, using(crate::proofs::ListLemmas::at_index))]
+    #[tactic(auto, using(sw_list::proofs::ListLemmas::at_index))]
     fn numbered(&self, function: u32) -> Option<&Function>
         ensures function { option_copied result ≡ slice_get self.now function }
         ensures numbered { IfSome result (λ f. IsNumbered f.now) }

@@ -1,4 +1,4 @@
-//! The texts of instructions: what `{:?}` prints, but for lists, which stand between brackets.
+//! The texts of instructions: what `{:?}` prints, except for lists, which stand in brackets.
 
 use std::alloc::{AllocError, Global};
 use sw_graph::{Instr, Last};

@@ -1,4 +1,4 @@
-//! The texts of types: what `{:?}` prints, but for what a type is made of, which stands bare.
+//! The texts of types: what `{:?}` prints, except for the parts of a type, which stand bare.
 
 use std::alloc::{AllocError, Global};
 use sw_graph::RegKind;

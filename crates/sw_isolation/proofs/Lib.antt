@@ -1,3 +1,1 @@
-pub mod Answering
-pub mod KindFound
 pub mod SomeMerged

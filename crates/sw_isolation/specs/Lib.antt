@@ -1,3 +1,2 @@
-pub mod Isolated
 pub mod Unsent
-pub use Rattle.sw_noting.specs.capture
+pub mod Refused

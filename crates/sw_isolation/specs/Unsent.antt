@@ -13,6 +13,6 @@ abbrev pub any_unsent : List Shape → List Ty → Bool
 any_unsent shapes types = list_any (λ ty. not (is_sendable shapes ty)) types
 
 -- the table has the numbers of types by the keys of their words
-abbrev pub AreNumbers : {S : Type 0} → List Shape → IndexMap ℕ ℕ S → Type 0
-AreNumbers shapes numbers =
+abbrev pub AreTypeNumbers : {S : Type 0} → List Shape → IndexMap ℕ ℕ S → Type 0
+AreTypeNumbers shapes numbers =
     (key : ℕ) → option_map types.Named (get nat_eq numbers key) ≡ shape_from 0 shapes key

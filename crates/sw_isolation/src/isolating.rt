@@ -1,22 +1,24 @@
 //! The isolation of a program.
 ghost use Rattle.std.specs.Prelude.{◌≡◌, ◌++◌, ◌<◌, ◌^◌, None, flat_map, length, IfErr, IfOk, OnOk};
-ghost use Rattle.sw_noting.specs.capture.Known.{answers_of};
-ghost use Rattle.sw_isolation.specs.Isolated.{IsIsolated, IsRefused};
+ghost use Rattle.sw_isolation_table.specs.Known.{answers_of};
+ghost use Rattle.sw_isolation.specs.Refused.{IsIsolationFault};
+ghost use Rattle.sw_isolation_table.specs.Isolated.{IsIsolated};
 ghost use Rattle.sw_isolation.specs.declared.isolating.IsoFault.{IsoFault};
 ghost use Rattle.sw_isolation_rules.specs.Lists.{refusals_in};
 ghost use Rattle.sw_isolation_rules.specs.Programs.{IsFirstRefusal, global_refusals, is_shared};
 ghost use Rattle.sw_typing_rules.specs.Worlds.{world_of};
 
-use crate::isolated::{Isolated, isolated_of, refusals_in};
+use crate::collecting::{isolated_of, refusals_in};
 use crate::programs::noted;
 use std::alloc::{AllocError, Global};
+use sw_decl_words::{Placed, first_of};
 use sw_decls::{Decls, GlobalVar};
 use sw_isolation_rules::Note;
+use sw_isolation_steps::may_cross;
+use sw_isolation_table::Isolated;
 use sw_list::ListOf;
-use sw_noting::typing::Typed;
-use sw_noting::uses::may_cross;
-use sw_resolve::{Placed, first_of};
 use sw_tree::Program;
+use sw_typing_table::Typed;
 use thiserror::Error;
 
 /// A global variable that may be used from everywhere and changes, or isn't Sendable.
@@ -94,7 +96,7 @@ pub fn isolate(
     ensures none { OnOk result
         (IsFirstRefusal (world_of world.now) (answers_of typed.now) program.now.decls None) }
     ensures refused { IfErr result
-        (IsRefused (world_of world.now) (answers_of typed.now) program.now.decls) }
+        (IsIsolationFault (world_of world.now) (answers_of typed.now) program.now.decls) }
 {
     let notes = noted(alloc, world, typed, program.decls())?;
     let found = refusals(alloc, world, notes.as_slice())?;

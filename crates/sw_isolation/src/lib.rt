@@ -4,16 +4,11 @@
 //! to E606). It stands on the types of nodes. It knows nothing of graphs and of region states.
 #![tactic(auto)]
 
-mod by_key;
-mod isolated;
+mod collecting;
 mod isolating;
-mod laws;
 mod programs;
 mod races;
 
-pub use by_key::note_first;
-pub use isolated::Isolated;
 pub use isolating::{IsoFault, isolate};
-pub use laws::answers_are_those_of_the_program;
 pub use races::race_forms;
-pub use sw_noting::{typing, uses};
+pub use sw_isolation_table::Isolated;

@@ -2,7 +2,7 @@
 ghost use Rattle.std.specs.Prelude.{◌≡◌, ◌++◌, ◌∷◌, ◌<◌, ◌^◌, [], flat_map, length, IfOk, OnOk};
 ghost use Rattle.std.specs.Option.{option_copied};
 ghost use Rattle.sw_typing_rules.specs.Worlds.{world_of};
-ghost use Rattle.sw_noting.specs.capture.Known.{answers_of};
+ghost use Rattle.sw_isolation_table.specs.Known.{answers_of};
 ghost use Rattle.sw_isolation_rules.specs.Answers.{Answers};
 ghost use Rattle.sw_isolation_rules.specs.Programs.{body_notes, context_of, decl_notes};
 ghost use Rattle.sw_isolation_rules.specs.Programs.{declared_body, default_notes, func_at};
@@ -11,16 +11,16 @@ ghost use Rattle.sw_isolation_rules.specs.Programs.{init_notes, inits_notes, not
 ghost use Rattle.sw_isolation_rules.specs.Programs.{shape_prop, value_notes};
 
 use std::alloc::{AllocError, Global};
+use sw_decl_words::{shapes_made, written_actor};
 use sw_decls::{Decls, Signature, actor_iso};
+use sw_isolation_captures::Listed;
 use sw_isolation_rules::{Context, Note};
+use sw_isolation_steps::{is_isolated, note_body, shape_iso};
+use sw_isolation_walk::{block, expr};
 use sw_list::ListOf;
-use sw_noting::capture::Listed;
-use sw_noting::typing::Typed;
-use sw_noting::uses::{is_isolated, note_body, shape_iso};
-use sw_noting::{block, expr};
-use sw_resolve::{shapes_made, written_actor};
 use sw_tree::{Block, Decl, Expr, FuncTree, InitTree, Name, PropTree};
 use sw_types::{Iso, Shape};
+use sw_typing_table::Typed;
 
 /// The context of a body: nothing is awaited at its start.
 fn context_of(iso: Iso, is_async: bool, owner: Option<u32>) -> Context

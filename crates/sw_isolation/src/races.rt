@@ -2,29 +2,28 @@
 ghost use Rattle.std.specs.Prelude.{◌≡◌, ◌==◌, ◌++◌, ◌<◌, ◌^◌, ℕ, List, Some, None, nat_eq};
 ghost use Rattle.std.specs.Prelude.{flat_map, length, map, IfOk, OnOk, if◌then◌else◌};
 ghost use Rattle.indexmap.specs.IndexMap.{get};
-ghost use Rattle.sw_noting.specs.capture.Known.{answers_of};
-ghost use Rattle.sw_isolation.specs.Isolated.{IsIsolated};
-ghost use Rattle.sw_isolation.specs.Unsent.{AreNumbers, any_unsent};
+ghost use Rattle.sw_isolation_table.specs.Known.{answers_of};
+ghost use Rattle.sw_isolation_table.specs.Isolated.{IsIsolated};
+ghost use Rattle.sw_isolation.specs.Unsent.{AreTypeNumbers, any_unsent};
 ghost use Rattle.sw_isolation_rules.specs.Races.{AreRaces, breaks_promise, capture_races};
 ghost use Rattle.sw_isolation_rules.specs.Races.{has_var, holds_unsent, is_unsent, sent_races};
 ghost use Rattle.sw_isolation_rules.specs.Races.{shape_races, variable_type};
-ghost use Rattle.sw_resolve.specs.Words.{or_else};
+ghost use Rattle.sw_decl_words.specs.Words.{or_else};
 ghost use Rattle.sw_tree.specs.declared.decl.Decl.{Decl};
 ghost use Rattle.sw_types.specs.declared.shape.CaseShape.{CaseShape};
 ghost use Rattle.sw_types.specs.declared.shape.Part.{Part};
 ghost use Rattle.sw_typing_rules.specs.Worlds.{world_of};
 
-use crate::by_key::note_first;
-use crate::isolated::Isolated;
 use indexmap::IndexMap;
 use std::alloc::{AllocError, Global};
+use sw_decl_words::Placed;
 use sw_decls::Decls;
 use sw_isolation_rules::{Capture, merged};
+use sw_isolation_steps::{marked_at, may_cross};
+use sw_isolation_table::{Isolated, note_first};
 use sw_list::ListOf;
-use sw_noting::typing::Typed;
-use sw_noting::uses::{marked_at, may_cross};
-use sw_resolve::Placed;
 use sw_types::{CaseShape, Part, Shape, ShapeKind, Ty};
+use sw_typing_table::Typed;
 
 /// A type that declares Sendable and isn't.
 const BROKEN_PROMISE: u16 = 601;
@@ -131,7 +130,7 @@ fn add_shapes(world: &Decls, found: &mut ListOf<Placed>) -> Result<(), AllocErro
 /// The numbers of types by the keys of their words.
 fn numbers_of(alloc: Global, shapes: &[Shape]) -> Result<ShapeNumbers, AllocError>
     requires { length shapes.now < 2 ^ 32 }
-    ensures { IfOk result (AreNumbers shapes.now) }
+    ensures { IfOk result (AreTypeNumbers shapes.now) }
 {
     let mut numbers = IndexMap::new(alloc);
     for (number, shape) in shapes.iter().enumerate() {
@@ -143,7 +142,7 @@ fn numbers_of(alloc: Global, shapes: &[Shape]) -> Result<ShapeNumbers, AllocErro
 /// Whether the values of a variable aren't Sendable.
 #[tactic(auto, unfolding(sw_isolation_rules::specs::Races::variable_type))]
 fn is_unsent(world: &Decls, typed: &Typed, numbers: &ShapeNumbers, variable: u32) -> bool
-    requires { AreNumbers (world_of world.now).shapes numbers.now }
+    requires { AreTypeNumbers (world_of world.now).shapes numbers.now }
     ensures { result ≡ is_unsent (world_of world.now)
         (variable_type (world_of world.now) (answers_of typed.now) variable) }
 {
@@ -164,7 +163,7 @@ fn add_sent(
     capture: Capture,
     found: &mut ListOf<Placed>,
 ) -> Result<(), AllocError>
-    requires { AreNumbers (world_of world.now).shapes numbers.now }
+    requires { AreTypeNumbers (world_of world.now).shapes numbers.now }
     ensures { OnOk result (found.new ≡ found.old ++ sent_races (world_of world.now) capture
         (variable_type (world_of world.now) (answers_of typed.now) capture.variable)) }
 {
@@ -192,7 +191,7 @@ fn add_capture(
     capture: Capture,
     found: &mut ListOf<Placed>,
 ) -> Result<(), AllocError>
-    requires { AreNumbers (world_of world.now).shapes numbers.now }
+    requires { AreTypeNumbers (world_of world.now).shapes numbers.now }
     ensures { OnOk result (found.new ≡ found.old
         ++ capture_races (world_of world.now) (answers_of typed.now) capture) }
 {
@@ -210,7 +209,7 @@ fn add_captures(
     captures: &[Capture],
     found: &mut ListOf<Placed>,
 ) -> Result<(), AllocError>
-    requires { AreNumbers (world_of world.now).shapes numbers.now }
+    requires { AreTypeNumbers (world_of world.now).shapes numbers.now }
     ensures { OnOk result (found.new ≡ found.old
         ++ flat_map (capture_races (world_of world.now) (answers_of typed.now)) captures.now) }
 {

@@ -5,8 +5,8 @@ use Rattle.std.proofs.lemmas.Bool.{false≢true}
 use Rattle.sw_tree.specs.declared.name.Name.{Name}
 use Rattle.sw_types.specs.declared.isolation.Iso.{Iso}
 use Rattle.sw_types.specs.declared.isolation.Iso.TheVariants as iso
-use Rattle.sw_resolve.specs.Shaped.{actor_of}
-use Rattle.sw_typing_rules.specs.decls.Signatures.{actor_iso}
+use Rattle.sw_decl_words.specs.Shaped.{actor_of}
+use Rattle.sw_decls.specs.Signatures.{actor_iso}
 use Rattle.sw_typing_rules.specs.Statements.{marked_type}
 use Rattle.sw_typing_rules.specs.Worlds.{World}
 use Rattle.sw_isolation_rules.specs.Answers.{Answers}

@@ -27,7 +27,7 @@ use Rattle.sw_isolation_rules.specs.Captures.{closed, is_mention, captured, take
 use Rattle.sw_isolation_rules.specs.Captures.{list_mentions}
 use Rattle.sw_isolation_rules.specs.Kinds.{accessor, is_outside, kind_of}
 use Rattle.sw_isolation_rules.specs.Lists.{kind_in, kinds_in}
-use Rattle.sw_isolation_rules.specs.Noting.{Notes, Seen, Within, Linked, no_notes, all_of}
+use Rattle.sw_isolation_rules.specs.Noting.{Notes, Seen, NotedClosure, Linked, no_notes, all_of}
 use Rattle.sw_isolation_rules.specs.Noting.{closure_iso, in_closure, note_steps, place_notes, race_if, task_iso}
 use Rattle.sw_isolation_rules.specs.Noting.{call_notes, value}
 use Rattle.sw_isolation_rules.specs.Noting.{see, block_notes, use_notes, in_await, word_notes}
@@ -187,7 +187,7 @@ module _ (world : World) (answers : Answers) where
     notes : Have seen.notes calling.calls
     before : Have seen.before calling.before
 
-  record MatchWithin (within : Within) (closing : Closing) : Type 0 where
+  record MatchWithin (within : NotedClosure) (closing : Closing) : Type 0 where
     at : within.at ≡ closing.at
     mark : within.mark ≡ closing.mark
     inside : Have within.inside closing.calls
@@ -287,7 +287,7 @@ module _ (world : World) (answers : Answers) where
   }
 
   -- the body of a closure, and of a task
-  fun_has : (within : Within) (closing : Closing) → MatchWithin within closing
+  fun_has : (within : NotedClosure) (closing : Closing) → MatchWithin within closing
       → (context : Context) (listed : List ℕ)
       → Has (within.inside (in_closure context (closure_iso answers within.at context.iso) false)
       listed)
@@ -298,7 +298,7 @@ module _ (world : World) (answers : Answers) where
       (closing.calls (in_closure context (closure_iso answers at context.iso) false))) match.at
       (match.inside _ listed)
 
-  task_has : (within : Within) (closing : Closing) → MatchWithin within closing
+  task_has : (within : NotedClosure) (closing : Closing) → MatchWithin within closing
       → (detached : Bool) (context : Context) (listed : List ℕ)
       → Has (within.inside
       (in_closure context (task_iso world within.mark detached context.iso) true) listed)

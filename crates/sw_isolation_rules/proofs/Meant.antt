@@ -2,7 +2,7 @@
 use Rattle.std.proofs.Common.{◌≡◌, ℕ, false, true, ◌||◌, Option, Some, ap, ◌∙◌, slice_get}
 use Rattle.sw_types.specs.declared.shape.Shape.{Shape}
 use Rattle.sw_types.specs.declared.shape.ShapeKind.TheVariants as shapes
-use Rattle.sw_typing_rules.specs.decls.declared.signature.Signature.{Signature}
+use Rattle.sw_decls.specs.declared.signature.Signature.{Signature}
 use Rattle.sw_typing_rules.specs.Worlds.{World}
 use Rattle.sw_typing_rules.specs.declared.row.Meaning.TheVariants as means
 use Rattle.sw_isolation_rules.specs.Answers.{Answers}

@@ -18,7 +18,8 @@ use Rattle.sw_types.specs.declared.ty.Ty.{Ty}
 use Rattle.sw_typing_rules.specs.Worlds.{World}
 use Rattle.sw_isolation_rules.specs.Answers.{Answers}
 use Rattle.sw_isolation_rules.specs.Captures.{list_mentions, me_mentions, word_mentions}
-use Rattle.sw_isolation_rules.specs.Noting.{Notes, Seen, Within, Linked, value, no_notes, all_of}
+use Rattle.sw_isolation_rules.specs.Noting.{Notes, Seen, NotedClosure, Linked, value, no_notes}
+use Rattle.sw_isolation_rules.specs.Noting.{all_of}
 use Rattle.sw_isolation_rules.specs.Noting.{note_steps, see, block_notes, in_await}
 use Rattle.sw_isolation_rules.specs.Noting.{word_notes, member_notes, mention_notes}
 use Rattle.sw_isolation_rules.specs.Noting.{use_notes}
@@ -61,7 +62,7 @@ module _ (world : World) (answers : Answers) (P : Note → Type 0)
     before : NotesAre seen.before
     stores : (context : Context) (at : ℕ) → Each P (seen.stores context at)
 
-  abbrev WithinIs : Within → Type 0
+  abbrev WithinIs : NotedClosure → Type 0
   WithinIs closure = NotesAre closure.inside
 
   abbrev LinkedAre : Linked → Type 0

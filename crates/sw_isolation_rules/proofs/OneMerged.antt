@@ -9,8 +9,8 @@ use Rattle.std.specs.List.{AllByRecursion}
 use Rattle.std.specs.List.Sorted.{IsStrictlySortedBy}
 use Rattle.std.specs.Ordering.{is_lt, nat_cmp, ordering_then}
 use Rattle.std.specs.declared.cmp.Ordering.TheVariants.{Less, Equal, Greater}
-use Rattle.sw_resolve.specs.Placed.{placed_cmp}
-use Rattle.sw_resolve.specs.declared.placed.Placed.{Placed}
+use Rattle.sw_decl_words.specs.Placed.{placed_cmp}
+use Rattle.sw_decl_words.specs.declared.placed.Placed.{Placed}
 use Rattle.sw_isolation_rules.specs.Races.{IsMerged}
 
 abbrev Before : Placed → Placed → Type 0

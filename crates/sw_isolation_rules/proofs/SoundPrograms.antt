@@ -15,11 +15,11 @@ use Rattle.sw_tree.specs.declared.name.Name.{Name}
 use Rattle.sw_tree.specs.declared.stmt.Block.{Block}
 use Rattle.sw_types.specs.declared.isolation.Iso.{Iso}
 use Rattle.sw_types.specs.declared.shape.Shape.{Shape}
-use Rattle.sw_resolve.specs.Shaped.{written_actor}
-use Rattle.sw_resolve.specs.Words.{shapes_made}
-use Rattle.sw_resolve.specs.declared.placed.Placed.{Placed}
-use Rattle.sw_typing_rules.specs.decls.Signatures.{actor_iso}
-use Rattle.sw_typing_rules.specs.decls.declared.signature.Signature.{Signature}
+use Rattle.sw_decl_words.specs.Shaped.{written_actor}
+use Rattle.sw_decl_words.specs.Words.{shapes_made}
+use Rattle.sw_decl_words.specs.declared.placed.Placed.{Placed}
+use Rattle.sw_decls.specs.Signatures.{actor_iso}
+use Rattle.sw_decls.specs.declared.signature.Signature.{Signature}
 use Rattle.sw_typing_rules.specs.Statements.{marked_type}
 use Rattle.sw_typing_rules.specs.Worlds.{World}
 use Rattle.sw_isolation_rules.specs.Answers.{Answers}

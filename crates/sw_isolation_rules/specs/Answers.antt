@@ -1,7 +1,7 @@
 -- What is known of the nodes of a program by their keys.
 use Rattle.std.specs.Prelude.{◌≡◌, ℕ, ◌==◌, List, [], ◌∷◌, Option, Some, None, if◌then◌else◌}
 use Rattle.sw_types.specs.declared.ty.Ty.{Ty}
-use Rattle.sw_resolve.specs.Words.{or_else}
+use Rattle.sw_decl_words.specs.Words.{or_else}
 use Rattle.sw_typing_rules.specs.declared.row.Meaning.{Meaning}
 use Rattle.sw_typing_rules.specs.declared.row.Row.{Row}
 use Rattle.sw_typing_rules.specs.declared.row.Row.TheVariants.{Typed, Means, Ill}

@@ -1,7 +1,7 @@
 -- How calls cross, what needs an `await`, and which storage is another actor's (SE-0306, SE-0316,
 -- SE-0338, SE-0461).
 use Rattle.std.specs.Prelude.{ℕ, Bool, true, false, Option}
-use Rattle.sw_graph.specs.CallKinds as graph
+use Rattle.sw_types.specs.CallKinds as graph
 use Rattle.sw_types.specs.declared.isolation.CallKind.{CallKind}
 use Rattle.sw_types.specs.declared.isolation.CallKind.TheVariants as kind
 use Rattle.sw_types.specs.declared.isolation.Iso.{Iso}
@@ -9,7 +9,7 @@ use Rattle.sw_types.specs.declared.isolation.Iso.TheVariants as iso
 use Rattle.sw_types.specs.declared.shape.Shape.{Shape}
 use Rattle.sw_types.specs.declared.shape.ShapeKind.{ShapeKind}
 use Rattle.sw_types.specs.declared.shape.ShapeKind.TheVariants as shapes
-use Rattle.sw_typing_rules.specs.decls.Signatures.{actor_iso}
+use Rattle.sw_decls.specs.Signatures.{actor_iso}
 use Rattle.sw_isolation_rules.specs.declared.uses.Callee.{Callee}
 use Rattle.sw_isolation_rules.specs.declared.uses.Context.{Context}
 use Rattle.sw_isolation_rules.specs.declared.uses.Storage.{Storage}

@@ -7,4 +7,3 @@ pub mod Noting
 pub mod Programs
 pub mod Races
 pub mod Uses
-pub use Rattle.sw_typing_rules.specs as typing_rules

@@ -16,9 +16,9 @@ use Rattle.sw_types.specs.declared.isolation.Iso.{Iso}
 use Rattle.sw_types.specs.declared.isolation.Iso.TheVariants as iso
 use Rattle.sw_types.specs.declared.ty.Ty.{Ty, out-Ty}
 use Rattle.sw_types.specs.declared.ty.Ty.TheOpen as types
-use Rattle.sw_resolve.specs.Shaped.{actor_of}
-use Rattle.sw_resolve.specs.declared.placed.Placed.{Placed}
-use Rattle.sw_typing_rules.specs.decls.Signatures.{actor_iso}
+use Rattle.sw_decl_words.specs.Shaped.{actor_of}
+use Rattle.sw_decl_words.specs.declared.placed.Placed.{Placed}
+use Rattle.sw_decls.specs.Signatures.{actor_iso}
 use Rattle.sw_typing_rules.specs.Statements.{marked_type}
 use Rattle.sw_typing_rules.specs.Worlds.{World}
 use Rattle.sw_isolation_rules.specs.Answers.{Answers}
@@ -106,7 +106,7 @@ pub record Seen : Type 0 where
   pub stores : Context → ℕ → List Note
 
 -- a closure or the body of a task, in the context of its body
-pub record Within : Type 0 where
+pub record NotedClosure : Type 0 where
   pub at : ℕ
   pub mark : Option Name
   pub inside : Notes
@@ -204,13 +204,13 @@ module _ (world : World) (answers : Answers) where
   unfoldable pub task_races : ℕ → List Note
   task_races at = result_races world at (task_result (answers.type_at at))
 
-  abbrev pub fun_notes : Within → Notes
+  abbrev pub fun_notes : NotedClosure → Notes
   fun_notes closure context listed =
       let iso = closure_iso answers closure.at context.iso in
       body_note closure.at iso false
       ∷ closure.inside (in_closure context iso false) listed
 
-  abbrev pub task_notes : ℕ → Bool → Within → Notes
+  abbrev pub task_notes : ℕ → Bool → NotedClosure → Notes
   task_notes at detached closure context listed =
       let iso = task_iso world closure.mark detached context.iso in
       body_note closure.at iso true
@@ -246,7 +246,7 @@ module _ (world : World) (answers : Answers) where
         (base.stores context place);
   }
 
-  abbrev pub expr_layer : layer.Expr-F Seen Notes Notes Within Linked Notes Notes Notes → Seen
+  abbrev pub expr_layer : layer.Expr-F Seen Notes Notes NotedClosure Linked Notes Notes Notes → Seen
   expr_layer (layer.Int at literal) = value at no_notes
   expr_layer (layer.Bool at literal) = value at no_notes
   expr_layer (layer.Use name) = word_seen name.at
@@ -274,7 +274,8 @@ module _ (world : World) (answers : Answers) where
   place_notes _ place context listed =
       place.notes context listed ++ place.stores context place.key
 
-  abbrev pub stmt_layer : layer.Stmt-F Seen Notes Notes Within Linked Notes Notes Notes → Notes
+  abbrev pub stmt_layer : layer.Stmt-F Seen Notes Notes NotedClosure Linked Notes Notes Notes
+      → Notes
   stmt_layer (layer.Bind mutable name ty bound) context listed =
       var_notes mutable name.at ++ bound.notes context listed
   stmt_layer (layer.Assign at op place assigned) context listed =
@@ -304,8 +305,8 @@ module _ (world : World) (answers : Answers) where
       map Mentioned (list_mentions world answers context.owner words)
       ++ body context (with_list context listed words)
 
-  abbrev pub closure_layer : layer.Closure-F Seen Notes Notes Within Linked Notes Notes Notes
-      → Within
+  abbrev pub closure_layer : layer.Closure-F Seen Notes Notes NotedClosure Linked Notes Notes Notes
+      → NotedClosure
   closure_layer closure = record {
     at = closure.at;
     mark = closure.mark;
@@ -319,7 +320,7 @@ module _ (world : World) (answers : Answers) where
     E = Seen;
     S = Notes;
     A = Notes;
-    C = Within;
+    C = NotedClosure;
     L = Linked;
     B = Notes;
     K = Notes;

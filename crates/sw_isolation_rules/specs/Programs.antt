@@ -15,13 +15,13 @@ use Rattle.sw_types.specs.Sendable.{is_sendable}
 use Rattle.sw_types.specs.declared.isolation.CallKind.{CallKind}
 use Rattle.sw_types.specs.declared.isolation.Iso.{Iso}
 use Rattle.sw_types.specs.declared.shape.Shape.{Shape}
-use Rattle.sw_resolve.specs.Placed.{IsFirst}
-use Rattle.sw_resolve.specs.Shaped.{written_actor}
-use Rattle.sw_resolve.specs.Words.{shapes_made}
-use Rattle.sw_resolve.specs.declared.placed.Placed.{Placed}
-use Rattle.sw_typing_rules.specs.decls.Signatures.{actor_iso}
-use Rattle.sw_typing_rules.specs.decls.declared.signature.GlobalVar.{GlobalVar}
-use Rattle.sw_typing_rules.specs.decls.declared.signature.Signature.{Signature}
+use Rattle.sw_decl_words.specs.Placed.{IsFirstPlaced}
+use Rattle.sw_decl_words.specs.Shaped.{written_actor}
+use Rattle.sw_decl_words.specs.Words.{shapes_made}
+use Rattle.sw_decl_words.specs.declared.placed.Placed.{Placed}
+use Rattle.sw_decls.specs.Signatures.{actor_iso}
+use Rattle.sw_decls.specs.declared.signature.GlobalVar.{GlobalVar}
+use Rattle.sw_decls.specs.declared.signature.Signature.{Signature}
 use Rattle.sw_typing_rules.specs.Worlds.{World, item}
 use Rattle.sw_isolation_rules.specs.Answers.{Answers, for_some}
 use Rattle.sw_isolation_rules.specs.Kinds.{shape_iso, is_isolated}
@@ -142,4 +142,4 @@ module _ (world : World) (answers : Answers) where
 
   -- the first breach of isolation by position, then by code, where a program has one
   abbrev pub IsFirstRefusal : List Decl → Option Placed → Type 0
-  IsFirstRefusal decls first = IsFirst (refusals decls) first
+  IsFirstRefusal decls first = IsFirstPlaced (refusals decls) first

@@ -13,9 +13,9 @@ use Rattle.sw_types.specs.declared.shape.ShapeKind.{ShapeKind}
 use Rattle.sw_types.specs.declared.shape.ShapeKind.TheVariants as shapes
 use Rattle.sw_types.specs.declared.ty.Ty.{Ty}
 use Rattle.sw_types.specs.declared.ty.Ty.TheVariants as types
-use Rattle.sw_resolve.specs.Placed.{placed_cmp}
-use Rattle.sw_resolve.specs.Words.{or_else}
-use Rattle.sw_resolve.specs.declared.placed.Placed.{Placed}
+use Rattle.sw_decl_words.specs.Placed.{placed_cmp}
+use Rattle.sw_decl_words.specs.Words.{or_else}
+use Rattle.sw_decl_words.specs.declared.placed.Placed.{Placed}
 use Rattle.sw_typing_rules.specs.Statements.{marked_type}
 use Rattle.sw_typing_rules.specs.Worlds.{World}
 use Rattle.sw_isolation_rules.specs.Answers.{Answers}

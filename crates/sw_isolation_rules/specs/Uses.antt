@@ -8,9 +8,9 @@ use Rattle.sw_types.specs.declared.shape.ShapeKind.{ShapeKind}
 use Rattle.sw_types.specs.declared.shape.ShapeKind.TheVariants as shapes
 use Rattle.sw_types.specs.declared.ty.Ty.{Ty, out-Ty}
 use Rattle.sw_types.specs.declared.ty.Ty.TheOpen as layer
-use Rattle.sw_typing_rules.specs.decls.Signatures.{actor_iso}
-use Rattle.sw_typing_rules.specs.decls.declared.signature.GlobalVar.{GlobalVar}
-use Rattle.sw_typing_rules.specs.decls.declared.signature.Signature.{Signature}
+use Rattle.sw_decls.specs.Signatures.{actor_iso}
+use Rattle.sw_decls.specs.declared.signature.GlobalVar.{GlobalVar}
+use Rattle.sw_decls.specs.declared.signature.Signature.{Signature}
 use Rattle.sw_typing_rules.specs.Worlds.{World, item, and_then, is_object_kind}
 use Rattle.sw_typing_rules.specs.declared.row.Meaning.{Meaning}
 use Rattle.sw_typing_rules.specs.declared.row.Meaning.TheVariants as means

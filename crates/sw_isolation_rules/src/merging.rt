@@ -1,8 +1,8 @@
 //! Breaches in order, each once.
 ghost use Rattle.sw_isolation_rules.specs.Races.{IsMerged};
 
+use sw_decl_words::Placed;
 use sw_list::ListOf;
-use sw_resolve::Placed;
 
 /// The breaches in order, each once.
 pub fn merged(found: ListOf<Placed>) -> ListOf<Placed>

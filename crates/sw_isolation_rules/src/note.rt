@@ -1,4 +1,4 @@
-use sw_resolve::Placed;
+use sw_decl_words::Placed;
 use sw_types::{CallKind, Iso};
 
 /// A body: its key, its isolation, and whether it is asynchronous.

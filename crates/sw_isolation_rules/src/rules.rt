@@ -1,6 +1,6 @@
 //! The rules that look nothing up.
 ghost use Rattle.std.specs.Prelude.{◌≡◌};
-ghost use Rattle.sw_graph.specs.CallKinds.{async_kind, global_kind, kind_by, own_kind};
+ghost use Rattle.sw_types.specs.CallKinds.{async_kind, global_kind, kind_by, own_kind};
 ghost use Rattle.sw_isolation_rules.specs.Kinds.{accessor, inherited, is_outside, is_own};
 ghost use Rattle.sw_isolation_rules.specs.Kinds.{is_strong, kind_of, needs_await};
 

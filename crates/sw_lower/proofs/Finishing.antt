@@ -2,8 +2,8 @@
 use Rattle.std.proofs.Common.{◌≡◌, ℕ, Bool, List, Result, Ok, length, ap, sym, ◌∙◌}
 use Rattle.sw_types.specs.declared.ty.Ty.{Ty}
 use Rattle.sw_graph.specs.declared.function.Function.{Function}
-use Rattle.sw_lower_run.specs.Plan.{Numbers}
-use Rattle.sw_lower_run.specs.Run.{Making, at_start}
+use Rattle.sw_lower_plans.specs.Plan.{Numbers}
+use Rattle.sw_lower_plans.specs.Run.{Making, at_start}
 use Rattle.sw_lower_code.specs.Whole.{Body, code_of, ended_by, lower_body, sending_of}
 use Rattle.sw_lower_code.specs.declared.fault.BodyFault.{BodyFault}
 use Rattle.sw_lower.specs.Lowered.{finished_by}

@@ -1,11 +1,11 @@
 -- What an initialiser gives: first values, and what its statements give.
 use Rattle.std.proofs.Common.{◌≡◌, List, [], ◌++◌, Ok, Err, ap, ◌∙◌}
-use Rattle.sw_lower_run.specs.Run.{Making, run_after}
-use Rattle.sw_lower_run.specs.declared.fault.CodeFault.{CodeFault}
+use Rattle.sw_lower_plans.specs.Run.{Making, run_after}
+use Rattle.sw_lower_plans.specs.declared.fault.CodeFault.{CodeFault}
 use Rattle.sw_lower_code.specs.Code.{each}
-use Rattle.sw_lower_table.specs.Bodies.{GivenValue, give_value}
-use Rattle.sw_lower_table.specs.Carriers.{Given}
-use Rattle.sw_lower_stmt.specs.lower_uses.Gathering.{each_after}
+use Rattle.sw_lower_rules.specs.Bodies.{GivenValue, give_value}
+use Rattle.sw_lower_rules.specs.Carriers.{Given}
+use Rattle.sw_lower_uses.specs.Gathering.{each_after}
 use Rattle.sw_lower_stmt.proofs.Gathered.{each_is}
 use Rattle.sw_lower_stmt.proofs.Loops.{Outcome, each_append}
 

@@ -5,13 +5,13 @@ use Rattle.std.proofs.Common.{◌∙◌, arith, drop, subst}
 use Rattle.std.proofs.lemmas.Bool.{cases_eq}
 use Rattle.std.proofs.lemmas.Option.{same_Some, slice_get-map, slice_get_read, slice_get_within}
 use Rattle.std.specs.Prelude.{if◌then◌else◌}
-use Rattle.sw_resolve.specs.Words.{or_else}
-use Rattle.sw_lower_run.specs.Plan.{Numbers}
-use Rattle.sw_lower_run.specs.declared.name.FunctionName.{FunctionName}
+use Rattle.sw_decl_words.specs.Words.{or_else}
+use Rattle.sw_lower_plans.specs.Plan.{Numbers}
+use Rattle.sw_lower_plans.specs.declared.name.FunctionName.{FunctionName}
 use Rattle.sw_lower_bodies.specs.Trees.{bodies_by, body_by}
 use Rattle.sw_lower_bodies.specs.declared.body_tree.BodyTree.{BodyTree}
-use Rattle.sw_lower_table.specs.Bodies.{AreNumbered}
-use Rattle.sw_lower_table.specs.Tables.{Tables, is_named, is_same, name_of, number_from, number_in}
+use Rattle.sw_lower_rules.specs.Bodies.{AreNumbered}
+use Rattle.sw_lower_rules.specs.Tables.{Tables, is_named, is_same, name_of, number_from, number_in}
 use Rattle.sw_lower.specs.Ordered.{AreFound, tree_name}
 use Rattle.sw_lower.proofs.Programs.{names_are, next_left}
 

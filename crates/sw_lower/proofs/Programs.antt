@@ -9,20 +9,20 @@ use Rattle.std.proofs.lemmas.List.Sorted.{IsPermutation-map}
 use Rattle.std.specs.List.Sorted.{IsNonDecreasingBy, IsPermutation}
 use Rattle.sw_graph.specs.Limits.{excess_of}
 use Rattle.sw_graph.specs.declared.function.Function.{Function}
-use Rattle.sw_draft.specs.Drafts.{number_by}
-use Rattle.sw_draft.specs.declared.numbers.NumberTable.{NumberTable}
-use Rattle.sw_lower_run.specs.Plan.{Numbers}
-use Rattle.sw_lower_run.specs.declared.name.FunctionName.{FunctionName}
+use Rattle.sw_lower_draft.specs.Drafts.{number_by}
+use Rattle.sw_lower_draft.specs.declared.numbers.NumberTable.{NumberTable}
+use Rattle.sw_lower_plans.specs.Plan.{Numbers}
+use Rattle.sw_lower_plans.specs.declared.name.FunctionName.{FunctionName}
 use Rattle.sw_lower_bodies.specs.Trees.{bodies_by, body_by}
 use Rattle.sw_lower_bodies.specs.declared.body_tree.BodyTree.{BodyTree}
 use Rattle.sw_lower_code.specs.Whole.{Body, function_of, lower_body}
-use Rattle.sw_lower_bodies.specs.lower_known.Knowledge.{tables_by}
-use Rattle.sw_lower_bodies.specs.lower_known.declared.known.Known.{Known}
-use Rattle.sw_lower_table.specs.Bodies.{AreMade, functions_of, numbers_of, order_of}
-use Rattle.sw_lower_table.specs.Bodies.{placed_excess, too_large_in}
-use Rattle.sw_lower_table.specs.Tables.{Tables, name_of, number_in}
-use Rattle.sw_resolve.specs.Words.{or_else}
-use Rattle.sw_resolve.specs.declared.placed.Placed.{Placed}
+use Rattle.sw_lower_known.specs.Knowledge.{tables_by}
+use Rattle.sw_lower_known.specs.declared.known.Known.{Known}
+use Rattle.sw_lower_rules.specs.Bodies.{AreMade, functions_of, numbers_of, order_of}
+use Rattle.sw_lower_rules.specs.Bodies.{placed_excess, too_large_in}
+use Rattle.sw_lower_rules.specs.Tables.{Tables, name_of, number_in}
+use Rattle.sw_decl_words.specs.Words.{or_else}
+use Rattle.sw_decl_words.specs.declared.placed.Placed.{Placed}
 use Rattle.sw_lower.specs.Lowered.{EndsWell, function_by}
 use Rattle.sw_lower.specs.Ordered.{tree_name, tree_order}
 

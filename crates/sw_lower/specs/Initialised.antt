@@ -2,12 +2,12 @@
 use Rattle.std.specs.Prelude.{List, Result, Ok, Err}
 use Rattle.sw_types.specs.declared.shape.Part.{Part}
 use Rattle.sw_graph.specs.declared.instr.Operand.{Operand}
-use Rattle.sw_lower_run.specs.declared.fault.CodeFault.{CodeFault}
+use Rattle.sw_lower_plans.specs.declared.fault.CodeFault.{CodeFault}
 use Rattle.sw_lower_code.specs.Code.{Code, each, known}
 use Rattle.sw_lower_stmt.specs.Giving.{values_given}
 use Rattle.sw_lower_stmt.specs.declared.givens.GivenOperand.{GivenOperand}
-use Rattle.sw_lower_table.specs.Bodies.{GivenValue, value_of}
-use Rattle.sw_lower_table.specs.Uses.{no_operand}
+use Rattle.sw_lower_rules.specs.Bodies.{GivenValue, value_of}
+use Rattle.sw_lower_rules.specs.Uses.{no_operand}
 
 -- the values of properties in order, of those that got one
 abbrev pub parts_code : List GivenValue → List Part → Code (List Operand)

@@ -3,14 +3,14 @@ use Rattle.std.specs.Prelude.{◌≡◌, ℕ, Bool, ◌||◌, nat_lt, List, [], 
 use Rattle.std.specs.Prelude.{IsOk, if◌then◌else◌}
 use Rattle.sw_types.specs.declared.ty.Ty.{Ty}
 use Rattle.sw_graph.specs.declared.function.TheConstants.{MAX_POINTS}
-use Rattle.sw_builder.specs.Unfinished.{finished}
-use Rattle.sw_lower_run.specs.Run.{Making, points}
+use Rattle.sw_lower_builder.specs.Unfinished.{finished}
+use Rattle.sw_lower_plans.specs.Run.{Making, points}
 use Rattle.sw_lower_code.specs.declared.fault.BodyFault.{BodyFault}
 use Rattle.sw_lower_code.specs.declared.fault.BodyFault.TheVariants as body_faults
 use Rattle.sw_graph.specs.declared.function.Function.{Function}
 use Rattle.sw_tree.specs.declared.decl.Decl.{Decl}
-use Rattle.sw_draft.specs.Drafts.{number_by}
-use Rattle.sw_draft.specs.declared.numbers.NumberTable.{NumberTable}
+use Rattle.sw_lower_draft.specs.Drafts.{number_by}
+use Rattle.sw_lower_draft.specs.declared.numbers.NumberTable.{NumberTable}
 use Rattle.sw_lower.specs.declared.lowering.LowerFault.{LowerFault}
 use Rattle.sw_lower.specs.declared.lowering.LowerFault.TheVariants as faults
 use Rattle.sw_lower.specs.declared.lowering.Lowering.{Lowering}
@@ -19,12 +19,12 @@ use Rattle.sw_lower.specs.declared.lowering.MadeProgram.{MadeProgram}
 use Rattle.sw_lower_bodies.specs.Trees.{body_by}
 use Rattle.sw_lower_bodies.specs.declared.body_tree.BodyTree.{BodyTree}
 use Rattle.sw_lower_code.specs.Whole.{Body, function_of, lower_body}
-use Rattle.sw_lower_bodies.specs.lower_known.Knowledge.{tables_by}
-use Rattle.sw_lower_bodies.specs.lower_known.declared.known.Known.{Known}
-use Rattle.sw_lower_table.specs.Bodies.{AreMade, AreNumbered, AreOrdered, AreStarts, IsEntry}
-use Rattle.sw_lower_table.specs.Bodies.{HasFunctions, IsFirstTooLarge, functions_of}
-use Rattle.sw_lower_table.specs.Bodies.{too_large_in}
-use Rattle.sw_lower_table.specs.Tables.{Tables}
+use Rattle.sw_lower_known.specs.Knowledge.{tables_by}
+use Rattle.sw_lower_known.specs.declared.known.Known.{Known}
+use Rattle.sw_lower_rules.specs.Bodies.{AreMade, AreNumbered, AreOrdered, AreStarts, IsEntryNumber}
+use Rattle.sw_lower_rules.specs.Bodies.{HasFunctions, IsFirstTooLarge, functions_of}
+use Rattle.sw_lower_rules.specs.Bodies.{too_large_in}
+use Rattle.sw_lower_rules.specs.Tables.{Tables}
 
 -- what a function is that is made, where it has no more points than it may have
 abbrev pub finished_by : ℕ → ℕ → List Bool → Bool → Ty → Making → Result Function BodyFault
@@ -54,13 +54,13 @@ pub record IsMadeOf (tables : Tables) (decls : List Decl) (program : MadeProgram
   pub are_made : HasMade (functions_of ordered) program.made
   pub numbered : AreNumbered ordered
   pub ended : program.made.too_large ≡ [] → AreMade ordered
-  pub entry : IsEntry decls ordered program.entry
+  pub entry : IsEntryNumber decls ordered program.entry
   pub starts : AreStarts tables.world ordered program.starts
 
 -- the functions are those of a program, and so are the numbers of its entry and of its first values
 pub record IsLowering (tables : Tables) (decls : List Decl) (lowering : Lowering) : Type 0 where
   pub has : HasFunctions tables decls lowering.functions
-  pub entry : IsEntry decls has.ordered lowering.entry
+  pub entry : IsEntryNumber decls has.ordered lowering.entry
   pub starts : AreStarts tables.world has.ordered lowering.starts
 
 -- The fault is the first function of a program that is too large. Nothing is said of memory.

@@ -1,8 +1,8 @@
 -- The order and the names of bodies.
 use Rattle.std.specs.Prelude.{◌≡◌, ℕ, ◌+◌, ◌*◌, List, Some, slice_get, if◌then◌else◌}
 use Rattle.sw_lower_bodies.specs.declared.body_tree.BodyTree.{BodyTree}
-use Rattle.sw_lower_run.specs.declared.name.FunctionName.{FunctionName}
-use Rattle.sw_lower_table.specs.Tables.{number_in}
+use Rattle.sw_lower_plans.specs.declared.name.FunctionName.{FunctionName}
+use Rattle.sw_lower_rules.specs.Tables.{number_in}
 
 -- by the key, and a getter after what gives a first value
 abbrev pub tree_order : BodyTree → ℕ

@@ -1,29 +1,29 @@
 //! The code of each form of body.
 ghost use Rattle.std.specs.Prelude.{◌≡◌, ◌++◌, map, None, Ok, IfErr, IfOk};
 ghost use Rattle.std.specs.Option.{option_copied};
-ghost use Rattle.sw_draft.specs.Drafts.{Gives, making_of};
+ghost use Rattle.sw_lower_draft.specs.Drafts.{GivesAsRun, making_of};
 ghost use Rattle.sw_lower.specs.Initialised.{parts_code, values_of};
 ghost use Rattle.sw_lower_bodies.specs.Trees.{closure_code, code_by, gives_by, result_by};
-ghost use Rattle.sw_lower_bodies.specs.lower_known.Knowledge.{tables_by};
-ghost use Rattle.sw_lower_table.specs.Bodies.{first_code, first_values, getter_code, init_code};
+ghost use Rattle.sw_lower_known.specs.Knowledge.{tables_by};
+ghost use Rattle.sw_lower_rules.specs.Bodies.{first_code, first_values, getter_code, init_code};
 ghost use Rattle.sw_lower_code.specs.Code.{each};
-ghost use Rattle.sw_lower_run.specs.Run.{Making};
-ghost use Rattle.sw_lower_run.specs.declared.fault.CodeFault.TheVariants.{Memory};
+ghost use Rattle.sw_lower_plans.specs.Run.{Making};
+ghost use Rattle.sw_lower_plans.specs.declared.fault.CodeFault.TheVariants.{Memory};
 ghost use Rattle.sw_lower_stmt.specs.Giving.{values_given, with_values};
-ghost use Rattle.sw_lower_table.specs.Bodies.{made_instr, part_read, prop_given, stored_read};
-ghost use Rattle.sw_lower_table.specs.Bodies.{give_value, value_of};
-ghost use Rattle.sw_lower_stmt.specs.lower_uses.Gathering.{each_after};
-ghost use Rattle.sw_lower_table.specs.Expressions.{body_code};
-ghost use Rattle.sw_lower_table.specs.Statements.{expr_code};
+ghost use Rattle.sw_lower_rules.specs.Bodies.{made_instr, part_read, prop_given, stored_read};
+ghost use Rattle.sw_lower_rules.specs.Bodies.{give_value, value_of};
+ghost use Rattle.sw_lower_uses.specs.Gathering.{each_after};
+ghost use Rattle.sw_lower_rules.specs.Expressions.{body_code};
+ghost use Rattle.sw_lower_rules.specs.Statements.{expr_code};
 
 use std::alloc::Global;
-use sw_draft::Draft;
 use sw_graph::{Instr, Last, Operand, OperandList, RegKind};
 use sw_list::ListOf;
 use sw_lower_bodies::BodyForm;
-use sw_lower_bodies::lower_known::Known;
-use sw_lower_run::CodeFault;
-use sw_lower_stmt::lower_expr::expr;
+use sw_lower_draft::Draft;
+use sw_lower_expr::expr;
+use sw_lower_known::Known;
+use sw_lower_plans::CodeFault;
 use sw_lower_stmt::{GivenOperand, body, give_values};
 use sw_tree::{Block, Closure, Expr, PropTree};
 use sw_types::{Part, Shape, ShapeKind, Ty};
@@ -38,7 +38,7 @@ fn get_part(
     ty: &Ty,
     draft: &mut Draft<'_>,
 ) -> Result<(), CodeFault>
-    ensures { Gives ((getter_code (part_read key index ty.now)).run (making_of draft.old))
+    ensures { GivesAsRun ((getter_code (part_read key index ty.now)).run (making_of draft.old))
         result draft.new }
 {
     let part = u32::try_from(index).map_err(|_| CodeFault::Memory)?;
@@ -65,7 +65,7 @@ fn get_global(
     ty: &Ty,
     draft: &mut Draft<'_>,
 ) -> Result<(), CodeFault>
-    ensures { Gives ((getter_code (stored_read key index ty.now)).run (making_of draft.old))
+    ensures { GivesAsRun ((getter_code (stored_read key index ty.now)).run (making_of draft.old))
         result draft.new }
 {
     let dst = draft.reg(RegKind::Plain(copy_of(alloc, ty)?))?;
@@ -90,7 +90,7 @@ fn store_first(
     value: &Expr,
     draft: &mut Draft<'_>,
 ) -> Result<(), CodeFault>
-    ensures { Gives
+    ensures { GivesAsRun
         ((first_code key index (expr_code (tables_by known.now) None value.now).read).run
         (making_of draft.old)) result draft.new }
 {
@@ -114,7 +114,7 @@ fn give_first(
     values: &mut ListOf<GivenOperand>,
     draft: &mut Draft<'_>,
 ) -> Result<(), CodeFault>
-    ensures { Gives (each_after give_value
+    ensures { GivesAsRun (each_after give_value
         (prop_given (tables_by known.now) number prop.now prop.now.value)
         (values_given values.old) (making_of draft.old)) (with_values result values.new) draft.new }
 {
@@ -139,7 +139,7 @@ fn give_firsts(
     values: &mut ListOf<GivenOperand>,
     draft: &mut Draft<'_>,
 ) -> Result<(), CodeFault>
-    ensures { Gives (each_after give_value
+    ensures { GivesAsRun (each_after give_value
         (first_values (tables_by known.now) number props.now)
         (values_given values.old) (making_of draft.old)) (with_values result values.new) draft.new }
 {
@@ -160,7 +160,7 @@ fn give_written(
     values: &mut ListOf<GivenOperand>,
     draft: &mut Draft<'_>,
 ) -> Result<(), CodeFault>
-    ensures { Gives (each_after give_value
+    ensures { GivesAsRun (each_after give_value
         (gives_by (tables_by known.now) number (option_copied block.entry))
         (values_given values.old) (making_of draft.old)) (with_values result values.new) draft.new }
 {
@@ -231,7 +231,7 @@ fn given(
     block: Option<&Block>,
     draft: &mut Draft<'_>,
 ) -> Result<ListOf<GivenOperand>, CodeFault>
-    ensures { Gives ((each give_value (first_values (tables_by known.now) number props.now
+    ensures { GivesAsRun ((each give_value (first_values (tables_by known.now) number props.now
         ++ gives_by (tables_by known.now) number (option_copied block.entry))).run
         (making_of draft.old)) (values_of result) draft.new }
 {
@@ -242,7 +242,7 @@ fn given(
 }
 
 /// The code of an initialiser of the type with a number.
-#[tactic(auto, unfolding(sw_lower_code::specs::Code::andthen, sw_lower_code::specs::Code::done, sw_lower_code::specs::Code::reg, sw_lower_code::specs::Code::emit, sw_lower_code::specs::Code::close, sw_lower_table::specs::Bodies::init_code,))]
+#[tactic(auto, unfolding(sw_lower_code::specs::Code::andthen, sw_lower_code::specs::Code::done, sw_lower_code::specs::Code::reg, sw_lower_code::specs::Code::emit, sw_lower_code::specs::Code::close, sw_lower_rules::specs::Bodies::init_code,))]
 fn initialise(
     alloc: Global,
     known: &Known<'_>,
@@ -253,7 +253,7 @@ fn initialise(
     block: Option<&Block>,
     draft: &mut Draft<'_>,
 ) -> Result<(), CodeFault>
-    ensures { Gives ((init_code key number shape.now
+    ensures { GivesAsRun ((init_code key number shape.now
         (first_values (tables_by known.now) number props.now
         ++ gives_by (tables_by known.now) number (option_copied block.entry))).run
         (making_of draft.old)) result draft.new }
@@ -269,7 +269,7 @@ fn initialise(
 }
 
 /// The code of the body of a closure or a task that gives a value of this type.
-#[tactic(auto, unfolding(sw_lower_bodies::specs::Trees::closure_code, sw_lower_table::specs::Statements::block_code,))]
+#[tactic(auto, unfolding(sw_lower_bodies::specs::Trees::closure_code, sw_lower_rules::specs::Statements::block_code,))]
 fn closure_code(
     alloc: Global,
     known: &Known<'_>,
@@ -278,7 +278,7 @@ fn closure_code(
     closure: &Closure,
     draft: &mut Draft<'_>,
 ) -> Result<(), CodeFault>
-    ensures { Gives ((body_code gives.now
+    ensures { GivesAsRun ((body_code gives.now
         (closure_code (tables_by known.now) owner closure.now).body).run (making_of draft.old))
         result draft.new }
 {
@@ -295,7 +295,7 @@ pub fn code(
     draft: &mut Draft<'_>,
 ) -> Result<(), CodeFault>
     requires { gives.now ≡ result_by (tables_by known.now) form }
-    ensures { Gives ((code_by (tables_by known.now) key form.entry).run (making_of draft.old))
+    ensures { GivesAsRun ((code_by (tables_by known.now) key form.entry).run (making_of draft.old))
         result draft.new }
 {
     match form {

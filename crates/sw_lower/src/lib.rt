@@ -10,4 +10,3 @@ mod numbers;
 mod takes;
 
 pub use lowering::{LowerFault, Lowering, lower};
-pub use sw_lower_bodies::isolation;

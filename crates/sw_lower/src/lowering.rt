@@ -1,30 +1,30 @@
 //! The functions of a program.
 ghost use Rattle.std.specs.Prelude.{◌≡◌, ◌++◌, ◌∷◌, ◌<◌, ◌^◌, [], None, List, length, map, All};
 ghost use Rattle.std.specs.Prelude.{IfErr, IfOk, OnOk};
-ghost use Rattle.sw_lower_bodies.specs.capture.Known.{answers_of};
+ghost use Rattle.sw_isolation_table.specs.Known.{answers_of};
 ghost use Rattle.sw_lower.specs.Lowered.{EndsWell, HasMade, IsLowering, IsMadeOf, IsTooLarge};
 ghost use Rattle.sw_lower.specs.Lowered.{function_by};
 ghost use Rattle.sw_lower.specs.declared.lowering.LowerFault.{LowerFault};
-ghost use Rattle.sw_lower_bodies.specs.lower_known.Knowledge.{isolation_of, tables_by};
-ghost use Rattle.sw_lower_table.specs.Bodies.{IsFirstTooLarge, tables_of, too_large_in};
-ghost use Rattle.sw_lower_table.specs.Tables.{Tables};
+ghost use Rattle.sw_lower_known.specs.Knowledge.{isolation_of, tables_by};
+ghost use Rattle.sw_lower_rules.specs.Bodies.{IsFirstTooLarge, tables_of, too_large_in};
+ghost use Rattle.sw_lower_rules.specs.Tables.{Tables};
 ghost use Rattle.sw_tree.specs.declared.decl.Decl.{Decl};
 ghost use Rattle.sw_typing_rules.specs.Worlds.{world_of};
 
 use crate::making::function_of;
 use crate::numbers::{entry_of, in_order, numbers_of, starts_of};
 use std::alloc::{AllocError, Global};
+use sw_decl_words::{Placed, first_of};
 use sw_decls::Decls;
-use sw_draft::NumberTable;
 use sw_graph::{FunctionList, IdList};
+use sw_isolation_table::Isolated;
 use sw_list::ListOf;
-use sw_lower_bodies::isolation::Isolated;
-use sw_lower_bodies::lower_known::Known;
-use sw_lower_bodies::typing::Typed;
 use sw_lower_bodies::{BodyTree, bodies_of};
 use sw_lower_code::BodyFault;
-use sw_resolve::{Placed, first_of};
+use sw_lower_draft::NumberTable;
+use sw_lower_known::Known;
 use sw_tree::{Decl, Program};
+use sw_typing_table::Typed;
 use thiserror::Error;
 
 /// A function with more registers than a function of a graph.

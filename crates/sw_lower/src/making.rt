@@ -1,24 +1,24 @@
 //! The function of a body.
 ghost use Rattle.std.specs.Prelude.{◌≡◌, ◌≢◌, Err, length, IfOk, OnOk};
 ghost use Rattle.std.specs.Option.{option_copied};
-ghost use Rattle.sw_draft.specs.Drafts.{Gives, making_of, number_by};
+ghost use Rattle.sw_lower_draft.specs.Drafts.{GivesAsRun, making_of, number_by};
 ghost use Rattle.sw_lower.specs.Lowered.{EndsWell, finished_by};
 ghost use Rattle.sw_lower_bodies.specs.Trees.{body_by, result_by, sends_by, takes_by};
 ghost use Rattle.sw_lower_code.specs.Whole.{IsWhole, code_of, lower_body};
 ghost use Rattle.sw_lower_code.specs.declared.fault.BodyFault.TheVariants as faults;
-ghost use Rattle.sw_lower_bodies.specs.lower_known.Knowledge.{tables_by};
-ghost use Rattle.sw_lower_table.specs.Tables.{Tables, func_result, or_void};
+ghost use Rattle.sw_lower_known.specs.Knowledge.{tables_by};
+ghost use Rattle.sw_lower_rules.specs.Tables.{Tables, func_result, or_void};
 ghost use Rattle.sw_isolation_rules.specs.Noting.{task_result};
 
 use crate::codes::code;
 use crate::takes::{enter_all, sending_of, takes_of};
 use std::alloc::{AllocError, Global};
-use sw_draft::{Draft, NumberTable};
 use sw_graph::{BoolList, Function};
-use sw_lower_bodies::lower_known::Known;
 use sw_lower_bodies::{BodyForm, BodyTree};
 use sw_lower_code::{BodyFault, Taken, functions_are_their_plans};
-use sw_lower_run::CodeFault;
+use sw_lower_draft::{Draft, NumberTable};
+use sw_lower_known::Known;
+use sw_lower_plans::CodeFault;
 use sw_types::Ty;
 use sw_typing_words::copy_of;
 
@@ -95,7 +95,8 @@ fn make(
 ) -> Result<(), CodeFault>
     requires takes { takes.now ≡ takes_by (tables_by known.now) tree.form }
     requires gives { gives.now ≡ result_by (tables_by known.now) tree.form }
-    ensures { Gives ((code_of (body_by (tables_by known.now) tree.entry)).run (making_of draft.old))
+    ensures { GivesAsRun ((code_of (body_by (tables_by known.now) tree.entry)).run
+        (making_of draft.old))
         result draft.new }
 {
     enter_all(alloc, takes, draft)?;

@@ -3,22 +3,22 @@ ghost use Rattle.std.specs.Prelude.{◌≡◌, ◌==◌, ◌<◌, ◌^◌, ℕ, 
 ghost use Rattle.std.specs.Prelude.{IsPermutation, OnOk, if◌then◌else◌};
 ghost use Rattle.std.specs.List.Sorted.{IsNonDecreasingBy};
 ghost use Rattle.indexmap.specs.IndexMap.{get};
-ghost use Rattle.sw_draft.specs.Drafts.{number_by};
+ghost use Rattle.sw_lower_draft.specs.Drafts.{number_by};
 ghost use Rattle.sw_lower.specs.Ordered.{AreFound, tree_name, tree_order};
-ghost use Rattle.sw_lower_run.specs.declared.name.FunctionName.{FunctionName};
-ghost use Rattle.sw_lower_table.specs.Bodies.{entry_key, starts_in};
-ghost use Rattle.sw_lower_table.specs.Tables.{is_named, number_in, plain};
+ghost use Rattle.sw_lower_plans.specs.declared.name.FunctionName.{FunctionName};
+ghost use Rattle.sw_lower_rules.specs.Bodies.{entry_key, starts_in};
+ghost use Rattle.sw_lower_rules.specs.Tables.{is_named, number_in, plain};
 ghost use Rattle.sw_typing_rules.specs.Worlds.{and_then};
-ghost use Rattle.sw_resolve.specs.Words.{or_else};
+ghost use Rattle.sw_decl_words.specs.Words.{or_else};
 
 use indexmap::IndexMap;
 use std::alloc::{AllocError, Global};
 use sw_decls::GlobalVar;
-use sw_draft::NumberTable;
 use sw_graph::IdList;
 use sw_list::ListOf;
 use sw_lower_bodies::{BodyList, BodyTree};
-use sw_lower_run::FunctionName;
+use sw_lower_draft::NumberTable;
+use sw_lower_plans::FunctionName;
 use sw_tree::Decl;
 
 /// The place of a body among others: by its key, and a getter after what gives a first value.

@@ -1,27 +1,27 @@
 //! What the functions of bodies take.
 ghost use Rattle.std.specs.Prelude.{◌≡◌, ◌++◌, ◌∷◌, [], false, map, IfOk, OnOk};
 ghost use Rattle.std.specs.Option.{option_copied};
-ghost use Rattle.sw_draft.specs.Drafts.{Gives, making_of};
+ghost use Rattle.sw_lower_draft.specs.Drafts.{GivesAsRun, making_of};
 ghost use Rattle.sw_graph.specs.declared.function.RegKind.TheVariants.{Plain};
 ghost use Rattle.sw_lower_bodies.specs.Trees.{closure_code, takes_by};
 ghost use Rattle.sw_lower_code.specs.Code.{all};
 ghost use Rattle.sw_lower_code.specs.Whole.{enter};
 ghost use Rattle.sw_lower_code.specs.declared.taken.Taken.{Taken};
-ghost use Rattle.sw_lower_bodies.specs.lower_known.Knowledge.{tables_by};
-ghost use Rattle.sw_lower_table.specs.Bodies.{param_taken, self_at, self_by, self_taken};
-ghost use Rattle.sw_lower_table.specs.Expressions.{capture_taken, captured_type};
-ghost use Rattle.sw_lower_table.specs.Expressions.{closure_param_taken, closure_takes};
-ghost use Rattle.sw_lower_table.specs.Tables.{or_void};
+ghost use Rattle.sw_lower_known.specs.Knowledge.{tables_by};
+ghost use Rattle.sw_lower_rules.specs.Bodies.{param_taken, self_at, self_by, self_taken};
+ghost use Rattle.sw_lower_rules.specs.Expressions.{capture_taken, captured_type};
+ghost use Rattle.sw_lower_rules.specs.Expressions.{closure_param_taken, closure_takes};
+ghost use Rattle.sw_lower_rules.specs.Tables.{or_void};
 
 use std::alloc::{AllocError, Global};
-use sw_draft::Draft;
 use sw_graph::{BoolList, RegKind};
 use sw_isolation_rules::Capture;
 use sw_list::ListOf;
 use sw_lower_bodies::BodyForm;
-use sw_lower_bodies::lower_known::Known;
 use sw_lower_code::Taken;
-use sw_lower_run::{Bound, CodeFault};
+use sw_lower_draft::Draft;
+use sw_lower_known::Known;
+use sw_lower_plans::{Bound, CodeFault};
 use sw_tree::{Closure, ClosureParam, ParamTree};
 use sw_types::{Shape, Ty};
 use sw_typing_words::copy_of;
@@ -259,7 +259,7 @@ fn kind_copy(alloc: Global, kind: &RegKind) -> Result<RegKind, AllocError>
 /// Makes the register of a variable that a function takes.
 #[tactic(auto, unfolding(sw_lower_code::specs::Code::andthen, sw_lower_code::specs::Code::reg, sw_lower_code::specs::Code::bind,))]
 fn enter(alloc: Global, taken: &Taken, draft: &mut Draft<'_>) -> Result<(), CodeFault>
-    ensures { Gives ((enter taken.now).run (making_of draft.old)) result draft.new }
+    ensures { GivesAsRun ((enter taken.now).run (making_of draft.old)) result draft.new }
 {
     let kind = kind_copy(alloc, &taken.kind)?;
     let reg = draft.reg(kind)?;
@@ -273,7 +273,7 @@ fn enter(alloc: Global, taken: &Taken, draft: &mut Draft<'_>) -> Result<(), Code
 /// Makes the registers of what a function takes, in order.
 #[tactic(auto, unfolding(sw_lower_code::specs::Code::andthen, sw_lower_code::specs::Code::done, sw_lower_code::specs::Code::all,))]
 pub fn enter_all(alloc: Global, takes: &[Taken], draft: &mut Draft<'_>) -> Result<(), CodeFault>
-    ensures { Gives ((all enter takes.now).run (making_of draft.old)) result draft.new }
+    ensures { GivesAsRun ((all enter takes.now).run (making_of draft.old)) result draft.new }
 {
     for taken in takes {
         enter(alloc, taken, draft)?;

@@ -13,10 +13,10 @@ use Rattle.sw_tree.specs.declared.stmt.IfArm.{IfArm}
 use Rattle.sw_tree.specs.declared.stmt.Stmt.{Stmt}
 use Rattle.sw_lower_bodies.specs.Trees.{closure_code}
 use Rattle.sw_lower_code.specs.Whole.{Body}
-use Rattle.sw_lower_table.specs.Carriers.{ArgCode, CaseCode, IfCode, LinkCode, StmtCode}
-use Rattle.sw_lower_table.specs.Expressions.{closure_body, fun_result, spawn_result, task_body}
-use Rattle.sw_lower_table.specs.Statements.{block_code, code_steps, expr_code, inside_of, stmt_code}
-use Rattle.sw_lower_table.specs.Tables.{Tables}
+use Rattle.sw_lower_rules.specs.Carriers.{ArgCode, CaseCode, IfCode, LinkCode, StmtCode}
+use Rattle.sw_lower_rules.specs.Expressions.{closure_body, fun_result, spawn_result, task_body}
+use Rattle.sw_lower_rules.specs.Statements.{block_code, code_steps, expr_code, inside_of, stmt_code}
+use Rattle.sw_lower_rules.specs.Tables.{Tables}
 
 module _ (tables : Tables) (owner : Option ℕ) where
   unfoldable pub expr_inside : Expr → List Body

@@ -1,4 +1,2 @@
 pub mod Inside
 pub mod Trees
-pub use Rattle.sw_lower_known.specs.capture
-pub use Rattle.sw_lower_known.specs as lower_known

@@ -16,14 +16,14 @@ use Rattle.sw_lower_bodies.specs.declared.body_tree.BodyTree.{BodyTree}
 use Rattle.sw_lower_code.specs.Code.{Code}
 use Rattle.sw_lower_code.specs.Whole.{Body}
 use Rattle.sw_lower_code.specs.declared.taken.Taken.{Taken}
-use Rattle.sw_lower_table.specs.Bodies.{first_code, first_values, getter_code, init_code}
-use Rattle.sw_lower_table.specs.Bodies.{init_signed, param_taken, part_read, self_by, self_taken}
-use Rattle.sw_lower_table.specs.Bodies.{stored_read}
-use Rattle.sw_lower_table.specs.Carriers.{ClosureCode, Given}
-use Rattle.sw_lower_table.specs.Expressions.{body_code, closure_takes, fun_result, is_async_of}
-use Rattle.sw_lower_table.specs.Expressions.{iso_of, spawn_result}
-use Rattle.sw_lower_table.specs.Statements.{block_code, code_steps, expr_code}
-use Rattle.sw_lower_table.specs.Tables.{Tables}
+use Rattle.sw_lower_rules.specs.Bodies.{first_code, first_values, getter_code, init_code}
+use Rattle.sw_lower_rules.specs.Bodies.{init_signed, param_taken, part_read, self_by, self_taken}
+use Rattle.sw_lower_rules.specs.Bodies.{stored_read}
+use Rattle.sw_lower_rules.specs.Carriers.{ClosureCode, Given}
+use Rattle.sw_lower_rules.specs.Expressions.{body_code, closure_takes, fun_result, is_async_of}
+use Rattle.sw_lower_rules.specs.Expressions.{iso_of, spawn_result}
+use Rattle.sw_lower_rules.specs.Statements.{block_code, code_steps, expr_code}
+use Rattle.sw_lower_rules.specs.Tables.{Tables}
 
 module _ (tables : Tables) where
   -- a closure or the body of a task, in a member of the type with a number

@@ -5,7 +5,7 @@ ghost use Rattle.sw_lower_bodies.specs.Inside.{expr_inside, fun_inside, ifs_insi
 ghost use Rattle.sw_lower_bodies.specs.Inside.{other_inside, stmt_inside, task_inside};
 ghost use Rattle.sw_lower_bodies.specs.Trees.{bodies_by, body_by, known_body};
 ghost use Rattle.sw_lower_known.specs.Knowledge.{tables_by};
-ghost use Rattle.sw_lower_table.specs.Expressions.{is_async_of, iso_of};
+ghost use Rattle.sw_lower_rules.specs.Expressions.{is_async_of, iso_of};
 
 use crate::body_tree::{BodyForm, BodyTree};
 use std::alloc::AllocError;
@@ -77,7 +77,7 @@ pub fn add_known<'a>(
 
 /// Adds the bodies in an expression in a member of the type `owner`.
 #[cycle(walk)]
-#[tactic(auto, unfolding(crate::specs::Inside::expr_inside, crate::specs::Trees::closure_code, sw_lower_table::specs::Statements::expr_code))]
+#[tactic(auto, unfolding(crate::specs::Inside::expr_inside, crate::specs::Trees::closure_code, sw_lower_rules::specs::Statements::expr_code))]
 pub fn expr<'a>(
     known: &Known<'_>,
     owner: Option<u32>,
@@ -114,7 +114,7 @@ pub fn expr<'a>(
 
 /// Adds the bodies in the arguments of a call.
 #[cycle(walk)]
-#[tactic(auto, unfolding(crate::specs::Inside::expr_inside, sw_lower_table::specs::Statements::expr_code))]
+#[tactic(auto, unfolding(crate::specs::Inside::expr_inside, sw_lower_rules::specs::Statements::expr_code))]
 fn arguments<'a>(
     known: &Known<'_>,
     owner: Option<u32>,
@@ -133,7 +133,7 @@ fn arguments<'a>(
 
 /// Adds the bodies in the right operands of a chain.
 #[cycle(walk)]
-#[tactic(auto, unfolding(crate::specs::Inside::expr_inside, sw_lower_table::specs::Statements::expr_code))]
+#[tactic(auto, unfolding(crate::specs::Inside::expr_inside, sw_lower_rules::specs::Statements::expr_code))]
 fn links<'a>(
     known: &Known<'_>,
     owner: Option<u32>,
@@ -152,7 +152,7 @@ fn links<'a>(
 
 /// Adds the body of a closure, and those in it.
 #[cycle(walk)]
-#[tactic(auto, unfolding(crate::specs::Inside::block_inside, crate::specs::Trees::closure_code, sw_lower_table::specs::Expressions::closure_body, sw_lower_table::specs::Statements::block_code))]
+#[tactic(auto, unfolding(crate::specs::Inside::block_inside, crate::specs::Trees::closure_code, sw_lower_rules::specs::Expressions::closure_body, sw_lower_rules::specs::Statements::block_code))]
 fn fun<'a>(
     known: &Known<'_>,
     owner: Option<u32>,
@@ -175,7 +175,7 @@ fn fun<'a>(
 
 /// Adds the body of a task whose word stands at `at`, and those in it.
 #[cycle(walk)]
-#[tactic(auto, unfolding(crate::specs::Inside::block_inside, crate::specs::Trees::closure_code, sw_lower_table::specs::Expressions::closure_body, sw_lower_table::specs::Statements::block_code))]
+#[tactic(auto, unfolding(crate::specs::Inside::block_inside, crate::specs::Trees::closure_code, sw_lower_rules::specs::Expressions::closure_body, sw_lower_rules::specs::Statements::block_code))]
 fn task<'a>(
     known: &Known<'_>,
     owner: Option<u32>,
@@ -194,7 +194,7 @@ fn task<'a>(
 
 /// Adds the bodies in a block.
 #[cycle(walk)]
-#[tactic(auto, unfolding(crate::specs::Inside::stmt_inside, crate::specs::Inside::expr_inside, crate::specs::Inside::block_inside, sw_lower_table::specs::Statements::stmt_code, sw_lower_table::specs::Statements::expr_code, sw_lower_table::specs::Statements::block_code))]
+#[tactic(auto, unfolding(crate::specs::Inside::stmt_inside, crate::specs::Inside::expr_inside, crate::specs::Inside::block_inside, sw_lower_rules::specs::Statements::stmt_code, sw_lower_rules::specs::Statements::expr_code, sw_lower_rules::specs::Statements::block_code))]
 pub fn block<'a>(
     known: &Known<'_>,
     owner: Option<u32>,
@@ -213,7 +213,7 @@ pub fn block<'a>(
 
 /// Adds the bodies in the block of an `else` or of a `default`, where there is one.
 #[cycle(walk)]
-#[tactic(auto, unfolding(crate::specs::Inside::stmt_inside, crate::specs::Inside::expr_inside, crate::specs::Inside::block_inside, sw_lower_table::specs::Statements::stmt_code, sw_lower_table::specs::Statements::expr_code, sw_lower_table::specs::Statements::block_code))]
+#[tactic(auto, unfolding(crate::specs::Inside::stmt_inside, crate::specs::Inside::expr_inside, crate::specs::Inside::block_inside, sw_lower_rules::specs::Statements::stmt_code, sw_lower_rules::specs::Statements::expr_code, sw_lower_rules::specs::Statements::block_code))]
 fn other_block<'a>(
     known: &Known<'_>,
     owner: Option<u32>,
@@ -232,7 +232,7 @@ fn other_block<'a>(
 
 /// Adds the bodies in the arms of an `if`.
 #[cycle(walk)]
-#[tactic(auto, unfolding(crate::specs::Inside::stmt_inside, crate::specs::Inside::expr_inside, crate::specs::Inside::block_inside, sw_lower_table::specs::Statements::stmt_code, sw_lower_table::specs::Statements::expr_code, sw_lower_table::specs::Statements::block_code))]
+#[tactic(auto, unfolding(crate::specs::Inside::stmt_inside, crate::specs::Inside::expr_inside, crate::specs::Inside::block_inside, sw_lower_rules::specs::Statements::stmt_code, sw_lower_rules::specs::Statements::expr_code, sw_lower_rules::specs::Statements::block_code))]
 fn if_arms<'a>(
     known: &Known<'_>,
     owner: Option<u32>,
@@ -252,7 +252,7 @@ fn if_arms<'a>(
 
 /// Adds the bodies in the arms of a `switch`.
 #[cycle(walk)]
-#[tactic(auto, unfolding(crate::specs::Inside::stmt_inside, crate::specs::Inside::expr_inside, crate::specs::Inside::block_inside, sw_lower_table::specs::Statements::stmt_code, sw_lower_table::specs::Statements::expr_code, sw_lower_table::specs::Statements::block_code))]
+#[tactic(auto, unfolding(crate::specs::Inside::stmt_inside, crate::specs::Inside::expr_inside, crate::specs::Inside::block_inside, sw_lower_rules::specs::Statements::stmt_code, sw_lower_rules::specs::Statements::expr_code, sw_lower_rules::specs::Statements::block_code))]
 fn case_arms<'a>(
     known: &Known<'_>,
     owner: Option<u32>,
@@ -271,7 +271,7 @@ fn case_arms<'a>(
 
 /// Adds the bodies in a statement.
 #[cycle(walk)]
-#[tactic(auto, unfolding(crate::specs::Inside::stmt_inside, crate::specs::Inside::expr_inside, crate::specs::Inside::block_inside, sw_lower_table::specs::Statements::stmt_code, sw_lower_table::specs::Statements::expr_code, sw_lower_table::specs::Statements::block_code))]
+#[tactic(auto, unfolding(crate::specs::Inside::stmt_inside, crate::specs::Inside::expr_inside, crate::specs::Inside::block_inside, sw_lower_rules::specs::Statements::stmt_code, sw_lower_rules::specs::Statements::expr_code, sw_lower_rules::specs::Statements::block_code))]
 fn statement<'a>(
     known: &Known<'_>,
     owner: Option<u32>,

@@ -10,5 +10,3 @@ mod programs;
 pub use body_tree::{BodyForm, BodyTree};
 pub use closures::BodyList;
 pub use programs::bodies_of;
-pub use sw_lower_known as lower_known;
-pub use sw_lower_known::{isolation, typing};

@@ -5,20 +5,21 @@ ghost use Rattle.std.specs.Option.{option_copied};
 ghost use Rattle.sw_isolation_rules.specs.Answers.{for_some};
 ghost use Rattle.sw_lower_bodies.specs.Trees.{bodies_by, gives_by, init_with};
 ghost use Rattle.sw_lower_known.specs.Knowledge.{tables_by};
-ghost use Rattle.sw_lower_table.specs.Bodies.{decl_bodies, func_bodies, func_signed};
-ghost use Rattle.sw_lower_table.specs.Bodies.{func_tree_bodies, global_bodies, global_getter};
-ghost use Rattle.sw_lower_table.specs.Bodies.{globals_made, init_bodies, init_signed, inits_bodies};
-ghost use Rattle.sw_lower_table.specs.Bodies.{part_getter, program_bodies, prop_getters};
-ghost use Rattle.sw_lower_table.specs.Bodies.{shape_getters, value_bodies};
+ghost use Rattle.sw_lower_rules.specs.Bodies.{decl_bodies, func_bodies, func_signed};
+ghost use Rattle.sw_lower_rules.specs.Bodies.{func_tree_bodies, global_bodies, global_getter};
+ghost use Rattle.sw_lower_rules.specs.Bodies.{init_bodies, init_signed, inits_bodies};
+ghost use Rattle.sw_decl_words.specs.Words.{globals_made};
+ghost use Rattle.sw_lower_rules.specs.Bodies.{part_getter, program_bodies, prop_getters};
+ghost use Rattle.sw_lower_rules.specs.Bodies.{shape_getters, value_bodies};
 
 use crate::body_tree::{BodyForm, BodyTree};
 use crate::closures::{BodyList, add, add_known, block, expr};
 use std::alloc::{AllocError, Global};
+use sw_decl_words::shapes_made;
 use sw_decls::{GlobalVar, Signature};
+use sw_isolation_steps::{is_isolated, shape_iso};
 use sw_list::ListOf;
 use sw_lower_known::Known;
-use sw_lower_known::uses::{is_isolated, shape_iso};
-use sw_resolve::shapes_made;
 use sw_tree::{Block, Decl, Expr, FuncTree, InitTree, Name, ParamTree, PropTree};
 use sw_types::{Part, Shape};
 
@@ -51,7 +52,7 @@ fn add_signed<'a>(
 }
 
 /// Adds the body of the function with a key, and those in it.
-#[tactic(auto, unfolding(sw_lower_table::specs::Bodies::func_bodies))]
+#[tactic(auto, unfolding(sw_lower_rules::specs::Bodies::func_bodies))]
 fn add_func<'a>(
     known: &'a Known<'a>,
     key: u32,
@@ -150,7 +151,7 @@ fn add_init_with<'a>(
 }
 
 /// Adds an initialiser that is written, and the bodies in it.
-#[tactic(auto, unfolding(sw_lower_table::specs::Bodies::init_bodies, crate::specs::Inside::block_inside))]
+#[tactic(auto, unfolding(sw_lower_rules::specs::Bodies::init_bodies, crate::specs::Inside::block_inside))]
 fn add_init<'a>(
     known: &'a Known<'a>,
     number: u32,
@@ -194,7 +195,7 @@ fn add_written_inits<'a>(
 }
 
 /// Adds the initialisers of a type with this word and number, and the bodies in them.
-#[tactic(auto, unfolding(sw_lower_table::specs::Bodies::default_bodies))]
+#[tactic(auto, unfolding(sw_lower_rules::specs::Bodies::default_bodies))]
 fn add_inits<'a>(
     known: &'a Known<'a>,
     number: u32,
@@ -349,7 +350,7 @@ fn add_value<'a>(
 }
 
 /// Adds the bodies of the global variable with a number.
-#[tactic(auto, unfolding(sw_lower_table::specs::Bodies::global_bodies))]
+#[tactic(auto, unfolding(sw_lower_rules::specs::Bodies::global_bodies))]
 fn add_global<'a>(
     known: &'a Known<'a>,
     index: u32,
@@ -390,7 +391,7 @@ fn add_members<'a>(
 
 /// Adds the bodies of a declaration; `number` and `index` are those of the type or the global
 /// variable that it declares, if it does.
-#[tactic(auto, unfolding(sw_lower_table::specs::Bodies::decl_bodies))]
+#[tactic(auto, unfolding(sw_lower_rules::specs::Bodies::decl_bodies))]
 fn add_decl<'a>(
     known: &'a Known<'a>,
     number: u32,

@@ -14,16 +14,17 @@ use Rattle.sw_graph.specs.declared.instr.Instr.{Instr}
 use Rattle.sw_graph.specs.declared.instr.Last.{Last}
 use Rattle.sw_graph.specs.declared.instr.Last.TheVariants.{Return}
 use Rattle.sw_graph.proofs.PointLemmas.{length-points_of_block}
-use Rattle.sw_builder.specs.Blocks.{new_block}
-use Rattle.sw_builder.specs.Unfinished.{finished}
-use Rattle.sw_lower_run.specs.Plan.{Numbers, Piece, Written, block_by, counted_from, ended_in}
-use Rattle.sw_lower_run.specs.Plan.{written_in}
-use Rattle.sw_lower_run.specs.Run.{AreInside, Making, Makes, Meets, at_start, instrs_at, last_at}
-use Rattle.sw_lower_run.specs.Run.{points}
+use Rattle.sw_lower_builder.specs.Blocks.{new_block}
+use Rattle.sw_lower_builder.specs.Unfinished.{finished}
+use Rattle.sw_lower_plans.specs.Plan.{Numbers, Piece, Written, block_by, counted_from, ended_in}
+use Rattle.sw_lower_plans.specs.Plan.{written_in}
+use Rattle.sw_lower_plans.specs.Run.{AreInFirstBlocks, Making, Makes, Meets, at_start, instrs_at}
+use Rattle.sw_lower_plans.specs.Run.{last_at}
+use Rattle.sw_lower_plans.specs.Run.{points}
 use Rattle.sw_lower_code.specs.Whole.{Body, code_of, ended_by, function_of, lower_body}
 use Rattle.sw_lower_code.specs.Whole.{IsWhole, piece_of, sending_of}
-use Rattle.sw_lower_run.specs.declared.fault.CodeFault.{CodeFault}
-use Rattle.sw_lower_run.specs.declared.fault.CodeFault.TheVariants.{Registers, Memory}
+use Rattle.sw_lower_plans.specs.declared.fault.CodeFault.{CodeFault}
+use Rattle.sw_lower_plans.specs.declared.fault.CodeFault.TheVariants.{Registers, Memory}
 use Rattle.sw_lower_code.specs.declared.fault.BodyFault.TheVariants as faults
 
 -- blocks are determined by their instructions and last instructions
@@ -140,7 +141,7 @@ points_among piece one more from (suc count) above below = elim (cases_eq one.bl
 
 -- each instruction of blocks that are there is a point, and so is each block's last
 points_all : {A : Type 0} (piece : Piece A) (writes : List Written) (count : ℕ)
-    → AreInside count writes
+    → AreInFirstBlocks count writes
     → points_by (without piece writes) 0 count ≡ length writes + count
 points_all piece [] count inside = omega (arith, points_without piece 0 count)
 points_all piece (one ∷ more) count inside =
@@ -199,8 +200,9 @@ points_of_body : (number : Numbers) (body : Body) (t : Making)
     ≡ 1 + (length (piece_of number body).writes + length (piece_of number body).made)
 unfolding function_of
 points_of_body number body t made =
-    let inside : AreInside (1 + length (piece_of number body).made) (piece_of number body).writes =
-    subst (λ count. AreInside count (piece_of number body).writes)
+    let inside : AreInFirstBlocks (1 + length (piece_of number body).made)
+    (piece_of number body).writes =
+    subst (λ count. AreInFirstBlocks count (piece_of number body).writes)
     made.blocks made.inside in
     omega (
       arith,

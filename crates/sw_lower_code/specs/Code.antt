@@ -5,18 +5,18 @@ use Rattle.std.specs.Option.{unwrap_or}
 use Rattle.sw_graph.specs.declared.function.RegKind.{RegKind}
 use Rattle.sw_graph.specs.declared.instr.Instr.{Instr}
 use Rattle.sw_graph.specs.declared.instr.Last.{Last}
-use Rattle.sw_lower_run.specs.Plan.{Entry, Plan, nothing, plan_after, plan_bind, plan_block}
-use Rattle.sw_lower_run.specs.Plan.{plan_close, plan_emit, plan_reg, plan_resume, plan_scope}
-use Rattle.sw_lower_run.specs.Plan.{var_in}
-use Rattle.sw_lower_run.specs.Run.{IsGoing, Making, Meets, Run, place_of, run_after, run_bind}
-use Rattle.sw_lower_run.specs.Run.{run_block, run_close, run_emit, run_front, run_known}
-use Rattle.sw_lower_run.specs.Run.{run_number, run_reg, run_resume, run_scope, run_var}
-use Rattle.sw_lower_run.specs.declared.bound.Bound.{Bound}
-use Rattle.sw_lower_run.specs.declared.name.FunctionName.{FunctionName}
-use Rattle.sw_lower_run.proofs.SameParts.{same_bind, same_block, same_close, same_done, same_emit}
-use Rattle.sw_lower_run.proofs.SameParts.{same_front, same_known, same_number, same_reg}
-use Rattle.sw_lower_run.proofs.SameParts.{same_resume, same_var}
-use Rattle.sw_lower_run.proofs.SameThen.{same_scope, same_then}
+use Rattle.sw_lower_plans.specs.Plan.{Entry, Plan, nothing, plan_after, plan_bind, plan_block}
+use Rattle.sw_lower_plans.specs.Plan.{plan_close, plan_emit, plan_reg, plan_resume, plan_scope}
+use Rattle.sw_lower_plans.specs.Plan.{var_in}
+use Rattle.sw_lower_plans.specs.Run.{IsGoing, Making, Meets, Run, place_of, run_after, run_bind}
+use Rattle.sw_lower_plans.specs.Run.{run_block, run_close, run_emit, run_front, run_known}
+use Rattle.sw_lower_plans.specs.Run.{run_number, run_reg, run_resume, run_scope, run_var}
+use Rattle.sw_lower_plans.specs.declared.bound.Bound.{Bound}
+use Rattle.sw_lower_plans.specs.declared.name.FunctionName.{FunctionName}
+use Rattle.sw_lower_plans.proofs.SameParts.{same_bind, same_block, same_close, same_done, same_emit}
+use Rattle.sw_lower_plans.proofs.SameParts.{same_front, same_known, same_number, same_reg}
+use Rattle.sw_lower_plans.proofs.SameParts.{same_resume, same_var}
+use Rattle.sw_lower_plans.proofs.SameThen.{same_scope, same_then}
 
 pub record Code (A : Type 0) : Type 0 where
   pub run : Run A

@@ -9,12 +9,12 @@ use Rattle.sw_graph.specs.declared.function.Excess.TheVariants as excess
 use Rattle.sw_graph.specs.declared.function.Function.{Function}
 use Rattle.sw_graph.specs.declared.function.RegKind.{RegKind}
 use Rattle.sw_graph.specs.declared.function.TheConstants.{MAX_POINTS}
-use Rattle.sw_builder.specs.Unfinished.{finished}
+use Rattle.sw_lower_builder.specs.Unfinished.{finished}
 use Rattle.sw_lower_code.specs.Code.{Code, all, bind, reg, ◌>>=◌, ◌>>◌}
-use Rattle.sw_lower_run.specs.Plan.{Numbers, Piece, Place, block_by, counted_from}
-use Rattle.sw_lower_run.specs.Run.{Making, at_start, points}
-use Rattle.sw_lower_run.specs.declared.fault.CodeFault.{CodeFault}
-use Rattle.sw_lower_run.specs.declared.fault.CodeFault.TheVariants.{Registers, Memory}
+use Rattle.sw_lower_plans.specs.Plan.{Numbers, Piece, Place, block_by, counted_from}
+use Rattle.sw_lower_plans.specs.Run.{Making, at_start, points}
+use Rattle.sw_lower_plans.specs.declared.fault.CodeFault.{CodeFault}
+use Rattle.sw_lower_plans.specs.declared.fault.CodeFault.TheVariants.{Registers, Memory}
 use Rattle.sw_lower_code.specs.declared.fault.BodyFault.{BodyFault}
 use Rattle.sw_lower_code.specs.declared.fault.BodyFault.TheVariants as faults
 use Rattle.sw_lower_code.specs.declared.taken.Taken.{Taken}

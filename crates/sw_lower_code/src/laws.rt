@@ -1,7 +1,7 @@
 //! Laws, without code: what a run makes is what its plan says.
 ghost use Rattle.sw_lower_code.specs.Code.{Code};
-ghost use Rattle.sw_lower_run.specs.Plan.{Numbers};
-ghost use Rattle.sw_lower_run.specs.Run.{IsGoing, Making, Meets, place_of};
+ghost use Rattle.sw_lower_plans.specs.Plan.{Numbers};
+ghost use Rattle.sw_lower_plans.specs.Run.{IsGoing, Making, Meets, place_of};
 ghost use Rattle.sw_lower_code.specs.Whole.{Body, IsWhole, lower_body};
 
 /// What the run of a piece of code makes is what its plan says of where it begins.

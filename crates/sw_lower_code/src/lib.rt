@@ -1,5 +1,5 @@
-//! How a function of a graph is made of pieces of code, each a plan and a run that does what the
-//! plan says. It knows nothing of trees.
+//! How a function of a graph is made of pieces of code, each a plan and a run that does what the plan
+//! says. It knows nothing of trees.
 #![tactic(auto)]
 
 mod fault;

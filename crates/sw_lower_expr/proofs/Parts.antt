@@ -5,12 +5,12 @@ use Rattle.sw_tree.specs.Folds.{fold_arg}
 use Rattle.sw_tree.specs.declared.expr.Arg.{Arg}
 use Rattle.sw_tree.specs.declared.expr.Link.{Link}
 use Rattle.sw_graph.specs.declared.instr.Operand.{Operand}
-use Rattle.sw_lower_run.specs.Run.{Making, run_after}
+use Rattle.sw_lower_plans.specs.Run.{Making, run_after}
 use Rattle.sw_lower_code.specs.Code.{Code, andthen, done, each}
-use Rattle.sw_lower_table.specs.Carriers.{ArgCode, LinkCode}
-use Rattle.sw_lower_table.specs.Expressions.{args_read, by_op, links_read}
-use Rattle.sw_lower_table.specs.Statements.{code_steps, expr_code}
-use Rattle.sw_lower_table.specs.Tables.{Tables}
+use Rattle.sw_lower_rules.specs.Carriers.{ArgCode, LinkCode}
+use Rattle.sw_lower_rules.specs.Expressions.{args_read, by_op, links_read}
+use Rattle.sw_lower_rules.specs.Statements.{code_steps, expr_code}
+use Rattle.sw_lower_rules.specs.Tables.{Tables}
 use Rattle.sw_lower_uses.specs.Gathering.{each_after}
 use Rattle.sw_lower_uses.proofs.Gathered.{each_is}
 use Rattle.sw_lower_expr.specs.Walked.{arg_codes, arg_value, link_codes, link_value, links_run}

@@ -3,7 +3,7 @@ use Rattle.std.specs.Prelude.{ℕ}
 use Rattle.sw_types.specs.declared.ty.Ty.TheVariants as types
 use Rattle.sw_graph.specs.declared.instr.Operand.{Operand}
 use Rattle.sw_lower_code.specs.Code.{Code}
-use Rattle.sw_lower_table.specs.Expressions.{binary, both, either}
+use Rattle.sw_lower_rules.specs.Expressions.{binary, both, either}
 use Rattle.sw_lower_expr.specs.declared.operators.Operation.{Operation}
 use Rattle.sw_lower_expr.specs.declared.operators.Operation.TheVariants as operations
 

@@ -5,13 +5,13 @@ use Rattle.sw_tree.specs.declared.expr.Arg.{Arg, out-Arg}
 use Rattle.sw_tree.specs.declared.expr.Link.{Link, out-Link}
 use Rattle.sw_graph.specs.declared.instr.Instr.TheVariants as instr
 use Rattle.sw_graph.specs.declared.instr.Operand.{Operand}
-use Rattle.sw_lower_run.specs.Run.{Run, run_after}
+use Rattle.sw_lower_plans.specs.Run.{Run, run_after}
 use Rattle.sw_lower_code.specs.Code.{Code, each, emit, number, ◌>>=◌}
-use Rattle.sw_lower_table.specs.Carriers.{ArgCode, LinkCode}
-use Rattle.sw_lower_table.specs.Expressions.{args_read, by_op}
-use Rattle.sw_lower_table.specs.Statements.{code_steps, expr_code}
-use Rattle.sw_lower_table.specs.Tables.{Tables, plain}
-use Rattle.sw_lower_table.specs.Uses.{call_closure, call_func, capture, give, make_value, typed}
+use Rattle.sw_lower_rules.specs.Carriers.{ArgCode, LinkCode}
+use Rattle.sw_lower_rules.specs.Expressions.{args_read, by_op}
+use Rattle.sw_lower_rules.specs.Statements.{code_steps, expr_code}
+use Rattle.sw_lower_rules.specs.Tables.{Tables, plain}
+use Rattle.sw_lower_rules.specs.Uses.{call_closure, call_func, capture, give, make_value, typed}
 
 -- a value of a case of an enum
 abbrev pub case_made : ℕ → ℕ → ℕ → List ArgCode → Code Operand

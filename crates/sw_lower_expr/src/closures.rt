@@ -1,16 +1,16 @@
 //! Closures and tasks as values: what they capture, and the number of their body. The body is a
 //! function of its own.
-#![tactic(auto, unfolding(sw_lower_code::specs::Code::andthen, sw_lower_code::specs::Code::known, sw_lower_code::specs::Code::number, sw_lower_code::specs::Code::reg, sw_lower_table::specs::Uses::typed))]
+#![tactic(auto, unfolding(sw_lower_code::specs::Code::andthen, sw_lower_code::specs::Code::known, sw_lower_code::specs::Code::number, sw_lower_code::specs::Code::reg, sw_lower_rules::specs::Uses::typed))]
 
-ghost use Rattle.sw_draft.specs.Drafts.{Gives, making_of};
+ghost use Rattle.sw_lower_draft.specs.Drafts.{GivesAsRun, making_of};
 ghost use Rattle.sw_lower_expr.specs.Walked.{closure_made, task_made};
-ghost use Rattle.sw_lower_uses.specs.lower_known.Knowledge.{tables_by};
+ghost use Rattle.sw_lower_known.specs.Knowledge.{tables_by};
 
 use std::alloc::Global;
-use sw_draft::Draft;
 use sw_graph::{Instr, Operand, RegKind};
-use sw_lower_run::{CodeFault, FunctionName};
-use sw_lower_uses::lower_known::Known;
+use sw_lower_draft::Draft;
+use sw_lower_known::Known;
+use sw_lower_plans::{CodeFault, FunctionName};
 use sw_lower_uses::{captures, emit_value, type_of};
 
 /// The closure whose body has the key `at`.
@@ -20,7 +20,7 @@ pub fn closure_made(
     at: u32,
     draft: &mut Draft<'_>,
 ) -> Result<Operand, CodeFault>
-    ensures { Gives ((closure_made (tables_by known.now) at).run (making_of draft.old))
+    ensures { GivesAsRun ((closure_made (tables_by known.now) at).run (making_of draft.old))
         result draft.new }
 {
     let captured = captures(alloc, known, at, at, draft)?;
@@ -47,7 +47,7 @@ pub fn task_made(
     body: u32,
     draft: &mut Draft<'_>,
 ) -> Result<Operand, CodeFault>
-    ensures { Gives ((task_made (tables_by known.now) at body).run (making_of draft.old))
+    ensures { GivesAsRun ((task_made (tables_by known.now) at body).run (making_of draft.old))
         result draft.new }
 {
     let captured = captures(alloc, known, at, body, draft)?;

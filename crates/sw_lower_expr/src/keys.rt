@@ -1,7 +1,7 @@
 //! The keys of expressions.
 ghost use Rattle.std.specs.Prelude.{◌≡◌, ℕ, Option};
-ghost use Rattle.sw_lower_table.specs.Statements.{expr_code};
-ghost use Rattle.sw_lower_table.specs.Tables.{Tables};
+ghost use Rattle.sw_lower_rules.specs.Statements.{expr_code};
+ghost use Rattle.sw_lower_rules.specs.Tables.{Tables};
 
 use sw_tree::Expr;
 

@@ -10,6 +10,4 @@ mod walk;
 
 pub use keys::key_of;
 pub use places::write;
-pub use sw_lower_uses as lower_uses;
-pub use sw_lower_uses::lower_known;
 pub use walk::expr;

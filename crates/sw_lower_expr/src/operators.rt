@@ -3,7 +3,7 @@ ghost use Rattle.std.specs.Prelude.{◌≡◌, ℕ};
 ghost use Rattle.sw_graph.specs.declared.instr.Operand.{Operand};
 ghost use Rattle.sw_lower_code.specs.Code.{Code};
 ghost use Rattle.sw_lower_expr.specs.Operations.{by_operation};
-ghost use Rattle.sw_lower_table.specs.Expressions.{by_op};
+ghost use Rattle.sw_lower_rules.specs.Expressions.{by_op};
 
 use sw_graph::BinOp;
 use sw_tree::InfixOp;

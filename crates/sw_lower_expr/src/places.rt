@@ -1,21 +1,21 @@
 //! Assignments to expressions.
-#![tactic(auto, unfolding(sw_lower_code::specs::Code::andthen, sw_lower_code::specs::Code::emit, sw_lower_code::specs::Code::known, sw_lower_code::specs::Code::reg, sw_lower_table::specs::Uses::shape_at, sw_lower_table::specs::Uses::shape_of, sw_lower_table::specs::Uses::write_var, sw_lower_table::specs::Expressions::write_part))]
+#![tactic(auto, unfolding(sw_lower_code::specs::Code::andthen, sw_lower_code::specs::Code::emit, sw_lower_code::specs::Code::known, sw_lower_code::specs::Code::reg, sw_lower_rules::specs::Uses::shape_at, sw_lower_rules::specs::Uses::shape_of, sw_lower_rules::specs::Uses::write_var, sw_lower_rules::specs::Expressions::write_part))]
 
-ghost use Rattle.sw_draft.specs.Drafts.{Gives, making_of};
+ghost use Rattle.sw_lower_draft.specs.Drafts.{GivesAsRun, making_of};
 ghost use Rattle.sw_lower_expr.specs.Walked.{cell_written};
-ghost use Rattle.sw_lower_uses.specs.lower_known.Knowledge.{tables_by};
-ghost use Rattle.sw_lower_table.specs.Expressions.{member_write, own_base, set_part};
-ghost use Rattle.sw_lower_table.specs.Expressions.{word_write, write_part};
-ghost use Rattle.sw_lower_table.specs.Statements.{expr_code};
+ghost use Rattle.sw_lower_known.specs.Knowledge.{tables_by};
+ghost use Rattle.sw_lower_rules.specs.Expressions.{member_write, own_base, set_part};
+ghost use Rattle.sw_lower_rules.specs.Expressions.{word_write, write_part};
+ghost use Rattle.sw_lower_rules.specs.Statements.{expr_code};
 ghost use Rattle.sw_types.specs.declared.shape.ShapeKind.TheVariants as shapes;
 
 use crate::keys::key_of;
 use crate::walk::expr;
 use std::alloc::Global;
-use sw_draft::Draft;
 use sw_graph::{Instr, Operand, RegKind};
-use sw_lower_run::CodeFault;
-use sw_lower_uses::lower_known::Known;
+use sw_lower_draft::Draft;
+use sw_lower_known::Known;
+use sw_lower_plans::CodeFault;
 use sw_lower_uses::{number_of, read_self, shape_at, shape_of, write_var};
 use sw_tree::Expr;
 use sw_types::{ShapeKind, Ty};
@@ -23,7 +23,7 @@ use sw_typing_rules::Meaning;
 
 /// An assignment of a value to an expression, in a member of the type with the number `owner`.
 #[cycle(write)]
-#[tactic(auto, unfolding(sw_lower_table::specs::Statements::expr_code))]
+#[tactic(auto, unfolding(sw_lower_rules::specs::Statements::expr_code))]
 pub fn write(
     alloc: Global,
     known: &Known<'_>,
@@ -32,7 +32,7 @@ pub fn write(
     given: Operand,
     draft: &mut Draft<'_>,
 ) -> Result<(), CodeFault>
-    ensures { Gives (((expr_code (tables_by known.now) owner tree.now).write given).run
+    ensures { GivesAsRun (((expr_code (tables_by known.now) owner tree.now).write given).run
         (making_of draft.old)) result draft.new }
 {
     match tree {
@@ -63,7 +63,7 @@ fn write_word(
     given: Operand,
     draft: &mut Draft<'_>,
 ) -> Result<(), CodeFault>
-    ensures { Gives ((word_write (tables_by known.now) owner at
+    ensures { GivesAsRun ((word_write (tables_by known.now) owner at
         ((tables_by known.now).answers.meaning_at at) given).run (making_of draft.old))
         result draft.new }
 {
@@ -101,7 +101,7 @@ fn write_own(
     given: Operand,
     draft: &mut Draft<'_>,
 ) -> Result<(), CodeFault>
-    ensures { Gives ((write_part (tables_by known.now) owner at shape number
+    ensures { GivesAsRun ((write_part (tables_by known.now) owner at shape number
         (own_base (tables_by known.now) owner at) given).run (making_of draft.old))
         result draft.new }
 {
@@ -130,7 +130,7 @@ fn write_member(
     given: Operand,
     draft: &mut Draft<'_>,
 ) -> Result<(), CodeFault>
-    ensures { Gives ((member_write (tables_by known.now) owner at
+    ensures { GivesAsRun ((member_write (tables_by known.now) owner at
         (expr_code (tables_by known.now) owner base.now)
         ((tables_by known.now).answers.meaning_at at) given).run (making_of draft.old))
         result draft.new }
@@ -166,7 +166,7 @@ fn write_part(
     given: Operand,
     draft: &mut Draft<'_>,
 ) -> Result<(), CodeFault>
-    ensures { Gives ((write_part (tables_by known.now) owner at shape number
+    ensures { GivesAsRun ((write_part (tables_by known.now) owner at shape number
         (expr_code (tables_by known.now) owner base.now) given).run (making_of draft.old))
         result draft.new }
 {
@@ -192,7 +192,7 @@ fn write_cell(
     given: Operand,
     draft: &mut Draft<'_>,
 ) -> Result<(), CodeFault>
-    ensures { Gives ((cell_written at number
+    ensures { GivesAsRun ((cell_written at number
         (expr_code (tables_by known.now) owner base.now).read given).run (making_of draft.old))
         result draft.new }
 {
@@ -219,7 +219,7 @@ fn write_field(
     given: Operand,
     draft: &mut Draft<'_>,
 ) -> Result<(), CodeFault>
-    ensures { Gives ((set_part (tables_by known.now) owner shapes.Struct at shape number
+    ensures { GivesAsRun ((set_part (tables_by known.now) owner shapes.Struct at shape number
         (expr_code (tables_by known.now) owner base.now) given).run (making_of draft.old))
         result draft.new }
 {

@@ -1,26 +1,26 @@
 //! Values that one instruction computes.
-#![tactic(auto, unfolding(sw_lower_code::specs::Code::andthen, sw_lower_code::specs::Code::done, sw_lower_code::specs::Code::emit, sw_lower_code::specs::Code::known, sw_lower_code::specs::Code::reg, sw_lower_table::specs::Uses::typed))]
+#![tactic(auto, unfolding(sw_lower_code::specs::Code::andthen, sw_lower_code::specs::Code::done, sw_lower_code::specs::Code::emit, sw_lower_code::specs::Code::known, sw_lower_code::specs::Code::reg, sw_lower_rules::specs::Uses::typed))]
 
-ghost use Rattle.sw_draft.specs.Drafts.{Gives, making_of};
+ghost use Rattle.sw_lower_draft.specs.Drafts.{GivesAsRun, making_of};
 ghost use Rattle.sw_graph.specs.declared.instr.Instr.TheVariants as instr;
-ghost use Rattle.sw_lower_uses.specs.lower_known.Knowledge.{tables_by};
+ghost use Rattle.sw_lower_known.specs.Knowledge.{tables_by};
 ghost use Rattle.sw_lower_expr.specs.Walked.{waited};
-ghost use Rattle.sw_lower_table.specs.Expressions.{copied, prefixed};
-ghost use Rattle.sw_lower_table.specs.Uses.{give};
+ghost use Rattle.sw_lower_rules.specs.Expressions.{copied, prefixed};
+ghost use Rattle.sw_lower_rules.specs.Uses.{give};
 ghost use Rattle.sw_types.specs.declared.ty.Ty.TheVariants as types;
 
 use std::alloc::Global;
-use sw_draft::Draft;
 use sw_graph::{BinOp, Instr, Literal, Operand, OperandList, RegKind, UnOp};
-use sw_lower_run::CodeFault;
-use sw_lower_uses::lower_known::Known;
+use sw_lower_draft::Draft;
+use sw_lower_known::Known;
+use sw_lower_plans::CodeFault;
 use sw_lower_uses::{emit_value, type_of};
 use sw_tree::PrefixOp;
 use sw_types::Ty;
 
 /// The value of a literal.
 pub fn literal(at: u32, ty: Ty, value: Literal, draft: &mut Draft<'_>) -> Result<Operand, CodeFault>
-    ensures { Gives ((give at ty (λ dst. instr.Const at dst value)).run (making_of draft.old))
+    ensures { GivesAsRun ((give at ty (λ dst. instr.Const at dst value)).run (making_of draft.old))
         result draft.new }
 {
     let dst = draft.reg(RegKind::Plain(ty))?;
@@ -35,7 +35,7 @@ fn unary(
     src: Operand,
     draft: &mut Draft<'_>,
 ) -> Result<Operand, CodeFault>
-    ensures { Gives ((give at ty (λ dst. instr.Un at dst op src)).run (making_of draft.old))
+    ensures { GivesAsRun ((give at ty (λ dst. instr.Un at dst op src)).run (making_of draft.old))
         result draft.new }
 {
     let dst = draft.reg(RegKind::Plain(ty))?;
@@ -49,7 +49,7 @@ pub fn prefixed(
     value: Operand,
     draft: &mut Draft<'_>,
 ) -> Result<Operand, CodeFault>
-    ensures { Gives ((prefixed op at value).run (making_of draft.old)) result draft.new }
+    ensures { GivesAsRun ((prefixed op at value).run (making_of draft.old)) result draft.new }
 {
     match op {
         PrefixOp::Not => unary(at, Ty::Bool, UnOp::Not, value, draft),
@@ -66,7 +66,8 @@ pub fn computed(
     right: Operand,
     draft: &mut Draft<'_>,
 ) -> Result<Operand, CodeFault>
-    ensures { Gives ((give at ty (λ dst. instr.Bin at dst op left right)).run (making_of draft.old))
+    ensures { GivesAsRun ((give at ty (λ dst. instr.Bin at dst op left right)).run
+        (making_of draft.old))
         result draft.new }
 {
     let dst = draft.reg(RegKind::Plain(ty))?;
@@ -82,7 +83,7 @@ pub fn computed(
 
 /// A register with a copy of a truth value.
 pub fn copied(at: u32, value: Operand, draft: &mut Draft<'_>) -> Result<u32, CodeFault>
-    ensures { Gives ((copied at value).run (making_of draft.old)) result draft.new }
+    ensures { GivesAsRun ((copied at value).run (making_of draft.old)) result draft.new }
 {
     let dst = draft.reg(RegKind::Plain(Ty::Bool))?;
     draft.emit(Instr::Copy {
@@ -95,7 +96,7 @@ pub fn copied(at: u32, value: Operand, draft: &mut Draft<'_>) -> Result<u32, Cod
 
 /// The call of `print`.
 pub fn print(at: u32, args: OperandList, draft: &mut Draft<'_>) -> Result<Operand, CodeFault>
-    ensures { Gives ((give at types.Unit (λ dst. instr.Print at dst args)).run
+    ensures { GivesAsRun ((give at types.Unit (λ dst. instr.Print at dst args)).run
         (making_of draft.old)) result draft.new }
 {
     let dst = draft.reg(RegKind::Plain(Ty::Unit))?;
@@ -104,7 +105,8 @@ pub fn print(at: u32, args: OperandList, draft: &mut Draft<'_>) -> Result<Operan
 
 /// The call of `Task.yield`.
 pub fn yielded(at: u32, draft: &mut Draft<'_>) -> Result<Operand, CodeFault>
-    ensures { Gives ((give at types.Unit (λ dst. instr.Yield at dst)).run (making_of draft.old))
+    ensures { GivesAsRun ((give at types.Unit (λ dst. instr.Yield at dst)).run
+        (making_of draft.old))
         result draft.new }
 {
     let dst = draft.reg(RegKind::Plain(Ty::Unit))?;
@@ -119,7 +121,7 @@ pub fn waited(
     task: Operand,
     draft: &mut Draft<'_>,
 ) -> Result<Operand, CodeFault>
-    ensures { Gives ((waited (tables_by known.now) at task).run (making_of draft.old))
+    ensures { GivesAsRun ((waited (tables_by known.now) at task).run (making_of draft.old))
         result draft.new }
 {
     let ty = type_of(alloc, known, at)?;

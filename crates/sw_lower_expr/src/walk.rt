@@ -1,26 +1,26 @@
 //! Expressions at any depth.
-#![tactic(auto, unfolding(sw_lower_code::specs::Code::andthen, sw_lower_code::specs::Code::block_for, sw_lower_code::specs::Code::close, sw_lower_code::specs::Code::done, sw_lower_code::specs::Code::emit, sw_lower_code::specs::Code::known, sw_lower_code::specs::Code::resume, sw_lower_table::specs::Uses::shape_of))]
+#![tactic(auto, unfolding(sw_lower_code::specs::Code::andthen, sw_lower_code::specs::Code::block_for, sw_lower_code::specs::Code::close, sw_lower_code::specs::Code::done, sw_lower_code::specs::Code::emit, sw_lower_code::specs::Code::known, sw_lower_code::specs::Code::resume, sw_lower_rules::specs::Uses::shape_of))]
 
 ghost use Rattle.std.specs.Prelude.{◌≡◌, ◌∷◌, Option, IfOk};
-ghost use Rattle.sw_draft.specs.Drafts.{Gives, making_of};
+ghost use Rattle.sw_lower_draft.specs.Drafts.{GivesAsRun, making_of};
 ghost use Rattle.sw_lower_expr.specs.Walked.{arg_codes, case_made, held_called, link_codes};
 ghost use Rattle.sw_lower_expr.specs.Walked.{method_called};
-ghost use Rattle.sw_lower_uses.specs.lower_known.Knowledge.{tables_by};
-ghost use Rattle.sw_lower_table.specs.Expressions.{args_read, binary, both, by_op, call_read};
-ghost use Rattle.sw_lower_table.specs.Expressions.{either, links_read, member_read};
-ghost use Rattle.sw_lower_table.specs.Expressions.{read_of_base, right_in};
-ghost use Rattle.sw_lower_table.specs.Statements.{expr_code};
+ghost use Rattle.sw_lower_known.specs.Knowledge.{tables_by};
+ghost use Rattle.sw_lower_rules.specs.Expressions.{args_read, binary, both, by_op, call_read};
+ghost use Rattle.sw_lower_rules.specs.Expressions.{either, links_read, member_read};
+ghost use Rattle.sw_lower_rules.specs.Expressions.{read_of_base, right_in};
+ghost use Rattle.sw_lower_rules.specs.Statements.{expr_code};
 
 use crate::closures::{closure_made, task_made};
 use crate::keys::key_of;
 use crate::operators::{Operation, operation_of};
 use crate::values::{computed, copied, literal, prefixed, print, waited, yielded};
 use std::alloc::{AllocError, Global};
-use sw_draft::Draft;
 use sw_graph::{BinOp, Instr, Last, Literal, Operand, OperandList};
 use sw_list::ListOf;
-use sw_lower_run::CodeFault;
-use sw_lower_uses::lower_known::Known;
+use sw_lower_draft::Draft;
+use sw_lower_known::Known;
+use sw_lower_plans::CodeFault;
 use sw_lower_uses::{
     call_closure, call_func, make, make_value, number_of, read_global, read_own, read_part,
     read_self, read_var, read_word, shape_of,
@@ -31,7 +31,7 @@ use sw_typing_rules::Meaning;
 
 /// The value of an expression, in a member of the type with the number `owner`.
 #[cycle(walk)]
-#[tactic(auto, unfolding(sw_lower_code::specs::Code::andthen, sw_lower_code::specs::Code::done, sw_lower_table::specs::Statements::expr_code, crate::specs::Walked::arg_codes, crate::specs::Walked::link_codes))]
+#[tactic(auto, unfolding(sw_lower_code::specs::Code::andthen, sw_lower_code::specs::Code::done, sw_lower_rules::specs::Statements::expr_code, crate::specs::Walked::arg_codes, crate::specs::Walked::link_codes))]
 pub fn expr(
     alloc: Global,
     known: &Known<'_>,
@@ -39,7 +39,7 @@ pub fn expr(
     tree: &Expr,
     draft: &mut Draft<'_>,
 ) -> Result<Operand, CodeFault>
-    ensures { Gives ((expr_code (tables_by known.now) owner tree.now).read.run
+    ensures { GivesAsRun ((expr_code (tables_by known.now) owner tree.now).read.run
         (making_of draft.old)) result draft.new }
 {
     match tree {
@@ -106,7 +106,7 @@ fn arguments(
     args: &[Arg],
     draft: &mut Draft<'_>,
 ) -> Result<OperandList, CodeFault>
-    ensures { Gives ((args_read (arg_codes (tables_by known.now) owner args.now)).run
+    ensures { GivesAsRun ((args_read (arg_codes (tables_by known.now) owner args.now)).run
         (making_of draft.old)) result draft.new }
 {
     let mut operands = ListOf::new(alloc);
@@ -127,7 +127,7 @@ fn links(
     left: Operand,
     draft: &mut Draft<'_>,
 ) -> Result<Operand, CodeFault>
-    ensures { Gives ((links_read (link_codes (tables_by known.now) owner links.now) left).run
+    ensures { GivesAsRun ((links_read (link_codes (tables_by known.now) owner links.now) left).run
         (making_of draft.old)) result draft.new }
 {
     let mut value = left;
@@ -147,7 +147,7 @@ fn operator(
     left: Operand,
     draft: &mut Draft<'_>,
 ) -> Result<Operand, CodeFault>
-    ensures { Gives ((by_op link.now.op link.now.at
+    ensures { GivesAsRun ((by_op link.now.op link.now.at
         (expr_code (tables_by known.now) owner link.now.operand).read left).run
         (making_of draft.old)) result draft.new }
 {
@@ -178,7 +178,7 @@ fn binary(
     left: Operand,
     draft: &mut Draft<'_>,
 ) -> Result<Operand, CodeFault>
-    ensures { Gives ((binary at op ty (expr_code (tables_by known.now) owner right.now).read
+    ensures { GivesAsRun ((binary at op ty (expr_code (tables_by known.now) owner right.now).read
         left).run (making_of draft.old)) result draft.new }
 {
     let other = expr(alloc, known, owner, right, draft)?;
@@ -196,7 +196,7 @@ fn both(
     left: Operand,
     draft: &mut Draft<'_>,
 ) -> Result<Operand, CodeFault>
-    ensures { Gives ((both at (expr_code (tables_by known.now) owner right.now).read left).run
+    ensures { GivesAsRun ((both at (expr_code (tables_by known.now) owner right.now).read left).run
         (making_of draft.old)) result draft.new }
 {
     let dst = copied(at, left, draft)?;
@@ -221,7 +221,8 @@ fn either(
     left: Operand,
     draft: &mut Draft<'_>,
 ) -> Result<Operand, CodeFault>
-    ensures { Gives ((either at (expr_code (tables_by known.now) owner right.now).read left).run
+    ensures { GivesAsRun ((either at (expr_code (tables_by known.now) owner right.now).read
+        left).run
         (making_of draft.old)) result draft.new }
 {
     let dst = copied(at, left, draft)?;
@@ -248,7 +249,8 @@ fn right_in(
     merge: u32,
     draft: &mut Draft<'_>,
 ) -> Result<Operand, CodeFault>
-    ensures { Gives ((right_in at dst (expr_code (tables_by known.now) owner right.now).read own
+    ensures { GivesAsRun ((right_in at dst (expr_code (tables_by known.now) owner right.now).read
+        own
         merge).run (making_of draft.old)) result draft.new }
 {
     draft.resume(own)?;
@@ -273,7 +275,7 @@ fn member(
     at: u32,
     draft: &mut Draft<'_>,
 ) -> Result<Operand, CodeFault>
-    ensures { Gives ((member_read (tables_by known.now) owner at
+    ensures { GivesAsRun ((member_read (tables_by known.now) owner at
         (expr_code (tables_by known.now) owner base.now)
         ((tables_by known.now).answers.meaning_at at)).run (making_of draft.old))
         result draft.new }
@@ -309,7 +311,7 @@ fn part(
     number: u32,
     draft: &mut Draft<'_>,
 ) -> Result<Operand, CodeFault>
-    ensures { Gives ((read_of_base (tables_by known.now) owner at
+    ensures { GivesAsRun ((read_of_base (tables_by known.now) owner at
         (expr_code (tables_by known.now) owner base.now) number).run (making_of draft.old))
         result draft.new }
 {
@@ -328,7 +330,7 @@ fn call(
     args: &[Arg],
     draft: &mut Draft<'_>,
 ) -> Result<Operand, CodeFault>
-    ensures { Gives ((call_read (tables_by known.now) owner at
+    ensures { GivesAsRun ((call_read (tables_by known.now) owner at
         (arg_codes (tables_by known.now) owner args.now)
         ((tables_by known.now).answers.meaning_at at)).run (making_of draft.old))
         result draft.new }
@@ -374,7 +376,7 @@ fn held_called(
     closure: Operand,
     draft: &mut Draft<'_>,
 ) -> Result<Operand, CodeFault>
-    ensures { Gives ((held_called (tables_by known.now) at
+    ensures { GivesAsRun ((held_called (tables_by known.now) at
         (arg_codes (tables_by known.now) owner args.now) closure).run (making_of draft.old))
         result draft.new }
 {
@@ -403,7 +405,7 @@ fn method_called(
     receiver: Operand,
     draft: &mut Draft<'_>,
 ) -> Result<Operand, CodeFault>
-    ensures { Gives ((method_called (tables_by known.now) at number
+    ensures { GivesAsRun ((method_called (tables_by known.now) at number
         (arg_codes (tables_by known.now) owner args.now) receiver).run (making_of draft.old))
         result draft.new }
 {
@@ -424,7 +426,7 @@ fn case_made(
     args: &[Arg],
     draft: &mut Draft<'_>,
 ) -> Result<Operand, CodeFault>
-    ensures { Gives ((case_made at shape number
+    ensures { GivesAsRun ((case_made at shape number
         (arg_codes (tables_by known.now) owner args.now)).run (making_of draft.old))
         result draft.new }
 {

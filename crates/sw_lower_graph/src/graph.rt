@@ -1,33 +1,33 @@
 //! The graph of a program.
 ghost use Rattle.std.specs.Prelude.{◌≡◌, List, None, map, IfOk};
-ghost use Rattle.sw_lower.specs.capture.Known.{answers_of};
+ghost use Rattle.sw_isolation_table.specs.Known.{answers_of};
 ghost use Rattle.sw_decls.specs.Declaring.{IsDeclared, IsFirstBreach};
 ghost use Rattle.sw_decls.specs.declared.declaring.Decls.{Decls};
 ghost use Rattle.sw_decls.specs.declared.signature.AsyncDefault.{AsyncDefault};
 ghost use Rattle.sw_graph.specs.WellFormed.{IsWellFormed};
 ghost use Rattle.sw_lower.specs.Lowered.{IsLowering};
 ghost use Rattle.sw_lower.specs.declared.lowering.Lowering.{Lowering};
-ghost use Rattle.sw_lower.specs.lower_known.Knowledge.{isolation_of};
+ghost use Rattle.sw_lower_known.specs.Knowledge.{isolation_of};
 ghost use Rattle.sw_tree.specs.CasePlaces.{CasesApart};
-ghost use Rattle.sw_lower_table.specs.Bodies.{Lowered, global_kind, tables_of};
-ghost use Rattle.sw_lower_table.specs.Tables.{Isolation};
+ghost use Rattle.sw_lower_rules.specs.Bodies.{Lowered, global_kind, tables_of};
+ghost use Rattle.sw_lower_rules.specs.Tables.{Isolation};
 ghost use Rattle.sw_tree.specs.Contents.{AreKeyed};
 ghost use Rattle.sw_tree.specs.declared.decl.Decl.{Decl};
-ghost use Rattle.sw_typing.specs.Typed.{IsTyped};
-ghost use Rattle.sw_typing.specs.declared.answers.Typed.{Typed};
+ghost use Rattle.sw_typing_table.specs.Typed.{IsTyped};
+ghost use Rattle.sw_typing_table.specs.declared.typed.Typed.{Typed};
 ghost use Rattle.sw_typing_rules.specs.Programs.{IsFirstIll};
 ghost use Rattle.sw_typing_rules.specs.Worlds.{world_of};
 
 use std::alloc::{AllocError, Global};
 use sw_decls::{Decls, GlobalVar};
 use sw_graph::{Functions, GlobalKind, GlobalKinds, Graph};
+use sw_isolation_table::{Isolated, answers_are_those_of_the_program};
 use sw_list::ListOf;
 use sw_lower::Lowering;
-use sw_lower::isolation::{Isolated, answers_are_those_of_the_program};
-use sw_lower_safe::programs_have_well_formed_graphs;
+use sw_lower_formed_facts::programs_have_well_formed_graphs;
 use sw_tree::Program;
-use sw_typing::Typed;
 use sw_typing_rules::programs_have_one_world;
+use sw_typing_table::Typed;
 use sw_typing_words::copy_of;
 
 /// What a graph knows of a global variable.

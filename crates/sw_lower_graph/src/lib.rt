@@ -5,4 +5,3 @@
 mod graph;
 
 pub use graph::graph_of;
-pub use sw_lower as lower;

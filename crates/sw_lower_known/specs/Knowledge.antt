@@ -3,10 +3,10 @@ use Rattle.std.specs.Prelude.{[], nat_eq, slice_get}
 use Rattle.std.specs.Option.{unwrap_or}
 use Rattle.indexmap.specs.IndexMap.{get}
 use Rattle.indexmap.specs.IndexSet.{contains}
-use Rattle.sw_isolation.specs.capture.Known.{answers_of}
-use Rattle.sw_isolation.specs.declared.isolated.Isolated.{Isolated}
+use Rattle.sw_isolation_table.specs.Known.{answers_of}
+use Rattle.sw_isolation_table.specs.declared.isolated.Isolated.{Isolated}
 use Rattle.sw_typing_rules.specs.Worlds.{and_then, world_of}
-use Rattle.sw_lower_table.specs.Tables.{Isolation, Tables, isolation_by}
+use Rattle.sw_lower_rules.specs.Tables.{Isolation, Tables, isolation_by}
 use Rattle.sw_lower_known.specs.declared.known.Known.{Known}
 
 -- what is known of the isolation of a program

@@ -1,2 +1,1 @@
 pub mod Knowledge
-pub use Rattle.sw_isolation.specs.capture

@@ -1,26 +1,26 @@
 //! What is known of a program, by key.
 ghost use Rattle.std.specs.Prelude.{◌≡◌, Option, slice_get, IfOk};
 ghost use Rattle.std.specs.Option.{option_copied, option_map};
-ghost use Rattle.sw_isolation.specs.capture.Known.{answers_of};
+ghost use Rattle.sw_isolation_table.specs.Known.{answers_of};
 ghost use Rattle.sw_isolation_rules.specs.Captures.{is_among, self_of};
 ghost use Rattle.sw_isolation_rules.specs.Programs.{func_at};
 ghost use Rattle.sw_isolation_rules.specs.Uses.{maker_at, named_shape};
 ghost use Rattle.sw_lower_known.specs.Knowledge.{isolation_of, tables_by};
-ghost use Rattle.sw_lower_table.specs.Bodies.{tables_of};
-ghost use Rattle.sw_lower_table.specs.Uses.{self_key};
+ghost use Rattle.sw_lower_rules.specs.Bodies.{tables_of};
+ghost use Rattle.sw_lower_rules.specs.Uses.{self_key};
 ghost use Rattle.sw_typing_rules.specs.Worlds.{world_of};
 
 use crate::tables::{boxes_of, groups_of, isolations_of, part_keys_of};
 use indexmap::{IndexMap, IndexSet};
 use std::alloc::{AllocError, Global};
 use sw_decls::{Decls, GlobalVar, Signature};
-use sw_isolation::Isolated;
-use sw_isolation::typing::Typed;
 use sw_isolation_rules::{BodyIso, Capture};
+use sw_isolation_table::Isolated;
 use sw_list::ListOf;
 use sw_tree::Decl;
 use sw_types::{CallKind, Shape, Ty};
 use sw_typing_rules::Meaning;
+use sw_typing_table::Typed;
 
 /// What is known of a program.
 #[derive(Drop)]
@@ -175,7 +175,7 @@ impl<'a> Known<'a> {
     }
 
     /// The key of `self` in a member of the type with this number: the word of the type.
-    #[tactic(auto, unfolding(crate::specs::Knowledge::tables_by, sw_lower_table::specs::Uses::self_key))]
+    #[tactic(auto, unfolding(crate::specs::Knowledge::tables_by, sw_lower_rules::specs::Uses::self_key))]
     pub fn self_key(&self, owner: Option<u32>) -> Option<u32>
         ensures { result ≡ self_key (tables_by self.now) owner }
     {

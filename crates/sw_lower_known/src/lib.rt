@@ -7,5 +7,3 @@ mod known;
 mod tables;
 
 pub use known::Known;
-pub use sw_isolation as isolation;
-pub use sw_isolation::{typing, uses};

@@ -7,12 +7,12 @@ ghost use Rattle.indexmap.specs.IndexMap.{get};
 ghost use Rattle.indexmap.specs.IndexSet.{contains};
 ghost use Rattle.sw_isolation_rules.specs.Captures.{is_among};
 ghost use Rattle.sw_isolation_rules.specs.declared.note.Capture.{Capture};
-ghost use Rattle.sw_lower_table.specs.Tables.{body_with, prop_keys, shape_keys};
+ghost use Rattle.sw_lower_rules.specs.Tables.{body_with, prop_keys, shape_keys};
 
 use indexmap::{IndexMap, IndexSet};
 use std::alloc::{AllocError, Global};
-use sw_isolation::note_first;
 use sw_isolation_rules::{BodyIso, Capture};
+use sw_isolation_table::note_first;
 use sw_list::ListOf;
 use sw_tree::{Decl, PropTree};
 

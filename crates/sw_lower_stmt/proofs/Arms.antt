@@ -1,13 +1,13 @@
 -- The arms of an `if`, one after the other, are those that stand in one another.
 use Rattle.std.proofs.Common.{◌≡◌, ℕ, List, [], ◌∷◌, ◌++◌, Ok, Err, refl, ap, sym, ◌∙◌}
 use Rattle.sw_graph.specs.declared.instr.Last.TheVariants as last
-use Rattle.sw_lower_run.specs.Run.{Making, Run, run_after}
-use Rattle.sw_lower_run.specs.declared.fault.CodeFault.{CodeFault}
+use Rattle.sw_lower_plans.specs.Run.{Making, Run, run_after}
+use Rattle.sw_lower_plans.specs.declared.fault.CodeFault.{CodeFault}
 use Rattle.sw_lower_code.specs.Code.{Code, andthen, close, done, each, resume, ◌>>=◌, ◌>>◌}
-use Rattle.sw_lower_table.specs.Carriers.{IfCode}
-use Rattle.sw_lower_table.specs.Expressions.{block_made, jump}
-use Rattle.sw_lower_table.specs.Statements.{arms_code}
-use Rattle.sw_lower_table.specs.declared.targets.Targets.{Targets}
+use Rattle.sw_lower_rules.specs.Carriers.{IfCode}
+use Rattle.sw_lower_rules.specs.Expressions.{block_made, jump}
+use Rattle.sw_lower_rules.specs.Statements.{arms_code}
+use Rattle.sw_lower_rules.specs.declared.targets.Targets.{Targets}
 use Rattle.sw_lower_stmt.proofs.Loops.{Outcome, after_then, done_then, then_then}
 use Rattle.sw_lower_stmt.specs.Parts.{arm_opened, joined_all, joined_in}
 

@@ -10,11 +10,11 @@ use Rattle.sw_tree.specs.declared.stmt.CaseArm.{CaseArm, out-CaseArm}
 use Rattle.sw_graph.specs.declared.instr.Operand.{Operand}
 use Rattle.sw_types.specs.declared.shape.CaseShape.{CaseShape}
 use Rattle.sw_types.specs.declared.shape.Shape.{Shape}
-use Rattle.sw_lower_run.specs.Run.{Making, Run, run_after, run_block, run_known}
+use Rattle.sw_lower_plans.specs.Run.{Making, Run, run_after, run_block, run_known}
 use Rattle.sw_lower_code.specs.Code.{andthen, block_for, done, each, known}
-use Rattle.sw_lower_table.specs.Statements.{Arm, arm_block, block_of, case_from, code_steps}
-use Rattle.sw_lower_table.specs.Statements.{switch_to}
-use Rattle.sw_lower_table.specs.Tables.{Tables}
+use Rattle.sw_lower_rules.specs.Statements.{Arm, arm_block, block_of, case_from, code_steps}
+use Rattle.sw_lower_rules.specs.Statements.{switch_to}
+use Rattle.sw_lower_rules.specs.Tables.{Tables}
 use Rattle.sw_lower_stmt.proofs.Loops.{after_then}
 use Rattle.sw_lower_stmt.specs.Parts.{arm_number, block_named, case_code, case_codes}
 use Rattle.sw_lower_stmt.specs.Parts.{goes_to, numbered}

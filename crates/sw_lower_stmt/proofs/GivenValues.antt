@@ -5,14 +5,14 @@ use Rattle.std.proofs.lemmas.List.{at_drop_all}
 use Rattle.sw_tree.proofs.FoldEquations as eq
 use Rattle.sw_tree.specs.declared.stmt.Block.{Block, out-Block}
 use Rattle.sw_tree.specs.declared.stmt.Stmt.{Stmt}
-use Rattle.sw_lower_run.specs.Run.{Making, run_after}
-use Rattle.sw_lower_run.specs.declared.fault.CodeFault.{CodeFault}
-use Rattle.sw_lower_table.specs.Bodies.{GivenValue, give_value}
-use Rattle.sw_lower_table.specs.Statements.{block_code, code_steps, stmt_code}
-use Rattle.sw_lower_table.specs.Tables.{Tables}
+use Rattle.sw_lower_plans.specs.Run.{Making, run_after}
+use Rattle.sw_lower_plans.specs.declared.fault.CodeFault.{CodeFault}
+use Rattle.sw_lower_rules.specs.Bodies.{GivenValue, give_value}
+use Rattle.sw_lower_rules.specs.Statements.{block_code, code_steps, stmt_code}
+use Rattle.sw_lower_rules.specs.Tables.{Tables}
 use Rattle.sw_lower_stmt.proofs.Loops.{Outcome, each_append, next_item}
 use Rattle.sw_lower_stmt.specs.Parts.{gives_of}
-use Rattle.sw_lower_expr.specs.lower_uses.Gathering.{each_after}
+use Rattle.sw_lower_uses.specs.Gathering.{each_after}
 
 module _ (tables : Tables) (owner : Option ℕ) where
   -- what a block gives is what its statements give

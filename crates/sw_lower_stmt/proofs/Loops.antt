@@ -2,10 +2,10 @@
 use Rattle.std.proofs.Common.{◌≡◌, ◌+◌, ◌<◌, ◌≤◌, ℕ, List, [], ◌∷◌, ◌++◌, Result, Ok, Err, refl, ap}
 use Rattle.std.proofs.Common.{append_assoc, drop, get_or, length, map, sym, take, ◌∙◌}
 use Rattle.std.proofs.lemmas.List.{at_drop_all, drop_more}
-use Rattle.sw_lower_run.specs.Run.{Making, Run, run_after, with_vars}
-use Rattle.sw_lower_run.specs.declared.fault.CodeFault.{CodeFault}
+use Rattle.sw_lower_plans.specs.Run.{Making, Run, run_after, with_vars}
+use Rattle.sw_lower_plans.specs.declared.fault.CodeFault.{CodeFault}
 use Rattle.sw_lower_code.specs.Code.{Code, all, andthen, done, scope, ◌>>=◌}
-use Rattle.sw_lower_expr.specs.lower_uses.Gathering.{each_after}
+use Rattle.sw_lower_uses.specs.Gathering.{each_after}
 
 -- what a run gives
 abbrev pub Outcome : Type 0 → Type 0

@@ -4,11 +4,11 @@ use Rattle.std.proofs.Common.{◌∙◌}
 use Rattle.std.proofs.lemmas.List.{at_drop_all, drop_more}
 use Rattle.sw_tree.specs.declared.stmt.Pattern.{Pattern}
 use Rattle.sw_graph.specs.declared.instr.Operand.{Operand}
-use Rattle.sw_lower_run.specs.Run.{Making, run_after}
-use Rattle.sw_lower_run.specs.declared.fault.CodeFault.{CodeFault}
+use Rattle.sw_lower_plans.specs.Run.{Making, run_after}
+use Rattle.sw_lower_plans.specs.declared.fault.CodeFault.{CodeFault}
 use Rattle.sw_lower_code.specs.Code.{andthen, done}
-use Rattle.sw_lower_table.specs.Statements.{pattern_code, patterns_code}
-use Rattle.sw_lower_table.specs.Tables.{Tables}
+use Rattle.sw_lower_rules.specs.Statements.{pattern_code, patterns_code}
+use Rattle.sw_lower_rules.specs.Tables.{Tables}
 use Rattle.sw_lower_stmt.proofs.Loops.{Outcome}
 
 module _ (tables : Tables) (subject : Operand) (xs : List Pattern) (i : ℕ) (s : Making)

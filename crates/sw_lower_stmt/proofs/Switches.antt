@@ -7,14 +7,14 @@ use Rattle.sw_tree.specs.declared.stmt.CaseArm.{CaseArm}
 use Rattle.sw_graph.specs.declared.instr.Last.TheVariants as last
 use Rattle.sw_graph.specs.declared.instr.Operand.{Operand}
 use Rattle.sw_types.specs.declared.shape.Shape.{Shape}
-use Rattle.sw_lower_run.specs.Run.{Making, run_after}
+use Rattle.sw_lower_plans.specs.Run.{Making, run_after}
 use Rattle.sw_lower_code.specs.Code.{Code, all, andthen, close, each, resume, ◌>>=◌, ◌>>◌}
-use Rattle.sw_lower_table.specs.Expressions.{block_made}
-use Rattle.sw_lower_table.specs.Statements.{Arm, arm_block, arm_code, default_block, default_code}
-use Rattle.sw_lower_table.specs.Statements.{expr_code, switch_code, switch_to}
-use Rattle.sw_lower_table.specs.Tables.{Tables}
-use Rattle.sw_lower_table.specs.Uses.{shape_at, shape_of}
-use Rattle.sw_lower_table.specs.declared.targets.Targets.{Targets}
+use Rattle.sw_lower_rules.specs.Expressions.{block_made}
+use Rattle.sw_lower_rules.specs.Statements.{Arm, arm_block, arm_code, default_block, default_code}
+use Rattle.sw_lower_rules.specs.Statements.{expr_code, switch_code, switch_to}
+use Rattle.sw_lower_rules.specs.Tables.{Tables}
+use Rattle.sw_lower_rules.specs.Uses.{shape_at, shape_of}
+use Rattle.sw_lower_rules.specs.declared.targets.Targets.{Targets}
 use Rattle.sw_lower_stmt.proofs.CaseArms.{arms_numbered, goes}
 use Rattle.sw_lower_stmt.proofs.Loops.{after_then, done_then, then_same, then_then}
 use Rattle.sw_lower_stmt.specs.Parts.{arm_number, blocks_opened, case_codes}

@@ -7,12 +7,12 @@ use Rattle.sw_tree.specs.declared.stmt.CaseArm.{CaseArm}
 use Rattle.sw_tree.specs.declared.stmt.IfArm.{IfArm}
 use Rattle.sw_tree.specs.declared.stmt.Stmt.{Stmt}
 use Rattle.sw_tree.specs.declared.stmt.Stmt.TheVariants as stmts
-use Rattle.sw_lower_run.specs.Run.{Making}
+use Rattle.sw_lower_plans.specs.Run.{Making}
 use Rattle.sw_lower_code.specs.Code.{all, each, scope, ◌>>=◌, ◌>>◌}
-use Rattle.sw_lower_table.specs.Carriers.{StmtCode}
-use Rattle.sw_lower_table.specs.Statements.{block_code, code_steps, else_code, expr_code, stmt_code}
-use Rattle.sw_lower_table.specs.Tables.{Tables}
-use Rattle.sw_lower_table.specs.declared.targets.Targets.{Targets}
+use Rattle.sw_lower_rules.specs.Carriers.{StmtCode}
+use Rattle.sw_lower_rules.specs.Statements.{block_code, code_steps, else_code, expr_code, stmt_code}
+use Rattle.sw_lower_rules.specs.Tables.{Tables}
+use Rattle.sw_lower_rules.specs.declared.targets.Targets.{Targets}
 use Rattle.sw_lower_stmt.proofs.Arms.{arms_split}
 use Rattle.sw_lower_stmt.proofs.Switches.{switch_is}
 use Rattle.sw_lower_stmt.specs.Parts.{arm_opened, case_code, if_arm_code, if_codes, joined_all}

@@ -1,7 +1,7 @@
 -- The values that an initialiser's statements give, as a list of the code's own.
 use Rattle.std.specs.Prelude.{List, map, Result, Ok, Err}
-use Rattle.sw_lower_run.specs.declared.fault.CodeFault.{CodeFault}
-use Rattle.sw_lower_table.specs.Bodies.{GivenValue}
+use Rattle.sw_lower_plans.specs.declared.fault.CodeFault.{CodeFault}
+use Rattle.sw_lower_rules.specs.Bodies.{GivenValue}
 use Rattle.sw_lower_stmt.specs.declared.givens.GivenOperand.{GivenOperand}
 
 abbrev pub value_given : GivenOperand → GivenValue

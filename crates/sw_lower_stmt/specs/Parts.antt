@@ -19,17 +19,17 @@ use Rattle.sw_graph.specs.declared.instr.Instr.TheVariants as instr
 use Rattle.sw_graph.specs.declared.instr.Last.{Last}
 use Rattle.sw_graph.specs.declared.instr.Last.TheVariants as last
 use Rattle.sw_graph.specs.declared.instr.Operand.{Operand}
-use Rattle.sw_lower_run.specs.Plan.{OfCase}
+use Rattle.sw_lower_plans.specs.Plan.{OfCase}
 use Rattle.sw_lower_code.specs.Code.{Code, all, bind, block_for, close, done, each, emit, known}
 use Rattle.sw_lower_code.specs.Code.{reg, resume, ◌>>=◌, ◌>>◌}
-use Rattle.sw_lower_table.specs.Carriers.{BlockCode, CaseCode, Given, IfCode, StmtCode}
-use Rattle.sw_lower_table.specs.Expressions.{block_made, jump}
-use Rattle.sw_lower_table.specs.Statements.{Arm, arm_code, block_code, case_from, code_steps}
-use Rattle.sw_lower_table.specs.Statements.{default_code, expr_code, in_new_block, patterns_code}
-use Rattle.sw_lower_table.specs.Statements.{stmt_code}
-use Rattle.sw_lower_table.specs.Tables.{Tables}
-use Rattle.sw_lower_table.specs.Uses.{shape_at, shape_of}
-use Rattle.sw_lower_table.specs.declared.targets.Targets.{Targets}
+use Rattle.sw_lower_rules.specs.Carriers.{BlockCode, CaseCode, Given, IfCode, StmtCode}
+use Rattle.sw_lower_rules.specs.Expressions.{block_made, jump}
+use Rattle.sw_lower_rules.specs.Statements.{Arm, arm_code, block_code, case_from, code_steps}
+use Rattle.sw_lower_rules.specs.Statements.{default_code, expr_code, in_new_block, patterns_code}
+use Rattle.sw_lower_rules.specs.Statements.{stmt_code}
+use Rattle.sw_lower_rules.specs.Tables.{Tables}
+use Rattle.sw_lower_rules.specs.Uses.{shape_at, shape_of}
+use Rattle.sw_lower_rules.specs.declared.targets.Targets.{Targets}
 use Rattle.sw_lower_stmt.specs.declared.cases.OpenSwitch.{OpenSwitch}
 
 -- the block that goes on ends so, and a new one goes on

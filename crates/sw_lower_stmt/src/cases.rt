@@ -1,22 +1,22 @@
 //! The blocks of a `switch`, and where it goes.
-#![tactic(auto, unfolding(crate::specs::Parts::arm_number, crate::specs::Parts::blocks_opened, crate::specs::Parts::switch_opened, sw_lower_code::specs::Code::andthen, sw_lower_code::specs::Code::block_for, sw_lower_code::specs::Code::close, sw_lower_code::specs::Code::done, sw_lower_code::specs::Code::known, sw_lower_table::specs::Uses::shape_at, sw_lower_table::specs::Uses::shape_of))]
+#![tactic(auto, unfolding(crate::specs::Parts::arm_number, crate::specs::Parts::blocks_opened, crate::specs::Parts::switch_opened, sw_lower_code::specs::Code::andthen, sw_lower_code::specs::Code::block_for, sw_lower_code::specs::Code::close, sw_lower_code::specs::Code::done, sw_lower_code::specs::Code::known, sw_lower_rules::specs::Uses::shape_at, sw_lower_rules::specs::Uses::shape_of))]
 
 ghost use Rattle.std.specs.Prelude.{◌≡◌, ℕ, Option, IfOk};
-ghost use Rattle.sw_draft.specs.Drafts.{Gives, making_of};
+ghost use Rattle.sw_lower_draft.specs.Drafts.{GivesAsRun, making_of};
 ghost use Rattle.sw_lower_code.specs.Code.{each};
-ghost use Rattle.sw_lower_expr.specs.lower_known.Knowledge.{tables_by};
+ghost use Rattle.sw_lower_known.specs.Knowledge.{tables_by};
 ghost use Rattle.sw_lower_stmt.specs.Parts.{arm_number, block_named, blocks_opened};
 ghost use Rattle.sw_lower_stmt.specs.Parts.{default_number, goes_to, switch_opened};
-ghost use Rattle.sw_lower_table.specs.Statements.{case_from};
+ghost use Rattle.sw_lower_rules.specs.Statements.{case_from};
 
 use std::alloc::{AllocError, Global};
-use sw_draft::Draft;
 use sw_graph::{IdList, Last, Operand};
 use sw_list::ListOf;
-use sw_lower_expr::lower_known::Known;
-use sw_lower_expr::lower_uses::{shape_at, shape_of};
+use sw_lower_draft::Draft;
 use sw_lower_expr::{expr, key_of};
-use sw_lower_run::CodeFault;
+use sw_lower_known::Known;
+use sw_lower_plans::CodeFault;
+use sw_lower_uses::{shape_at, shape_of};
 use sw_tree::{Block, CaseArm, Expr};
 use sw_types::{CaseShape, Shape};
 
@@ -51,7 +51,7 @@ fn arm_number(
     arm: &CaseArm,
     draft: &mut Draft<'_>,
 ) -> Result<u32, CodeFault>
-    ensures { Gives ((arm_number subject number shape.now arm.now).run (making_of draft.old))
+    ensures { GivesAsRun ((arm_number subject number shape.now arm.now).run (making_of draft.old))
         result draft.new }
 {
     case_number(shape.cases.as_slice(), arm.name.id).ok_or(CodeFault::Memory)?;
@@ -67,7 +67,7 @@ fn arm_numbers(
     arms: &[CaseArm],
     draft: &mut Draft<'_>,
 ) -> Result<IdList, CodeFault>
-    ensures { Gives ((each (arm_number subject number shape.now) arms.now).run
+    ensures { GivesAsRun ((each (arm_number subject number shape.now) arms.now).run
         (making_of draft.old)) result draft.new }
 {
     let mut blocks = ListOf::new(alloc);
@@ -79,7 +79,7 @@ fn arm_numbers(
 
 /// Makes the block of `default`, where there is one.
 fn default_number(tree: &Option<Block>, draft: &mut Draft<'_>) -> Result<Option<u32>, CodeFault>
-    ensures { Gives ((default_number tree.now).run (making_of draft.old)) result draft.new }
+    ensures { GivesAsRun ((default_number tree.now).run (making_of draft.old)) result draft.new }
 {
     match tree {
         None => Ok(None),
@@ -128,7 +128,7 @@ fn open_blocks(
     otherwise: &Option<Block>,
     draft: &mut Draft<'_>,
 ) -> Result<OpenSwitch, CodeFault>
-    ensures { Gives ((blocks_opened subject number shape.now arms.now otherwise.now).run
+    ensures { GivesAsRun ((blocks_opened subject number shape.now arms.now otherwise.now).run
         (making_of draft.old)) result draft.new }
 {
     let blocks = arm_numbers(alloc, subject, number, shape, arms, draft)?;
@@ -155,7 +155,7 @@ pub fn open_switch(
     otherwise: &Option<Block>,
     draft: &mut Draft<'_>,
 ) -> Result<OpenSwitch, CodeFault>
-    ensures { Gives ((switch_opened (tables_by known.now) owner subject.now arms.now
+    ensures { GivesAsRun ((switch_opened (tables_by known.now) owner subject.now arms.now
         otherwise.now).run (making_of draft.old)) result draft.new }
 {
     let given = expr(alloc, known, owner, subject, draft)?;

@@ -1,20 +1,20 @@
 //! The values that an initialiser gives its properties.
 ghost use Rattle.std.specs.Prelude.{◌≡◌, ℕ, Option};
-ghost use Rattle.sw_draft.specs.Drafts.{Gives, making_of};
-ghost use Rattle.sw_lower_expr.specs.lower_known.Knowledge.{tables_by};
+ghost use Rattle.sw_lower_draft.specs.Drafts.{GivesAsRun, making_of};
+ghost use Rattle.sw_lower_known.specs.Knowledge.{tables_by};
 ghost use Rattle.sw_lower_stmt.specs.Giving.{values_given, with_values};
-ghost use Rattle.sw_lower_table.specs.Bodies.{give_value};
-ghost use Rattle.sw_lower_table.specs.Statements.{block_code, expr_code, given_part, stmt_code};
-ghost use Rattle.sw_lower_table.specs.Tables.{Tables};
-ghost use Rattle.sw_lower_expr.specs.lower_uses.Gathering.{each_after};
+ghost use Rattle.sw_lower_rules.specs.Bodies.{give_value};
+ghost use Rattle.sw_lower_rules.specs.Statements.{block_code, expr_code, given_part, stmt_code};
+ghost use Rattle.sw_lower_rules.specs.Tables.{Tables};
+ghost use Rattle.sw_lower_uses.specs.Gathering.{each_after};
 
 use std::alloc::Global;
-use sw_draft::Draft;
 use sw_graph::Operand;
 use sw_list::ListOf;
+use sw_lower_draft::Draft;
 use sw_lower_expr::expr;
-use sw_lower_expr::lower_known::Known;
-use sw_lower_run::CodeFault;
+use sw_lower_known::Known;
+use sw_lower_plans::CodeFault;
 use sw_tree::{Block, Expr, Stmt};
 
 /// The value that a property got, by the id of its name.
@@ -25,7 +25,7 @@ pub struct GivenOperand {
 }
 
 /// Whether it is the word `self`.
-#[tactic(auto, unfolding(sw_lower_table::specs::Statements::expr_code))]
+#[tactic(auto, unfolding(sw_lower_rules::specs::Statements::expr_code))]
 fn is_self(tree: &Expr) -> bool
     ensures { (tables : Tables) (owner : Option ℕ)
         → result ≡ (expr_code tables owner tree.now).is_self }
@@ -48,7 +48,7 @@ fn is_self(tree: &Expr) -> bool
 }
 
 /// The property where it is one of the word `self`, by the id of its name.
-#[tactic(auto, unfolding(sw_lower_table::specs::Statements::expr_code))]
+#[tactic(auto, unfolding(sw_lower_rules::specs::Statements::expr_code))]
 fn own_part(tree: &Expr) -> Option<u32>
     ensures { (tables : Tables) (owner : Option ℕ)
         → result ≡ (expr_code tables owner tree.now).own_part }
@@ -81,7 +81,7 @@ fn give_part(
     values: &mut ListOf<GivenOperand>,
     draft: &mut Draft<'_>,
 ) -> Result<(), CodeFault>
-    ensures { Gives (each_after give_value
+    ensures { GivesAsRun (each_after give_value
         (given_part (expr_code (tables_by known.now) owner place.now).own_part
         (expr_code (tables_by known.now) owner value.now).read)
         (values_given values.old) (making_of draft.old)) (with_values result values.new) draft.new }
@@ -94,7 +94,7 @@ fn give_part(
 }
 
 /// What a statement gives.
-#[tactic(auto, unfolding(sw_lower_table::specs::Statements::expr_code, sw_lower_table::specs::Statements::stmt_code))]
+#[tactic(auto, unfolding(sw_lower_rules::specs::Statements::expr_code, sw_lower_rules::specs::Statements::stmt_code))]
 fn give(
     alloc: Global,
     known: &Known<'_>,
@@ -103,7 +103,8 @@ fn give(
     values: &mut ListOf<GivenOperand>,
     draft: &mut Draft<'_>,
 ) -> Result<(), CodeFault>
-    ensures { Gives (each_after give_value (stmt_code (tables_by known.now) owner tree.now).gives
+    ensures { GivesAsRun (each_after give_value
+        (stmt_code (tables_by known.now) owner tree.now).gives
         (values_given values.old) (making_of draft.old)) (with_values result values.new) draft.new }
 {
     match tree {
@@ -132,7 +133,8 @@ pub fn give_values(
     values: &mut ListOf<GivenOperand>,
     draft: &mut Draft<'_>,
 ) -> Result<(), CodeFault>
-    ensures { Gives (each_after give_value (block_code (tables_by known.now) owner tree.now).gives
+    ensures { GivesAsRun (each_after give_value
+        (block_code (tables_by known.now) owner tree.now).gives
         (values_given values.old) (making_of draft.old)) (with_values result values.new) draft.new }
 {
     for one in tree.stmts.as_slice() {

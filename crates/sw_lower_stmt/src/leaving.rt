@@ -2,19 +2,19 @@
 #![tactic(auto, unfolding(crate::specs::Parts::ended, sw_lower_code::specs::Code::andthen, sw_lower_code::specs::Code::block_for, sw_lower_code::specs::Code::close, sw_lower_code::specs::Code::known, sw_lower_code::specs::Code::resume))]
 
 ghost use Rattle.std.specs.Prelude.{◌≡◌};
-ghost use Rattle.sw_draft.specs.Drafts.{Gives, making_of};
-ghost use Rattle.sw_lower_expr.specs.lower_known.Knowledge.{tables_by};
-ghost use Rattle.sw_lower_run.specs.Run.{run_close};
+ghost use Rattle.sw_lower_draft.specs.Drafts.{GivesAsRun, making_of};
+ghost use Rattle.sw_lower_known.specs.Knowledge.{tables_by};
+ghost use Rattle.sw_lower_plans.specs.Run.{run_close};
 ghost use Rattle.sw_lower_stmt.specs.Parts.{ended, left_for, read_of};
-ghost use Rattle.sw_lower_table.specs.Expressions.{jump};
-ghost use Rattle.sw_lower_table.specs.Statements.{return_code};
+ghost use Rattle.sw_lower_rules.specs.Expressions.{jump};
+ghost use Rattle.sw_lower_rules.specs.Statements.{return_code};
 
 use std::alloc::Global;
-use sw_draft::Draft;
 use sw_graph::Last;
+use sw_lower_draft::Draft;
 use sw_lower_expr::expr;
-use sw_lower_expr::lower_known::Known;
-use sw_lower_run::CodeFault;
+use sw_lower_known::Known;
+use sw_lower_plans::CodeFault;
 use sw_tree::Expr;
 
 /// Ends the block that goes on with a jump.
@@ -26,7 +26,7 @@ pub fn jump(to: u32, draft: &mut Draft<'_>)
 
 /// Ends the block that goes on, and goes on with a new one.
 fn end(last: Last, draft: &mut Draft<'_>) -> Result<(), CodeFault>
-    ensures { Gives ((ended last).run (making_of draft.old)) result draft.new }
+    ensures { GivesAsRun ((ended last).run (making_of draft.old)) result draft.new }
 {
     draft.close(last);
     let number = draft.block()?;
@@ -41,7 +41,7 @@ pub fn give_back(
     value: &Option<Expr>,
     draft: &mut Draft<'_>,
 ) -> Result<(), CodeFault>
-    ensures { Gives ((return_code (tables_by known.now)
+    ensures { GivesAsRun ((return_code (tables_by known.now)
         (read_of (tables_by known.now) owner value.now)).run (making_of draft.old))
         result draft.new }
 {
@@ -56,7 +56,7 @@ pub fn give_back(
 
 /// `break` or `continue`, with where it leads.
 pub fn leave(to: Option<u32>, draft: &mut Draft<'_>) -> Result<(), CodeFault>
-    ensures { Gives ((left_for to).run (making_of draft.old)) result draft.new }
+    ensures { GivesAsRun ((left_for to).run (making_of draft.old)) result draft.new }
 {
     let to = to.ok_or(CodeFault::Memory)?;
     end(Last::Jump { to }, draft)

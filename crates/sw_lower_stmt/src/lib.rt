@@ -12,5 +12,4 @@ mod walk;
 
 pub use bodies::body;
 pub use givens::{GivenOperand, give_values};
-pub use sw_lower_expr as lower_expr;
 pub use walk::block;

@@ -2,17 +2,17 @@
 #![tactic(auto, unfolding(sw_lower_code::specs::Code::andthen, sw_lower_code::specs::Code::done, sw_lower_code::specs::Code::emit, sw_lower_code::specs::Code::reg))]
 
 ghost use Rattle.std.specs.Prelude.{◌≡◌};
-ghost use Rattle.sw_draft.specs.Drafts.{Gives, making_of};
-ghost use Rattle.sw_lower_expr.specs.lower_known.Knowledge.{tables_by};
+ghost use Rattle.sw_lower_draft.specs.Drafts.{GivesAsRun, making_of};
+ghost use Rattle.sw_lower_known.specs.Knowledge.{tables_by};
 ghost use Rattle.sw_lower_stmt.specs.Parts.{op_of};
-ghost use Rattle.sw_lower_table.specs.Statements.{assign, assign_by, expr_code};
+ghost use Rattle.sw_lower_rules.specs.Statements.{assign, assign_by, expr_code};
 
 use std::alloc::Global;
-use sw_draft::Draft;
 use sw_graph::{BinOp, Instr, Operand, RegKind};
-use sw_lower_expr::lower_known::Known;
+use sw_lower_draft::Draft;
 use sw_lower_expr::{expr, write};
-use sw_lower_run::CodeFault;
+use sw_lower_known::Known;
+use sw_lower_plans::CodeFault;
 use sw_tree::{AssignOp, Expr};
 use sw_types::Ty;
 
@@ -41,7 +41,8 @@ fn assign_by(
     given: Operand,
     draft: &mut Draft<'_>,
 ) -> Result<(), CodeFault>
-    ensures { Gives ((assign_by at op (expr_code (tables_by known.now) owner place.now) given).run
+    ensures { GivesAsRun ((assign_by at op (expr_code (tables_by known.now) owner place.now)
+        given).run
         (making_of draft.old)) result draft.new }
 {
     let old = expr(alloc, known, owner, place, draft)?;
@@ -68,7 +69,7 @@ pub fn assign(
     given: Operand,
     draft: &mut Draft<'_>,
 ) -> Result<(), CodeFault>
-    ensures { Gives ((assign op at (expr_code (tables_by known.now) owner place.now) given).run
+    ensures { GivesAsRun ((assign op at (expr_code (tables_by known.now) owner place.now) given).run
         (making_of draft.old)) result draft.new }
 {
     match op_of(op) {

@@ -1,23 +1,23 @@
 //! Variables that statements and patterns declare.
-#![tactic(auto, unfolding(sw_lower_code::specs::Code::andthen, sw_lower_code::specs::Code::bind, sw_lower_code::specs::Code::done, sw_lower_code::specs::Code::emit, sw_lower_code::specs::Code::front, sw_lower_code::specs::Code::known, sw_lower_code::specs::Code::reg, sw_lower_table::specs::Statements::declare_var, sw_lower_table::specs::Uses::typed))]
+#![tactic(auto, unfolding(sw_lower_code::specs::Code::andthen, sw_lower_code::specs::Code::bind, sw_lower_code::specs::Code::done, sw_lower_code::specs::Code::emit, sw_lower_code::specs::Code::front, sw_lower_code::specs::Code::known, sw_lower_code::specs::Code::reg, sw_lower_rules::specs::Statements::declare_var, sw_lower_rules::specs::Uses::typed))]
 
-ghost use Rattle.sw_draft.specs.Drafts.{Gives, making_of};
-ghost use Rattle.sw_lower_expr.specs.lower_known.Knowledge.{tables_by};
+ghost use Rattle.sw_lower_draft.specs.Drafts.{GivesAsRun, making_of};
+ghost use Rattle.sw_lower_known.specs.Knowledge.{tables_by};
 ghost use Rattle.sw_lower_stmt.specs.Parts.{var_in_box, var_in_register};
-ghost use Rattle.sw_lower_table.specs.Statements.{declare_var, pattern_code, patterns_code};
+ghost use Rattle.sw_lower_rules.specs.Statements.{declare_var, pattern_code, patterns_code};
 
 use std::alloc::Global;
-use sw_draft::Draft;
 use sw_graph::{Instr, Operand, RegKind};
-use sw_lower_expr::lower_known::Known;
-use sw_lower_expr::lower_uses::{number_of, type_of};
-use sw_lower_run::{Bound, CodeFault};
+use sw_lower_draft::Draft;
+use sw_lower_known::Known;
+use sw_lower_plans::{Bound, CodeFault};
+use sw_lower_uses::{number_of, type_of};
 use sw_tree::Pattern;
 use sw_types::Ty;
 
 /// A variable in a box, with its first value.
 fn boxed_var(key: u32, given: Operand, ty: Ty, draft: &mut Draft<'_>) -> Result<(), CodeFault>
-    ensures { Gives ((var_in_box key given ty).run (making_of draft.old)) result draft.new }
+    ensures { GivesAsRun ((var_in_box key given ty).run (making_of draft.old)) result draft.new }
 {
     let dst = draft.reg(RegKind::BoxOf(ty))?;
     draft.emit(Instr::NewBox {
@@ -34,7 +34,7 @@ fn boxed_var(key: u32, given: Operand, ty: Ty, draft: &mut Draft<'_>) -> Result<
 
 /// A variable in a register of its own, with its first value.
 fn plain_var(key: u32, given: Operand, ty: Ty, draft: &mut Draft<'_>) -> Result<(), CodeFault>
-    ensures { Gives ((var_in_register key given ty).run (making_of draft.old)) result draft.new }
+    ensures { GivesAsRun ((var_in_register key given ty).run (making_of draft.old)) result draft.new }
 {
     let dst = draft.reg(RegKind::Plain(ty))?;
     draft.emit(Instr::Copy {
@@ -57,7 +57,7 @@ pub fn declare_var(
     given: Operand,
     draft: &mut Draft<'_>,
 ) -> Result<(), CodeFault>
-    ensures { Gives ((declare_var (tables_by known.now) key given).run (making_of draft.old))
+    ensures { GivesAsRun ((declare_var (tables_by known.now) key given).run (making_of draft.old))
         result draft.new }
 {
     let ty = type_of(alloc, known, key)?;
@@ -77,7 +77,7 @@ fn pattern(
     tree: &Pattern,
     draft: &mut Draft<'_>,
 ) -> Result<(), CodeFault>
-    ensures { Gives ((pattern_code (tables_by known.now) subject number tree.now).run
+    ensures { GivesAsRun ((pattern_code (tables_by known.now) subject number tree.now).run
         (making_of draft.old)) result draft.new }
 {
     match tree {
@@ -109,7 +109,7 @@ pub fn patterns(
     trees: &[Pattern],
     draft: &mut Draft<'_>,
 ) -> Result<(), CodeFault>
-    ensures { Gives ((patterns_code (tables_by known.now) subject 0 trees.now).run
+    ensures { GivesAsRun ((patterns_code (tables_by known.now) subject 0 trees.now).run
         (making_of draft.old)) result draft.new }
 {
     for (number, tree) in trees.iter().enumerate() {

@@ -1,34 +1,34 @@
 //! Statements and blocks at any depth.
-#![tactic(auto, unfolding(crate::specs::Parts::arm_opened, crate::specs::Parts::case_code, crate::specs::Parts::ended, crate::specs::Parts::if_arm_code, crate::specs::Parts::joined_in, sw_lower_code::specs::Code::andthen, sw_lower_code::specs::Code::block_for, sw_lower_code::specs::Code::close, sw_lower_code::specs::Code::done, sw_lower_code::specs::Code::resume, sw_lower_code::specs::Code::scope, sw_lower_table::specs::Statements::block_code, sw_lower_table::specs::Statements::expr_code, sw_lower_table::specs::Statements::stmt_code))]
+#![tactic(auto, unfolding(crate::specs::Parts::arm_opened, crate::specs::Parts::case_code, crate::specs::Parts::ended, crate::specs::Parts::if_arm_code, crate::specs::Parts::joined_in, sw_lower_code::specs::Code::andthen, sw_lower_code::specs::Code::block_for, sw_lower_code::specs::Code::close, sw_lower_code::specs::Code::done, sw_lower_code::specs::Code::resume, sw_lower_code::specs::Code::scope, sw_lower_rules::specs::Statements::block_code, sw_lower_rules::specs::Statements::expr_code, sw_lower_rules::specs::Statements::stmt_code))]
 
-ghost use Rattle.sw_draft.specs.Drafts.{Gives, making_of};
+ghost use Rattle.sw_lower_draft.specs.Drafts.{GivesAsRun, making_of};
 ghost use Rattle.sw_lower_code.specs.Code.{all, each};
-ghost use Rattle.sw_lower_expr.specs.lower_known.Knowledge.{tables_by};
+ghost use Rattle.sw_lower_known.specs.Knowledge.{tables_by};
 ghost use Rattle.sw_lower_stmt.specs.Parts.{arm_inside, arm_opened, case_code, if_arm_code};
 ghost use Rattle.sw_lower_stmt.specs.Parts.{if_codes, joined_all, joined_in, numbered};
 ghost use Rattle.sw_lower_stmt.specs.Parts.{otherwise_code, stmt_codes, switch_body};
-ghost use Rattle.sw_lower_table.specs.Carriers.{StmtCode};
-ghost use Rattle.sw_lower_table.specs.Statements.{arm_code, block_code, default_code};
-ghost use Rattle.sw_lower_table.specs.Statements.{else_code, expr_code, ignored, stmt_code};
-ghost use Rattle.sw_lower_table.specs.Statements.{while_code};
+ghost use Rattle.sw_lower_rules.specs.Carriers.{StmtCode};
+ghost use Rattle.sw_lower_rules.specs.Statements.{arm_code, block_code, default_code};
+ghost use Rattle.sw_lower_rules.specs.Statements.{else_code, expr_code, ignored, stmt_code};
+ghost use Rattle.sw_lower_rules.specs.Statements.{while_code};
 
 use crate::cases::{OpenSwitch, open_switch};
 use crate::leaving::{give_back, jump, leave};
 use crate::places::assign;
 use crate::variables::{declare_var, patterns};
 use std::alloc::Global;
-use sw_draft::Draft;
 use sw_graph::{IdList, Last};
 use sw_list::ListOf;
+use sw_lower_draft::Draft;
 use sw_lower_expr::expr;
-use sw_lower_expr::lower_known::Known;
-use sw_lower_run::CodeFault;
-use sw_lower_table::Targets;
+use sw_lower_known::Known;
+use sw_lower_plans::CodeFault;
+use sw_lower_rules::Targets;
 use sw_tree::{Block, CaseArm, Expr, IfArm, Stmt};
 
 /// Both ways of an arm of an `if` go on in the block with this number.
 fn join_in(merge: u32, draft: &mut Draft<'_>) -> Result<(), CodeFault>
-    ensures { Gives ((joined_in merge).run (making_of draft.old)) result draft.new }
+    ensures { GivesAsRun ((joined_in merge).run (making_of draft.old)) result draft.new }
 {
     jump(merge, draft);
     draft.resume(merge)
@@ -36,7 +36,7 @@ fn join_in(merge: u32, draft: &mut Draft<'_>) -> Result<(), CodeFault>
 
 /// The arms of an `if` join, the last first.
 fn join_all(mut merges: IdList, draft: &mut Draft<'_>) -> Result<(), CodeFault>
-    ensures { Gives ((joined_all merges).run (making_of draft.old)) result draft.new }
+    ensures { GivesAsRun ((joined_all merges).run (making_of draft.old)) result draft.new }
 {
     while let Some(merge) = merges.pop() {
         join_in(merge, draft)?;
@@ -52,7 +52,7 @@ fn ignored(
     tree: &Expr,
     draft: &mut Draft<'_>,
 ) -> Result<(), CodeFault>
-    ensures { Gives ((ignored (tables_by known.now)
+    ensures { GivesAsRun ((ignored (tables_by known.now)
         (expr_code (tables_by known.now) owner tree.now).read).run
         (making_of draft.old)) result draft.new }
 {
@@ -71,7 +71,7 @@ pub fn block(
     tree: &Block,
     draft: &mut Draft<'_>,
 ) -> Result<(), CodeFault>
-    ensures { Gives (((block_code (tables_by known.now) owner tree.now).code targets).run
+    ensures { GivesAsRun (((block_code (tables_by known.now) owner tree.now).code targets).run
         (making_of draft.old)) result draft.new }
 {
     let count = draft.var_count();
@@ -90,7 +90,7 @@ fn stmts(
     trees: &[Stmt],
     draft: &mut Draft<'_>,
 ) -> Result<(), CodeFault>
-    ensures { Gives ((all (λ (one : StmtCode). one.code targets)
+    ensures { GivesAsRun ((all (λ (one : StmtCode). one.code targets)
         (stmt_codes (tables_by known.now) owner trees.now)).run
         (making_of draft.old)) result draft.new }
 {
@@ -110,7 +110,8 @@ fn otherwise(
     tree: &Option<Block>,
     draft: &mut Draft<'_>,
 ) -> Result<(), CodeFault>
-    ensures { Gives ((else_code (otherwise_code (tables_by known.now) owner tree.now) targets).run
+    ensures { GivesAsRun ((else_code (otherwise_code (tables_by known.now) owner tree.now)
+        targets).run
         (making_of draft.old)) result draft.new }
 {
     match tree {
@@ -130,7 +131,8 @@ fn if_arm(
     tree: &IfArm,
     draft: &mut Draft<'_>,
 ) -> Result<u32, CodeFault>
-    ensures { Gives ((arm_opened targets (if_arm_code (tables_by known.now) owner tree.now)).run
+    ensures { GivesAsRun ((arm_opened targets (if_arm_code
+        (tables_by known.now) owner tree.now)).run
         (making_of draft.old)) result draft.new }
 {
     let given = expr(alloc, known, owner, &tree.cond, draft)?;
@@ -160,7 +162,7 @@ fn if_arms(
     trees: &[IfArm],
     draft: &mut Draft<'_>,
 ) -> Result<IdList, CodeFault>
-    ensures { Gives ((each (arm_opened targets)
+    ensures { GivesAsRun ((each (arm_opened targets)
         (if_codes (tables_by known.now) owner trees.now)).run
         (making_of draft.old)) result draft.new }
 {
@@ -181,7 +183,7 @@ fn repeated(
     cond: &Expr,
     draft: &mut Draft<'_>,
 ) -> Result<(), CodeFault>
-    ensures { Gives ((while_code (expr_code (tables_by known.now) owner cond.now).read
+    ensures { GivesAsRun ((while_code (expr_code (tables_by known.now) owner cond.now).read
         (block_code (tables_by known.now) owner body.now)).run
         (making_of draft.old)) result draft.new }
 {
@@ -218,7 +220,7 @@ fn switch_body(
     tree: &Block,
     draft: &mut Draft<'_>,
 ) -> Result<(), CodeFault>
-    ensures { Gives ((switch_body (block_code (tables_by known.now) owner tree.now)
+    ensures { GivesAsRun ((switch_body (block_code (tables_by known.now) owner tree.now)
         targets merge).run (making_of draft.old)) result draft.new }
 {
     let targets = Targets {
@@ -239,7 +241,8 @@ fn arm_inside(
     opened: &OpenSwitch,
     draft: &mut Draft<'_>,
 ) -> Result<(), CodeFault>
-    ensures { Gives ((arm_inside (tables_by known.now) opened.now.subject targets opened.now.merge
+    ensures { GivesAsRun ((arm_inside (tables_by known.now) opened.now.subject targets
+        opened.now.merge
         (case_code (tables_by known.now) owner tree.now)).run (making_of draft.old))
         result draft.new }
 {
@@ -273,7 +276,8 @@ fn case_arm(
     number: u32,
     draft: &mut Draft<'_>,
 ) -> Result<(), CodeFault>
-    ensures { Gives ((arm_code (tables_by known.now) opened.now.subject targets opened.now.merge
+    ensures { GivesAsRun ((arm_code (tables_by known.now) opened.now.subject targets
+        opened.now.merge
         (record { arm = case_code (tables_by known.now) owner tree.now; block = number })).run
         (making_of draft.old)) result draft.new }
 {
@@ -296,7 +300,7 @@ fn case_arms(
     opened: &OpenSwitch,
     draft: &mut Draft<'_>,
 ) -> Result<(), CodeFault>
-    ensures { Gives ((all (arm_code (tables_by known.now) opened.now.subject targets
+    ensures { GivesAsRun ((all (arm_code (tables_by known.now) opened.now.subject targets
         opened.now.merge) (numbered (tables_by known.now) owner trees.now opened.now.numbers)).run
         (making_of draft.old)) result draft.new }
 {
@@ -317,7 +321,7 @@ fn default_arm(
     opened: &OpenSwitch,
     draft: &mut Draft<'_>,
 ) -> Result<(), CodeFault>
-    ensures { Gives ((default_code (tables_by known.now)
+    ensures { GivesAsRun ((default_code (tables_by known.now)
         (otherwise_code (tables_by known.now) owner tree.now) opened.now.default targets
         opened.now.merge).run (making_of draft.old)) result draft.new }
 {
@@ -342,7 +346,7 @@ fn stmt(
     tree: &Stmt,
     draft: &mut Draft<'_>,
 ) -> Result<(), CodeFault>
-    ensures { Gives (((stmt_code (tables_by known.now) owner tree.now).code targets).run
+    ensures { GivesAsRun (((stmt_code (tables_by known.now) owner tree.now).code targets).run
         (making_of draft.old)) result draft.new }
 {
     match tree {

@@ -3,8 +3,8 @@ use Rattle.std.proofs.Common.{◌≡◌, List, [], ◌∷◌, ◌++◌, Result, 
 use Rattle.std.proofs.Common.{append_assoc}
 use Rattle.std.proofs.lemmas.List.{append-nil}
 use Rattle.sw_lower_code.specs.Code.{Code, andthen, done, each}
-use Rattle.sw_lower_run.specs.Run.{Making, Run, run_after}
-use Rattle.sw_lower_run.specs.declared.fault.CodeFault.{CodeFault}
+use Rattle.sw_lower_plans.specs.Run.{Making, Run, run_after}
+use Rattle.sw_lower_plans.specs.declared.fault.CodeFault.{CodeFault}
 use Rattle.sw_lower_uses.specs.Gathering.{each_after}
 
 -- what a list of items gives goes after what was given

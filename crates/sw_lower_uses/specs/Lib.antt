@@ -1,2 +1,1 @@
 pub mod Gathering
-pub use Rattle.sw_lower_known.specs as lower_known

@@ -1,22 +1,22 @@
 //! Calls, and what is made.
-#![tactic(auto, unfolding(sw_lower_code::specs::Code::andthen, sw_lower_code::specs::Code::done, sw_lower_code::specs::Code::emit, sw_lower_code::specs::Code::known, sw_lower_code::specs::Code::number, sw_lower_code::specs::Code::reg, sw_lower_table::specs::Uses::call_closure, sw_lower_table::specs::Uses::call_func, sw_lower_table::specs::Uses::make, sw_lower_table::specs::Uses::make_value, sw_lower_table::specs::Uses::shape_at, sw_lower_table::specs::Uses::typed, sw_lower_table::specs::Uses::unknown))]
+#![tactic(auto, unfolding(sw_lower_code::specs::Code::andthen, sw_lower_code::specs::Code::done, sw_lower_code::specs::Code::emit, sw_lower_code::specs::Code::known, sw_lower_code::specs::Code::number, sw_lower_code::specs::Code::reg, sw_lower_rules::specs::Uses::call_closure, sw_lower_rules::specs::Uses::call_func, sw_lower_rules::specs::Uses::make, sw_lower_rules::specs::Uses::make_value, sw_lower_rules::specs::Uses::shape_at, sw_lower_rules::specs::Uses::typed, sw_lower_rules::specs::Uses::unknown))]
 
-ghost use Rattle.sw_draft.specs.Drafts.{Gives, making_of};
+ghost use Rattle.sw_lower_draft.specs.Drafts.{GivesAsRun, making_of};
 ghost use Rattle.sw_graph.specs.declared.instr.Instr.TheVariants as instr;
 ghost use Rattle.sw_lower_code.specs.Code.{andthen, number};
 ghost use Rattle.sw_lower_known.specs.Knowledge.{tables_by};
-ghost use Rattle.sw_lower_table.specs.Tables.{getter_of};
-ghost use Rattle.sw_lower_table.specs.Uses.{call_closure, call_func, call_signature, give, make};
-ghost use Rattle.sw_lower_table.specs.Uses.{make_by, make_value};
+ghost use Rattle.sw_lower_rules.specs.Tables.{getter_of};
+ghost use Rattle.sw_lower_rules.specs.Uses.{call_closure, call_func, call_signature, give, make};
+ghost use Rattle.sw_lower_rules.specs.Uses.{make_by, make_value};
 
 use crate::finding::{shape_at, type_of};
 use crate::giving::emit_value;
 use std::alloc::Global;
 use sw_decls::Signature;
-use sw_draft::Draft;
 use sw_graph::{Instr, Operand, OperandList, RegKind};
+use sw_lower_draft::Draft;
 use sw_lower_known::Known;
-use sw_lower_run::{CodeFault, FunctionName};
+use sw_lower_plans::{CodeFault, FunctionName};
 use sw_types::{CallKind, ShapeKind, Ty};
 use sw_typing_words::copy_of;
 
@@ -29,7 +29,7 @@ pub fn call_getter(
     operands: OperandList,
     draft: &mut Draft<'_>,
 ) -> Result<Operand, CodeFault>
-    ensures { Gives ((andthen (number (getter_of key))
+    ensures { GivesAsRun ((andthen (number (getter_of key))
         (λ function. give at ty (λ dst. instr.Call at dst kind function operands))).run
         (making_of draft.old)) result draft.new }
 {
@@ -54,7 +54,7 @@ fn call_signature(
     func: &Signature,
     draft: &mut Draft<'_>,
 ) -> Result<Operand, CodeFault>
-    ensures { Gives
+    ensures { GivesAsRun
         ((call_signature (tables_by known.now) at operands func.now).run (making_of draft.old))
         result draft.new }
 {
@@ -84,7 +84,8 @@ pub fn call_func(
     operands: OperandList,
     draft: &mut Draft<'_>,
 ) -> Result<Operand, CodeFault>
-    ensures { Gives ((call_func (tables_by known.now) at number operands).run (making_of draft.old))
+    ensures { GivesAsRun ((call_func (tables_by known.now) at number operands).run
+        (making_of draft.old))
         result draft.new }
 {
     let func = known.func(number).ok_or(CodeFault::Memory)?;
@@ -100,7 +101,7 @@ pub fn call_closure(
     operands: OperandList,
     draft: &mut Draft<'_>,
 ) -> Result<Operand, CodeFault>
-    ensures { Gives
+    ensures { GivesAsRun
         ((call_closure (tables_by known.now) at closure operands).run (making_of draft.old))
         result draft.new }
 {
@@ -123,7 +124,7 @@ pub fn make_value(
     operands: OperandList,
     draft: &mut Draft<'_>,
 ) -> Result<Operand, CodeFault>
-    ensures { Gives ((make_value at shape tag operands).run (making_of draft.old))
+    ensures { GivesAsRun ((make_value at shape tag operands).run (making_of draft.old))
         result draft.new }
 {
     let dst = draft.reg(RegKind::Plain(Ty::Named(shape)))?;
@@ -147,7 +148,7 @@ fn make_by(
     operands: OperandList,
     draft: &mut Draft<'_>,
 ) -> Result<Operand, CodeFault>
-    ensures { Gives
+    ensures { GivesAsRun
         ((make_by (tables_by known.now) kind at shape operands).run (making_of draft.old))
         result draft.new }
 {
@@ -170,7 +171,7 @@ pub fn make(
     operands: OperandList,
     draft: &mut Draft<'_>,
 ) -> Result<Operand, CodeFault>
-    ensures { Gives ((make (tables_by known.now) at shape operands).run (making_of draft.old))
+    ensures { GivesAsRun ((make (tables_by known.now) at shape operands).run (making_of draft.old))
         result draft.new }
 {
     let kind = shape_at(known, shape)?.kind;

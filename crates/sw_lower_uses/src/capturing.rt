@@ -1,20 +1,20 @@
 //! What closures and tasks take when they are made.
-#![tactic(auto, unfolding(sw_lower_code::specs::Code::andthen, sw_lower_code::specs::Code::done, sw_lower_code::specs::Code::emit, sw_lower_code::specs::Code::known, sw_lower_code::specs::Code::reg, sw_lower_code::specs::Code::var, sw_lower_table::specs::Uses::capture, sw_lower_table::specs::Uses::capture_bound, sw_lower_table::specs::Uses::listed_value, sw_lower_table::specs::Uses::typed, sw_lower_table::specs::Uses::unknown))]
+#![tactic(auto, unfolding(sw_lower_code::specs::Code::andthen, sw_lower_code::specs::Code::done, sw_lower_code::specs::Code::emit, sw_lower_code::specs::Code::known, sw_lower_code::specs::Code::reg, sw_lower_code::specs::Code::var, sw_lower_rules::specs::Uses::capture, sw_lower_rules::specs::Uses::capture_bound, sw_lower_rules::specs::Uses::listed_value, sw_lower_rules::specs::Uses::typed, sw_lower_rules::specs::Uses::unknown))]
 
-ghost use Rattle.sw_draft.specs.Drafts.{Gives, making_of};
+ghost use Rattle.sw_lower_draft.specs.Drafts.{GivesAsRun, making_of};
 ghost use Rattle.sw_lower_code.specs.Code.{each};
 ghost use Rattle.sw_lower_known.specs.Knowledge.{tables_by};
-ghost use Rattle.sw_lower_table.specs.Uses.{capture, capture_bound, listed_value};
+ghost use Rattle.sw_lower_rules.specs.Uses.{capture, capture_bound, listed_value};
 
 use crate::finding::type_of;
 use crate::giving::emit_value;
 use std::alloc::Global;
-use sw_draft::Draft;
 use sw_graph::{Instr, Operand, OperandList, RegKind};
 use sw_isolation_rules::Capture;
 use sw_list::ListOf;
+use sw_lower_draft::Draft;
 use sw_lower_known::Known;
-use sw_lower_run::{Bound, CodeFault};
+use sw_lower_plans::{Bound, CodeFault};
 
 /// Reads a variable in a box that a closure lists, where the closure is made.
 fn listed_value(
@@ -25,7 +25,7 @@ fn listed_value(
     bound: Bound,
     draft: &mut Draft<'_>,
 ) -> Result<Operand, CodeFault>
-    ensures { Gives
+    ensures { GivesAsRun
         ((listed_value (tables_by known.now) at capture bound).run (making_of draft.old))
         result draft.new }
 {
@@ -49,7 +49,7 @@ fn capture_bound(
     bound: Bound,
     draft: &mut Draft<'_>,
 ) -> Result<Operand, CodeFault>
-    ensures { Gives
+    ensures { GivesAsRun
         ((capture_bound (tables_by known.now) at capture bound).run (making_of draft.old))
         result draft.new }
 {
@@ -71,7 +71,7 @@ fn capture(
     one: Capture,
     draft: &mut Draft<'_>,
 ) -> Result<Operand, CodeFault>
-    ensures { Gives ((capture (tables_by known.now) at one).run (making_of draft.old))
+    ensures { GivesAsRun ((capture (tables_by known.now) at one).run (making_of draft.old))
         result draft.new }
 {
     let bound = draft.var(one.variable)?;
@@ -87,7 +87,7 @@ pub fn captures(
     closure: u32,
     draft: &mut Draft<'_>,
 ) -> Result<OperandList, CodeFault>
-    ensures { Gives ((each (capture (tables_by known.now) at)
+    ensures { GivesAsRun ((each (capture (tables_by known.now) at)
         ((tables_by known.now).isolation.captures_of closure)).run (making_of draft.old))
         result draft.new }
 {

@@ -3,11 +3,11 @@ ghost use Rattle.std.specs.Prelude.{◌≡◌, Some, slice_get, IfOk};
 ghost use Rattle.std.specs.Result.{IfErr};
 ghost use Rattle.sw_isolation_rules.specs.Uses.{named_shape};
 ghost use Rattle.sw_lower_known.specs.Knowledge.{tables_by};
-ghost use Rattle.sw_lower_run.specs.declared.fault.CodeFault.TheVariants.{Memory};
+ghost use Rattle.sw_lower_plans.specs.declared.fault.CodeFault.TheVariants.{Memory};
 
 use std::alloc::Global;
 use sw_lower_known::Known;
-use sw_lower_run::CodeFault;
+use sw_lower_plans::CodeFault;
 use sw_types::{Part, Shape, Ty};
 use sw_typing_words::copy_of;
 

@@ -1,26 +1,27 @@
 //! Global variables.
-#![tactic(auto, unfolding(sw_lower_code::specs::Code::andthen, sw_lower_code::specs::Code::done, sw_lower_code::specs::Code::emit, sw_lower_code::specs::Code::known, sw_lower_code::specs::Code::reg, sw_lower_table::specs::Uses::call_getter, sw_lower_table::specs::Uses::read_global))]
+#![tactic(auto, unfolding(sw_lower_code::specs::Code::andthen, sw_lower_code::specs::Code::done, sw_lower_code::specs::Code::emit, sw_lower_code::specs::Code::known, sw_lower_code::specs::Code::reg, sw_lower_rules::specs::Uses::call_getter, sw_lower_rules::specs::Uses::read_global))]
 
-ghost use Rattle.sw_draft.specs.Drafts.{Gives, making_of};
+ghost use Rattle.sw_lower_draft.specs.Drafts.{GivesAsRun, making_of};
 ghost use Rattle.sw_graph.specs.declared.instr.Instr.TheVariants as instr;
 ghost use Rattle.sw_lower_known.specs.Knowledge.{tables_by};
-ghost use Rattle.sw_lower_table.specs.Uses.{give, global_by, read_global};
+ghost use Rattle.sw_lower_rules.specs.Uses.{give, global_by, read_global};
 
 use crate::calls::call_getter;
 use crate::giving::emit_value;
 use std::alloc::Global;
 use sw_decls::GlobalVar;
-use sw_draft::Draft;
 use sw_graph::{Instr, Operand, RegKind};
 use sw_list::ListOf;
+use sw_lower_draft::Draft;
 use sw_lower_known::Known;
-use sw_lower_run::CodeFault;
+use sw_lower_plans::CodeFault;
 use sw_types::{CallKind, Ty};
 use sw_typing_words::copy_of;
 
 /// Reads the global variable with this number, where that crosses nothing.
 fn load_global(at: u32, number: u32, ty: Ty, draft: &mut Draft<'_>) -> Result<Operand, CodeFault>
-    ensures { Gives ((give at ty (λ dst. instr.LoadGlobal at dst number)).run (making_of draft.old))
+    ensures { GivesAsRun ((give at ty (λ dst. instr.LoadGlobal at dst number)).run
+        (making_of draft.old))
         result draft.new }
 {
     let dst = draft.reg(RegKind::Plain(ty))?;
@@ -42,7 +43,7 @@ fn global_by(
     global: &GlobalVar,
     draft: &mut Draft<'_>,
 ) -> Result<Operand, CodeFault>
-    ensures { Gives
+    ensures { GivesAsRun
         ((global_by (tables_by known.now) kind at number global.now).run (making_of draft.old))
         result draft.new }
 {
@@ -61,7 +62,7 @@ pub fn read_global(
     number: u32,
     draft: &mut Draft<'_>,
 ) -> Result<Operand, CodeFault>
-    ensures { Gives ((read_global (tables_by known.now) at number).run (making_of draft.old))
+    ensures { GivesAsRun ((read_global (tables_by known.now) at number).run (making_of draft.old))
         result draft.new }
 {
     let global = known.global(number).ok_or(CodeFault::Memory)?;

@@ -17,6 +17,5 @@ pub use finding::{number_of, shape_at, shape_of, type_of};
 pub use giving::emit_value;
 pub use globals::read_global;
 pub use parts::read_part;
-pub use sw_lower_known as lower_known;
 pub use variables::{read_var, write_var};
 pub use words::{read_own, read_self, read_word};

@@ -1,20 +1,20 @@
 //! Properties of values.
-#![tactic(auto, unfolding(sw_lower_code::specs::Code::andthen, sw_lower_code::specs::Code::done, sw_lower_code::specs::Code::emit, sw_lower_code::specs::Code::known, sw_lower_code::specs::Code::reg, sw_lower_table::specs::Uses::call_getter, sw_lower_table::specs::Uses::part_at, sw_lower_table::specs::Uses::read_part, sw_lower_table::specs::Uses::shape_at, sw_lower_table::specs::Uses::unknown))]
+#![tactic(auto, unfolding(sw_lower_code::specs::Code::andthen, sw_lower_code::specs::Code::done, sw_lower_code::specs::Code::emit, sw_lower_code::specs::Code::known, sw_lower_code::specs::Code::reg, sw_lower_rules::specs::Uses::call_getter, sw_lower_rules::specs::Uses::part_at, sw_lower_rules::specs::Uses::read_part, sw_lower_rules::specs::Uses::shape_at, sw_lower_rules::specs::Uses::unknown))]
 
-ghost use Rattle.sw_draft.specs.Drafts.{Gives, making_of};
+ghost use Rattle.sw_lower_draft.specs.Drafts.{GivesAsRun, making_of};
 ghost use Rattle.sw_graph.specs.declared.instr.Instr.TheVariants as instr;
 ghost use Rattle.sw_lower_known.specs.Knowledge.{tables_by};
-ghost use Rattle.sw_lower_table.specs.Uses.{give, part_by, part_in, read_part};
+ghost use Rattle.sw_lower_rules.specs.Uses.{give, part_by, part_in, read_part};
 
 use crate::calls::call_getter;
 use crate::finding::{part_at, shape_at};
 use crate::giving::emit_value;
 use std::alloc::Global;
-use sw_draft::Draft;
 use sw_graph::{Instr, Operand, RegKind};
 use sw_list::ListOf;
+use sw_lower_draft::Draft;
 use sw_lower_known::Known;
-use sw_lower_run::CodeFault;
+use sw_lower_plans::CodeFault;
 use sw_types::{CallKind, ShapeKind, Ty};
 use sw_typing_words::copy_of;
 
@@ -26,7 +26,8 @@ fn field(
     base: Operand,
     draft: &mut Draft<'_>,
 ) -> Result<Operand, CodeFault>
-    ensures { Gives ((give at ty (λ dst. instr.Field at dst base number)).run (making_of draft.old))
+    ensures { GivesAsRun ((give at ty (λ dst. instr.Field at dst base number)).run
+        (making_of draft.old))
         result draft.new }
 {
     let dst = draft.reg(RegKind::Plain(ty))?;
@@ -47,7 +48,7 @@ fn load_part(
     cell: Operand,
     draft: &mut Draft<'_>,
 ) -> Result<Operand, CodeFault>
-    ensures { Gives ((give at ty (λ dst. instr.LoadProp at dst cell number)).run
+    ensures { GivesAsRun ((give at ty (λ dst. instr.LoadProp at dst cell number)).run
         (making_of draft.old)) result draft.new }
 {
     let dst = draft.reg(RegKind::Plain(ty))?;
@@ -72,7 +73,7 @@ fn part_by(
     cell: Operand,
     draft: &mut Draft<'_>,
 ) -> Result<Operand, CodeFault>
-    ensures { Gives
+    ensures { GivesAsRun
         ((part_by (tables_by known.now) kind at shape number ty cell).run (making_of draft.old))
         result draft.new }
 {
@@ -99,7 +100,7 @@ fn part_in(
     base: Operand,
     draft: &mut Draft<'_>,
 ) -> Result<Operand, CodeFault>
-    ensures { Gives
+    ensures { GivesAsRun
         ((part_in (tables_by known.now) kind at shape number ty base).run (making_of draft.old))
         result draft.new }
 {
@@ -123,7 +124,7 @@ pub fn read_part(
     base: Operand,
     draft: &mut Draft<'_>,
 ) -> Result<Operand, CodeFault>
-    ensures { Gives
+    ensures { GivesAsRun
         ((read_part (tables_by known.now) at shape number base).run (making_of draft.old))
         result draft.new }
 {

@@ -1,18 +1,18 @@
 //! Variables, which are in registers or in boxes.
-#![tactic(auto, unfolding(sw_lower_code::specs::Code::andthen, sw_lower_code::specs::Code::done, sw_lower_code::specs::Code::emit, sw_lower_code::specs::Code::known, sw_lower_code::specs::Code::reg, sw_lower_code::specs::Code::var, sw_lower_table::specs::Uses::read_bound, sw_lower_table::specs::Uses::read_var, sw_lower_table::specs::Uses::typed, sw_lower_table::specs::Uses::write_bound))]
+#![tactic(auto, unfolding(sw_lower_code::specs::Code::andthen, sw_lower_code::specs::Code::done, sw_lower_code::specs::Code::emit, sw_lower_code::specs::Code::known, sw_lower_code::specs::Code::reg, sw_lower_code::specs::Code::var, sw_lower_rules::specs::Uses::read_bound, sw_lower_rules::specs::Uses::read_var, sw_lower_rules::specs::Uses::typed, sw_lower_rules::specs::Uses::write_bound))]
 
-ghost use Rattle.sw_draft.specs.Drafts.{Gives, making_of};
+ghost use Rattle.sw_lower_draft.specs.Drafts.{GivesAsRun, making_of};
 ghost use Rattle.sw_lower_code.specs.Code.{andthen, var};
 ghost use Rattle.sw_lower_known.specs.Knowledge.{tables_by};
-ghost use Rattle.sw_lower_table.specs.Uses.{from_box, read_bound, read_var, write_bound};
+ghost use Rattle.sw_lower_rules.specs.Uses.{from_box, read_bound, read_var, write_bound};
 
 use crate::finding::type_of;
 use crate::giving::emit_value;
 use std::alloc::Global;
-use sw_draft::Draft;
 use sw_graph::{Instr, Operand, RegKind};
+use sw_lower_draft::Draft;
 use sw_lower_known::Known;
-use sw_lower_run::{Bound, CodeFault};
+use sw_lower_plans::{Bound, CodeFault};
 
 /// Reads a variable from its box.
 fn from_box(
@@ -22,7 +22,7 @@ fn from_box(
     bound: Bound,
     draft: &mut Draft<'_>,
 ) -> Result<Operand, CodeFault>
-    ensures { Gives ((from_box (tables_by known.now) at bound).run (making_of draft.old))
+    ensures { GivesAsRun ((from_box (tables_by known.now) at bound).run (making_of draft.old))
         result draft.new }
 {
     let ty = type_of(alloc, known, bound.key)?;
@@ -40,7 +40,7 @@ fn read_bound(
     bound: Bound,
     draft: &mut Draft<'_>,
 ) -> Result<Operand, CodeFault>
-    ensures { Gives ((read_bound (tables_by known.now) at bound).run (making_of draft.old))
+    ensures { GivesAsRun ((read_bound (tables_by known.now) at bound).run (making_of draft.old))
         result draft.new }
 {
     if bound.boxed {
@@ -58,7 +58,7 @@ pub fn read_var(
     key: u32,
     draft: &mut Draft<'_>,
 ) -> Result<Operand, CodeFault>
-    ensures { Gives ((read_var (tables_by known.now) at key).run (making_of draft.old))
+    ensures { GivesAsRun ((read_var (tables_by known.now) at key).run (making_of draft.old))
         result draft.new }
 {
     let bound = draft.var(key)?;
@@ -67,7 +67,7 @@ pub fn read_var(
 
 /// Assigns to a variable that was looked up.
 fn write_bound(at: u32, src: Operand, bound: Bound, draft: &mut Draft<'_>) -> Result<(), CodeFault>
-    ensures { Gives ((write_bound at src bound).run (making_of draft.old)) result draft.new }
+    ensures { GivesAsRun ((write_bound at src bound).run (making_of draft.old)) result draft.new }
 {
     if bound.boxed {
         let cell = Operand { reg: bound.reg, at };
@@ -80,7 +80,7 @@ fn write_bound(at: u32, src: Operand, bound: Bound, draft: &mut Draft<'_>) -> Re
 
 /// Assigns to the variable with this key.
 pub fn write_var(at: u32, key: u32, given: Operand, draft: &mut Draft<'_>) -> Result<(), CodeFault>
-    ensures { Gives ((andthen (var key) (write_bound at given)).run (making_of draft.old))
+    ensures { GivesAsRun ((andthen (var key) (write_bound at given)).run (making_of draft.old))
         result draft.new }
 {
     let bound = draft.var(key)?;

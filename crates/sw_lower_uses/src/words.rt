@@ -1,19 +1,19 @@
 //! What words mean where they are read.
-#![tactic(auto, unfolding(sw_lower_code::specs::Code::andthen, sw_lower_code::specs::Code::known, sw_lower_table::specs::Uses::read_own, sw_lower_table::specs::Uses::read_self, sw_lower_table::specs::Uses::read_word, sw_lower_table::specs::Uses::unknown))]
+#![tactic(auto, unfolding(sw_lower_code::specs::Code::andthen, sw_lower_code::specs::Code::known, sw_lower_rules::specs::Uses::read_own, sw_lower_rules::specs::Uses::read_self, sw_lower_rules::specs::Uses::read_word, sw_lower_rules::specs::Uses::unknown))]
 
-ghost use Rattle.sw_draft.specs.Drafts.{Gives, making_of};
+ghost use Rattle.sw_lower_draft.specs.Drafts.{GivesAsRun, making_of};
 ghost use Rattle.sw_lower_known.specs.Knowledge.{tables_by};
-ghost use Rattle.sw_lower_table.specs.Uses.{read_own, read_self, read_word, word_by};
+ghost use Rattle.sw_lower_rules.specs.Uses.{read_own, read_self, read_word, word_by};
 
 use crate::finding::number_of;
 use crate::globals::read_global;
 use crate::parts::read_part;
 use crate::variables::read_var;
 use std::alloc::Global;
-use sw_draft::Draft;
 use sw_graph::Operand;
+use sw_lower_draft::Draft;
 use sw_lower_known::Known;
-use sw_lower_run::CodeFault;
+use sw_lower_plans::CodeFault;
 use sw_typing_rules::Meaning;
 
 /// Reads `self` in a member of the type with the number `owner`.
@@ -24,7 +24,7 @@ pub fn read_self(
     at: u32,
     draft: &mut Draft<'_>,
 ) -> Result<Operand, CodeFault>
-    ensures { Gives ((read_self (tables_by known.now) owner at).run (making_of draft.old))
+    ensures { GivesAsRun ((read_self (tables_by known.now) owner at).run (making_of draft.old))
         result draft.new }
 {
     let key = known.self_key(owner).ok_or(CodeFault::Memory)?;
@@ -40,7 +40,8 @@ pub fn read_own(
     number: u32,
     draft: &mut Draft<'_>,
 ) -> Result<Operand, CodeFault>
-    ensures { Gives ((read_own (tables_by known.now) owner at number).run (making_of draft.old))
+    ensures { GivesAsRun ((read_own (tables_by known.now) owner at number).run
+        (making_of draft.old))
         result draft.new }
 {
     let me = read_self(alloc, known, owner, at, draft)?;
@@ -57,7 +58,8 @@ fn word_by(
     meaning: Option<Meaning>,
     draft: &mut Draft<'_>,
 ) -> Result<Operand, CodeFault>
-    ensures { Gives ((word_by (tables_by known.now) owner at meaning).run (making_of draft.old))
+    ensures { GivesAsRun ((word_by (tables_by known.now) owner at meaning).run
+        (making_of draft.old))
         result draft.new }
 {
     match meaning {
@@ -87,7 +89,7 @@ pub fn read_word(
     at: u32,
     draft: &mut Draft<'_>,
 ) -> Result<Operand, CodeFault>
-    ensures { Gives ((read_word (tables_by known.now) owner at).run (making_of draft.old))
+    ensures { GivesAsRun ((read_word (tables_by known.now) owner at).run (making_of draft.old))
         result draft.new }
 {
     word_by(alloc, known, owner, at, known.meaning_at(at), draft)

@@ -1,12 +1,12 @@
 -- A shelf in memory: what it is, and which of its fetches fail.
 use Rattle.std.specs.Prelude.{ℕ, Bool, List, length, ◌==◌, ◌||◌, is_none}
 use Rattle.std.specs.List.{list_any}
-use Rattle.sw_outside.specs.Shelf.{Known, find_file, with_request}
+use Rattle.sw_outside.specs.Shelf.{KnownShelf, find_file, with_request}
 
 -- what a shelf in memory is
 pub record ShelfState : Type 0 where
   -- the files, and the names requested so far
-  pub known : Known
+  pub known : KnownShelf
   -- the numbers of the fetches that fail
   pub fails : List ℕ
   -- the number of bytes that the last fetch received

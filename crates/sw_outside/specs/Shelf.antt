@@ -7,12 +7,12 @@ abbrev pub Files : Type 0
 Files = List (List ℕ × List ℕ)
 
 -- a shelf whose contents are known: its files, and the names requested so far
-pub record Known : Type 0 where
+pub record KnownShelf : Type 0 where
   pub files : Files
   pub requested : List (List ℕ)
 
 -- a shelf whose contents are unknown
-abbrev pub unknown : Option Known
+abbrev pub unknown : Option KnownShelf
 unknown = None
 
 -- the bytes under a name, where a file has that name
@@ -25,7 +25,7 @@ unfoldable pub file_of : Files → List ℕ → List ℕ
 file_of files name = unwrap_or (find_file files name) []
 
 -- the same files, after one more request
-abbrev pub with_request : List ℕ → Known → Known
+abbrev pub with_request : List ℕ → KnownShelf → KnownShelf
 with_request name known = record known { requested = known.requested ++ name ∷ [] }
 
 -- the files after this one replaced the one of its name, or was added where none has its name

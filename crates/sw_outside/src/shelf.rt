@@ -2,7 +2,7 @@ ghost use Rattle.std.specs.Prelude.{◌≡◌, ℕ, Option, ◌<◌, ◌≤◌, 
 ghost use Rattle.std.specs.Prelude.{IfSome, IfNone, IsErrOf};
 ghost use Rattle.sw_outside.specs.declared.shelf.FetchFault.TheVariants.{Memory};
 ghost use Rattle.sw_outside.specs.Rise.{Rose};
-ghost use Rattle.sw_outside.specs.Shelf.{Known, file_of, with_request};
+ghost use Rattle.sw_outside.specs.Shelf.{KnownShelf, file_of, with_request};
 
 use std::alloc::{AllocError, AllocFailed, Global};
 use thiserror::Error;
@@ -39,7 +39,7 @@ impl<T: Drop> From<AllocFailed<T>> for FetchFault {
 /// Files by name. A fetch reads a file and changes none.
 pub trait Shelf {
     /// The files, and the names requested so far; `None` where the contents are unknown.
-    ghost known: { Self → Option Known };
+    ghost known: { Self → Option KnownShelf };
 
     /// The number of bytes that the last fetch received.
     ghost received: { Self → ℕ };

@@ -7,16 +7,17 @@ use Rattle.std.proofs.lemmas.List.{length-take-le, take-take}
 use Rattle.std.specs.Prelude.{Result, Ok, Err, IfOk, IfErr}
 use Rattle.sw_token.specs.declared.Token.{Token}
 use Rattle.sw_token.specs.Spelling.{Spelled, IsSpelling, spelled, spelling_of}
-use Rattle.sw_reader.specs.Outcome.{Gives}
-use Rattle.sw_reader.specs.Reader.Fault.{unexpected, too_deep}
-use Rattle.sw_reader.specs.declared.stop.Stop.{Stop}
-use Rattle.sw_reader.specs.declared.stop.Stop.TheVariants as stops
+use Rattle.sw_grammar_forms.specs.Outcome.{Gives}
+use Rattle.sw_grammar_forms.specs.Reader.Fault.{unexpected, too_deep}
+use Rattle.sw_grammar_forms.specs.declared.stop.Stop.{Stop}
+use Rattle.sw_grammar_forms.specs.declared.stop.Stop.TheVariants as stops
 use Rattle.sw_tree.specs.Names.{id_in, with_texts}
-use Rattle.sw_grammar_keys.specs.Interned.{texts_in}
+use Rattle.sw_grammar_facts.specs.Interned.{texts_in}
 use Rattle.sw_parse_decl.specs.Programs.{most_nests}
 use Rattle.sw_parse_decl.specs.declared.fault.ParseFault.{ParseFault}
 use Rattle.sw_parse_decl.specs.declared.fault.ParseFault.TheVariants as faults
-use Rattle.sw_parse_body.specs.Phrases.{Phrase, TreeOf, IsFront, ExplainsFront, Keeps, texts_after}
+use Rattle.sw_parse_body.specs.Phrases.{Phrase, TreeOf, IsFront, ExplainsFront, KeepsNames}
+use Rattle.sw_parse_body.specs.Phrases.{texts_after}
 use Rattle.sw_parse_body.specs.Phrases.{read_phrase, fault_in, IsStopIn}
 use Rattle.sw_parse_body.proofs.PhraseFronts.{read_front, rest_within, stop_within, stop_refuses}
 use Rattle.sw_parse_body.proofs.PhraseFronts.{stop_is_deep, one_front, same_place, never_both}
@@ -110,7 +111,7 @@ module _ (phrase : Phrase) (depth : ℕ) (source : List ℕ) (tokens : List Toke
   -- Out of memory while the names are interned, those of the first tokens are.
   pub keeps_part : (new : List (List ℕ))
       → (end : ℕ) × (end < to) × (new ≡ texts_after old (spelling_of source tokens) from end)
-      → Keeps phrase depth (spelling_of source tokens) from old new faults.Memory
+      → KeepsNames phrase depth (spelling_of source tokens) from old new faults.Memory
   keeps_part new some = inr (record {
     read = (tree, to);
     front = first;
@@ -123,12 +124,14 @@ module _ (phrase : Phrase) (depth : ℕ) (source : List ℕ) (tokens : List Toke
   pub keeps_all : (new : List (List ℕ))
       → new ≡ texts_after old (spelling_of source tokens) from to
       → IfErr result (λ fault. ExplainsFront phrase depth (spelling_of source tokens) from fault)
-      → IfErr result (λ fault. Keeps phrase depth (spelling_of source tokens) from old new fault)
+      → IfErr result (λ fault. KeepsNames phrase depth
+      (spelling_of source tokens) from old new fault)
   keeps_all new texts second = by_result result second
     where
       by_result : (r : Result (TreeOf phrase × ℕ) ParseFault)
           → IfErr r (λ fault. ExplainsFront phrase depth (spelling_of source tokens) from fault)
-          → IfErr r (λ fault. Keeps phrase depth (spelling_of source tokens) from old new fault)
+          → IfErr r (λ fault. KeepsNames phrase depth
+          (spelling_of source tokens) from old new fault)
       by_result (Ok read) explains = tt
       by_result (Err (faults.Unexpected token)) explains =
           absurd (never_both phrase depth (spelling_of source tokens) from (id_in old) (tree, to)
@@ -146,7 +149,7 @@ module _ (phrase : Phrase) (depth : ℕ) (source : List ℕ) (tokens : List Toke
 
 -- The first reading interns no name.
 pub keeps_names : (phrase : Phrase) (depth : ℕ) (tokens : List Spelled) (from : ℕ)
-    (old : List (List ℕ)) (fault : ParseFault) → Keeps phrase depth tokens from old old fault
+    (old : List (List ℕ)) (fault : ParseFault) → KeepsNames phrase depth tokens from old old fault
 keeps_names phrase depth tokens from old (faults.Unexpected token) = refl
 keeps_names phrase depth tokens from old (faults.TooDeep token) = refl
 keeps_names phrase depth tokens from old faults.Memory = inl refl

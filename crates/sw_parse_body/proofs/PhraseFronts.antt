@@ -5,16 +5,16 @@ use Rattle.std.proofs.Common.{[], length, drop, take, refl, sym, ◌∙◌, ap, 
 use Rattle.std.proofs.lemmas.List.{length-drop, take-append-drop}
 use Rattle.std.specs.Prelude.{Ok, Err}
 use Rattle.sw_token.specs.Spelling.{Spelled, IsSpelling}
-use Rattle.sw_reader.specs.Fronts.{ends_before, front}
-use Rattle.sw_reader.specs.Reader.{Answer, Fault, Reader, refused, and_then, check}
-use Rattle.sw_reader.specs.Reader.Fault.{unexpected, too_deep}
-use Rattle.sw_reader.specs.Relations.{head}
-use Rattle.sw_reader.proofs.Alike.{Alike, SameAnswer, Any, alike_front}
-use Rattle.sw_reader.proofs.FrontLaws as laws
-use Rattle.sw_reader.proofs.LoopLaws.{no_token}
-use Rattle.sw_reader.proofs.ReaderLaws.{left_of, ok_parts}
-use Rattle.sw_reader.proofs.Rising.{IsSpelling-rest}
-use Rattle.sw_reader.proofs.WholeLaws as wholes
+use Rattle.sw_grammar_forms.specs.Fronts.{ends_before, front}
+use Rattle.sw_grammar_forms.specs.Reader.{Answer, Fault, Reader, refused, and_then, check}
+use Rattle.sw_grammar_forms.specs.Reader.Fault.{unexpected, too_deep}
+use Rattle.sw_grammar_forms.specs.Relations.{head}
+use Rattle.sw_grammar_forms.proofs.Alike.{Alike, SameAnswer, Any, alike_front}
+use Rattle.sw_grammar_forms.proofs.FrontLaws as laws
+use Rattle.sw_grammar_forms.proofs.LoopLaws.{no_token}
+use Rattle.sw_grammar_forms.proofs.ReaderLaws.{left_of, ok_parts}
+use Rattle.sw_grammar_forms.proofs.Rising.{IsSpelling-rest}
+use Rattle.sw_grammar_forms.proofs.WholeLaws as wholes
 use Rattle.sw_grammar.specs.Nests.{El, shape_of}
 use Rattle.sw_grammar.specs.Grammar.{body, good}
 use Rattle.sw_grammar.proofs.BodiesAlike.{blocks_alike, exprs_alike, types_alike}

@@ -2,17 +2,17 @@
 -- and the one fault of tokens that begin with none.
 use Rattle.std.specs.Prelude.{◌≡◌, ◌⊎◌, ℕ, ◌+◌, ◌-◌, ◌≤◌, true, List, drop, take}
 use Rattle.sw_token.specs.Spelling.{Spelled}
-use Rattle.sw_reader.specs.Form.{Shape}
-use Rattle.sw_reader.specs.Fronts.{IsFrontOf, IsFrontRefused, front}
-use Rattle.sw_reader.specs.Opens.{opens}
-use Rattle.sw_reader.specs.Reader.{Reader}
-use Rattle.sw_reader.specs.Relations.{Relation}
-use Rattle.sw_reader.specs.Spells.{spells, Wide}
-use Rattle.sw_reader.specs.Whole.{IsTooDeepIn}
-use Rattle.sw_reader.specs.declared.stop.Stop.{Stop}
-use Rattle.sw_reader.specs.declared.stop.Stop.TheVariants as stops
-use Rattle.sw_reader.specs.Form.{solid}
-use Rattle.sw_reader.specs.Sets.{quoted}
+use Rattle.sw_grammar_forms.specs.Form.{Shape}
+use Rattle.sw_grammar_forms.specs.Fronts.{IsFrontOf, IsFrontRefused, front}
+use Rattle.sw_grammar_forms.specs.Opens.{opens}
+use Rattle.sw_grammar_forms.specs.Reader.{Reader}
+use Rattle.sw_grammar_forms.specs.Relations.{Relation}
+use Rattle.sw_grammar_forms.specs.Spells.{spells, Wide}
+use Rattle.sw_grammar_forms.specs.Whole.{IsTooDeepIn}
+use Rattle.sw_grammar_forms.specs.declared.stop.Stop.{Stop}
+use Rattle.sw_grammar_forms.specs.declared.stop.Stop.TheVariants as stops
+use Rattle.sw_grammar_forms.specs.Form.{solid}
+use Rattle.sw_grammar_forms.specs.Sets.{quoted}
 use Rattle.std.specs.Prelude.{codes, []}
 use Rattle.sw_tree.specs.declared.expr.Expr.{Expr}
 use Rattle.sw_tree.specs.declared.stmt.Block.{Block}
@@ -25,7 +25,7 @@ use Rattle.sw_grammar.specs.Exprs as exprs
 use Rattle.sw_grammar.specs.Stmts as stmts
 use Rattle.sw_grammar.specs.Types as types
 use Rattle.sw_grammar.specs.Tokens.{expr_first, expr_ext, type_first, type_ext}
-use Rattle.sw_grammar_keys.specs.Interned.{texts_in}
+use Rattle.sw_grammar_facts.specs.Interned.{texts_in}
 use Rattle.sw_parse_decl.specs.Programs.{most_nests}
 use Rattle.sw_parse_decl.specs.declared.fault.ParseFault.{ParseFault}
 use Rattle.sw_parse_decl.specs.declared.fault.ParseFault.TheVariants as faults
@@ -129,11 +129,11 @@ pub record IsPartInterned (phrase : Phrase) (depth : ℕ) (tokens : List Spelled
 
 -- A fault of the tokens leaves the names as they were. Out of memory, the names of the front's
 -- first tokens may be interned.
-abbrev pub Keeps : Phrase → ℕ → List Spelled → ℕ → List (List ℕ) → List (List ℕ) → ParseFault
+abbrev pub KeepsNames : Phrase → ℕ → List Spelled → ℕ → List (List ℕ) → List (List ℕ) → ParseFault
     → Type 0
-Keeps phrase depth tokens from before after (faults.Unexpected token) = after ≡ before
-Keeps phrase depth tokens from before after (faults.TooDeep token) = after ≡ before
-Keeps phrase depth tokens from before after faults.Memory =
+KeepsNames phrase depth tokens from before after (faults.Unexpected token) = after ≡ before
+KeepsNames phrase depth tokens from before after (faults.TooDeep token) = after ≡ before
+KeepsNames phrase depth tokens from before after faults.Memory =
     (after ≡ before) ⊎ IsPartInterned phrase depth tokens from before after
 
 -- reads a phrase where no such spelling goes on after it, from left to right

@@ -9,12 +9,12 @@ ghost use Rattle.sw_token.specs.Tokens.{IsTokens};
 ghost use Rattle.sw_tree.specs.Names.{id_in};
 ghost use Rattle.sw_parse_decl.specs.Programs.{most_nests};
 ghost use Rattle.sw_parse_body.specs.Phrases.{a_block, an_expr, a_type, IsFront, ExplainsFront};
-ghost use Rattle.sw_parse_body.specs.Phrases.{Keeps, texts_after, fault_in, IsStopIn};
+ghost use Rattle.sw_parse_body.specs.Phrases.{KeepsNames, texts_after, fault_in, IsStopIn};
 
 use super::phrases;
 use std::alloc::{AllocError, Global};
+use sw_grammar_forms::{Cursor, Stop};
 use sw_parse_decl::{MAX_NESTS, ParseFault, intern_names};
-use sw_reader::{Cursor, Stop};
 use sw_text::Source;
 use sw_token::Token;
 use sw_tree::{Block, Expr, Names, TypeTree};
@@ -117,7 +117,8 @@ pub fn body(
         (spelling_of source.now tokens.now) from read.1) }
     ensures fault { IfErr result (λ fault. ExplainsFront a_block depth
         (spelling_of source.now tokens.now) from fault) }
-    ensures kept { IfErr result (λ fault. Keeps a_block depth (spelling_of source.now tokens.now)
+    ensures kept { IfErr result (λ fault. KeepsNames a_block depth
+        (spelling_of source.now tokens.now)
         from names.old names.new fault) }
 {
     let (_, to) = block_at(alloc, source, tokens, from, depth, names)?;
@@ -172,7 +173,8 @@ pub fn value(
         (spelling_of source.now tokens.now) from read.1) }
     ensures fault { IfErr result (λ fault. ExplainsFront an_expr depth
         (spelling_of source.now tokens.now) from fault) }
-    ensures kept { IfErr result (λ fault. Keeps an_expr depth (spelling_of source.now tokens.now)
+    ensures kept { IfErr result (λ fault. KeepsNames an_expr depth
+        (spelling_of source.now tokens.now)
         from names.old names.new fault) }
 {
     let (_, to) = expr_at(alloc, source, tokens, from, depth, names)?;
@@ -227,7 +229,8 @@ pub fn written_type(
         (spelling_of source.now tokens.now) from read.1) }
     ensures fault { IfErr result (λ fault. ExplainsFront a_type depth
         (spelling_of source.now tokens.now) from fault) }
-    ensures kept { IfErr result (λ fault. Keeps a_type depth (spelling_of source.now tokens.now)
+    ensures kept { IfErr result (λ fault. KeepsNames a_type depth
+        (spelling_of source.now tokens.now)
         from names.old names.new fault) }
 {
     let (_, to) = type_at(alloc, source, tokens, from, depth, names)?;

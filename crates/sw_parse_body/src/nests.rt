@@ -3,7 +3,7 @@
 //! this ends.
 
 ghost use Rattle.std.specs.Prelude.{◌<◌, true};
-ghost use Rattle.sw_reader.specs.Outcome.{Gives};
+ghost use Rattle.sw_grammar_forms.specs.Outcome.{Gives};
 ghost use Rattle.sw_tree.specs.Names.{id_in};
 ghost use Rattle.sw_grammar.specs.Exprs as exprs;
 ghost use Rattle.sw_grammar.specs.Stmts as stmts;
@@ -11,7 +11,7 @@ ghost use Rattle.sw_grammar.specs.Reading.{read};
 
 use super::parts::Parts;
 use std::alloc::Global;
-use sw_reader::{Cursor, Stop};
+use sw_grammar_forms::{Cursor, Stop};
 use sw_tree::{Arg, Expr, Names, Stmt};
 
 /// An expression, in which closures may stand.

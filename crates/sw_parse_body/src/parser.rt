@@ -2,10 +2,10 @@
 
 use super::nests;
 use std::alloc::Global;
+use sw_grammar_forms::{Cursor, Stop};
 use sw_parse_decl::Bodies;
 use sw_parse_expr::Inner;
 use sw_parse_stmt as stmts;
-use sw_reader::{Cursor, Stop};
 use sw_tree::{Arg, Block, Expr, Names, Stmt};
 
 /// The parser of the values of variables and of the blocks of functions.

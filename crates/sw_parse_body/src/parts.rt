@@ -1,15 +1,15 @@
 //! A parser of what stands in nests that is made of closures.
 
 ghost use Rattle.std.specs.Prelude.{true};
-ghost use Rattle.sw_reader.specs.Outcome.{Gives};
+ghost use Rattle.sw_grammar_forms.specs.Outcome.{Gives};
 ghost use Rattle.sw_tree.specs.Names.{id_in};
 ghost use Rattle.sw_grammar.specs.Exprs as exprs;
 ghost use Rattle.sw_grammar.specs.Stmts as stmts;
 ghost use Rattle.sw_grammar.specs.Reading.{read};
 
 use std::alloc::Global;
+use sw_grammar_forms::{Cursor, Stop};
 use sw_parse_expr::Inner;
-use sw_reader::{Cursor, Stop};
 use sw_tree::{Arg, Expr, Names, Stmt};
 
 /// Closures that read expressions, arguments and statements.

@@ -1,11 +1,11 @@
 //! Blocks, expressions and types, each where no token follows with which it might go on.
 
 ghost use Rattle.std.specs.Prelude.{◌≡◌};
-ghost use Rattle.sw_reader.specs.Fronts.{ends_before};
-ghost use Rattle.sw_reader.specs.Outcome.{Gives};
-ghost use Rattle.sw_reader.specs.Reader.{check};
-ghost use Rattle.sw_reader.specs.Relations.{head};
-ghost use Rattle.sw_reader.specs.Sets.{starts};
+ghost use Rattle.sw_grammar_forms.specs.Fronts.{ends_before};
+ghost use Rattle.sw_grammar_forms.specs.Outcome.{Gives};
+ghost use Rattle.sw_grammar_forms.specs.Reader.{check};
+ghost use Rattle.sw_grammar_forms.specs.Relations.{head};
+ghost use Rattle.sw_grammar_forms.specs.Sets.{starts};
 ghost use Rattle.sw_tree.specs.Names.{id_in};
 ghost use Rattle.sw_grammar.specs.Tokens.{expr_ext, type_ext};
 ghost use Rattle.sw_grammar.specs.Exprs.{operators};
@@ -13,7 +13,7 @@ ghost use Rattle.sw_parse_body.specs.Phrases.{read_phrase, a_block, an_expr, a_t
 
 use super::parser::Parser;
 use std::alloc::Global;
-use sw_reader::{Cursor, Stop};
+use sw_grammar_forms::{Cursor, Stop};
 use sw_token::Fixity;
 use sw_tree::{Block, Expr, Names, TypeTree};
 

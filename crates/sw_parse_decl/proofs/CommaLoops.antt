@@ -3,15 +3,15 @@ use Rattle.std.proofs.Common.{◌≡◌, ℕ, ◌<◌, true, false, List, [], �
 use Rattle.std.proofs.Common.{refl, sym, ◌∙◌}
 use Rattle.std.specs.Prelude.{Ok}
 use Rattle.sw_token.specs.Spelling.{Spelled}
-use Rattle.sw_reader.specs.Sets.{starts, quoted}
-use Rattle.sw_reader.specs.Form.{Shape, one, empty, seq, star}
-use Rattle.sw_reader.specs.Form.Form.{done}
-use Rattle.sw_reader.specs.Terminals.{◌>>=◌, expect}
-use Rattle.sw_reader.specs.Quotes.{quote}
-use Rattle.sw_reader.specs.Relations.{head}
-use Rattle.sw_reader.specs.Reader.{Reader, then_read, next}
-use Rattle.sw_reader.proofs.ReaderLaws.{bind_step}
-use Rattle.sw_reader.proofs.FormLaws.{loop_stops, loop_goes_on, turn_takes}
+use Rattle.sw_grammar_forms.specs.Sets.{starts, quoted}
+use Rattle.sw_grammar_forms.specs.Form.{Shape, one, empty, seq, star}
+use Rattle.sw_grammar_forms.specs.Form.Form.{done}
+use Rattle.sw_grammar_forms.specs.Terminals.{◌>>=◌, expect}
+use Rattle.sw_grammar_forms.specs.Quotes.{quote}
+use Rattle.sw_grammar_forms.specs.Relations.{head}
+use Rattle.sw_grammar_forms.specs.Reader.{Reader, then_read, next}
+use Rattle.sw_grammar_forms.proofs.ReaderLaws.{bind_step}
+use Rattle.sw_grammar_forms.proofs.FormLaws.{loop_stops, loop_goes_on, turn_takes}
 use Rattle.sw_grammar.specs.Nests.{El, shape_of, Form}
 use Rattle.sw_grammar.specs.Grammar.{body, good}
 use Rattle.sw_grammar.specs.Types.{more_of}

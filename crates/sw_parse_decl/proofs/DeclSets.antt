@@ -3,8 +3,8 @@ use Rattle.std.proofs.Common.{◌≡◌, Bool, true, false, ◌++◌, refl, sym,
 use Rattle.std.proofs.Common.{◌||◌, ap}
 use Rattle.std.specs.Prelude.{Option, Some, None}
 use Rattle.sw_token.specs.Spelling.{Spelled}
-use Rattle.sw_reader.specs.Sets.{Set, has, starts, within}
-use Rattle.sw_reader.proofs.SetLemmas.{has-within, starts-append, or_left}
+use Rattle.sw_grammar_forms.specs.Sets.{Set, has, starts, within}
+use Rattle.sw_grammar_forms.proofs.SetLemmas.{has-within, starts-append, or_left}
 
 -- sets with the same tokens
 pub starts-same : (set other : Set) (token : Option Spelled) → within set other ≡ true

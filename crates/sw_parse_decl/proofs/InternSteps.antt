@@ -6,14 +6,14 @@ use Rattle.sw_token.specs.declared.Kind.{Kind}
 use Rattle.sw_token.specs.declared.Kind.TheVariants as kinds
 use Rattle.sw_token.specs.Kinds.{kind_of}
 use Rattle.sw_token.specs.Spelling.{Spelled}
-use Rattle.sw_reader.specs.Outcome.{Takes, text_of}
-use Rattle.sw_reader.specs.Relations.{head}
-use Rattle.sw_reader.specs.Sets.{starts, word, attribute, is_name, is_at}
-use Rattle.sw_reader.proofs.SetLaws.{has-word}
-use Rattle.sw_reader.proofs.KindSets.{has-attribute}
+use Rattle.sw_grammar_forms.specs.Outcome.{Takes, text_of}
+use Rattle.sw_grammar_forms.specs.Relations.{head}
+use Rattle.sw_grammar_forms.specs.Sets.{starts, word, attribute, is_name, is_at}
+use Rattle.sw_grammar_forms.proofs.SetLaws.{has-word}
+use Rattle.sw_grammar_forms.proofs.KindSets.{has-attribute}
 use Rattle.sw_tree.proofs.NamesLemmas.{length-with_text}
 use Rattle.sw_tree.specs.Names.{with_text, with_texts, predeclared}
-use Rattle.sw_grammar_keys.specs.Interned.{name_texts, texts_in}
+use Rattle.sw_grammar_facts.specs.Interned.{name_texts, texts_in}
 use Rattle.sw_parse_decl.specs.Parts.{next_texts}
 
 word_kind : (kind : Kind) (text : List ℕ) → is_name kind ≡ true → name_texts kind text ≡ text ∷ []

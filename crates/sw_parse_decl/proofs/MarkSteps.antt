@@ -2,12 +2,12 @@
 use Rattle.std.proofs.Common.{◌≡◌, ℕ, true, List, [], ◌∷◌, codes, sym, ◌∙◌, ap, subst}
 use Rattle.std.specs.Prelude.{Result}
 use Rattle.sw_token.specs.Spelling.{Spelled}
-use Rattle.sw_reader.specs.Outcome.{Gives}
-use Rattle.sw_reader.specs.Reader.{next, take_if}
-use Rattle.sw_reader.specs.Relations.{head}
-use Rattle.sw_reader.specs.Sets.{Set, starts, within}
-use Rattle.sw_reader.specs.declared.stop.Stop.{Stop}
-use Rattle.sw_reader.proofs.SetLemmas.{has-within}
+use Rattle.sw_grammar_forms.specs.Outcome.{Gives}
+use Rattle.sw_grammar_forms.specs.Reader.{next, take_if}
+use Rattle.sw_grammar_forms.specs.Relations.{head}
+use Rattle.sw_grammar_forms.specs.Sets.{Set, starts, within}
+use Rattle.sw_grammar_forms.specs.declared.stop.Stop.{Stop}
+use Rattle.sw_grammar_forms.proofs.SetLemmas.{has-within}
 use Rattle.sw_tree.specs.declared.name.Name.{Name}
 use Rattle.sw_grammar.specs.Tokens.{at_in, at_name, at_word}
 

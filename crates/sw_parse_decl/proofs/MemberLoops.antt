@@ -17,13 +17,13 @@ use Rattle.std.proofs.Common.{
 use Rattle.std.proofs.Common.{refl, sym, ◌∙◌, ap}
 use Rattle.std.specs.Prelude.{Ok, Err}
 use Rattle.sw_token.specs.Spelling.{Spelled}
-use Rattle.sw_reader.specs.Sets.{starts}
-use Rattle.sw_reader.specs.Form.{is_item}
-use Rattle.sw_reader.specs.Relations.{head, may_start}
-use Rattle.sw_reader.specs.Reader.{Answer, Fault, Reader, and_then, check, skipping}
-use Rattle.sw_reader.proofs.ItemLoops as loops
-use Rattle.sw_reader.proofs.ItemLoops.{Refuses}
-use Rattle.sw_reader.proofs.ReaderLaws.{bind_step, bind_stop, ok_parts}
+use Rattle.sw_grammar_forms.specs.Sets.{starts}
+use Rattle.sw_grammar_forms.specs.Form.{is_item}
+use Rattle.sw_grammar_forms.specs.Relations.{head, may_start}
+use Rattle.sw_grammar_forms.specs.Reader.{Answer, Fault, Reader, and_then, check, skipping}
+use Rattle.sw_grammar_forms.proofs.ItemLoops as loops
+use Rattle.sw_grammar_forms.proofs.ItemLoops.{Refuses}
+use Rattle.sw_grammar_forms.proofs.ReaderLaws.{bind_step, bind_stop, ok_parts}
 use Rattle.sw_grammar.specs.Nests.{El, shape_of, Member}
 use Rattle.sw_grammar.specs.Grammar.{body, good}
 use Rattle.sw_grammar.specs.Reading.{read}

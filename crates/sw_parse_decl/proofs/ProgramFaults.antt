@@ -4,17 +4,17 @@ use Rattle.std.proofs.Common.{◌∙◌, ap, arith, subst, length-append}
 use Rattle.std.proofs.lemmas.List.Elements.{All-from_recursion}
 use Rattle.std.specs.Prelude.{Ok, Err}
 use Rattle.sw_token.specs.Spelling.{Spelled, IsSpelling}
-use Rattle.sw_reader.specs.Reader.{Answer, Fault}
-use Rattle.sw_reader.specs.Reader.Fault.{unexpected, too_deep}
-use Rattle.sw_reader.specs.Outcome.{Gives}
-use Rattle.sw_reader.specs.declared.stop.Stop.{Stop}
-use Rattle.sw_reader.proofs.ReaderLaws.{Failed, left_of, ok_parts}
-use Rattle.sw_reader.proofs.FormLaws.{law}
-use Rattle.sw_reader.proofs.GrammarLaws.{read_is_spelled, spelled_is_read, fault_is_unexpected}
-use Rattle.sw_reader.proofs.GrammarLaws.{read_is_shallow, fault_is_too_deep}
-use Rattle.sw_reader.proofs.DepthLaws.{NotDeep}
+use Rattle.sw_grammar_forms.specs.Reader.{Answer, Fault}
+use Rattle.sw_grammar_forms.specs.Reader.Fault.{unexpected, too_deep}
+use Rattle.sw_grammar_forms.specs.Outcome.{Gives}
+use Rattle.sw_grammar_forms.specs.declared.stop.Stop.{Stop}
+use Rattle.sw_grammar_forms.proofs.ReaderLaws.{Failed, left_of, ok_parts}
+use Rattle.sw_grammar_forms.proofs.FormLaws.{law}
+use Rattle.sw_grammar_forms.proofs.GrammarLaws.{read_is_spelled, spelled_is_read, fault_is_unexpected}
+use Rattle.sw_grammar_forms.proofs.GrammarLaws.{read_is_shallow, fault_is_too_deep}
+use Rattle.sw_grammar_forms.proofs.DepthLaws.{NotDeep}
 use Rattle.sw_grammar.proofs.ProgramLaws as laws
-use Rattle.sw_reader.proofs.WholeLaws.{IsEnd, whole_fails}
+use Rattle.sw_grammar_forms.proofs.WholeLaws.{IsEnd, whole_fails}
 use Rattle.sw_tree.proofs.NamesLemmas.{ids_of_interned}
 use Rattle.sw_tree.specs.Contents.{AreKeyed, AreNamed}
 use Rattle.sw_tree.specs.Names.{id_in, predeclared, with_texts}
@@ -24,10 +24,10 @@ use Rattle.sw_grammar.specs.Grammar.{body, good}
 use Rattle.sw_grammar.specs.Decls.{program}
 use Rattle.sw_grammar.specs.Program.{Spells, SpellsWithin, SpellsDecls}
 use Rattle.sw_grammar.specs.Reading.{read}
-use Rattle.sw_grammar_keys.specs.Interned.{texts_in, AreInterned}
-use Rattle.sw_grammar_keys.proofs.DeclsFew.{spelled_are_few}
-use Rattle.sw_grammar_keys.proofs.KeysDiffer.{spelled_are_keyed}
-use Rattle.sw_grammar_keys.proofs.NamesKnown.{spelled_are_named}
+use Rattle.sw_grammar_facts.specs.Interned.{texts_in, AreInterned}
+use Rattle.sw_grammar_facts.proofs.DeclsFew.{spelled_are_few}
+use Rattle.sw_grammar_facts.proofs.KeysDiffer.{spelled_are_keyed}
+use Rattle.sw_grammar_facts.proofs.NamesKnown.{spelled_are_named}
 use Rattle.sw_parse_decl.specs.Programs.{most_nests, texts_of, IsProgramOf, whole_program}
 use Rattle.sw_parse_decl.specs.Programs.{IsSyntaxFault}
 use Rattle.sw_parse_decl.specs.declared.fault.ParseFault.{ParseFault}

@@ -1,9 +1,9 @@
 -- Parts of entries that are functions of their own.
 use Rattle.std.specs.Prelude.{ℕ, List, codes}
-use Rattle.sw_reader.specs.Form.{alt, one, seq, empty}
-use Rattle.sw_reader.specs.Form.Form.{done, terminal, either}
-use Rattle.sw_reader.specs.Terminals.{◌>>=◌, expect}
-use Rattle.sw_reader.specs.Quotes.{quote}
+use Rattle.sw_grammar_forms.specs.Form.{alt, one, seq, empty}
+use Rattle.sw_grammar_forms.specs.Form.Form.{done, terminal, either}
+use Rattle.sw_grammar_forms.specs.Terminals.{◌>>=◌, expect}
+use Rattle.sw_grammar_forms.specs.Quotes.{quote}
 use Rattle.sw_tree.specs.declared.decl.Written.{Written}
 use Rattle.sw_tree.specs.declared.decl.Written.TheVariants as written
 use Rattle.sw_grammar.specs.Nests.{Form}

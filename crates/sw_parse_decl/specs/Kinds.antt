@@ -1,10 +1,10 @@
 -- The members of each kind of type.
 use Rattle.std.specs.Prelude.{ℕ, Bool, List, [], ◌++◌, codes}
-use Rattle.sw_reader.specs.Form.{Shape, alt, solid}
-use Rattle.sw_reader.specs.Form.Form.{either, more_items}
-use Rattle.sw_reader.specs.Reader.{Reader, then_read, pure}
-use Rattle.sw_reader.specs.Sets.{Set, quoted}
-use Rattle.sw_reader.specs.Terminals.{items}
+use Rattle.sw_grammar_forms.specs.Form.{Shape, alt, solid}
+use Rattle.sw_grammar_forms.specs.Form.Form.{either, more_items}
+use Rattle.sw_grammar_forms.specs.Reader.{Reader, then_read, pure}
+use Rattle.sw_grammar_forms.specs.Sets.{Set, quoted}
+use Rattle.sw_grammar_forms.specs.Terminals.{items}
 use Rattle.sw_grammar.specs.Nests.{Form, Member, method_first}
 use Rattle.sw_grammar.specs.Tokens.{binding_first, type_ext, expr_ext, infix_op}
 use Rattle.sw_grammar.specs.Decls.{field, prop, init, enum_cases, method_member}

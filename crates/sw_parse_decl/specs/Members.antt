@@ -1,6 +1,6 @@
 -- The members of a type, by their kinds.
 use Rattle.std.specs.Prelude.{List, [], ◌∷◌, ◌++◌}
-use Rattle.sw_reader.specs.Reader.{Reader, then_read, pure}
+use Rattle.sw_grammar_forms.specs.Reader.{Reader, then_read, pure}
 use Rattle.sw_grammar.specs.Nests.{Member}
 use Rattle.sw_grammar.specs.Nests.Member.{property, initialiser, function, cases}
 use Rattle.sw_grammar.specs.Decls.{properties_in, initialisers_in, functions_in, cases_in}

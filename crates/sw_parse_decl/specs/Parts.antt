@@ -1,10 +1,10 @@
 -- Parts of the rule of declarations that are functions of their own.
 use Rattle.std.specs.Prelude.{ℕ, Bool, List, [], ◌∷◌, codes}
-use Rattle.sw_reader.specs.Sets.{quoted}
-use Rattle.sw_reader.specs.Form.{Shape, alt, one, seq, solid}
-use Rattle.sw_reader.specs.Form.Form.{terminal, either, more_items}
-use Rattle.sw_reader.specs.Reader.{Reader, then_read, pure}
-use Rattle.sw_reader.specs.Terminals.{◌>>=◌, items}
+use Rattle.sw_grammar_forms.specs.Sets.{quoted}
+use Rattle.sw_grammar_forms.specs.Form.{Shape, alt, one, seq, solid}
+use Rattle.sw_grammar_forms.specs.Form.Form.{terminal, either, more_items}
+use Rattle.sw_grammar_forms.specs.Reader.{Reader, then_read, pure}
+use Rattle.sw_grammar_forms.specs.Terminals.{◌>>=◌, items}
 use Rattle.sw_token.specs.Kinds.{kind_of}
 use Rattle.sw_token.specs.Spelling.{Spelled}
 use Rattle.sw_tree.specs.declared.decl.Decl.{Decl}
@@ -14,7 +14,7 @@ use Rattle.sw_grammar.specs.Tokens.{at_in, expr_ext}
 use Rattle.sw_grammar.specs.Decls.{annotated_first, entry, global_actor, annotated, nonisolated}
 use Rattle.sw_grammar.specs.Decls.{concurrent, func_decl, struct_decl, enum_decl, actor_decl, decl}
 use Rattle.sw_grammar.specs.Reading.{read}
-use Rattle.sw_grammar_keys.specs.Interned.{name_texts}
+use Rattle.sw_grammar_facts.specs.Interned.{name_texts}
 
 abbrev pub annotated_shape : Shape
 annotated_shape = solid annotated_first expr_ext 0

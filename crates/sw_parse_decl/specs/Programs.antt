@@ -2,14 +2,14 @@
 -- of tokens that are no program.
 use Rattle.std.specs.Prelude.{ℕ, List}
 use Rattle.sw_token.specs.Spelling.{Spelled}
-use Rattle.sw_reader.specs.Reader.{Reader, whole}
-use Rattle.sw_reader.specs.Whole.{IsSpelledAs}
+use Rattle.sw_grammar_forms.specs.Reader.{Reader, whole}
+use Rattle.sw_grammar_forms.specs.Whole.{IsSpelledAs}
 use Rattle.sw_tree.specs.Names.{id_in, predeclared, with_texts}
 use Rattle.sw_tree.specs.declared.decl.Decl.{Decl}
 use Rattle.sw_grammar.specs.Decls.{program}
 use Rattle.sw_grammar.specs.Program.{SpellsWithin, IsFirstUnexpected, IsTooDeep}
 use Rattle.sw_grammar.specs.Reading.{read}
-use Rattle.sw_grammar_keys.specs.Interned.{texts_in}
+use Rattle.sw_grammar_facts.specs.Interned.{texts_in}
 use Rattle.sw_parse_decl.specs.declared.fault.ParseFault.{ParseFault}
 use Rattle.sw_parse_decl.specs.declared.fault.ParseFault.TheVariants as faults
 

@@ -1,12 +1,12 @@
 //! What the parser of declarations asks of a parser of expressions and statements.
 
-ghost use Rattle.sw_reader.specs.Outcome.{Gives};
+ghost use Rattle.sw_grammar_forms.specs.Outcome.{Gives};
 ghost use Rattle.sw_tree.specs.Names.{id_in};
 ghost use Rattle.sw_grammar.specs.Stmts.{value, block};
 ghost use Rattle.sw_grammar.specs.Reading.{read};
 
 use std::alloc::Global;
-use sw_reader::{Cursor, Stop};
+use sw_grammar_forms::{Cursor, Stop};
 use sw_tree::{Block, Expr, Names};
 
 /// A parser of what stands in declarations: the values of variables and the blocks of functions.

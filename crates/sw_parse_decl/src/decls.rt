@@ -1,10 +1,10 @@
 //! Declarations at top level.
 
 ghost use Rattle.std.specs.Prelude.{◌≡◌, codes};
-ghost use Rattle.sw_reader.specs.Outcome.{Gives};
-ghost use Rattle.sw_reader.specs.Reader.{next};
-ghost use Rattle.sw_reader.specs.Relations.{head};
-ghost use Rattle.sw_reader.specs.Sets.{starts, quoted};
+ghost use Rattle.sw_grammar_forms.specs.Outcome.{Gives};
+ghost use Rattle.sw_grammar_forms.specs.Reader.{next};
+ghost use Rattle.sw_grammar_forms.specs.Relations.{head};
+ghost use Rattle.sw_grammar_forms.specs.Sets.{starts, quoted};
 ghost use Rattle.sw_tree.specs.Names.{id_in};
 ghost use Rattle.sw_grammar.specs.Tokens.{plain_at_word, at_in};
 ghost use Rattle.sw_grammar.specs.Decls.{func_decl, global_value, global_after, annotated, decl};
@@ -18,9 +18,9 @@ use crate::functions::{declared, func_after};
 use crate::isolations::{concurrent, nonisolated};
 use crate::types::{actor_decl, class_after, enum_decl, struct_decl};
 use std::alloc::Global;
+use sw_grammar_forms::{Cursor, Stop};
 use sw_list::ListOf;
 use sw_parse_parts::{attribute, sees_attribute, type_if};
-use sw_reader::{Cursor, Stop};
 use sw_tree::{Decl, DeclList, Name, Names, PropTree, Written};
 
 /// A function, after the isolation that is written.

@@ -1,20 +1,20 @@
 //! The entry of a program, and global actors.
 
 ghost use Rattle.std.specs.Prelude.{codes};
-ghost use Rattle.sw_reader.specs.Outcome.{Gives};
+ghost use Rattle.sw_grammar_forms.specs.Outcome.{Gives};
 ghost use Rattle.sw_tree.specs.Names.{id_in};
 ghost use Rattle.sw_grammar.specs.Decls.{entry_inside, global_actor_inside, entry, global_actor};
 ghost use Rattle.sw_grammar.specs.Nests.Nest.{in_entry, in_global_actor};
 ghost use Rattle.sw_grammar.specs.Reading.{read};
-ghost use Rattle.sw_reader.specs.Quotes.{quote};
+ghost use Rattle.sw_grammar_forms.specs.Quotes.{quote};
 ghost use Rattle.sw_parse_parts.specs.Nested.{made, nested};
 ghost use Rattle.sw_parse_decl.specs.Entries.{main_isolation, main_of};
 
 use crate::bodies::Bodies;
 use crate::functions::declared;
 use std::alloc::Global;
+use sw_grammar_forms::{Cursor, Stop};
 use sw_parse_parts::{attribute, empty, equals, sees_attribute};
-use sw_reader::{Cursor, Stop};
 use sw_tree::{Block, Decl, Name, Names, Written};
 
 /// What an entry has beside its word.

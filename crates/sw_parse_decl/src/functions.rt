@@ -1,7 +1,7 @@
 //! Functions and their parameters.
 
 ghost use Rattle.std.specs.Prelude.{[], ◌∷◌, codes};
-ghost use Rattle.sw_reader.specs.Outcome.{Gives};
+ghost use Rattle.sw_grammar_forms.specs.Outcome.{Gives};
 ghost use Rattle.sw_tree.specs.Names.{id_in};
 ghost use Rattle.sw_grammar.specs.Decls.{declared, param_type, param, params_inside, params};
 ghost use Rattle.sw_grammar.specs.Decls.{sent_result};
@@ -9,15 +9,15 @@ ghost use Rattle.sw_grammar.specs.Decls.{func_after, method};
 ghost use Rattle.sw_grammar.specs.Types.{more_of};
 ghost use Rattle.sw_grammar.specs.Nests.Nest.{in_params};
 ghost use Rattle.sw_grammar.specs.Reading.{read};
-ghost use Rattle.sw_reader.specs.Quotes.{quote};
+ghost use Rattle.sw_grammar_forms.specs.Quotes.{quote};
 ghost use Rattle.sw_parse_parts.specs.Nested.{nested};
 
 use crate::bodies::Bodies;
 use crate::isolations::{async_if, concurrent, nonisolated};
 use std::alloc::Global;
+use sw_grammar_forms::{Cursor, Stop};
 use sw_list::ListOf;
 use sw_parse_parts::{attribute, sees_attribute, type_tree, word};
-use sw_reader::{Cursor, Stop};
 use sw_tree::{FuncTree, Name, Names, ParamList, ParamTree, TypeTree, Written};
 
 /// The word that a declaration declares.

@@ -1,16 +1,16 @@
 //! The isolation that is written before a declaration.
 
 ghost use Rattle.std.specs.Prelude.{◌≡◌, codes};
-ghost use Rattle.sw_reader.specs.Outcome.{Gives};
+ghost use Rattle.sw_grammar_forms.specs.Outcome.{Gives};
 ghost use Rattle.sw_tree.specs.Names.{id_in};
 ghost use Rattle.sw_grammar.specs.Decls.{isolation_inside, nonisolated, concurrent, async_if};
 ghost use Rattle.sw_grammar.specs.Decls.{needs_async};
 ghost use Rattle.sw_grammar.specs.Nests.Nest.{in_isolation};
 ghost use Rattle.sw_grammar.specs.Reading.{read};
 ghost use Rattle.sw_parse_parts.specs.Nested.{nested};
-ghost use Rattle.sw_reader.specs.Quotes.{quote};
+ghost use Rattle.sw_grammar_forms.specs.Quotes.{quote};
 
-use sw_reader::{Cursor, Stop};
+use sw_grammar_forms::{Cursor, Stop};
 use sw_tree::{Names, Written};
 
 /// `nonisolated` or `nonisolated(nonsending)`.

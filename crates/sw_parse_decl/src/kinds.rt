@@ -1,14 +1,14 @@
 //! The kinds of types, and what their members begin with.
 
 ghost use Rattle.std.specs.Prelude.{◌≡◌};
-ghost use Rattle.sw_reader.specs.Relations.{head};
-ghost use Rattle.sw_reader.specs.Sets.{starts};
+ghost use Rattle.sw_grammar_forms.specs.Relations.{head};
+ghost use Rattle.sw_grammar_forms.specs.Sets.{starts};
 ghost use Rattle.sw_grammar.specs.Nests.{method_first};
 ghost use Rattle.sw_parse_decl.specs.declared.kinds.TypeKind.TheVariants as kinds;
 ghost use Rattle.sw_parse_decl.specs.Kinds.{member_first};
 
+use sw_grammar_forms::Cursor;
 use sw_parse_parts::{sees_attribute, sees_binding};
-use sw_reader::Cursor;
 
 /// The kinds of types, by the members that they may have.
 #[derive(Clone, Copy, Debug, PartialEq, Eq)]

@@ -1,7 +1,7 @@
 //! The members of types.
 
 ghost use Rattle.std.specs.Prelude.{◌≡◌, [], ◌∷◌, codes};
-ghost use Rattle.sw_reader.specs.Outcome.{Gives};
+ghost use Rattle.sw_grammar_forms.specs.Outcome.{Gives};
 ghost use Rattle.sw_tree.specs.Names.{id_in};
 ghost use Rattle.sw_grammar.specs.Decls.{method_member, value_if, field_after, field, prop_after};
 ghost use Rattle.sw_grammar.specs.Decls.{prop};
@@ -9,16 +9,16 @@ ghost use Rattle.sw_grammar.specs.Decls.{init, enum_case, enum_cases};
 ghost use Rattle.sw_grammar.specs.Types.{more_of};
 ghost use Rattle.sw_grammar.specs.Nests.Nest.{in_payload};
 ghost use Rattle.sw_grammar.specs.Reading.{read};
-ghost use Rattle.sw_reader.specs.Quotes.{quote};
+ghost use Rattle.sw_grammar_forms.specs.Quotes.{quote};
 ghost use Rattle.sw_parse_parts.specs.Nested.{nested};
 ghost use Rattle.sw_parse_decl.specs.Members.{collected, and_member};
 
 use crate::bodies::Bodies;
 use crate::functions::{declared, method, params};
 use std::alloc::Global;
+use sw_grammar_forms::{Cursor, Stop};
 use sw_list::ListOf;
 use sw_parse_parts::{some_types, type_tree};
-use sw_reader::{Cursor, Stop};
 use sw_token::Fixity;
 use sw_tree::{
     CaseList, CaseTree, Expr, FuncList, InitList, InitTree, Names, PropList, PropTree,

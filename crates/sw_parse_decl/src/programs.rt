@@ -4,9 +4,9 @@ ghost use Rattle.std.specs.Prelude.{◌≡◌, ◌+◌, ◌<◌, ◌≤◌, ℕ,
 ghost use Rattle.std.specs.Prelude.{OnOk, OnErr, IfOk, IfErr};
 ghost use Rattle.sw_token.specs.Spelling.{spelling_of};
 ghost use Rattle.sw_token.specs.Tokens.{IsTokens};
-ghost use Rattle.sw_reader.specs.Outcome.{Gives};
+ghost use Rattle.sw_grammar_forms.specs.Outcome.{Gives};
 ghost use Rattle.sw_tree.specs.Names.{id_in, with_texts};
-ghost use Rattle.sw_grammar_keys.specs.Interned.{texts_in};
+ghost use Rattle.sw_grammar_facts.specs.Interned.{texts_in};
 ghost use Rattle.sw_parse_decl.specs.Parts.{next_texts};
 ghost use Rattle.sw_parse_decl.specs.Programs.{whole_program, texts_of, IsProgramOf, Explains};
 
@@ -14,7 +14,7 @@ use crate::bodies::Bodies;
 use crate::decls::decls;
 use crate::fault::ParseFault;
 use std::alloc::{AllocError, Global};
-use sw_reader::{Cursor, Stop};
+use sw_grammar_forms::{Cursor, Stop};
 use sw_text::Source;
 use sw_token::Token;
 use sw_tree::{DeclList, Names, Program};

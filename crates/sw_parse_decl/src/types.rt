@@ -1,13 +1,13 @@
 //! Declarations of types.
 
-ghost use Rattle.sw_reader.specs.Outcome.{Gives};
+ghost use Rattle.sw_grammar_forms.specs.Outcome.{Gives};
 ghost use Rattle.sw_tree.specs.Names.{id_in};
 ghost use Rattle.sw_grammar.specs.Decls.{conforms, struct_inside, enum_inside, class_inside};
 ghost use Rattle.sw_grammar.specs.Decls.{struct_decl, enum_decl, actor_decl, class_after};
 ghost use Rattle.std.specs.Prelude.{codes};
 ghost use Rattle.sw_grammar.specs.Nests.Nest.{in_struct, in_enum, in_class};
 ghost use Rattle.sw_grammar.specs.Reading.{read};
-ghost use Rattle.sw_reader.specs.Quotes.{quote};
+ghost use Rattle.sw_grammar_forms.specs.Quotes.{quote};
 ghost use Rattle.sw_parse_parts.specs.Nested.{made, nested};
 ghost use Rattle.sw_parse_decl.specs.declared.kinds.TypeKind.TheVariants as kinds;
 ghost use Rattle.sw_parse_decl.specs.Members.{and_member, collected};
@@ -18,8 +18,8 @@ use crate::functions::declared;
 use crate::kinds::{TypeKind, sees_member};
 use crate::members::{Members, enum_cases, field, init, method_member, prop};
 use std::alloc::Global;
+use sw_grammar_forms::{Cursor, Stop};
 use sw_parse_parts::sees_binding;
-use sw_reader::{Cursor, Stop};
 use sw_tree::{Decl, Names, Written};
 
 /// One more member of a type of this kind.

@@ -2,12 +2,12 @@
 use Rattle.std.proofs.Common.{◌≡◌, ◌<◌, ℕ, true, false, List, [], ◌∷◌, ◌++◌, length}
 use Rattle.std.specs.Prelude.{Ok}
 use Rattle.sw_token.specs.Spelling.{Spelled}
-use Rattle.sw_reader.specs.Sets.{starts}
-use Rattle.sw_reader.specs.Form.{Shape, Terminal, one, empty, seq, star}
-use Rattle.sw_reader.specs.Relations.{head}
-use Rattle.sw_reader.specs.Reader.{Answer, Reader}
-use Rattle.sw_reader.proofs.ItemLoops.{Refuses}
-use Rattle.sw_reader.proofs.ListLoops as loops
+use Rattle.sw_grammar_forms.specs.Sets.{starts}
+use Rattle.sw_grammar_forms.specs.Form.{Shape, Terminal, one, empty, seq, star}
+use Rattle.sw_grammar_forms.specs.Relations.{head}
+use Rattle.sw_grammar_forms.specs.Reader.{Answer, Reader}
+use Rattle.sw_grammar_forms.proofs.ItemLoops.{Refuses}
+use Rattle.sw_grammar_forms.proofs.ListLoops as loops
 use Rattle.sw_tree.specs.declared.operator.InfixOp.{InfixOp}
 use Rattle.sw_tree.specs.declared.expr.Expr.{Expr}
 use Rattle.sw_tree.specs.declared.expr.Link.{Link as Operand}

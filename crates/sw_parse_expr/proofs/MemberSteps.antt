@@ -3,14 +3,14 @@ use Rattle.std.proofs.Common.{◌≡◌, ℕ, ◌-◌, true, false, cond, List, 
 use Rattle.std.proofs.Common.{◌∙◌, ap, codes}
 use Rattle.std.specs.Prelude.{Option, Some, None, Ok, Err}
 use Rattle.sw_token.specs.Spelling.{Spelled}
-use Rattle.sw_reader.specs.Form.Form.{nest}
-use Rattle.sw_reader.specs.Quotes.{quote}
-use Rattle.sw_reader.specs.Sets.{starts, quoted, word}
-use Rattle.sw_reader.specs.Relations.{head}
-use Rattle.sw_reader.specs.Reader.{Answer, and_then, then_read, pure, next, opening}
-use Rattle.sw_reader.proofs.ItemLoops.{Refuses}
-use Rattle.sw_reader.proofs.NestReads.{nest_reads}
-use Rattle.sw_reader.proofs.ReaderLaws.{bind_step, bind_stop}
+use Rattle.sw_grammar_forms.specs.Form.Form.{nest}
+use Rattle.sw_grammar_forms.specs.Quotes.{quote}
+use Rattle.sw_grammar_forms.specs.Sets.{starts, quoted, word}
+use Rattle.sw_grammar_forms.specs.Relations.{head}
+use Rattle.sw_grammar_forms.specs.Reader.{Answer, and_then, then_read, pure, next, opening}
+use Rattle.sw_grammar_forms.proofs.ItemLoops.{Refuses}
+use Rattle.sw_grammar_forms.proofs.NestReads.{nest_reads}
+use Rattle.sw_grammar_forms.proofs.ReaderLaws.{bind_step, bind_stop}
 use Rattle.sw_tree.specs.declared.name.Name.{Name}
 use Rattle.sw_tree.specs.declared.expr.Expr.{Expr}
 use Rattle.sw_tree.specs.declared.expr.Arg.{Arg}

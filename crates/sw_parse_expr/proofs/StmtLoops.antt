@@ -3,12 +3,12 @@ use Rattle.std.proofs.Common.{◌≡◌, ℕ, ◌<◌, Bool, true, false, not, L
 use Rattle.std.proofs.Common.{codes, refl}
 use Rattle.std.specs.Prelude.{Ok}
 use Rattle.sw_token.specs.Spelling.{Spelled}
-use Rattle.sw_reader.specs.Form.Form.{more_items}
-use Rattle.sw_reader.specs.Sets.{starts}
-use Rattle.sw_reader.specs.Relations.{head, may_start}
-use Rattle.sw_reader.specs.Reader.{Reader, check, skipping}
-use Rattle.sw_reader.proofs.ItemLoops as loops
-use Rattle.sw_reader.proofs.ItemLoops.{Refuses}
+use Rattle.sw_grammar_forms.specs.Form.Form.{more_items}
+use Rattle.sw_grammar_forms.specs.Sets.{starts}
+use Rattle.sw_grammar_forms.specs.Relations.{head, may_start}
+use Rattle.sw_grammar_forms.specs.Reader.{Reader, check, skipping}
+use Rattle.sw_grammar_forms.proofs.ItemLoops as loops
+use Rattle.sw_grammar_forms.proofs.ItemLoops.{Refuses}
 use Rattle.sw_tree.specs.declared.stmt.Stmt.{Stmt}
 use Rattle.sw_grammar.specs.Nests.{El, shape_of}
 use Rattle.sw_grammar.specs.Grammar.{body, good}

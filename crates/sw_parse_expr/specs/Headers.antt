@@ -1,11 +1,11 @@
 -- What closures and tasks have before their statements, as the code keeps it, and the parts of its
 -- rules that are functions of their own.
 use Rattle.std.specs.Prelude.{ℕ, Some, None, List, [], ◌++◌, codes}
-use Rattle.sw_reader.specs.Sets.{quoted}
-use Rattle.sw_reader.specs.Form.{Shape, solid, one, seq, empty}
-use Rattle.sw_reader.specs.Form.Form.{done, terminal}
-use Rattle.sw_reader.specs.Quotes.{quote}
-use Rattle.sw_reader.specs.Terminals.{◌>>=◌, expect}
+use Rattle.sw_grammar_forms.specs.Sets.{quoted}
+use Rattle.sw_grammar_forms.specs.Form.{Shape, solid, one, seq, empty}
+use Rattle.sw_grammar_forms.specs.Form.Form.{done, terminal}
+use Rattle.sw_grammar_forms.specs.Quotes.{quote}
+use Rattle.sw_grammar_forms.specs.Terminals.{◌>>=◌, expect}
 use Rattle.sw_tree.specs.declared.expr.Closure.{Closure, roll-Closure}
 use Rattle.sw_tree.specs.declared.stmt.Stmt.{Stmt}
 use Rattle.sw_tree.specs.declared.stmt.Block.{roll-Block}

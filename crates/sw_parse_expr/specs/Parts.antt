@@ -1,11 +1,11 @@
 -- Parts of the rules of expressions that are functions of their own.
 use Rattle.std.specs.Prelude.{ℕ, Bool, true, Some, None, List, [], ◌∷◌, ◌++◌, codes}
-use Rattle.sw_reader.specs.Sets.{quoted, word}
-use Rattle.sw_reader.specs.Form.{Shape, Terminal, solid, alt, one, seq, star, empty}
-use Rattle.sw_reader.specs.Form.Form.{done, terminal, either, turns}
-use Rattle.sw_reader.specs.Quotes.{quote}
-use Rattle.sw_reader.specs.Reader.{Reader, then_read, pure, next}
-use Rattle.sw_reader.specs.Terminals.{◌>>=◌, expect, items}
+use Rattle.sw_grammar_forms.specs.Sets.{quoted, word}
+use Rattle.sw_grammar_forms.specs.Form.{Shape, Terminal, solid, alt, one, seq, star, empty}
+use Rattle.sw_grammar_forms.specs.Form.Form.{done, terminal, either, turns}
+use Rattle.sw_grammar_forms.specs.Quotes.{quote}
+use Rattle.sw_grammar_forms.specs.Reader.{Reader, then_read, pure, next}
+use Rattle.sw_grammar_forms.specs.Terminals.{◌>>=◌, expect, items}
 use Rattle.sw_tree.specs.declared.name.Name.{Name}
 use Rattle.sw_tree.specs.declared.operator.InfixOp.{InfixOp}
 use Rattle.sw_tree.specs.declared.expr.Expr.{Expr}

@@ -1,8 +1,8 @@
 //! Calls: their arguments, and what is called by a word.
 
 ghost use Rattle.std.specs.Prelude.{[], ◌∷◌, codes};
-ghost use Rattle.sw_reader.specs.Outcome.{Gives};
-ghost use Rattle.sw_reader.specs.Quotes.{quote_on_line};
+ghost use Rattle.sw_grammar_forms.specs.Outcome.{Gives};
+ghost use Rattle.sw_grammar_forms.specs.Quotes.{quote_on_line};
 ghost use Rattle.sw_tree.specs.Names.{id_in};
 ghost use Rattle.sw_grammar.specs.Exprs as exprs;
 ghost use Rattle.sw_grammar.specs.Types.{more_of};
@@ -16,9 +16,9 @@ use super::chains::{expr, more_operands, other_expr};
 use super::inner::Inner;
 use super::operands::after_task;
 use std::alloc::Global;
+use sw_grammar_forms::{Cursor, Stop};
 use sw_list::{Boxed, ListOf};
 use sw_parse_parts::{sees_value_word, task_word, value_word, word};
-use sw_reader::{Cursor, Stop};
 use sw_tree::{Arg, ArgList, Expr, Name, Names};
 
 /// The arguments of a call, where a `(` comes that isn't the first on its line.

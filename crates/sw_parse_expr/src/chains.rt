@@ -1,7 +1,7 @@
 //! Chains of operators, by their ranks, and whole expressions.
 
 ghost use Rattle.std.specs.Prelude.{◌≡◌, [], IfOk, codes};
-ghost use Rattle.sw_reader.specs.Outcome.{Gives};
+ghost use Rattle.sw_grammar_forms.specs.Outcome.{Gives};
 ghost use Rattle.sw_tree.specs.Names.{id_in};
 ghost use Rattle.sw_grammar.specs.Exprs as exprs;
 ghost use Rattle.sw_grammar.specs.Tokens.{times, plus, infix_op, infix_in};
@@ -13,12 +13,12 @@ use super::calls::after_operand;
 use super::inner::Inner;
 use super::operands::{negated, other_primary, unary};
 use std::alloc::{AllocError, Global};
+use sw_grammar_forms::{Cursor, Stop};
 use sw_list::{Boxed, ListOf};
 use sw_parse_parts::{
     infix_and, infix_compare, infix_or, infix_plus, infix_times, sees_compare, sees_plus,
     sees_prefix, sees_times,
 };
-use sw_reader::{Cursor, Stop};
 use sw_token::Fixity;
 use sw_tree::{Expr, Link, LinkList, Names};
 

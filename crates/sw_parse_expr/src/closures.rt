@@ -1,10 +1,10 @@
 //! Closures, the bodies of tasks, and statements in order.
 
 ghost use Rattle.std.specs.Prelude.{◌≡◌, codes};
-ghost use Rattle.sw_reader.specs.Outcome.{Gives};
-ghost use Rattle.sw_reader.specs.Form.Form.{nest};
-ghost use Rattle.sw_reader.specs.Quotes.{quote};
-ghost use Rattle.sw_reader.specs.Reader.{then_read, pure};
+ghost use Rattle.sw_grammar_forms.specs.Outcome.{Gives};
+ghost use Rattle.sw_grammar_forms.specs.Form.Form.{nest};
+ghost use Rattle.sw_grammar_forms.specs.Quotes.{quote};
+ghost use Rattle.sw_grammar_forms.specs.Reader.{then_read, pure};
 ghost use Rattle.sw_tree.specs.Names.{id_in};
 ghost use Rattle.sw_grammar.specs.Exprs as exprs;
 ghost use Rattle.sw_grammar.specs.Closures as closures;
@@ -21,12 +21,12 @@ ghost use Rattle.sw_parse_expr.specs.Headers.{signed_task_header};
 
 use super::inner::Inner;
 use std::alloc::Global;
+use sw_grammar_forms::{Cursor, Stop};
 use sw_list::ListOf;
 use sw_parse_parts::{
     attribute, captures, captures_if, sees_attribute, sees_stmt, sendable, signature, signature_if,
     task_signature, task_signature_if,
 };
-use sw_reader::{Cursor, Stop};
 use sw_tree::{Block, Closure, ClosureParamList, Name, NameList, Names, StmtList, TypeTree};
 
 /// What a closure has before its statements.

@@ -1,14 +1,14 @@
 //! What the parser of expressions and statements asks of a parser of what stands in nests.
 
 ghost use Rattle.std.specs.Prelude.{ℕ, true};
-ghost use Rattle.sw_reader.specs.Outcome.{Gives};
+ghost use Rattle.sw_grammar_forms.specs.Outcome.{Gives};
 ghost use Rattle.sw_tree.specs.Names.{id_in};
 ghost use Rattle.sw_grammar.specs.Exprs as exprs;
 ghost use Rattle.sw_grammar.specs.Stmts as stmts;
 ghost use Rattle.sw_grammar.specs.Reading.{read};
 
 use std::alloc::Global;
-use sw_reader::{Cursor, Stop};
+use sw_grammar_forms::{Cursor, Stop};
 use sw_tree::{Arg, Expr, Names, Stmt};
 
 /// A parser of what stands in nests: expressions, arguments and statements further in.

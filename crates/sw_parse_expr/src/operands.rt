@@ -1,6 +1,6 @@
 //! Operands: what stands between operators.
 
-ghost use Rattle.sw_reader.specs.Outcome.{Gives};
+ghost use Rattle.sw_grammar_forms.specs.Outcome.{Gives};
 ghost use Rattle.sw_tree.specs.Names.{id_in};
 ghost use Rattle.sw_grammar.specs.Exprs as exprs;
 ghost use Rattle.sw_grammar.specs.Reading.{read};
@@ -11,11 +11,11 @@ use super::calls::{after_operand, after_word};
 use super::closures::{closure, task_body};
 use super::inner::Inner;
 use std::alloc::Global;
+use sw_grammar_forms::{Cursor, Stop};
 use sw_list::Boxed;
 use sw_parse_parts::{
     a_literal, empty, prefix_op, sees_literal, sees_prefix, sees_value_word, value_word,
 };
-use sw_reader::{Cursor, Stop};
 use sw_tree::{Expr, Names};
 
 /// What stands after `Task` and `.`.

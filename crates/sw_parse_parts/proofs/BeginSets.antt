@@ -2,9 +2,9 @@
 use Rattle.std.proofs.Common.{◌≡◌, true, false, ◌||◌, ◌++◌, sym, ◌∙◌, ap}
 use Rattle.std.specs.Prelude.{Option}
 use Rattle.sw_token.specs.Spelling.{Spelled}
-use Rattle.sw_reader.specs.Sets.{Set, starts, within}
-use Rattle.sw_reader.proofs.SetLemmas.{starts-append}
-use Rattle.sw_reader.proofs.KindSets.{starts-same}
+use Rattle.sw_grammar_forms.specs.Sets.{Set, starts, within}
+use Rattle.sw_grammar_forms.proofs.SetLemmas.{starts-append}
+use Rattle.sw_grammar_forms.proofs.KindSets.{starts-same}
 
 module _ (set one other : Set) (token : Option Spelled) (covered : within set (one ++ other) ≡ true)
     (covers : within (one ++ other) set ≡ true) where

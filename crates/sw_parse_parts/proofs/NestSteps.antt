@@ -2,13 +2,13 @@
 use Rattle.std.proofs.Common.{◌≡◌, ℕ, zero, suc, ◌-◌, ◌<◌, List, refl, sym, ◌∙◌, ap, subst, arith}
 use Rattle.std.specs.Prelude.{Result, Ok, Err}
 use Rattle.sw_token.specs.Spelling.{Spelled}
-use Rattle.sw_reader.specs.Form.{Terminal}
-use Rattle.sw_reader.specs.Form.Form.{nest}
-use Rattle.sw_reader.specs.Outcome.{Gives}
-use Rattle.sw_reader.specs.Reader.{Answer, and_then, then_read, pure, opening}
-use Rattle.sw_reader.specs.Spells.{read_inside}
-use Rattle.sw_reader.specs.declared.stop.Stop.{Stop}
-use Rattle.sw_reader.proofs.ReaderLaws.{bind_step}
+use Rattle.sw_grammar_forms.specs.Form.{Terminal}
+use Rattle.sw_grammar_forms.specs.Form.Form.{nest}
+use Rattle.sw_grammar_forms.specs.Outcome.{Gives}
+use Rattle.sw_grammar_forms.specs.Reader.{Answer, and_then, then_read, pure, opening}
+use Rattle.sw_grammar_forms.specs.Spells.{read_inside}
+use Rattle.sw_grammar_forms.specs.declared.stop.Stop.{Stop}
+use Rattle.sw_grammar_forms.proofs.ReaderLaws.{bind_step}
 use Rattle.sw_grammar.specs.Nests.{Nest, El, shape_of}
 use Rattle.sw_grammar.specs.Grammar.{body}
 use Rattle.sw_grammar.specs.Reading.{read}

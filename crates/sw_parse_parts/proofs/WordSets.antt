@@ -2,8 +2,8 @@
 use Rattle.std.proofs.Common.{◌≡◌, true, not, ◌&&◌, codes, refl}
 use Rattle.std.specs.Prelude.{Option}
 use Rattle.sw_token.specs.Spelling.{Spelled}
-use Rattle.sw_reader.specs.Sets.{starts, word, quoted, attribute}
-use Rattle.sw_reader.proofs.KindSets.{starts-without, starts-within}
+use Rattle.sw_grammar_forms.specs.Sets.{starts, word, quoted, attribute}
+use Rattle.sw_grammar_forms.proofs.KindSets.{starts-without, starts-within}
 use Rattle.sw_grammar.specs.Tokens.{value_word, at_word}
 
 pub starts-value_word : (token : Option Spelled)

@@ -1,6 +1,6 @@
 -- Parts of the sets with which literals, expressions and statements begin.
 use Rattle.std.specs.Prelude.{[], ◌∷◌, ◌++◌, codes}
-use Rattle.sw_reader.specs.Sets.{Set, integer, one_of}
+use Rattle.sw_grammar_forms.specs.Sets.{Set, integer, one_of}
 use Rattle.sw_grammar.specs.Tokens.{value_word, prefix_ops}
 
 abbrev pub booleans : Set

@@ -1,8 +1,8 @@
 -- Readers of what stands in nests, and of values made of what is read.
 use Rattle.std.specs.Prelude.{ℕ, List}
-use Rattle.sw_reader.specs.Form.{Terminal}
-use Rattle.sw_reader.specs.Form.Form.{nest}
-use Rattle.sw_reader.specs.Reader.{Reader, then_read, pure}
+use Rattle.sw_grammar_forms.specs.Form.{Terminal}
+use Rattle.sw_grammar_forms.specs.Form.Form.{nest}
+use Rattle.sw_grammar_forms.specs.Reader.{Reader, then_read, pure}
 use Rattle.sw_grammar.specs.Nests.{Nest, El}
 use Rattle.sw_grammar.specs.Reading.{read}
 

@@ -1,22 +1,22 @@
 //! What closures and tasks have before their statements.
 
 ghost use Rattle.std.specs.Prelude.{[], ◌∷◌, codes};
-ghost use Rattle.sw_reader.specs.Form.Form.{nest};
-ghost use Rattle.sw_reader.specs.Quotes.{quote};
+ghost use Rattle.sw_grammar_forms.specs.Form.Form.{nest};
+ghost use Rattle.sw_grammar_forms.specs.Quotes.{quote};
 ghost use Rattle.sw_grammar.specs.Nests.{in_captures, in_closure_params, in_empty};
 ghost use Rattle.sw_grammar.specs.Types.{some_of, more_of};
 ghost use Rattle.sw_grammar.specs.Closures.{captured, captured_words, captures, captures_if};
 ghost use Rattle.sw_grammar.specs.Closures.{closure_param, closure_params, result_if, signature};
 ghost use Rattle.sw_grammar.specs.Closures.{signature_if, task_signature, task_signature_if};
-ghost use Rattle.sw_reader.specs.Outcome.{Gives};
+ghost use Rattle.sw_grammar_forms.specs.Outcome.{Gives};
 ghost use Rattle.sw_tree.specs.Names.{id_in};
 ghost use Rattle.sw_grammar.specs.Reading.{read};
 
 use super::types::type_tree;
 use super::words::word;
 use std::alloc::Global;
+use sw_grammar_forms::{Cursor, Stop};
 use sw_list::ListOf;
-use sw_reader::{Cursor, Stop};
 use sw_tree::{ClosureParam, ClosureParamList, Name, NameList, Names, TypeTree};
 
 /// The words of a capture list, in `[` and `]`.

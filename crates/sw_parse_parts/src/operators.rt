@@ -1,10 +1,10 @@
 //! Operators and literals, and the tokens with which parts begin.
 
 ghost use Rattle.std.specs.Prelude.{◌≡◌, ◌<◌, [], ◌∷◌, length, codes};
-ghost use Rattle.sw_reader.specs.Outcome.{Gives};
-ghost use Rattle.sw_reader.specs.Reader.{next};
-ghost use Rattle.sw_reader.specs.Relations.{head};
-ghost use Rattle.sw_reader.specs.Sets.{starts, one_of, not_first};
+ghost use Rattle.sw_grammar_forms.specs.Outcome.{Gives};
+ghost use Rattle.sw_grammar_forms.specs.Reader.{next};
+ghost use Rattle.sw_grammar_forms.specs.Relations.{head};
+ghost use Rattle.sw_grammar_forms.specs.Sets.{starts, one_of, not_first};
 ghost use Rattle.sw_grammar.specs.Tokens.{times, plus, compares, assign_ops, prefix_ops, infix_op};
 ghost use Rattle.sw_grammar.specs.Tokens.{literal_first, expr_first, stmt_first, an_equals};
 ghost use Rattle.sw_grammar.specs.Tokens.{infix_of, assign_of, infix_in, a_prefix};
@@ -16,7 +16,7 @@ ghost use Rattle.sw_parse_parts.specs.Taking.{TakesAs, infix_value, prefix_value
 ghost use Rattle.sw_parse_parts.specs.Begin.{booleans, value_first, expr_words, stmt_words};
 
 use super::words::sees_value_word;
-use sw_reader::{Cursor, Stop};
+use sw_grammar_forms::{Cursor, Stop};
 use sw_token::Fixity;
 use sw_tree::{AssignOp, Expr, InfixOp, Names, PrefixOp};
 
@@ -223,7 +223,7 @@ fn sees_boolean(tokens: &Cursor<'_>) -> bool
 }
 
 /// A literal: an integer, `true` or `false`.
-#[tactic(auto, unfolding(sw_grammar::specs::Exprs::a_literal, sw_reader::specs::Terminals::literal))]
+#[tactic(auto, unfolding(sw_grammar::specs::Exprs::a_literal, sw_grammar_forms::specs::Terminals::literal))]
 pub fn a_literal(names: &Names, tokens: &mut Cursor<'_>, depth: u32) -> Result<Expr, Stop>
     ensures { Gives (read (id_in names.now) depth (exprs.a_literal (id_in names.now)) tokens.old)
         result tokens.new }

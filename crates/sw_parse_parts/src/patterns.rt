@@ -1,19 +1,19 @@
 //! Patterns of the arms of a `switch`.
 
 ghost use Rattle.std.specs.Prelude.{[], ◌∷◌, codes};
-ghost use Rattle.sw_reader.specs.Form.Form.{nest};
-ghost use Rattle.sw_reader.specs.Quotes.{quote};
+ghost use Rattle.sw_grammar_forms.specs.Form.Form.{nest};
+ghost use Rattle.sw_grammar_forms.specs.Quotes.{quote};
 ghost use Rattle.sw_grammar.specs.Nests.{in_patterns};
 ghost use Rattle.sw_grammar.specs.Types.{more_of};
 ghost use Rattle.sw_grammar.specs.Stmts.{pattern, patterns_inside, patterns_if};
-ghost use Rattle.sw_reader.specs.Outcome.{Gives};
+ghost use Rattle.sw_grammar_forms.specs.Outcome.{Gives};
 ghost use Rattle.sw_tree.specs.Names.{id_in};
 ghost use Rattle.sw_grammar.specs.Reading.{read};
 
 use super::words::word;
 use std::alloc::Global;
+use sw_grammar_forms::{Cursor, Stop};
 use sw_list::ListOf;
-use sw_reader::{Cursor, Stop};
 use sw_tree::{Names, Pattern, PatternList};
 
 /// The patterns of an arm, in `(` and `)`, where they come; else none.

@@ -1,9 +1,9 @@
 //! Written types.
 
 ghost use Rattle.std.specs.Prelude.{[], ◌∷◌, codes};
-ghost use Rattle.sw_reader.specs.Form.Form.{nest};
-ghost use Rattle.sw_reader.specs.Outcome.{Gives};
-ghost use Rattle.sw_reader.specs.Quotes.{quote};
+ghost use Rattle.sw_grammar_forms.specs.Form.Form.{nest};
+ghost use Rattle.sw_grammar_forms.specs.Outcome.{Gives};
+ghost use Rattle.sw_grammar_forms.specs.Quotes.{quote};
 ghost use Rattle.sw_tree.specs.Names.{id_in};
 ghost use Rattle.sw_grammar.specs.Nests.{in_types, in_result, in_task_type};
 ghost use Rattle.sw_grammar.specs.Types.{type, round_type, marked_type, task_type};
@@ -13,8 +13,8 @@ ghost use Rattle.sw_grammar.specs.Reading.{read};
 
 use super::words::{sendable, task_word, value_word};
 use std::alloc::Global;
+use sw_grammar_forms::{Cursor, Stop};
 use sw_list::{Boxed, ListOf};
-use sw_reader::{Cursor, Stop};
 use sw_tree::{Names, TypeTree, TypeTreeList};
 
 /// A type: a word, `()`, a function type or that of a task.

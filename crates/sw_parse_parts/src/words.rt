@@ -1,15 +1,15 @@
 //! The words that name something, and attributes.
 
 ghost use Rattle.std.specs.Prelude.{◌≡◌, ◌<◌, length, codes, IsTrue};
-ghost use Rattle.sw_reader.specs.Outcome.{Gives};
-ghost use Rattle.sw_reader.specs.Reader.{next};
-ghost use Rattle.sw_reader.specs.Relations.{head};
-ghost use Rattle.sw_reader.specs.Sets.{starts, word, quoted, attribute};
+ghost use Rattle.sw_grammar_forms.specs.Outcome.{Gives};
+ghost use Rattle.sw_grammar_forms.specs.Reader.{next};
+ghost use Rattle.sw_grammar_forms.specs.Relations.{head};
+ghost use Rattle.sw_grammar_forms.specs.Sets.{starts, word, quoted, attribute};
 ghost use Rattle.sw_tree.specs.Names.{id_in};
 ghost use Rattle.sw_grammar.specs.Tokens.{value_word, at_word, name_of, at_name, name_in, at_in};
 ghost use Rattle.sw_parse_parts.specs.Taking.{TakesAs};
 
-use sw_reader::{Cursor, Stop};
+use sw_grammar_forms::{Cursor, Stop};
 use sw_tree::{Name, Names};
 
 /// Takes the next token as a name.

@@ -2,9 +2,9 @@
 use Rattle.std.proofs.Common.{◌≡◌, ℕ, ◌<◌, true, false, not, List, length, codes, refl, ap}
 use Rattle.std.specs.Prelude.{Option, None, is_some, is_none, Ok}
 use Rattle.sw_token.specs.Spelling.{Spelled}
-use Rattle.sw_reader.specs.Sets.{starts, quoted}
-use Rattle.sw_reader.specs.Relations.{head}
-use Rattle.sw_reader.specs.Reader.{Answer, Reader}
+use Rattle.sw_grammar_forms.specs.Sets.{starts, quoted}
+use Rattle.sw_grammar_forms.specs.Relations.{head}
+use Rattle.sw_grammar_forms.specs.Reader.{Answer, Reader}
 use Rattle.sw_tree.specs.declared.stmt.IfArm.{IfArm}
 use Rattle.sw_tree.specs.declared.stmt.Block.{Block}
 use Rattle.sw_grammar.specs.Nests.{El, shape_of}

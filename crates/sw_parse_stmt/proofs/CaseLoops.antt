@@ -2,13 +2,13 @@
 use Rattle.std.proofs.Common.{◌≡◌, ℕ, ◌<◌, Bool, true, false, not, List, length, codes, refl}
 use Rattle.std.specs.Prelude.{Ok}
 use Rattle.sw_token.specs.Spelling.{Spelled}
-use Rattle.sw_reader.specs.Sets.{starts, quoted}
-use Rattle.sw_reader.specs.Relations.{head, may_start}
-use Rattle.sw_reader.specs.Reader.{Answer, Reader, check}
-use Rattle.sw_reader.specs.Form.{started, solid}
-use Rattle.sw_reader.specs.Form.Form.{line_start}
-use Rattle.sw_reader.proofs.ReaderLaws.{bind_step}
-use Rattle.sw_reader.proofs.ItemLoops.{Refuses}
+use Rattle.sw_grammar_forms.specs.Sets.{starts, quoted}
+use Rattle.sw_grammar_forms.specs.Relations.{head, may_start}
+use Rattle.sw_grammar_forms.specs.Reader.{Answer, Reader, check}
+use Rattle.sw_grammar_forms.specs.Form.{started, solid}
+use Rattle.sw_grammar_forms.specs.Form.Form.{line_start}
+use Rattle.sw_grammar_forms.proofs.ReaderLaws.{bind_step}
+use Rattle.sw_grammar_forms.proofs.ItemLoops.{Refuses}
 use Rattle.sw_tree.specs.declared.stmt.CaseArm.{CaseArm}
 use Rattle.sw_grammar.specs.Nests.{El, shape_of, Form}
 use Rattle.sw_grammar.specs.Grammar.{body, good}

@@ -3,15 +3,15 @@ use Rattle.std.proofs.Common.{◌≡◌, ℕ, Bool, true, false, not, List, [], 
 use Rattle.std.proofs.Common.{refl, sym, ◌∙◌, codes}
 use Rattle.std.specs.Prelude.{Ok}
 use Rattle.sw_token.specs.Spelling.{Spelled}
-use Rattle.sw_reader.specs.Sets.{starts}
-use Rattle.sw_reader.specs.Form.{Shape, Form, is_item}
-use Rattle.sw_reader.specs.Form.Form.{more_items}
-use Rattle.sw_reader.specs.Relations.{head, may_start}
-use Rattle.sw_reader.specs.Reader.{Answer, Reader, check, checked, skipping, read_item}
-use Rattle.sw_reader.specs.Spells.{reads}
-use Rattle.sw_reader.proofs.ReaderLaws.{bind_step, bind_stop}
-use Rattle.sw_reader.proofs.FormLaws.{items_end, items_next}
-use Rattle.sw_reader.proofs.ItemLoops.{Refuses}
+use Rattle.sw_grammar_forms.specs.Sets.{starts}
+use Rattle.sw_grammar_forms.specs.Form.{Shape, Form, is_item}
+use Rattle.sw_grammar_forms.specs.Form.Form.{more_items}
+use Rattle.sw_grammar_forms.specs.Relations.{head, may_start}
+use Rattle.sw_grammar_forms.specs.Reader.{Answer, Reader, check, checked, skipping, read_item}
+use Rattle.sw_grammar_forms.specs.Spells.{reads}
+use Rattle.sw_grammar_forms.proofs.ReaderLaws.{bind_step, bind_stop}
+use Rattle.sw_grammar_forms.proofs.FormLaws.{items_end, items_next}
+use Rattle.sw_grammar_forms.proofs.ItemLoops.{Refuses}
 
 module _ {N : Type 0} (El : N → Type 0) (shape_of : N → Shape)
     (body : (n : N) → Form El shape_of (shape_of n) (El n))

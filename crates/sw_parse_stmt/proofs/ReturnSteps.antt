@@ -2,15 +2,15 @@
 use Rattle.std.proofs.Common.{◌≡◌, ℕ, Bool, true, false, not, cond, List, codes, refl, sym, ◌∙◌, ap}
 use Rattle.std.specs.Prelude.{Option, Some, None, Ok}
 use Rattle.sw_token.specs.Spelling.{Spelled}
-use Rattle.sw_reader.specs.Sets.{Set, starts, not_first}
-use Rattle.sw_reader.specs.Quotes.{quote}
-use Rattle.sw_reader.specs.Relations.{head, is_first_on_line, stays}
-use Rattle.sw_reader.specs.Reader.{Reader, refused, pure, and_then, then_read, next, checked}
-use Rattle.sw_reader.specs.Reader.{choose}
-use Rattle.sw_reader.specs.Form.{Terminal}
-use Rattle.sw_reader.proofs.CursorSteps.{first_line}
-use Rattle.sw_reader.proofs.ItemLoops.{Refuses}
-use Rattle.sw_reader.proofs.ReaderLaws.{bind_step, bind_stop}
+use Rattle.sw_grammar_forms.specs.Sets.{Set, starts, not_first}
+use Rattle.sw_grammar_forms.specs.Quotes.{quote}
+use Rattle.sw_grammar_forms.specs.Relations.{head, is_first_on_line, stays}
+use Rattle.sw_grammar_forms.specs.Reader.{Reader, refused, pure, and_then, then_read, next, checked}
+use Rattle.sw_grammar_forms.specs.Reader.{choose}
+use Rattle.sw_grammar_forms.specs.Form.{Terminal}
+use Rattle.sw_grammar_forms.proofs.CursorSteps.{first_line}
+use Rattle.sw_grammar_forms.proofs.ItemLoops.{Refuses}
+use Rattle.sw_grammar_forms.proofs.ReaderLaws.{bind_step, bind_stop}
 use Rattle.sw_tree.specs.declared.expr.Expr.{Expr}
 use Rattle.sw_tree.specs.declared.stmt.Stmt.TheVariants as variants
 use Rattle.sw_grammar.specs.Tokens.{expr_first}

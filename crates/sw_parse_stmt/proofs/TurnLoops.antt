@@ -2,16 +2,16 @@
 use Rattle.std.proofs.Common.{◌≡◌, ℕ, ◌<◌, Bool, true, false, List, length, refl, sym, ◌∙◌}
 use Rattle.std.specs.Prelude.{Option, Ok}
 use Rattle.sw_token.specs.Spelling.{Spelled}
-use Rattle.sw_reader.specs.Sets.{Set, starts}
-use Rattle.sw_reader.specs.Form.{Shape, Form, star}
-use Rattle.sw_reader.specs.Form.Form.{turns}
-use Rattle.sw_reader.specs.Relations.{head}
-use Rattle.sw_reader.specs.Reader.{Answer, Reader, set_if}
-use Rattle.sw_reader.specs.Spells.{reads}
-use Rattle.sw_reader.proofs.ReaderLaws.{bind_step, bind_stop}
-use Rattle.sw_reader.proofs.LoopLaws.{no_token}
-use Rattle.sw_reader.proofs.FormLaws.{loop_stops, loop_goes_on, turn_takes}
-use Rattle.sw_reader.proofs.ItemLoops.{Refuses}
+use Rattle.sw_grammar_forms.specs.Sets.{Set, starts}
+use Rattle.sw_grammar_forms.specs.Form.{Shape, Form, star}
+use Rattle.sw_grammar_forms.specs.Form.Form.{turns}
+use Rattle.sw_grammar_forms.specs.Relations.{head}
+use Rattle.sw_grammar_forms.specs.Reader.{Answer, Reader, set_if}
+use Rattle.sw_grammar_forms.specs.Spells.{reads}
+use Rattle.sw_grammar_forms.proofs.ReaderLaws.{bind_step, bind_stop}
+use Rattle.sw_grammar_forms.proofs.LoopLaws.{no_token}
+use Rattle.sw_grammar_forms.proofs.FormLaws.{loop_stops, loop_goes_on, turn_takes}
+use Rattle.sw_grammar_forms.proofs.ItemLoops.{Refuses}
 
 pub open_starts : (is_open : Bool) (set : Set) (token : Option Spelled) → is_open ≡ true
     → starts set token ≡ true → starts (set_if is_open set) token ≡ true

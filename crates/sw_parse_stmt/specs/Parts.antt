@@ -1,9 +1,9 @@
 -- Parts of the rules of statements that are functions of their own.
 use Rattle.std.specs.Prelude.{ℕ, Bool, true, not, List, Option, None, is_none, [], codes}
-use Rattle.sw_reader.specs.Sets.{quoted}
-use Rattle.sw_reader.specs.Form.{alt, seq, star, started, empty, solid}
-use Rattle.sw_reader.specs.Form.Form.{done, either, turns, line_start}
-use Rattle.sw_reader.specs.Terminals.{◌>>=◌}
+use Rattle.sw_grammar_forms.specs.Sets.{quoted}
+use Rattle.sw_grammar_forms.specs.Form.{alt, seq, star, started, empty, solid}
+use Rattle.sw_grammar_forms.specs.Form.Form.{done, either, turns, line_start}
+use Rattle.sw_grammar_forms.specs.Terminals.{◌>>=◌}
 use Rattle.sw_tree.specs.declared.expr.Expr.{Expr}
 use Rattle.sw_tree.specs.declared.stmt.Block.{Block}
 use Rattle.sw_grammar.specs.Tokens.{prefix_ops, literal_first, postfix_ext}

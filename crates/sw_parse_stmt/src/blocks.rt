@@ -1,8 +1,8 @@
 //! Blocks, and the values of variables.
 
 ghost use Rattle.std.specs.Prelude.{codes};
-ghost use Rattle.sw_reader.specs.Outcome.{Gives};
-ghost use Rattle.sw_reader.specs.Quotes.{quote};
+ghost use Rattle.sw_grammar_forms.specs.Outcome.{Gives};
+ghost use Rattle.sw_grammar_forms.specs.Quotes.{quote};
 ghost use Rattle.sw_tree.specs.Names.{id_in};
 ghost use Rattle.sw_grammar.specs.Stmts as stmts;
 ghost use Rattle.sw_grammar.specs.Nests.Nest.{in_block};
@@ -11,9 +11,9 @@ ghost use Rattle.sw_parse_parts.specs.Nested.{nested};
 ghost use Rattle.sw_parse_expr.specs.Below.{Below};
 
 use std::alloc::Global;
+use sw_grammar_forms::{Cursor, Stop};
 use sw_parse_expr::{Inner, expr, statements};
 use sw_parse_parts::equals;
-use sw_reader::{Cursor, Stop};
 use sw_tree::{Block, Expr, Names, StmtList};
 
 /// A block, from its `{` to its `}`.

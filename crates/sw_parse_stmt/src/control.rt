@@ -1,7 +1,7 @@
 //! Statements with blocks: `if` and `while`.
 
 ghost use Rattle.std.specs.Prelude.{[], ◌∷◌, None};
-ghost use Rattle.sw_reader.specs.Outcome.{Gives};
+ghost use Rattle.sw_grammar_forms.specs.Outcome.{Gives};
 ghost use Rattle.sw_tree.specs.Names.{id_in};
 ghost use Rattle.sw_grammar.specs.Stmts as stmts;
 ghost use Rattle.sw_grammar.specs.Reading.{read};
@@ -10,9 +10,9 @@ ghost use Rattle.sw_parse_stmt.specs.Parts.{more_arms};
 
 use super::blocks::block;
 use std::alloc::Global;
+use sw_grammar_forms::{Cursor, Stop};
 use sw_list::ListOf;
 use sw_parse_expr::{Inner, expr};
-use sw_reader::{Cursor, Stop};
 use sw_tree::{Block, IfArm, IfArmList, Names, Stmt};
 
 /// `if`, its condition and its block.

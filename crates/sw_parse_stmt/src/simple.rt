@@ -1,6 +1,6 @@
 //! Statements but those with blocks: variables, assignments, returns and expressions.
 
-ghost use Rattle.sw_reader.specs.Outcome.{Gives};
+ghost use Rattle.sw_grammar_forms.specs.Outcome.{Gives};
 ghost use Rattle.sw_tree.specs.Names.{id_in};
 ghost use Rattle.sw_grammar.specs.Stmts as stmts;
 ghost use Rattle.sw_grammar.specs.Reading.{read};
@@ -9,13 +9,13 @@ ghost use Rattle.sw_parse_stmt.specs.Parts.{plain_operand};
 
 use super::blocks::value;
 use std::alloc::Global;
+use sw_grammar_forms::{Cursor, Stop};
 use sw_parse_expr::{
     Inner, after_operand, after_task, after_word, awaited, expr, more_operands, negated,
 };
 use sw_parse_parts::{
     a_literal, assign_op, sees_assign, sees_expr_on_line, sees_prefix, type_if, value_word, word,
 };
-use sw_reader::{Cursor, Stop};
 use sw_tree::{Expr, Names, Stmt};
 
 /// A variable after its `let` or `var`.

@@ -1,6 +1,6 @@
 //! Any statement.
 
-ghost use Rattle.sw_reader.specs.Outcome.{Gives};
+ghost use Rattle.sw_grammar_forms.specs.Outcome.{Gives};
 ghost use Rattle.sw_tree.specs.Names.{id_in};
 ghost use Rattle.sw_grammar.specs.Stmts as stmts;
 ghost use Rattle.sw_grammar.specs.Reading.{read};
@@ -13,9 +13,9 @@ use super::simple::{
 };
 use super::switch::switch_stmt;
 use std::alloc::Global;
+use sw_grammar_forms::{Cursor, Stop};
 use sw_parse_expr::Inner;
 use sw_parse_parts::{sees_binding, sees_value_word};
-use sw_reader::{Cursor, Stop};
 use sw_tree::{Names, Stmt};
 
 /// A statement, without the `;` after it.

@@ -1,9 +1,9 @@
 //! `switch` and its arms.
 
 ghost use Rattle.std.specs.Prelude.{[], ◌∷◌, false, codes};
-ghost use Rattle.sw_reader.specs.Outcome.{Gives};
-ghost use Rattle.sw_reader.specs.Quotes.{quote};
-ghost use Rattle.sw_reader.specs.Form.Form.{more_items};
+ghost use Rattle.sw_grammar_forms.specs.Outcome.{Gives};
+ghost use Rattle.sw_grammar_forms.specs.Quotes.{quote};
+ghost use Rattle.sw_grammar_forms.specs.Form.Form.{more_items};
 ghost use Rattle.sw_tree.specs.Names.{id_in};
 ghost use Rattle.sw_grammar.specs.Stmts as stmts;
 ghost use Rattle.sw_grammar.specs.Nests.Nest.{in_switch};
@@ -13,10 +13,10 @@ ghost use Rattle.sw_parse_expr.specs.Below.{Below};
 ghost use Rattle.sw_parse_stmt.specs.Parts.{more_cases, default_if};
 
 use std::alloc::Global;
+use sw_grammar_forms::{Cursor, Stop};
 use sw_list::ListOf;
 use sw_parse_expr::{Inner, expr};
 use sw_parse_parts::{patterns_if, sees_stmt, word};
-use sw_reader::{Cursor, Stop};
 use sw_tree::{Block, CaseArm, CaseArmList, Names, Stmt, StmtList};
 
 /// A `switch`.

@@ -10,7 +10,7 @@ use Rattle.std.proofs.lemmas.Nat.Bits.{bit_at-zero, bit_at_or, bit_at_set_same, 
 use Rattle.std.proofs.lemmas.Nat.Bits.{bit_at-trailing_zeros, bit_at_above, same_from_bits}
 use Rattle.std.proofs.Math.ListN.{length-set}
 use Rattle.sw_partition.specs.Regions.{bit_of}
-use Rattle.sw_partition.specs.Tables.{IsFilled, IsMarked, IsFirstBit, IsClearRow}
+use Rattle.sw_partition.specs.Tables.{IsFilled, SetsBit, IsFirstBit, IsClearRow}
 
 -- the bit of a word
 pub bit_of-word : (words : List ℕ) (w k : ℕ) → k < 64
@@ -62,7 +62,7 @@ filled old other new rose new_length other_length fits each unchanged changed = 
 
 -- a bit of a word was set
 pub marked : (words : List ℕ) (w k : ℕ) → w < length words → k < 64
-    → IsMarked (w * 64 + k) words (set words w (bit_or (slice_index words w) (1 * 2 ^ k % 2 ^ 64)))
+    → SetsBit (w * 64 + k) words (set words w (bit_or (slice_index words w) (1 * 2 ^ k % 2 ^ 64)))
 marked words w k w_lt k_lt =
     let new : List ℕ = set words w (bit_or (slice_index words w) (1 * 2 ^ k % 2 ^ 64)) in
     let at_w : slice_index new w ≡ bit_or (slice_index words w) (1 * 2 ^ k % 2 ^ 64) =

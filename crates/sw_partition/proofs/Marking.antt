@@ -4,7 +4,7 @@ use Rattle.std.proofs.Common.{slice_index, sym, subst, ap, ◌∙◌, arith}
 use Rattle.std.proofs.lemmas.Bool.{cases_eq}
 use Rattle.std.proofs.lemmas.Nat.{same_from_place}
 use Rattle.sw_partition.specs.Regions.{bit_of}
-use Rattle.sw_partition.specs.Tables.{IsMarked, IsClassMarked}
+use Rattle.sw_partition.specs.Tables.{SetsBit, IsClassMarked}
 use Rattle.sw_partition.proofs.Bits.{row_bit}
 
 -- the elements below p that have the label are marked
@@ -33,7 +33,7 @@ marking_skips labels label width column old now p apart marking = record {
 -- element p has the label, and its bit was set
 pub marking_sets : (labels : List ℕ) (label width column : ℕ) (old now new : List ℕ) (p : ℕ) → 0 < p
     → column < width * 64 → slice_index labels p ≡ label
-    → IsMarked ((p * width + column / 64) * 64 + column % 64) now new
+    → SetsBit ((p * width + column / 64) * 64 + column % 64) now new
     → IsMarking labels label width column old now p
     → IsMarking labels label width column old new (p + 1)
 marking_sets labels label width column old now new p some column_lt has marked marking =

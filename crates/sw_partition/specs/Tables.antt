@@ -110,7 +110,7 @@ pub record IsFilled (old other new : List ℕ) (rose : Bool) : Type 0 where
   pub changed : rose ≡ true → ((n : ℕ) → bit_of new n ≡ bit_of old n) → ⊥
 
 -- bit n is set, and the others are as they were
-pub record IsMarked (n : ℕ) (old new : List ℕ) : Type 0 where
+pub record SetsBit (n : ℕ) (old new : List ℕ) : Type 0 where
   pub length_same : length new ≡ length old
   pub set : bit_of new n ≡ 1
   pub others : (m : ℕ) → m ≢ n → bit_of new m ≡ bit_of old m

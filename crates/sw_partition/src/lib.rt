@@ -2,7 +2,8 @@
 //!
 //! The elements are numbers from 0 on. Element 0 is `Here`, what belongs to the running isolation.
 //! A `Partition` is such a state, with the operations of region-based isolation (SE-0414) in place.
-//! It is a `Lattice`, whose order is the inclusion of the equivalence and of the set of pairs.
+//! It is a `Lattice`, whose order is the inclusion of the equivalence and of the set of pairs. The
+//! crate knows nothing of graphs.
 #![tactic(auto)]
 
 mod labels;

@@ -2,7 +2,7 @@
 ghost use Rattle.std.specs.Prelude.{◌≡◌, ℕ, ◌+◌, ◌*◌, ◌/◌, ◌^◌, ◌<◌, ◌≤◌, ◌⊎◌, length, replicate};
 ghost use Rattle.std.specs.Prelude.{IfOk, MatchOption};
 ghost use Rattle.sw_partition.specs.Regions as spec;
-ghost use Rattle.sw_partition.specs.Tables.{IsCleared, IsCopied, IsFilled, IsMarked, IsClassMarked};
+ghost use Rattle.sw_partition.specs.Tables.{IsCleared, IsCopied, IsFilled, SetsBit, IsClassMarked};
 ghost use Rattle.sw_partition.specs.Tables.{IsFirstBit, IsClearRow};
 
 use std::alloc::{AllocError, Global};
@@ -64,7 +64,7 @@ pub(crate) fn fill(words: &mut [u64], other: &[u64]) -> bool
 pub(crate) fn mark(words: &mut [u64], word: usize, bit: usize)
     requires word { word < length words.old }
     requires bit { bit < 64 }
-    ensures { IsMarked (word * 64 + bit) words.old words.new }
+    ensures { SetsBit (word * 64 + bit) words.old words.new }
 {
     words[word] |= 1 << bit;
 }

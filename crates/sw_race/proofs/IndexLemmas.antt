@@ -8,7 +8,7 @@ use Rattle.std.specs.List.{slice_get, slice_set}
 use Rattle.std.proofs.lemmas.Bool.{cases_order, cases_eq, lt-ltb}
 use Rattle.std.proofs.lemmas.List.Sums.{sum_by-cons}
 use Rattle.indexmap.specs.IndexMap.{IndexMap}
-use Rattle.sw_graph.proofs.ListLemmas.{slice_get_before}
+use Rattle.sw_list.proofs.ListLemmas.{slice_get_before}
 use Rattle.sw_value.specs.declared.race.Place.{Place}
 use Rattle.sw_value.proofs.BusyLemmas.{count_at}
 use Rattle.sw_value.proofs.ListLemmas.{set_there, take_prefix}

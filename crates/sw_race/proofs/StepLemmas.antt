@@ -45,7 +45,7 @@ use Rattle.sw_value.specs.State.{in_job, add_job, add_cell, in_cell, set_global,
 use Rattle.sw_value.specs.Value.{operand_value, reference_at}
 use Rattle.sw_value.proofs.AccessLemmas.{next_names_its_job}
 use Rattle.sw_value.proofs.ReachLemmas.{after_acts, step_by_act}
-use Rattle.sw_footprint.proofs.CellLemmas.{IsOfForm, changed_other, form_kept, box_form, part_form}
+use Rattle.sw_machine_access_facts.proofs.CellLemmas.{IsOfForm, changed_other, form_kept, box_form, part_form}
 use Rattle.sw_race.specs.Step.{IsNowhereStuck, BringsInItsOwn, HasRival}
 use Rattle.sw_race.specs.Target.{job_target, target_at}
 use Rattle.sw_race.specs.With.{IsRaceOf}

@@ -31,7 +31,7 @@ use Rattle.sw_value.proofs.ListLemmas.{changed_at_there, changed_at_none, set_th
 use Rattle.sw_value.proofs.ListLemmas.{length-changed_at}
 use Rattle.sw_value.proofs.ReachLemmas.{after_acts, step_by_act}
 use Rattle.sw_race.specs.declared.target.Target.{Target}
-use Rattle.sw_race.specs.Index.{are_clashing, IsClear, Stands, StandsBefore, HasNoRival}
+use Rattle.sw_race.specs.Index.{are_clashing, IsClear, IsIndexOf, StandsBefore, HasNoRival}
 use Rattle.sw_race.specs.Index.{grown, kept_up}
 use Rattle.sw_race.proofs.IndexLemmas.{clashing_swap}
 use Rattle.sw_race.specs.Target.{job_target, target_at}
@@ -169,7 +169,7 @@ changes_kept graph j before _ (with_new g frame) =
 pub stands_after : (graph : Graph) (index : List (Option Target)) (state : State) (j : ℕ)
     (next : Option Target) (after : List (Option Target)) → StandsBefore graph index state j
     → next ≡ target_at graph state j → after ≡ kept_up (length state.jobs) j next index
-    → Stands graph state after
+    → IsIndexOf graph state after
 stands_after graph index state j next after was is kept =
     let jobs = ap (λ (s : State). s.jobs) was.steps in
     kept ∙ ap (λ n. kept_up (length state.jobs) j n index) is
@@ -197,7 +197,7 @@ few_before graph index state j was =
 
 -- the target of an access, as the index has it
 indexed : (graph : Graph) (state : State) (targets : List (Option Target))
-    → Stands graph state targets → (k : ℕ) (a : Access) → next_access graph state k ≡ Some a
+    → IsIndexOf graph state targets → (k : ℕ) (a : Access) → next_access graph state k ≡ Some a
     → slice_get targets k ≡ Some (Some (record { place = a.place; writes = a.writes }))
 indexed graph state targets stands k a next =
     ap (λ l. slice_get l k) stands ∙ slice_get-map (job_target graph) state.jobs k
@@ -216,7 +216,7 @@ clash a b c =
 
 -- who has no rival is in no race
 pub no_rival_no_race : (graph : Graph) (state : State) (targets : List (Option Target)) (j : ℕ)
-    → Stands graph state targets → HasNoRival targets (target_at graph state j)
+    → IsIndexOf graph state targets → HasNoRival targets (target_at graph state j)
     → IsFound graph state j None
 no_rival_no_race graph state targets j stands alone race r =
     let one = r.is_race in
@@ -241,7 +241,7 @@ no_rival_no_race graph state targets j stands alone race r =
 
 -- where no two targets clash there is no race
 pub clear_no_race : (graph : Graph) (state : State) (targets : List (Option Target))
-    → Stands graph state targets → IsClear targets → Racing graph state → ⊥
+    → IsIndexOf graph state targets → IsClear targets → Racing graph state → ⊥
 clear_no_race graph state targets stands clear (race, one) =
     let same = clear.one race.first.job race.second.job _ _
     (indexed graph state targets stands race.first.job race.first one.first_next)

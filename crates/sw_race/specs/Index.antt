@@ -48,14 +48,14 @@ abbrev pub kept_up : ℕ → ℕ → Option Target → List (Option Target) → 
 kept_up jobs j next targets = slice_set (grown jobs targets) j next
 
 -- an index stands for a state where it has the target of each job, by number
-abbrev pub Stands : Graph → State → List (Option Target) → Type 0
-Stands graph state index = index ≡ map (job_target graph) state.jobs
+abbrev pub IsIndexOf : Graph → State → List (Option Target) → Type 0
+IsIndexOf graph state index = index ≡ map (job_target graph) state.jobs
 
 -- The index stands for a state from which the item j leads to this one.
 pub record StandsBefore (graph : Graph) (index : List (Option Target)) (state : State) (j : ℕ)
     : Type 0 where
   pub before : State
-  pub stands : Stands graph before index
+  pub stands : IsIndexOf graph before index
   pub steps : state ≡ step_of graph before j
 
 -- what is found among all jobs: the least race, or none where the state is not racing

@@ -39,13 +39,14 @@ impl RaceIndex {
     ghost use Rattle.std.specs.Prelude.{◌≡◌, ◌+◌, ◌<◌, ◌≤◌, ◌^◌, ℕ, Option, List, [], ◌∷◌, ◌++◌};
     ghost use Rattle.std.specs.Prelude.{None, Some, true, length, slice_set, IfOk, OnOk, OnErr};
     ghost use Rattle.sw_race.specs.declared.target.Target.{Target};
-    ghost use Rattle.sw_race.specs.Index.{Stands, StandsBefore, IsFoundOfAll, HasNoRival, kept_up};
+    ghost use Rattle.sw_race.specs.Index.{IsIndexOf, StandsBefore, IsFoundOfAll, HasNoRival};
+    ghost use Rattle.sw_race.specs.Index.{kept_up};
     ghost use Rattle.sw_race.specs.With.{IsFound};
 
     /// The index that stands for a state. It answers an error only for want of memory.
     pub fn new(alloc: Global, graph: &Graph, state: &State) -> Result<RaceIndex, AllocError>
         requires jobs { length state.now.jobs < 2 ^ 32 }
-        ensures { IfOk result (Stands graph.now state.now) }
+        ensures { IfOk result (IsIndexOf graph.now state.now) }
     {
         let mut index = RaceIndex::empty(alloc);
         for job in state.jobs.as_slice() {
@@ -66,7 +67,7 @@ impl RaceIndex {
         requires before { StandsBefore graph.now self.old state.now job }
         requires jobs { length state.now.jobs < 2 ^ 32 }
         ensures race { IfOk result (IsFound graph.now state.now job) }
-        ensures stands { OnOk result (Stands graph.now state.now self.new) }
+        ensures stands { OnOk result (IsIndexOf graph.now state.now self.new) }
         ensures err { OnErr result (self.new ≡ self.old) }
     {
         let next = target_at(graph, state, job);
@@ -80,7 +81,7 @@ impl RaceIndex {
     /// The least race of the state for which the index stands, or none where that is not racing. It
     /// looks at no job where the targets of no two jobs clashed in any state for which it stood.
     pub fn least_race(&self, graph: &Graph, state: &State) -> Option<Race>
-        requires stands { Stands graph.now state.now self.now }
+        requires stands { IsIndexOf graph.now state.now self.now }
         requires jobs { length state.now.jobs < 2 ^ 32 }
         ensures { IsFoundOfAll graph.now state.now result }
     {

@@ -19,13 +19,13 @@ use Rattle.sw_partition.specs.Regions.{Regions}
 use Rattle.sw_region_flow.proofs.OneList.{each_breach}
 use Rattle.sw_region_flow.specs.Breaches.{IsBreachOf, AreBreaches}
 use Rattle.sw_region_flow.specs.Least.{point_ops_at}
-use Rattle.sw_region_flow.specs.Walks.{Fails, FailsAmong}
+use Rattle.sw_region_flow.specs.Walks.{TestFails, FailsAmong}
 use Rattle.sw_region_ops.specs.Calls as calls
 use Rattle.sw_region_ops.specs.Calls.{is_isolated, free_code, callee_ops}
 use Rattle.sw_region_ops.specs.Elements.{element_at}
 use Rattle.sw_region_ops.specs.Groups as groups
 use Rattle.sw_region_ops.specs.Marks.{sent_arguments, kept_arguments}
-use Rattle.sw_region_ops.specs.Setting.{Setting, setting_of}
+use Rattle.sw_region_ops.specs.Setting.{FunctionSetting, setting_of}
 use Rattle.sw_region_ops.specs.Table as table
 use Rattle.sw_region_ops.specs.declared.op.Op.{Op}
 use Rattle.sw_region_ops.specs.declared.op.Op.TheVariants.{Need, Free, Fresh, Put, Join, Give}
@@ -205,7 +205,7 @@ return_ops sends marks =
     (need_each marks)
     (if_ops sends (groups.free_each 704 marks) (free_each 704 not_disconnected_is_code marks))
 
-module _ (setting : Setting) where
+module _ (setting : FunctionSetting) where
   made : (r : ℕ) (operands : List Operand)
       → HaveCodes (groups.make_of (table.result setting r) (table.marks setting operands))
   made r operands = make_of (table.result setting r) (table.marks setting operands)
@@ -279,7 +279,7 @@ module _ (setting : Setting) where
       by (Some point) = point_ops point
 
 -- a test that fails has a code
-fails_code : (op : Op) (r : Regions) (breach : Breach) → HasCode op → Fails op r breach
+fails_code : (op : Op) (r : Regions) (breach : Breach) → HasCode op → TestFails op r breach
     → IsCode breach.code
 fails_code (Need x at) r breach has fails =
     subst IsCode (ap (λ b. b.code) (sym fails.is)) given_away_is_code

@@ -13,7 +13,7 @@ use Rattle.sw_region_flow.proofs.Deciding.{same_decided, below_decided, member_d
 use Rattle.sw_region_flow.proofs.Tabled.{IsState, made, is_made}
 use Rattle.sw_region_ops.proofs.RunLemmas.{does_size}
 use Rattle.sw_region_ops.specs.Entry.{AreMet, IsMet}
-use Rattle.sw_region_ops.specs.Runs.{Does, Runs, Fits}
+use Rattle.sw_region_ops.specs.Runs.{Applies, Runs, Fits}
 use Rattle.sw_region_ops.specs.declared.op.Op.{Op}
 use Rattle.sw_region_ops.specs.declared.op.Op.TheVariants.{Need, Free, Fresh, Put, Join, Give}
 
@@ -267,7 +267,7 @@ module _ (x given : ℕ) (a : Regions) (site_there : Contains a.sites given) whe
     },
   )
 
-pub some_done : (op : Op) (a : Regions) → Fits (size_of a) op → (b : Regions) × Does op a b
+pub some_done : (op : Op) (a : Regions) → Fits (size_of a) op → (b : Regions) × Applies op a b
 some_done (Need x at) a fits = (a, refl)
 some_done (Free x at code) a fits = (a, refl)
 some_done (Fresh x) a fits = some_freshened x a

@@ -7,8 +7,8 @@ use Rattle.std.proofs.lemmas.Bool.{cases_lt}
 use Rattle.std.proofs.lemmas.Option.{slice_get_within, slice_get_past}
 use Rattle.std.specs.List.{slice_get}
 use Rattle.std.specs.Option.{option_map_or}
-use Rattle.sw_blocks.proofs.Least.{blocks_give_points}
-use Rattle.sw_blocks.specs.Layout.{Chain, IsLeastOfBlocks, IsLeastOfPoints}
+use Rattle.sw_solve.proofs.Least.{blocks_give_points}
+use Rattle.sw_solve.specs.Layout.{Chain, IsLeastOfBlocks, IsLeastOfPoints}
 use Rattle.sw_breach.specs.declared.Breach.{Breach}
 use Rattle.sw_graph.specs.Points.{Point, points_of, points_of_block}
 use Rattle.sw_partition.specs.Laws.{within_refl, within_trans, within_both}
@@ -28,13 +28,13 @@ use Rattle.sw_region_flow.specs.Walks.{IsCopy, Walks, FailsAmong}
 use Rattle.sw_region_ops.proofs.RunLemmas.{runs_split, runs_both}
 use Rattle.sw_region_ops.specs.Entry.{IsEntry}
 use Rattle.sw_region_ops.specs.Runs.{Runs}
-use Rattle.sw_region_ops.specs.Setting.{Setting}
+use Rattle.sw_region_ops.specs.Setting.{FunctionSetting}
 use Rattle.sw_region_ops.specs.Table.{point_ops}
 use Rattle.sw_solve.proofs.Solving.{Problem, IsLawful, closed_bounds}
 use Rattle.sw_solve.specs.Annotation.{value_at, IsBelow, IsAtMost, IsAtMostEverywhere}
 
 -- what a chain of points makes is a copy of what their operations make of a copy
-chain_same : (setting : Setting) (points : List Point) (k p : ℕ) (x y c m : Regions)
+chain_same : (setting : FunctionSetting) (points : List Point) (k p : ℕ) (x y c m : Regions)
     → Stand setting p points → k ≤ length points
     → Chain (λ q. Walks (point_ops_at setting q)) p k x y → IsCopy x c
     → Runs (points_ops setting (take k points)) c m → IsCopy y m
@@ -54,7 +54,7 @@ chain_same setting (point ∷ points) (suc k) p x y c m stand within (n, walks, 
     (omega arith) rest step h.2
 
 -- the point of a block at which a test fails
-among_point : (setting : Setting) (points : List Point) (a : Regions) (breach : Breach)
+among_point : (setting : FunctionSetting) (points : List Point) (a : Regions) (breach : Breach)
     → FailsAmong (points_ops setting points) a breach
     → (k : ℕ) × (point : Point) × (slice_get points k ≡ Some point)
     × (m : Regions) × Runs (points_ops setting (take k points)) a m
@@ -75,7 +75,7 @@ among_point setting (point ∷ points) a breach fails =
     ]
 
 -- the operations of a point among those of its block
-runs_at : (setting : Setting) (points : List Point) (k : ℕ) (point : Point) (a z : Regions)
+runs_at : (setting : FunctionSetting) (points : List Point) (k : ℕ) (point : Point) (a z : Regions)
     → slice_get points k ≡ Some point → Runs (points_ops setting points) a z
     → (m n : Regions) × Runs (points_ops setting (take k points)) a m
     × Runs (point_ops setting point) m n
@@ -93,7 +93,7 @@ runs_at setting (first ∷ points) (suc k) point a z e runs =
       t.3,
     )
 
-among_at : (setting : Setting) (points : List Point) (k : ℕ) (point : Point) (a m : Regions)
+among_at : (setting : FunctionSetting) (points : List Point) (k : ℕ) (point : Point) (a m : Regions)
     (breach : Breach) → slice_get points k ≡ Some point
     → Runs (points_ops setting (take k points)) a m
     → FailsAmong (point_ops setting point) m breach
@@ -110,7 +110,7 @@ among_at setting (first ∷ points) (suc k) point a m breach e runs fails =
     (among_at setting points k point h.0 m breach e h.2 fails)
 
 -- a test fails only where there is a point
-point_there : (setting : Setting) (p : ℕ) (a : Regions) (breach : Breach)
+point_there : (setting : FunctionSetting) (p : ℕ) (a : Regions) (breach : Breach)
     → FailsAmong (point_ops_at setting p) a breach
     → (point : Point) × (slice_get (points_of setting.body.blocks) p ≡ Some point)
 unfolding point_ops_at
@@ -136,7 +136,7 @@ size_at : (facts : List ℕ) (o : Option Regions) (x : Regions) → o ≡ Some x
 size_at facts o x e sized = subst (λ v. IfSome v (λ r. size_of r ≡ facts)) e sized
 
 -- the flow of the points, and its laws
-abbrev pub point_flow : Setting → List ℕ → Problem Regions
+abbrev pub point_flow : FunctionSetting → List ℕ → Problem Regions
 point_flow setting sites = record {
   le = IsWithin;
   size = size_of;
@@ -147,7 +147,7 @@ point_flow setting sites = record {
   successors = followers setting.body.blocks;
 }
 
-pub point_laws : (setting : Setting) (sites : List ℕ) → IsLawful (point_flow setting sites)
+pub point_laws : (setting : FunctionSetting) (sites : List ℕ) → IsLawful (point_flow setting sites)
 point_laws setting sites = record {
   reflexive = within_refl;
   transitive = within_trans;

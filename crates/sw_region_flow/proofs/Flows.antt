@@ -2,7 +2,7 @@
 use Rattle.std.proofs.Common.{◌≡◌, ℕ, ◌+◌, ◌*◌, ◌<◌, ◌≤◌, Option, Some, List, length}
 use Rattle.std.proofs.Common.{sym, subst, ap, ◌∙◌, arith}
 use Rattle.std.specs.List.{slice_get, All}
-use Rattle.sw_graph.proofs.ListLemmas.{at_index}
+use Rattle.sw_list.proofs.ListLemmas.{at_index}
 use Rattle.sw_graph.specs.Limits.{IsWithinLimits}
 use Rattle.sw_graph.specs.Mentions.{blocks_of}
 use Rattle.sw_graph.specs.WellFormed.{IsWellFormed, FunctionFits, BlockFits}
@@ -20,7 +20,7 @@ use Rattle.sw_region_flow.specs.Work.{site_count, joins_of}
 use Rattle.sw_region_ops.proofs.RangeLemmas.{block_fits}
 use Rattle.sw_region_ops.specs.Elements.{AreElements, element_count}
 use Rattle.sw_region_ops.specs.Runs.{Fits}
-use Rattle.sw_region_ops.specs.Setting.{Setting, setting_of}
+use Rattle.sw_region_ops.specs.Setting.{FunctionSetting, setting_of}
 use Rattle.sw_region_ops.specs.Sites.{AreSites, sites_of, body_ops}
 use Rattle.sw_region_ops.specs.Table.{block_ops}
 use Rattle.sw_region_ops.specs.declared.op.Op.{Op}
@@ -45,7 +45,7 @@ fits_as shapes globals functions n body elements sites fits limits are are_sites
       in h.last.blocks_in;
 }
 
-pub analysis_fits : (graph : Graph) (n : ℕ) (setting : Setting) (sites : List ℕ)
+pub analysis_fits : (graph : Graph) (n : ℕ) (setting : FunctionSetting) (sites : List ℕ)
     → IsWellFormed graph.shapes graph.globals graph.functions graph.entry graph.starts
     → n < length graph.functions
     → ((body : Function) → slice_get graph.functions n ≡ Some body
@@ -65,7 +65,7 @@ analysis_fits graph n setting sites formed within value are are_sites =
     (at_index IsWithinLimits graph.functions n h.0 formed.limits h.1) elements all)
 
 -- the operations of a block that there is
-pub ops_there : (setting : Setting) (b : ℕ) (block : Block) (ops : List Op)
+pub ops_there : (setting : FunctionSetting) (b : ℕ) (block : Block) (ops : List Op)
     → slice_get setting.body.blocks b ≡ Some block → ops ≡ block_ops setting block
     → ops ≡ block_ops_at setting b
 ops_there setting b block ops at e = e ∙ sym (ops_are setting b block at)
@@ -107,7 +107,7 @@ pub joins_within : (analysis : Analysis) (old new : ℕ) → IsAnalysis analysis
     → new ≤ old
     + edge_count (targets_at analysis.setting.body.blocks) (length analysis.setting.body.blocks)
     * (element_count analysis.setting.elements * (length analysis.sites + 1) + 1)
-    → (setting : Setting) → analysis.setting ≡ setting → new ≤ old + joins_of setting
+    → (setting : FunctionSetting) → analysis.setting ≡ setting → new ≤ old + joins_of setting
 joins_within analysis old new fits within setting same =
     let e = joins_are analysis fits.sites ∙ ap joins_of same in
     subst (λ n. new ≤ old + n) e within

@@ -25,14 +25,14 @@ use Rattle.sw_region_flow.proofs.Visiting.{IsFound}
 use Rattle.sw_region_flow.specs.Breaches.{IsBreachIn, IsBreachOf}
 use Rattle.sw_region_flow.specs.Least.{point_ops_at, IsClosedFor, IsLeast, FailsAt}
 use Rattle.sw_region_flow.specs.Visits.{BreaksBelow}
-use Rattle.sw_region_flow.specs.Walks.{IsCopy, IsGivenAway, IsNotFree, Fails, FailsAmong}
+use Rattle.sw_region_flow.specs.Walks.{IsCopy, IsGivenAway, IsNotFree, TestFails, FailsAmong}
 use Rattle.sw_breach.specs.declared.codes.TheConstants.{GIVEN_AWAY}
 use Rattle.sw_region_ops.proofs.ContextLemmas.{inside}
 use Rattle.sw_region_ops.proofs.RangeLemmas.{AreInside}
 use Rattle.sw_region_ops.proofs.RunLemmas.{does_size}
 use Rattle.sw_region_ops.specs.Elements.{element_count}
-use Rattle.sw_region_ops.specs.Runs.{Does, Fits}
-use Rattle.sw_region_ops.specs.Setting.{Setting, setting_of}
+use Rattle.sw_region_ops.specs.Runs.{Applies, Fits}
+use Rattle.sw_region_ops.specs.Setting.{FunctionSetting, setting_of}
 use Rattle.sw_region_ops.specs.declared.op.Op.{Op}
 use Rattle.sw_region_ops.specs.declared.op.Op.TheVariants.{Need, Free, Fresh, Put, Join, Give}
 use Rattle.sw_solve.specs.Annotation.{value_at, IsAtMost, IsAtMostEverywhere}
@@ -138,18 +138,18 @@ wrong_list r x at code = by (given r x) (tell_together r x 0)
     by (inr none) (inr apart) = empty (IsNotFree x at code r) (λ b wrong. apart wrong.is_here)
 
 -- the breaches of one operation
-op_list : (op : Op) (r : Regions) → Listing (Fails op r)
+op_list : (op : Op) (r : Regions) → Listing (TestFails op r)
 op_list (Need x at) r = given_list r x at
 op_list (Free x at code) r = joint (IsGivenAway x at r) (IsNotFree x at code r)
-    (Fails (Free x at code) r) (given_list r x at) (wrong_list r x at code) (λ b fails. fails)
+    (TestFails (Free x at code) r) (given_list r x at) (wrong_list r x at code) (λ b fails. fails)
     (λ b fails. fails)
-op_list (Fresh x) r = empty (Fails (Fresh x) r) (λ b fails. fails)
-op_list (Put x y) r = empty (Fails (Put x y) r) (λ b fails. fails)
-op_list (Join x y) r = empty (Fails (Join x y) r) (λ b fails. fails)
-op_list (Give x site) r = empty (Fails (Give x site) r) (λ b fails. fails)
+op_list (Fresh x) r = empty (TestFails (Fresh x) r) (λ b fails. fails)
+op_list (Put x y) r = empty (TestFails (Put x y) r) (λ b fails. fails)
+op_list (Join x y) r = empty (TestFails (Join x y) r) (λ b fails. fails)
+op_list (Give x site) r = empty (TestFails (Give x site) r) (λ b fails. fails)
 
 -- those of operations, one after the other
-rest_fits : (op : Op) (ops : List Op) (r m : Regions) → Does op r m
+rest_fits : (op : Op) (ops : List Op) (r m : Regions) → Applies op r m
     → All (Fits (size_of r)) (op ∷ ops) → All (Fits (size_of m)) ops
 rest_fits op ops r m does fits = subst (λ s. All (Fits s) ops) (sym (does_size op r m does))
     (All-tail (Fits (size_of r)) op ops fits)
@@ -161,12 +161,13 @@ among_list (op ∷ ops) r fits =
     let m = some_done op r (All-head (Fits (size_of r)) op ops fits) in
     by m.0 m.1 (among_list ops m.0 (rest_fits op ops r m.0 m.1 fits))
   where
-    by : (m : Regions) → Does op r m → Listing (FailsAmong ops m)
+    by : (m : Regions) → Applies op r m → Listing (FailsAmong ops m)
         → Listing (FailsAmong (op ∷ ops) r)
-    by m does rest = joint (Fails op r) (FailsAmong ops m) (FailsAmong (op ∷ ops) r) (op_list op r)
+    by m does rest =
+        joint (TestFails op r) (FailsAmong ops m) (FailsAmong (op ∷ ops) r) (op_list op r)
         rest parts whole
       where
-        moved : (b : Breach) (made : Regions) → Does op r made → FailsAmong ops made b
+        moved : (b : Breach) (made : Regions) → Applies op r made → FailsAmong ops made b
             → FailsAmong ops m b
         moved b made does_too later =
             let z = some_run ops m (rest_fits op ops r m does fits) in
@@ -174,11 +175,11 @@ among_list (op ∷ ops) r fits =
             (runs_same (op ∷ []) r r made m (copy_same r) (made, does_too, refl) (m, does, refl))
             z.1 later
 
-        parts : (b : Breach) → FailsAmong (op ∷ ops) r b → Fails op r b ⊎ FailsAmong ops m b
+        parts : (b : Breach) → FailsAmong (op ∷ ops) r b → TestFails op r b ⊎ FailsAmong ops m b
         parts b (inl fails) = inl fails
         parts b (inr (made, does_too, later)) = inr (moved b made does_too later)
 
-        whole : (b : Breach) → Fails op r b ⊎ FailsAmong ops m b → FailsAmong (op ∷ ops) r b
+        whole : (b : Breach) → TestFails op r b ⊎ FailsAmong ops m b → FailsAmong (op ∷ ops) r b
         whole b (inl fails) = inl fails
         whole b (inr later) = inr (m, does, later)
 
@@ -189,7 +190,7 @@ none_stands x e = cc
 one_stands : (x y : Regions) → Some x ≡ Some y → x ≡ y
 one_stands x y e = cc
 
-module _ (setting : Setting) (within : AreInside setting.elements)
+module _ (setting : FunctionSetting) (within : AreInside setting.elements)
     (states : List (Option Regions)) (least : IsLeast setting states) where
   sized : (p : ℕ) (x : Regions) → value_at states p ≡ Some x
       → size_of x ≡ element_count setting.elements ∷ least.sites

@@ -5,7 +5,7 @@ use Rattle.std.proofs.lemmas.List.Elements.{All-contains}
 use Rattle.std.proofs.lemmas.Option.{slice_get_within}
 use Rattle.std.specs.List.{slice_get, flat_map}
 use Rattle.std.specs.Option.{option_map_or}
-use Rattle.sw_blocks.specs.Layout.{IsLayout, Chain}
+use Rattle.sw_solve.specs.Layout.{IsLayout, Chain}
 use Rattle.sw_graph.specs.Mentions.{blocks_of}
 use Rattle.sw_graph.specs.Points.{Point, Middle, End, points_of_block}
 use Rattle.sw_graph.specs.declared.instr.Block.{Block}
@@ -21,7 +21,7 @@ use Rattle.sw_region_flow.proofs.Places.{element_at, first_zero, first_next, cou
 use Rattle.sw_region_flow.proofs.Places.{instr_at, last_at, followers_of, targets_of, block_filled}
 use Rattle.sw_region_ops.proofs.RunLemmas.{runs_split}
 use Rattle.sw_region_ops.specs.Runs.{Runs}
-use Rattle.sw_region_ops.specs.Setting.{Setting}
+use Rattle.sw_region_ops.specs.Setting.{FunctionSetting}
 use Rattle.sw_region_ops.specs.Table.{point_ops, block_ops}
 use Rattle.sw_region_ops.specs.declared.op.Op.{Op}
 
@@ -29,27 +29,27 @@ pub copy_of_itself : (r : Regions) → IsCopy r r
 copy_of_itself r = record { same = same_refl r; sized = refl }
 
 -- the operations of points, one point after the other
-abbrev pub points_ops : Setting → List Point → List Op
+abbrev pub points_ops : FunctionSetting → List Point → List Op
 points_ops setting points = flat_map (point_ops setting) points
 
 -- these points stand at p and after it
-abbrev pub Stand : Setting → ℕ → List Point → Type 0
+abbrev pub Stand : FunctionSetting → ℕ → List Point → Type 0
 Stand setting p points = (k : ℕ) (point : Point) → slice_get points k ≡ Some point
     → point_ops_at setting (p + k) ≡ point_ops setting point
 
-pub later : (setting : Setting) (p : ℕ) (point : Point) (points : List Point)
+pub later : (setting : FunctionSetting) (p : ℕ) (point : Point) (points : List Point)
     → Stand setting p (point ∷ points) → Stand setting (suc p) points
 later setting p point points stand k next e =
     let here : suc p + k ≡ p + suc k = omega arith in
     ap (point_ops_at setting) here ∙ stand (suc k) next e
 
-pub here : (setting : Setting) (p : ℕ) (point : Point) (points : List Point)
+pub here : (setting : FunctionSetting) (p : ℕ) (point : Point) (points : List Point)
     → Stand setting p (point ∷ points) → point_ops setting point ≡ point_ops_at setting p
 here setting p point points stand =
     sym (ap (point_ops_at setting) (let h : p ≡ p + 0 = omega arith in h) ∙ stand 0 point refl)
 
 -- what the operations of points make is made point by point
-chain_runs : (setting : Setting) (points : List Point) (p : ℕ) (a z : Regions)
+chain_runs : (setting : FunctionSetting) (points : List Point) (p : ℕ) (a z : Regions)
     → Stand setting p points → Runs (points_ops setting points) a z
     → Chain (λ q. Walks (point_ops_at setting q)) p (length points) a z
 chain_runs setting [] p a z stand runs = runs
@@ -61,7 +61,7 @@ chain_runs setting (point ∷ points) p a z stand runs =
       chain_runs setting points (suc p) h.0 z (later setting p point points stand) h.2,
     )
 
-chain_walks : (setting : Setting) (points : List Point) (p : ℕ) (a z : Regions)
+chain_walks : (setting : FunctionSetting) (points : List Point) (p : ℕ) (a z : Regions)
     → Stand setting p points → 0 < length points → Walks (points_ops setting points) a z
     → Chain (λ q. Walks (point_ops_at setting q)) p (length points) a z
 chain_walks setting [] p a z stand some walks = absurd (omega arith)
@@ -75,7 +75,7 @@ chain_walks setting (point ∷ points) p a z stand some walks =
     )
 
 -- the operations at the points of a block
-pub stands_at : (setting : Setting) (b : ℕ) (block : Block)
+pub stands_at : (setting : FunctionSetting) (b : ℕ) (block : Block)
     → slice_get setting.body.blocks b ≡ Some block
     → Stand setting (first_point setting.body.blocks b) (points_of_block block)
 unfolding point_ops_at
@@ -84,7 +84,7 @@ stands_at setting b block e k point at =
     (point_is setting.body.blocks b k block e (slice_get_within (points_of_block block) k point at)
     ∙ at)
 
-pub ops_are : (setting : Setting) (b : ℕ) (block : Block)
+pub ops_are : (setting : FunctionSetting) (b : ℕ) (block : Block)
     → slice_get setting.body.blocks b ≡ Some block
     → block_ops_at setting b ≡ points_ops setting (points_of_block block)
 unfolding block_ops_at

@@ -33,7 +33,7 @@ use Rattle.sw_region_ops.proofs.SiteLemmas.{sites_append}
 use Rattle.sw_region_ops.specs.Elements.{element_at, element_count}
 use Rattle.sw_region_ops.specs.Entry.{IsMet, here_at_entry, lent_from, listed}
 use Rattle.sw_region_ops.specs.Runs.{Fits}
-use Rattle.sw_region_ops.specs.Setting.{Setting}
+use Rattle.sw_region_ops.specs.Setting.{FunctionSetting}
 use Rattle.sw_region_ops.specs.Sites.{AreSites, sites_of, body_ops}
 use Rattle.sw_region_ops.specs.Table as table
 use Rattle.sw_region_ops.specs.declared.op.Op.{Op}
@@ -162,7 +162,7 @@ in_order (x ∷ xs) = by (in_order xs)
       },
     )
 
-pub some_sites : (setting : Setting) → (sites : List ℕ) × AreSites setting sites
+pub some_sites : (setting : FunctionSetting) → (sites : List ℕ) × AreSites setting sites
 some_sites setting = let h = in_order (sites_of (body_ops setting)) in
     (h.0, record { rising = h.1.rising; same = h.1.same })
 
@@ -189,7 +189,7 @@ among_points f (first ∷ points) (suc p) point e site has =
     (Contains-append_right (sites_of (f first)) (sites_of (flat_map f points)) site
     (among_points f points p point e site has))
 
-pub point_fits : (setting : Setting) (sites : List ℕ) → AreInside setting.elements
+pub point_fits : (setting : FunctionSetting) (sites : List ℕ) → AreInside setting.elements
     → AreSites setting sites → (p : ℕ)
     → All (Fits (element_count setting.elements ∷ sites)) (point_ops_at setting p)
 unfolding point_ops_at points_of
@@ -280,7 +280,7 @@ lent_inside elements inside k (sends ∷ sending) x has =
     by true here = absurd (no_member x here)
     by false here = one (element_at elements k) refl here
 
-here_inside : (setting : Setting) → AreInside setting.elements → (x : ℕ)
+here_inside : (setting : FunctionSetting) → AreInside setting.elements → (x : ℕ)
     → Contains (here_at_entry setting) x → x < element_count setting.elements
 here_inside setting inside x has =
     elim (member_cases 0 (lent_from setting.elements 0 setting.body.sending) x has) [
@@ -294,10 +294,10 @@ met_size count sites met r is =
     ap (λ n. n ∷ r.sites) is.elements_are ∙ ap (λ s. count ∷ s) is.sites_are
 
 -- the flow of a function's points can be climbed
-abbrev points_count : Setting → ℕ
+abbrev points_count : FunctionSetting → ℕ
 points_count setting = suc (length (points_of setting.body.blocks))
 
-climbs : (setting : Setting) (sites : List ℕ) → AreInside setting.elements
+climbs : (setting : FunctionSetting) (sites : List ℕ) → AreInside setting.elements
     → AreSites setting sites → CanClimb (point_flow setting sites) (points_count setting)
     (height_of (element_count setting.elements ∷ sites))
 climbs setting sites inside are =
@@ -345,7 +345,7 @@ climbs setting sites inside are =
     ]
 
 -- a function has a least annotation of its points
-pub some_least : (setting : Setting) → AreInside setting.elements
+pub some_least : (setting : FunctionSetting) → AreInside setting.elements
     → (states : List (Option Regions)) × IsLeast setting states
 some_least setting inside = by (some_sites setting)
   where

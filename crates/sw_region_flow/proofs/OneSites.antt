@@ -3,7 +3,7 @@ use Rattle.std.proofs.Common.{◌≡◌, ℕ, zero, suc, ◌+◌, ◌<◌, ◌�
 use Rattle.std.proofs.Common.{Contains, refl, sym, subst, ap, ◌∙◌, arith, get_or}
 use Rattle.std.proofs.lemmas.List.Kept.{AllPairs-from_increasing}
 use Rattle.std.specs.List.Sorted.{IsStrictlyIncreasing}
-use Rattle.sw_region_ops.specs.Setting.{Setting}
+use Rattle.sw_region_ops.specs.Setting.{FunctionSetting}
 use Rattle.sw_region_ops.specs.Sites.{AreSites}
 
 -- a member of a list with a first element
@@ -67,7 +67,8 @@ rising_same (x ∷ xs) (y ∷ ys) first second same =
           | inr later ↦ later
         ]
 
-pub sites_are_one : (setting : Setting) (a b : List ℕ) → AreSites setting a → AreSites setting b
+pub sites_are_one : (setting : FunctionSetting) (a b : List ℕ) → AreSites setting a
+    → AreSites setting b
     → a ≡ b
 sites_are_one setting a b first second = rising_same a b first.rising second.rising
     (λ site. (

@@ -9,23 +9,23 @@ use Rattle.sw_region_flow.proofs.Leasts.{some_least}
 use Rattle.sw_region_flow.proofs.OneSites.{no_member}
 use Rattle.sw_region_flow.specs.Breaches.{AreBreaches, IsBreachIn, IsBreachOf}
 use Rattle.sw_region_flow.specs.Least.{point_ops_at, IsLeast}
-use Rattle.sw_region_flow.specs.Passing.{AllPass, EachPasses, IsLive, IsPassed, Passes}
-use Rattle.sw_region_flow.specs.Walks.{Fails, FailsAmong}
+use Rattle.sw_region_flow.specs.Passing.{AllPass, EachPasses, IsNotGivenAway, IsPassed, Passes}
+use Rattle.sw_region_flow.specs.Walks.{TestFails, FailsAmong}
 use Rattle.sw_breach.specs.declared.codes.TheConstants.{GIVEN_AWAY}
 use Rattle.sw_region_ops.proofs.ContextLemmas.{inside}
-use Rattle.sw_region_ops.specs.Setting.{Setting, setting_of}
+use Rattle.sw_region_ops.specs.Setting.{FunctionSetting, setting_of}
 use Rattle.sw_region_ops.specs.declared.op.Op.{Op}
 use Rattle.sw_region_ops.specs.declared.op.Op.TheVariants.{Need, Free, Fresh, Put, Join, Give}
 
 -- an element that isn't live has a least site
-live_or_given : (r : Regions) (x : ℕ) → ((site : ℕ) → IsLeastSite r x site → ⊥) → IsLive r x
+live_or_given : (r : Regions) (x : ℕ) → ((site : ℕ) → IsLeastSite r x site → ⊥) → IsNotGivenAway r x
 live_or_given r x none has = elim (given r x) [
   | inl (site, least) ↦ none site least
   | inr live ↦ live has
 ]
 
 -- a test passes that doesn't fail
-op_passes : (op : Op) (r : Regions) → ((breach : Breach) → Fails op r breach → ⊥) → Passes op r
+op_passes : (op : Op) (r : Regions) → ((breach : Breach) → TestFails op r breach → ⊥) → Passes op r
 op_passes (Need x at) r none = live_or_given r x (λ site least.
     none (record { code = GIVEN_AWAY; at = at; note = Some site })
     (record { site = site; least = least; is = refl }))
@@ -36,7 +36,7 @@ op_passes (Free x at code) r none = (
       (inr (record { not_given = live; is_here = here; is = refl })),
 )
   where
-    live : IsLive r x
+    live : IsNotGivenAway r x
     live = live_or_given r x (λ site least.
         none (record { code = GIVEN_AWAY; at = at; note = Some site })
         (inl (record { site = site; least = least; is = refl })))
@@ -54,7 +54,7 @@ all_pass (op ∷ ops) r none = (
 )
 
 -- a test that passes doesn't fail
-op_fails : (op : Op) (r : Regions) (breach : Breach) → Passes op r → Fails op r breach → ⊥
+op_fails : (op : Op) (r : Regions) (breach : Breach) → Passes op r → TestFails op r breach → ⊥
 op_fails (Need x at) r breach live fails = live (fails.site, fails.least.there)
 op_fails (Free x at code) r breach free (inl fails) = free.0 (fails.site, fails.least.there)
 op_fails (Free x at code) r breach free (inr fails) = free.1 fails.is_here
@@ -70,7 +70,7 @@ none_fails (op ∷ ops) r breach passes (inl fails) = op_fails op r breach passe
 none_fails (op ∷ ops) r breach passes (inr later) =
     none_fails ops later.0 breach (passes.1 later.0 later.1) later.2
 
-each_passes : (setting : Setting) (states : List (Option Regions)) → IsLeast setting states
+each_passes : (setting : FunctionSetting) (states : List (Option Regions)) → IsLeast setting states
     → ((breach : Breach) → IsBreachIn setting breach → ⊥) → EachPasses setting states
 each_passes setting states least none p state copied stands copy =
     all_pass (point_ops_at setting p) copied (λ breach fails. none breach (record {

@@ -12,7 +12,7 @@ use Rattle.sw_graph.specs.Mentions.{blocks_of}
 use Rattle.sw_graph.specs.Points.{Point, Middle, End, points_of, points_of_block}
 use Rattle.sw_graph.specs.declared.instr.Block.{Block}
 use Rattle.sw_graph.specs.declared.instr.Instr.{Instr}
-use Rattle.sw_graph.proofs.ListLemmas.{slice_get_before, slice_get_first, slice_get_after}
+use Rattle.sw_list.proofs.ListLemmas.{slice_get_before, slice_get_first, slice_get_after}
 use Rattle.sw_graph.proofs.PointLemmas.{length-points_of_block}
 use Rattle.sw_region_flow.specs.Analysis.{point_count, targets_at}
 use Rattle.sw_region_flow.specs.Least.{first_point, followers, following}

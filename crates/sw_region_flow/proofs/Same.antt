@@ -3,7 +3,7 @@ use Rattle.std.proofs.Common.{ℕ, ◌⊎◌, inl, inr, ◌↔◌, List, [], ◌
 use Rattle.sw_breach.specs.declared.Breach.{Breach}
 use Rattle.sw_partition.specs.Laws.{within_both, within_trans, same_within, same_refl}
 use Rattle.sw_partition.specs.Regions.{Regions, IsWithin}
-use Rattle.sw_region_flow.specs.Walks.{IsCopy, IsGivenAway, IsNotFree, Fails, FailsAmong}
+use Rattle.sw_region_flow.specs.Walks.{IsCopy, IsGivenAway, IsNotFree, TestFails, FailsAmong}
 use Rattle.sw_region_ops.proofs.RunLemmas.{runs_size, runs_monotone}
 use Rattle.sw_region_ops.specs.Runs.{Runs}
 use Rattle.sw_region_ops.specs.declared.op.Op.{Op}
@@ -54,8 +54,8 @@ not_free_same x at code a c breach forth back wrong = record {
 }
 
 -- a test that fails in a state fails in a copy
-pub fails_same : (op : Op) (a c : Regions) (breach : Breach) → IsCopy a c → Fails op a breach
-    → Fails op c breach
+pub fails_same : (op : Op) (a c : Regions) (breach : Breach) → IsCopy a c → TestFails op a breach
+    → TestFails op c breach
 fails_same (Need x at) a c breach copy fails = let h = same_within a c copy.same in
     given_away_same x at a c breach h.0 h.1 fails
 fails_same (Free x at code) a c breach copy (inl given) = let h = same_within a c copy.same in
@@ -106,21 +106,21 @@ among_right (op ∷ xs) ys a m breach (n, does, rest) fails =
 
 -- one more operation
 pub among_push : (xs : List Op) (op : Op) (a m : Regions) (breach : Breach) → Runs xs a m
-    → FailsAmong (xs ++ op ∷ []) a breach ↔ (FailsAmong xs a breach ⊎ Fails op m breach)
+    → FailsAmong (xs ++ op ∷ []) a breach ↔ (FailsAmong xs a breach ⊎ TestFails op m breach)
 among_push xs op a m breach runs = (forth, back)
   where
     last : (n : Regions) → Runs xs a n → FailsAmong (op ∷ []) n breach
-        → FailsAmong xs a breach ⊎ Fails op m breach
+        → FailsAmong xs a breach ⊎ TestFails op m breach
     last n runs_too (inl fails) =
         inr (fails_same op n m breach (runs_same xs a a n m (copy_same a) runs_too runs) fails)
     last n runs_too (inr later) = absurd later.2
 
-    forth : FailsAmong (xs ++ op ∷ []) a breach → FailsAmong xs a breach ⊎ Fails op m breach
+    forth : FailsAmong (xs ++ op ∷ []) a breach → FailsAmong xs a breach ⊎ TestFails op m breach
     forth fails = elim (among_split xs (op ∷ []) a breach fails) [
       | inl first ↦ inl first
       | inr second ↦ last second.0 second.1 second.2
     ]
 
-    back : FailsAmong xs a breach ⊎ Fails op m breach → FailsAmong (xs ++ op ∷ []) a breach
+    back : FailsAmong xs a breach ⊎ TestFails op m breach → FailsAmong (xs ++ op ∷ []) a breach
     back (inl first) = among_left xs (op ∷ []) a breach first
     back (inr fails) = among_right xs (op ∷ []) a m breach runs (inl fails)

@@ -9,7 +9,7 @@ use Rattle.std.proofs.lemmas.List.Elements.{Contains-push_cases}
 use Rattle.std.proofs.lemmas.Option.{slice_get_past}
 use Rattle.std.specs.List.{All}
 use Rattle.std.specs.Option.{option_map_or}
-use Rattle.sw_blocks.specs.Layout.{IsLeastOfBlocks}
+use Rattle.sw_solve.specs.Layout.{IsLeastOfBlocks}
 use Rattle.sw_breach.specs.declared.Breach.{Breach}
 use Rattle.sw_partition.specs.Regions.{Regions, size_of}
 use Rattle.sw_region_flow.proofs.Exact.{breaches_are}
@@ -19,10 +19,10 @@ use Rattle.sw_region_flow.specs.Analysis.{facts_of}
 use Rattle.sw_region_flow.specs.Breaches.{IsBreachIn}
 use Rattle.sw_region_flow.specs.Least.{FailsAt}
 use Rattle.sw_region_flow.specs.Visits.{FailsBelow}
-use Rattle.sw_region_flow.specs.Walks.{IsCopy, Fails, FailsAmong}
+use Rattle.sw_region_flow.specs.Walks.{IsCopy, TestFails, FailsAmong}
 use Rattle.sw_region_ops.proofs.RunLemmas.{runs_both}
-use Rattle.sw_region_ops.specs.Runs.{Does, Runs, Fits}
-use Rattle.sw_region_ops.specs.Setting.{Setting}
+use Rattle.sw_region_ops.specs.Runs.{Applies, Runs, Fits}
+use Rattle.sw_region_ops.specs.Setting.{FunctionSetting}
 use Rattle.sw_region_ops.specs.Table.{block_ops}
 use Rattle.sw_region_ops.specs.declared.op.Op.{Op}
 use Rattle.sw_solve.specs.Annotation.{value_at}
@@ -119,14 +119,14 @@ walk_starts start old = record {
 -- one operation more
 pub walk_more : (ops : List Op) (k : ℕ) (d : Op) (start now next : Regions)
     (old was new : List Breach) → k < length ops
-    → IsWalked (take k ops) start now old was → Does (get_or ops k d) now next
-    → IsFound (Fails (get_or ops k d) now) was new
+    → IsWalked (take k ops) start now old was → Applies (get_or ops k d) now next
+    → IsFound (TestFails (get_or ops k d) now) was new
     → IsWalked (take (k + 1) ops) start next old new
 walk_more ops k d start now next old was new within walked does found =
     let op : Op = get_or ops k d in
     subst (λ os. IsWalked os start next old new) (sym (take_more ops k d within)) (record {
       runs = runs_both (take k ops) (op ∷ []) start now next walked.runs (next, does, refl);
-      found = found_both (FailsAmong (take k ops) start) (Fails op now)
+      found = found_both (FailsAmong (take k ops) start) (TestFails op now)
           (FailsAmong (take k ops ++ op ∷ []) start) old was new walked.found found
           (λ b. among_push (take k ops) op start now b walked.runs);
     })
@@ -146,7 +146,7 @@ visit_none ops s n list e =
     never o x e f = cc
 
 -- a walk from a copy of the state at a block
-pub visit_some : (setting : Setting) (s : List (Option Regions)) (n : ℕ) (ops : List Op)
+pub visit_some : (setting : FunctionSetting) (s : List (Option Regions)) (n : ℕ) (ops : List Op)
     (state copied end : Regions) (old new : List Breach) → value_at s n ≡ Some state
     → IsCopy state copied → ops ≡ block_ops_at setting n → Runs ops copied end
     → IsFound (FailsAmong ops copied) old new → IsFound (FailsAt (block_ops_at setting) s n) old new
@@ -176,12 +176,12 @@ visit_some setting s n ops state copied end old new stands copy e runs found =
     }
 
 -- the blocks so far
-pub visits_start : (setting : Setting) (s : List (Option Regions)) (list : List Breach)
+pub visits_start : (setting : FunctionSetting) (s : List (Option Regions)) (list : List Breach)
     → IsFound (FailsBelow setting s 0) list list
 visits_start setting s list = found_none (FailsBelow setting s 0) list
     (λ b fails. let h = fails.below in omega arith)
 
-pub visits_more : (setting : Setting) (s : List (Option Regions)) (n : ℕ)
+pub visits_more : (setting : FunctionSetting) (s : List (Option Regions)) (n : ℕ)
     (old was new : List Breach)
     → IsFound (FailsBelow setting s n) old was
     → IsFound (FailsAt (block_ops_at setting) s n) was new
@@ -212,7 +212,7 @@ visits_more setting s n old was new first second =
     back b (inr fails) = record { block = n; below = omega arith; fails = fails }
 
 -- a test fails on the way through a block that there is
-fails_below : (setting : Setting) (s : List (Option Regions)) (count : ℕ) (b : Breach)
+fails_below : (setting : FunctionSetting) (s : List (Option Regions)) (count : ℕ) (b : Breach)
     → length setting.body.blocks ≤ count
     → ((n : ℕ) × FailsAt (block_ops_at setting) s n b) ↔ FailsBelow setting s count b
 unfolding block_ops_at

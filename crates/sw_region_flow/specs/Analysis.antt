@@ -3,7 +3,7 @@ use Rattle.std.specs.Coded.{Coded, code_by, coded×, coded_list, coded_ℕ}
 use Rattle.std.specs.Prelude.{◌≡◌, ℕ, ◌<◌, ◌≤◌, Some, List, [], ◌∷◌, length, slice_get, All, refl}
 use Rattle.std.specs.Option.{option_map_or}
 use Rattle.sw_graph.specs.Mentions.{blocks_of}
-use Rattle.sw_blocks.specs.Layout.{Layout}
+use Rattle.sw_solve.specs.Layout.{Layout}
 use Rattle.sw_graph.specs.Points.{points_of_block}
 use Rattle.sw_graph.specs.declared.function.TheConstants.{MAX_POINTS}
 use Rattle.sw_graph.specs.declared.instr.Block.{Block}
@@ -12,19 +12,19 @@ use Rattle.sw_region_flow.specs.Least.{first_point, followers, point_ops_at}
 use Rattle.sw_region_flow.specs.Walks.{Walks}
 use Rattle.sw_region_ops.specs.Elements.{AreElements, element_count}
 use Rattle.sw_region_ops.specs.Entry.{IsEntry}
-use Rattle.sw_region_ops.specs.Setting.{Setting}
+use Rattle.sw_region_ops.specs.Setting.{FunctionSetting}
 use Rattle.sw_region_ops.specs.Sites.{AreSites}
 use Rattle.sw_region_ops.specs.Table.{block_ops}
 use Rattle.sw_region_ops.specs.declared.op.Op.{Op}
 
 -- the setting of a function, and the sites of its states
 pub record Analysis : Type 0 where
-  pub setting : Setting
+  pub setting : FunctionSetting
   pub sites : List ℕ
 
 -- an analysis is stored as its two fields
-abbrev pub analysis_code : Coded Setting → Coded Analysis
-analysis_code setting = code_by (Setting × List ℕ) (coded× setting (coded_list coded_ℕ))
+abbrev pub analysis_code : Coded FunctionSetting → Coded Analysis
+analysis_code setting = code_by (FunctionSetting × List ℕ) (coded× setting (coded_list coded_ℕ))
     (λ a. (a.setting, a.sites)) (λ p. record { setting = p.0; sites = p.1 }) (λ _. refl)
 
 -- the elements and the sites of the states
@@ -32,7 +32,7 @@ abbrev pub facts_of : Analysis → List ℕ
 facts_of analysis = element_count analysis.setting.elements ∷ analysis.sites
 
 -- the operations of a block; none where there is no such block
-unfoldable pub block_ops_at : Setting → ℕ → List Op
+unfoldable pub block_ops_at : FunctionSetting → ℕ → List Op
 block_ops_at setting b =
     option_map_or (block_ops setting) (slice_get setting.body.blocks b) []
 
@@ -41,8 +41,8 @@ unfoldable pub targets_at : List Block → ℕ → List ℕ
 targets_at blocks b = option_map_or (λ block. blocks_of block.last) (slice_get blocks b) []
 
 -- the operations of a block make the second state of the first
-abbrev pub Leads : Analysis → ℕ → Regions → Regions → Type 0
-Leads analysis b before after =
+abbrev pub WalksBlock : Analysis → ℕ → Regions → Regions → Type 0
+WalksBlock analysis b before after =
     (b < length analysis.setting.body.blocks) × Walks (block_ops_at analysis.setting b) before after
 
 -- how many points a block has
@@ -62,7 +62,7 @@ layout analysis = record {
   len = point_count analysis.setting.body.blocks;
   step = λ p. Walks (point_ops_at analysis.setting p);
   after = followers analysis.setting.body.blocks;
-  walk = Leads analysis;
+  walk = WalksBlock analysis;
   next = targets_at analysis.setting.body.blocks;
 }
 

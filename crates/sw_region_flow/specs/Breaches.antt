@@ -6,10 +6,10 @@ use Rattle.sw_graph.specs.declared.function.Function.{Function}
 use Rattle.sw_graph.specs.declared.graph.Graph.{Graph}
 use Rattle.sw_partition.specs.Regions.{Regions}
 use Rattle.sw_region_flow.specs.Least.{point_ops_at, IsLeast, FailsAt}
-use Rattle.sw_region_ops.specs.Setting.{Setting, setting_of}
+use Rattle.sw_region_ops.specs.Setting.{FunctionSetting, setting_of}
 
 -- a test fails in the least annotation of a function's points
-pub record IsBreachIn (setting : Setting) (breach : Breach) : Type 0 where
+pub record IsBreachIn (setting : FunctionSetting) (breach : Breach) : Type 0 where
   pub states : List (Option Regions)
   pub least : IsLeast setting states
   pub point : ℕ

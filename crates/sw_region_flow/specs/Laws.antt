@@ -2,12 +2,12 @@
 use Rattle.std.proofs.Common.{◌≡◌, ℕ, List, sym, ◌∙◌}
 use Rattle.sw_partition.specs.Laws.{within_trans, same_within}
 use Rattle.sw_partition.specs.Regions.{Regions, size_of, IsWithin}
-use Rattle.sw_region_flow.specs.Analysis.{Analysis, Leads, facts_of, block_ops_at}
+use Rattle.sw_region_flow.specs.Analysis.{Analysis, WalksBlock, facts_of, block_ops_at}
 use Rattle.sw_region_flow.specs.Walks.{IsCopy, Walks}
 use Rattle.sw_region_ops.proofs.RunLemmas.{runs_size, runs_monotone, one_entry}
 use Rattle.sw_region_ops.specs.Elements.{element_count}
 use Rattle.sw_region_ops.specs.Entry.{IsEntry, here_at_entry}
-use Rattle.sw_region_ops.specs.Setting.{Setting}
+use Rattle.sw_region_ops.specs.Setting.{FunctionSetting}
 use Rattle.sw_region_ops.specs.declared.op.Op.{Op}
 
 -- operations keep the elements and the sites
@@ -31,12 +31,13 @@ walks_monotone ops a b c d size within first second =
 
 pub leads_monotone : (analysis : Analysis) (p : ℕ) (a b c d : Regions)
     → size_of a ≡ facts_of analysis → size_of b ≡ facts_of analysis → IsWithin a b
-    → Leads analysis p a c → Leads analysis p b d → IsWithin c d
+    → WalksBlock analysis p a c → WalksBlock analysis p b d → IsWithin c d
 leads_monotone analysis p a b c d first second within walks walks_too =
     walks_monotone (block_ops_at analysis.setting p) a b c d (first ∙ sym second) within walks.1
     walks_too.1
 
-pub entries_within : (setting : Setting) (sites : List ℕ) (a b : Regions) → IsEntry setting sites a
+pub entries_within : (setting : FunctionSetting) (sites : List ℕ) (a b : Regions)
+    → IsEntry setting sites a
     → IsEntry setting sites b → IsWithin a b
 entries_within setting sites a b first second = (same_within a b
     (one_entry (element_count setting.elements) sites (here_at_entry setting) a b first second)).0

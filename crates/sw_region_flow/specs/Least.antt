@@ -11,14 +11,14 @@ use Rattle.sw_partition.specs.Regions.{Regions, size_of, IsWithin}
 use Rattle.sw_region_flow.specs.Walks.{IsCopy, Walks, FailsAmong}
 use Rattle.sw_region_ops.specs.Elements.{element_count}
 use Rattle.sw_region_ops.specs.Entry.{IsEntry}
-use Rattle.sw_region_ops.specs.Setting.{Setting}
+use Rattle.sw_region_ops.specs.Setting.{FunctionSetting}
 use Rattle.sw_region_ops.specs.Sites.{AreSites}
 use Rattle.sw_region_ops.specs.Table.{point_ops}
 use Rattle.sw_region_ops.specs.declared.op.Op.{Op}
 use Rattle.sw_solve.specs.Annotation.{value_at, IsClosed, IsAtMostEverywhere}
 
 -- the operations at a point of a function; none where there is no such point
-unfoldable pub point_ops_at : Setting → ℕ → List Op
+unfoldable pub point_ops_at : FunctionSetting → ℕ → List Op
 point_ops_at setting p =
     option_map_or (point_ops setting) (slice_get (points_of setting.body.blocks) p) []
 
@@ -38,13 +38,13 @@ followers blocks p = option_map_or (following blocks p) (slice_get (points_of bl
 
 -- An annotation of a function's points is closed: point 0 has at least the state at the entry, and
 -- each point that follows another has at least what the operations make of the state there.
-abbrev pub IsClosedFor : Setting → List ℕ → List (Option Regions) → Type 0
+abbrev pub IsClosedFor : FunctionSetting → List ℕ → List (Option Regions) → Type 0
 IsClosedFor setting sites states =
     IsClosed IsWithin size_of (element_count setting.elements ∷ sites) (IsEntry setting sites)
     (λ p. Walks (point_ops_at setting p)) (followers setting.body.blocks) states
 
 -- the least closed annotation of a function's points
-pub record IsLeast (setting : Setting) (states : List (Option Regions)) : Type 0 where
+pub record IsLeast (setting : FunctionSetting) (states : List (Option Regions)) : Type 0 where
   pub sites : List ℕ
   pub are_sites : AreSites setting sites
   pub closed : IsClosedFor setting sites states

@@ -7,19 +7,19 @@ use Rattle.sw_partition.specs.Effects.{IsFree}
 use Rattle.sw_partition.specs.Regions.{Regions, HasSomePair}
 use Rattle.sw_region_flow.specs.Least.{point_ops_at, IsLeast}
 use Rattle.sw_region_flow.specs.Walks.{IsCopy}
-use Rattle.sw_region_ops.specs.Runs.{Does}
-use Rattle.sw_region_ops.specs.Setting.{Setting, setting_of}
+use Rattle.sw_region_ops.specs.Runs.{Applies}
+use Rattle.sw_region_ops.specs.Setting.{FunctionSetting, setting_of}
 use Rattle.sw_region_ops.specs.declared.op.Op.{Op}
 use Rattle.sw_region_ops.specs.declared.op.Op.TheVariants.{Need, Free, Fresh, Put, Join, Give}
 use Rattle.sw_solve.specs.Annotation.{value_at}
 
 -- element x was given away nowhere
-abbrev pub IsLive : Regions → ℕ → Type 0
-IsLive r x = ¬ (HasSomePair r x)
+abbrev pub IsNotGivenAway : Regions → ℕ → Type 0
+IsNotGivenAway r x = ¬ (HasSomePair r x)
 
 -- What is used is live. What is given away is live, and not with `Here`.
 abbrev pub Passes : Op → Regions → Type 0
-Passes (Need x at) r = IsLive r x
+Passes (Need x at) r = IsNotGivenAway r x
 Passes (Free x at code) r = IsFree r x
 Passes (Fresh x) r = Unit {0}
 Passes (Put x y) r = Unit {0}
@@ -29,10 +29,10 @@ Passes (Give x site) r = Unit {0}
 -- Each of the operations passes in the state that those before it make.
 abbrev pub AllPass : List Op → Regions → Type 0
 AllPass [] r = Unit {0}
-AllPass (op ∷ ops) r = Passes op r × ((made : Regions) → Does op r made → AllPass ops made)
+AllPass (op ∷ ops) r = Passes op r × ((made : Regions) → Applies op r made → AllPass ops made)
 
 -- With what an annotation has there, the operations at each point of a function pass.
-abbrev pub EachPasses : Setting → List (Option Regions) → Type 0
+abbrev pub EachPasses : FunctionSetting → List (Option Regions) → Type 0
 EachPasses setting states = (p : ℕ) (state copied : Regions) → value_at states p ≡ Some state
     → IsCopy state copied → AllPass (point_ops_at setting p) copied
 

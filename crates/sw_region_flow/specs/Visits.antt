@@ -8,10 +8,10 @@ use Rattle.sw_partition.specs.Regions.{Regions}
 use Rattle.sw_region_flow.specs.Analysis.{block_ops_at}
 use Rattle.sw_region_flow.specs.Breaches.{IsBreachIn}
 use Rattle.sw_region_flow.specs.Least.{FailsAt}
-use Rattle.sw_region_ops.specs.Setting.{Setting, setting_of}
+use Rattle.sw_region_ops.specs.Setting.{FunctionSetting, setting_of}
 
 -- a test fails on the way through one of the blocks below a number
-pub record FailsBelow (setting : Setting) (states : List (Option Regions)) (count : ℕ)
+pub record FailsBelow (setting : FunctionSetting) (states : List (Option Regions)) (count : ℕ)
     (breach : Breach) : Type 0 where
   pub block : ℕ
   pub below : block < count

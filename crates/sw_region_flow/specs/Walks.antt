@@ -5,7 +5,7 @@ use Rattle.sw_breach.specs.declared.Breach.{Breach}
 use Rattle.sw_partition.specs.Effects.{IsLeastSite}
 use Rattle.sw_partition.specs.Regions.{Regions, size_of, Together, HasSomePair, IsSameState}
 use Rattle.sw_breach.specs.declared.codes.TheConstants.{GIVEN_AWAY}
-use Rattle.sw_region_ops.specs.Runs.{Does, Runs}
+use Rattle.sw_region_ops.specs.Runs.{Applies, Runs}
 use Rattle.sw_region_ops.specs.declared.op.Op.{Op}
 use Rattle.sw_region_ops.specs.declared.op.Op.TheVariants.{Need, Free, Fresh, Put, Join, Give}
 
@@ -33,16 +33,16 @@ pub record IsNotFree (x at code : ℕ) (r : Regions) (breach : Breach) : Type 0 
   pub is : breach ≡ record { code = code; at = at; note = None }
 
 -- the operation is a test that fails in a state, with this breach
-abbrev pub Fails : Op → Regions → Breach → Type 0
-Fails (Need x at) r breach = IsGivenAway x at r breach
-Fails (Free x at code) r breach = IsGivenAway x at r breach ⊎ IsNotFree x at code r breach
-Fails (Fresh x) r breach = ⊥
-Fails (Put x y) r breach = ⊥
-Fails (Join x y) r breach = ⊥
-Fails (Give x site) r breach = ⊥
+abbrev pub TestFails : Op → Regions → Breach → Type 0
+TestFails (Need x at) r breach = IsGivenAway x at r breach
+TestFails (Free x at code) r breach = IsGivenAway x at r breach ⊎ IsNotFree x at code r breach
+TestFails (Fresh x) r breach = ⊥
+TestFails (Put x y) r breach = ⊥
+TestFails (Join x y) r breach = ⊥
+TestFails (Give x site) r breach = ⊥
 
 -- one of the operations is a test that fails in the state which those before it make
 abbrev pub FailsAmong : List Op → Regions → Breach → Type 0
 FailsAmong [] r breach = ⊥
 FailsAmong (op ∷ ops) r breach =
-    Fails op r breach ⊎ ((made : Regions) × Does op r made × FailsAmong ops made breach)
+    TestFails op r breach ⊎ ((made : Regions) × Applies op r made × FailsAmong ops made breach)

@@ -5,16 +5,16 @@ use Rattle.sw_graph.specs.declared.graph.Graph.{Graph}
 use Rattle.sw_region_flow.specs.Analysis.{targets_at}
 use Rattle.sw_region_flow.specs.Distinct.{distinct_count}
 use Rattle.sw_region_ops.specs.Elements.{element_count}
-use Rattle.sw_region_ops.specs.Setting.{Setting, setting_of}
+use Rattle.sw_region_ops.specs.Setting.{FunctionSetting, setting_of}
 use Rattle.sw_region_ops.specs.Sites.{sites_of, body_ops}
 use Rattle.sw_solve.specs.Work.{edge_count}
 
 -- how many sites a function has
-unfoldable pub site_count : Setting → ℕ
+unfoldable pub site_count : FunctionSetting → ℕ
 site_count setting = distinct_count (sites_of (body_ops setting))
 
 -- edges * (elements * (sites + 1) + 1), where the edges lead from a block to one that follows it
-unfoldable pub joins_of : Setting → ℕ
+unfoldable pub joins_of : FunctionSetting → ℕ
 joins_of setting = edge_count (targets_at setting.body.blocks) (length setting.body.blocks)
     * (element_count setting.elements * (site_count setting + 1) + 1)
 

@@ -122,7 +122,7 @@ impl<'a> BlockFlow<'a> {
 
 impl<'a> Flow for BlockFlow<'a> {
     ghost use Rattle.std.specs.Prelude.{length};
-    ghost use Rattle.sw_region_flow.specs.Analysis.{Leads, facts_of, targets_at};
+    ghost use Rattle.sw_region_flow.specs.Analysis.{WalksBlock, facts_of, targets_at};
     ghost use Rattle.sw_region_flow.specs.Laws.{entries_within, leads_monotone};
     ghost use Rattle.sw_region_ops.specs.Entry.{IsEntry};
 
@@ -134,7 +134,7 @@ impl<'a> Flow for BlockFlow<'a> {
 
     ghost enters = { λ f. IsEntry f.setting f.sites };
 
-    ghost leads = { Leads };
+    ghost leads = { WalksBlock };
 
     ghost successors = { λ f. targets_at f.setting.body.blocks };
 

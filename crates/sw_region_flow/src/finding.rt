@@ -1,7 +1,7 @@
 //! The region breaches of a function and of a graph.
 ghost use Rattle.std.specs.Prelude.{◌≡◌, ◌+◌, ◌<◌, ◌≤◌, ◌↔◌, ◌⊎◌, Some, length, slice_get};
 ghost use Rattle.std.specs.Prelude.{Contains, IfOk, OnOk};
-ghost use Rattle.sw_blocks.specs.Layout.{IsLeastOfBlocks};
+ghost use Rattle.sw_solve.specs.Layout.{IsLeastOfBlocks};
 ghost use Rattle.sw_breach.specs.declared.Breach.{Breach};
 ghost use Rattle.sw_graph.specs.declared.function.Function.{Function};
 ghost use Rattle.sw_region_flow.specs.Analysis.{block_ops_at, layout};

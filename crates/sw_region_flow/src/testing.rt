@@ -2,7 +2,7 @@
 ghost use Rattle.std.specs.Prelude.{◌≡◌, ◌<◌, ◌↔◌, ◌⊎◌, None, Some, length};
 ghost use Rattle.sw_breach.specs.declared.Breach.{Breach};
 ghost use Rattle.sw_partition.specs.Regions.{size_of, HasSomePair};
-ghost use Rattle.sw_region_flow.specs.Walks.{IsGivenAway, IsNotFree, Fails};
+ghost use Rattle.sw_region_flow.specs.Walks.{IsGivenAway, IsNotFree, TestFails};
 ghost use Rattle.sw_region_ops.specs.Runs.{Fits};
 
 use sw_breach::{Breach, GIVEN_AWAY};
@@ -58,7 +58,7 @@ fn not_given(state: &Partition, x: u32, at: u32, code: u16) -> Option<Breach>
 /// What is wrong where an operation is a test that fails.
 pub(crate) fn test(op: &Op, state: &Partition) -> Option<Breach>
     requires { Fits (size_of state.now) op.now }
-    ensures { (breach : Breach) → (result ≡ Some breach) ↔ Fails op.now state.now breach }
+    ensures { (breach : Breach) → (result ≡ Some breach) ↔ TestFails op.now state.now breach }
 {
     match *op {
         Op::Need { x, at } => given_away(state, x, at),

@@ -2,8 +2,8 @@
 ghost use Rattle.std.specs.Prelude.{◌≡◌, ◌↔◌, ◌⊎◌, ◌++◌, Contains, All, OnOk};
 ghost use Rattle.sw_breach.specs.declared.Breach.{Breach};
 ghost use Rattle.sw_partition.specs.Regions.{size_of};
-ghost use Rattle.sw_region_flow.specs.Walks.{Fails, FailsAmong};
-ghost use Rattle.sw_region_ops.specs.Runs.{Does, Runs, Fits};
+ghost use Rattle.sw_region_flow.specs.Walks.{TestFails, FailsAmong};
+ghost use Rattle.sw_region_ops.specs.Runs.{Applies, Runs, Fits};
 
 use crate::testing::test;
 use std::alloc::AllocError;
@@ -16,7 +16,7 @@ use sw_region_ops::{Op, apply};
 fn look(found: &mut ListOf<Breach>, op: &Op, state: &Partition) -> Result<(), AllocError>
     requires { Fits (size_of state.now) op.now }
     ensures { OnOk result ((breach : Breach) → Contains found.new breach
-        ↔ (Contains found.old breach ⊎ Fails op.now state.now breach)) }
+        ↔ (Contains found.old breach ⊎ TestFails op.now state.now breach)) }
 {
     match test(op, state) {
         Some(breach) => found.push(breach),
@@ -28,8 +28,8 @@ fn look(found: &mut ListOf<Breach>, op: &Op, state: &Partition) -> Result<(), Al
 fn step(found: &mut ListOf<Breach>, op: &Op, state: &mut Partition) -> Result<(), AllocError>
     requires { Fits (size_of state.old) op.now }
     ensures found { OnOk result ((breach : Breach) → Contains found.new breach
-        ↔ (Contains found.old breach ⊎ Fails op.now state.old breach)) }
-    ensures does { OnOk result (Does op.now state.old state.new) }
+        ↔ (Contains found.old breach ⊎ TestFails op.now state.old breach)) }
+    ensures does { OnOk result (Applies op.now state.old state.new) }
 {
     look(found, op, state)?;
     apply(op, state);

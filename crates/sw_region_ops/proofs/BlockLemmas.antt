@@ -6,16 +6,16 @@ use Rattle.std.proofs.lemmas.List.{append-nil}
 use Rattle.sw_graph.specs.Points.{Middle, End}
 use Rattle.sw_graph.specs.declared.instr.Block.{Block}
 use Rattle.sw_graph.specs.declared.instr.Instr.{Instr}
-use Rattle.sw_region_ops.specs.Setting.{Setting}
+use Rattle.sw_region_ops.specs.Setting.{FunctionSetting}
 use Rattle.sw_region_ops.specs.Table.{instr_ops, last_ops, point_ops, block_ops}
 
-middles : (setting : Setting) (instrs : List Instr)
+middles : (setting : FunctionSetting) (instrs : List Instr)
     → flat_map (point_ops setting) (map Middle instrs) ≡ flat_map (instr_ops setting) instrs
 middles setting [] = refl
 middles setting (instr ∷ instrs) =
     ap (λ ops. instr_ops setting instr ++ ops) (middles setting instrs)
 
-pub block_is : (setting : Setting) (block : Block)
+pub block_is : (setting : FunctionSetting) (block : Block)
     → block_ops setting block
     ≡ flat_map (instr_ops setting) block.instrs ++ last_ops setting block.last
 block_is setting block =

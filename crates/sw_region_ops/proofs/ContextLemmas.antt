@@ -6,7 +6,7 @@ use Rattle.std.proofs.Common.{if◌then◌else◌}
 use Rattle.std.proofs.lemmas.List.Sums.{sum_by-cons}
 use Rattle.std.specs.List.{All}
 use Rattle.std.specs.Option.{is_some}
-use Rattle.sw_graph.proofs.ListLemmas.{at_index}
+use Rattle.sw_list.proofs.ListLemmas.{at_index}
 use Rattle.sw_graph.specs.WellFormed.{IsWellFormed, FunctionFits, type_in}
 use Rattle.sw_graph.specs.Limits.{IsWithinLimits}
 use Rattle.sw_graph.specs.declared.function.Function.{Function}

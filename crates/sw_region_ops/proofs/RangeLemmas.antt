@@ -26,7 +26,7 @@ use Rattle.sw_region_ops.specs.Groups as groups
 use Rattle.sw_region_ops.specs.Marks.{mark_of, mark_at, marks_of, is_wanted, arguments_from}
 use Rattle.sw_region_ops.specs.Marks.{sent_arguments, kept_arguments}
 use Rattle.sw_region_ops.specs.Runs.{FitsIn, Fits}
-use Rattle.sw_region_ops.specs.Setting.{Setting}
+use Rattle.sw_region_ops.specs.Setting.{FunctionSetting}
 use Rattle.sw_region_ops.specs.Table as table
 use Rattle.sw_region_ops.specs.declared.marks.Mark.{Mark}
 use Rattle.sw_region_ops.specs.declared.op.Op.{Op}
@@ -296,7 +296,7 @@ return_ops count sends marks all =
     (need_each count marks all)
     (if_ops count sends (groups.free_each 704 marks) (free_each count 704 marks all))
 
-module _ (setting : Setting) (are : AreInside setting.elements) where
+module _ (setting : FunctionSetting) (are : AreInside setting.elements) where
   abbrev width : ℕ
   width = element_count setting.elements
 
@@ -431,7 +431,7 @@ block_sites_among f (first ∷ blocks) (suc n) block e site has =
     (block_sites_among f blocks n block e site has))
 
 -- the operations of a block of a function fit its states
-pub block_fits : (setting : Setting) (sites : List ℕ) (n : ℕ) (block : Block)
+pub block_fits : (setting : FunctionSetting) (sites : List ℕ) (n : ℕ) (block : Block)
     → AreElements setting.elements → AreSites setting sites
     → slice_get setting.body.blocks n ≡ Some block
     → All (Fits (element_count setting.elements ∷ sites)) (table.block_ops setting block)

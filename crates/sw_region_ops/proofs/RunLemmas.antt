@@ -4,7 +4,7 @@ use Rattle.std.proofs.Common.{◌≡◌, ℕ, List, [], ◌∷◌, ◌++◌, len
 use Rattle.sw_partition.specs.Monotone as monotone
 use Rattle.sw_partition.specs.Regions.{Regions, size_of, IsWithin, IsSameState}
 use Rattle.sw_region_ops.specs.Entry.{IsMet}
-use Rattle.sw_region_ops.specs.Runs.{Does, Runs}
+use Rattle.sw_region_ops.specs.Runs.{Applies, Runs}
 use Rattle.sw_region_ops.specs.declared.op.Op.{Op}
 use Rattle.sw_region_ops.specs.declared.op.Op.TheVariants.{Need, Free, Fresh, Put, Join, Give}
 
@@ -12,7 +12,7 @@ same_size : (a b : Regions) → length b.labels ≡ length a.labels → b.sites 
     → size_of b ≡ size_of a
 same_size a b elements sites = cc
 
-pub does_size : (op : Op) (a b : Regions) → Does op a b → size_of b ≡ size_of a
+pub does_size : (op : Op) (a b : Regions) → Applies op a b → size_of b ≡ size_of a
 does_size (Need x at) a b does = ap size_of does
 does_size (Free x at code) a b does = ap size_of does
 does_size (Fresh x) a b does = same_size a b does.elements_same does.sites_same
@@ -41,7 +41,7 @@ both_same a b c d within first second =
     subst (λ r. IsWithin r d) (sym first) (subst (λ r. IsWithin a r) (sym second) within)
 
 pub does_monotone : (op : Op) (a b c d : Regions) → size_of a ≡ size_of b → IsWithin a b
-    → Does op a c → Does op b d → IsWithin c d
+    → Applies op a c → Applies op b d → IsWithin c d
 does_monotone (Need x at) a b c d size within first second = both_same a b c d within first second
 does_monotone (Free x at code) a b c d size within first second =
     both_same a b c d within first second

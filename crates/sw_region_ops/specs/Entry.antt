@@ -5,7 +5,7 @@ use Rattle.sw_graph.specs.declared.function.Function.{Function}
 use Rattle.sw_graph.specs.declared.graph.Graph.{Graph}
 use Rattle.sw_partition.specs.Regions.{Regions, Together, HasPair}
 use Rattle.sw_region_ops.specs.Elements.{element_at, element_count}
-use Rattle.sw_region_ops.specs.Setting.{Setting, setting_of}
+use Rattle.sw_region_ops.specs.Setting.{FunctionSetting, setting_of}
 use Rattle.sw_region_ops.specs.Sites.{AreSites}
 
 -- one element or none
@@ -21,7 +21,7 @@ lent_from elements k (sends ∷ sending) =
 
 -- `Here` and the elements that a function is lent: its captures, and its parameters that aren't
 -- `sending`
-abbrev pub here_at_entry : Setting → List ℕ
+abbrev pub here_at_entry : FunctionSetting → List ℕ
 here_at_entry setting = 0 ∷ lent_from setting.elements 0 setting.body.sending
 
 -- x and y are one of the elements, or both are among those that are together
@@ -36,7 +36,7 @@ pub record IsMet (count : ℕ) (sites met : List ℕ) (r : Regions) : Type 0 whe
   pub no_pairs : (x site : ℕ) → ¬ (HasPair r x site)
 
 -- the state at the entry of a function: what it is lent is with `Here`
-abbrev pub IsEntry : Setting → List ℕ → Regions → Type 0
+abbrev pub IsEntry : FunctionSetting → List ℕ → Regions → Type 0
 IsEntry setting sites r =
     IsMet (element_count setting.elements) sites (here_at_entry setting) r
 

@@ -6,18 +6,18 @@ use Rattle.sw_region_ops.specs.declared.op.Op.{Op}
 use Rattle.sw_region_ops.specs.declared.op.Op.TheVariants.{Need, Free, Fresh, Put, Join, Give}
 
 -- the operation makes the second state of the first; a test changes nothing
-abbrev pub Does : Op → Regions → Regions → Type 0
-Does (Need x at) a b = b ≡ a
-Does (Free x at code) a b = b ≡ a
-Does (Fresh x) a b = IsFreshened x a b
-Does (Put x y) a b = IsPut x y a b
-Does (Join x y) a b = IsJoined x y a b
-Does (Give x site) a b = IsGiven x site a b
+abbrev pub Applies : Op → Regions → Regions → Type 0
+Applies (Need x at) a b = b ≡ a
+Applies (Free x at code) a b = b ≡ a
+Applies (Fresh x) a b = IsFreshened x a b
+Applies (Put x y) a b = IsPut x y a b
+Applies (Join x y) a b = IsJoined x y a b
+Applies (Give x site) a b = IsGiven x site a b
 
 -- the operations, one after the other, make the second state of the first
 abbrev pub Runs : List Op → Regions → Regions → Type 0
 Runs [] a b = b ≡ a
-Runs (op ∷ ops) a b = (m : Regions) × Does op a m × Runs ops m b
+Runs (op ∷ ops) a b = (m : Regions) × Applies op a m × Runs ops m b
 
 -- the operation speaks of elements below a count and of one of the sites, and changes or gives
 -- away another element than `Here`

@@ -24,26 +24,26 @@ use Rattle.sw_region_ops.specs.Elements.{element_at}
 use Rattle.sw_region_ops.specs.Groups.{need_each, free_each, put_here, join_result_here, put_first}
 use Rattle.sw_region_ops.specs.Groups.{meet, keep, part_with, take_from, make_of}
 use Rattle.sw_region_ops.specs.Marks.{marks_of}
-use Rattle.sw_region_ops.specs.Setting.{Setting, setting_of}
+use Rattle.sw_region_ops.specs.Setting.{FunctionSetting, setting_of}
 use Rattle.sw_region_ops.specs.declared.marks.Mark.{Mark}
 use Rattle.sw_region_ops.specs.declared.op.Op.{Op}
 use Rattle.sw_region_ops.specs.declared.op.TheConstants.{NOT_DISCONNECTED}
 
 -- the tracked ones of these operands
-abbrev pub marks : Setting → List Operand → List Mark
+abbrev pub marks : FunctionSetting → List Operand → List Mark
 marks setting operands = marks_of setting.elements operands
 
 -- the element of a register that is set
-abbrev pub result : Setting → ℕ → Option ℕ
+abbrev pub result : FunctionSetting → ℕ → Option ℕ
 result setting dst = element_at setting.elements dst
 
 -- A part of an actor, or of another cell that isn't tracked, is in the region of the code itself.
-abbrev pub load_ops : Setting → Option ℕ → ℕ → Operand → List Op
+abbrev pub load_ops : FunctionSetting → Option ℕ → ℕ → Operand → List Op
 load_ops setting (Some element) dst cell =
     take_from (result setting dst) (marks setting (cell ∷ []))
 load_ops setting None dst cell = put_here (result setting dst)
 
-abbrev pub store_ops : Setting → Option ℕ → Operand → Operand → List Op
+abbrev pub store_ops : FunctionSetting → Option ℕ → Operand → Operand → List Op
 store_ops setting (Some element) cell src = meet (marks setting (cell ∷ src ∷ []))
 store_ops setting None cell src = keep (marks setting (src ∷ []))
 
@@ -64,11 +64,11 @@ task_ops true code site captures = keep captures
 task_ops false code site captures = part_with code site captures
 
 -- the isolation of a function, tested; false where there is no such function
-abbrev pub iso_is : Setting → (Iso → Bool) → ℕ → Bool
+abbrev pub iso_is : FunctionSetting → (Iso → Bool) → ℕ → Bool
 iso_is setting test f =
     option_map_or (λ function. test function.iso) (slice_get setting.functions f) false
 
-abbrev pub instr_ops : Setting → Instr → List Op
+abbrev pub instr_ops : FunctionSetting → Instr → List Op
 instr_ops setting (Const at dst value) = []
 instr_ops setting (Un at dst op src) = []
 instr_ops setting (Bin at dst op left right) = []
@@ -109,7 +109,7 @@ instr_ops setting (Yield at dst) = []
 abbrev pub return_ops : Bool → List Mark → List Op
 return_ops sends value = need_each value ++ (if sends then free_each NOT_DISCONNECTED value else [])
 
-abbrev pub last_ops : Setting → Last → List Op
+abbrev pub last_ops : FunctionSetting → Last → List Op
 last_ops setting (Jump to) = []
 last_ops setting (Branch condition holds fails) = []
 last_ops setting (Switch subject to) = need_each (marks setting (subject ∷ []))
@@ -117,12 +117,12 @@ last_ops setting (Return None) = []
 last_ops setting (Return (Some value)) = return_ops setting.body.sends (marks setting (value ∷ []))
 
 -- the operations of what stands at a point
-abbrev pub point_ops : Setting → Point → List Op
+abbrev pub point_ops : FunctionSetting → Point → List Op
 point_ops setting (Middle instr) = instr_ops setting instr
 point_ops setting (End last) = last_ops setting last
 
 -- the operations of a block, in order
-abbrev pub block_ops : Setting → Block → List Op
+abbrev pub block_ops : FunctionSetting → Block → List Op
 block_ops setting block = flat_map (point_ops setting) (points_of_block block)
 
 -- the operations at a point of a function; none where there is no such point

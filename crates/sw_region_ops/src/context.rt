@@ -16,9 +16,9 @@ pub struct Context<'a> {
 impl<'a> Model for Context<'a> {
     ghost use Rattle.sw_graph.specs.contracts.function.Function as function;
     ghost use Rattle.sw_region_ops.specs.Elements.{AreElements};
-    ghost use Rattle.sw_region_ops.specs.Setting.{Setting, setting_code};
+    ghost use Rattle.sw_region_ops.specs.Setting.{FunctionSetting, setting_code};
 
-    ghost Value = { Setting };
+    ghost Value = { FunctionSetting };
 
     ghost coded = { setting_code function.the_row.coded };
 

@@ -6,13 +6,13 @@ ghost use Rattle.sw_region_ops.specs.Elements.{AreElements, element_count};
 ghost use Rattle.sw_region_ops.specs.Entry.{IsEntry};
 ghost use Rattle.sw_region_ops.specs.Sites.{AreSites};
 ghost use Rattle.sw_region_ops.specs.Runs.{Runs, Fits};
-ghost use Rattle.sw_region_ops.specs.Setting.{Setting};
+ghost use Rattle.sw_region_ops.specs.Setting.{FunctionSetting};
 ghost use Rattle.sw_region_ops.specs.Table.{block_ops};
 ghost use Rattle.sw_region_ops.specs.declared.op.Op.{Op};
 
 /// The operations of a function's blocks can be done in states over its elements and its sites.
 pub fn operations_fit()
-    ensures { (setting : Setting) (sites : List ℕ) (n : ℕ) (block : Block)
+    ensures { (setting : FunctionSetting) (sites : List ℕ) (n : ℕ) (block : Block)
         → AreElements setting.elements → AreSites setting sites
         → slice_get setting.body.blocks n ≡ Some block
         → All (Fits (element_count setting.elements ∷ sites)) (block_ops setting block) }
@@ -28,6 +28,6 @@ pub fn operations_are_monotone()
 
 /// There is one state at the entry of a function.
 pub fn entries_are_one()
-    ensures { (setting : Setting) (sites : List ℕ) (a b : Regions) → IsEntry setting sites a
+    ensures { (setting : FunctionSetting) (sites : List ℕ) (a b : Regions) → IsEntry setting sites a
         → IsEntry setting sites b → IsSameState a b }
 {}

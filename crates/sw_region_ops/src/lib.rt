@@ -1,6 +1,6 @@
 //! The operations on region states of each instruction of a graph (SE-0414, SE-0430), the state at
-//! the entry of a function, and how operations change a state. It knows nothing of the way in which
-//! control goes through a function.
+//! the entry of a function, and how operations change a state. It knows nothing of how control goes
+//! through a function.
 #![tactic(auto)]
 
 mod calls;

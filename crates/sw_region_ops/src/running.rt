@@ -1,7 +1,7 @@
 //! Operations on a region state.
 ghost use Rattle.std.specs.Prelude.{All};
 ghost use Rattle.sw_partition.specs.Regions.{size_of};
-ghost use Rattle.sw_region_ops.specs.Runs.{Does, Runs, Fits};
+ghost use Rattle.sw_region_ops.specs.Runs.{Applies, Runs, Fits};
 
 use crate::op::Op;
 use sw_partition::Partition;
@@ -9,7 +9,7 @@ use sw_partition::Partition;
 /// Does one operation; a test changes nothing.
 pub fn apply(op: &Op, state: &mut Partition)
     requires { Fits (size_of state.old) op.now }
-    ensures { Does op.now state.old state.new }
+    ensures { Applies op.now state.old state.new }
 {
     match *op {
         Op::Need { .. } | Op::Free { .. } => {}

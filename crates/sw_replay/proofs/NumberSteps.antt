@@ -8,11 +8,11 @@ use Rattle.std.proofs.lemmas.Bool.{cases_Bool, and_parts}
 use Rattle.std.proofs.lemmas.Bool.Decides.{nat_tests}
 use Rattle.std.proofs.lemmas.List.{length-take-le, take_at, take-append-drop}
 use Rattle.std.proofs.lemmas.List.Sums.{prefix_len-le-length}
-use Rattle.sw_bytes.specs.Classes.{is_blank, is_digit}
-use Rattle.sw_bytes.specs.Decimal.{number_of}
-use Rattle.sw_bytes.specs.Prefixes.{BeginsWithout}
-use Rattle.sw_bytes.proofs.Prefixes.{prefix_passes, suffix_fails, prefix_len-append, prefix_len-yes}
-use Rattle.sw_bytes.proofs.Prefixes.{prefix_len-no}
+use Rattle.sw_scan.specs.Classes.{is_blank, is_digit}
+use Rattle.sw_scan.specs.Decimal.{number_of}
+use Rattle.sw_scan.specs.Prefixes.{BeginsWithout}
+use Rattle.sw_scan.proofs.Prefixes.{prefix_passes, suffix_fails, prefix_len-append, prefix_len-yes}
+use Rattle.sw_scan.proofs.Prefixes.{prefix_len-no}
 use Rattle.sw_replay.specs.declared.text.SchedFault.TheVariants.{BadItem, TooBig}
 use Rattle.sw_replay.specs.Items.{IsNumber, IsFitting}
 use Rattle.sw_replay.specs.Reading.{fitting, number_by, number_at}

@@ -5,7 +5,7 @@ use Rattle.std.proofs.Common.{add-one, drop-cons}
 use Rattle.std.proofs.lemmas.List.{drop_all}
 use Rattle.std.specs.List.{fold}
 use Rattle.std.proofs.lemmas.Bool.Decides.{nat_tests}
-use Rattle.sw_bytes.specs.Decimal.{number_of}
+use Rattle.sw_scan.specs.Decimal.{number_of}
 use Rattle.sw_replay.specs.Reading.{fitting}
 
 -- the number of digits that follow digits with that number

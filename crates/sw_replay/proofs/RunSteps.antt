@@ -4,9 +4,9 @@ use Rattle.std.proofs.Common.{length, Ok, Err, refl, ◌∙◌, arith}
 use Rattle.std.specs.Bool.{IsFalse}
 use Rattle.std.proofs.lemmas.Bool.Decides.{nat_tests}
 use Rattle.std.proofs.lemmas.List.{append-nil, drop_at, take_at, drop_all, take_all}
-use Rattle.sw_bytes.specs.Classes.{is_blank, is_digit}
-use Rattle.sw_bytes.specs.Decimal.{number_of}
-use Rattle.sw_bytes.specs.Prefixes.{BeginsWithout}
+use Rattle.sw_scan.specs.Classes.{is_blank, is_digit}
+use Rattle.sw_scan.specs.Decimal.{number_of}
+use Rattle.sw_scan.specs.Prefixes.{BeginsWithout}
 use Rattle.sw_replay.specs.declared.runs.Number.{Number}
 use Rattle.sw_replay.specs.declared.runs.Run.{Run}
 use Rattle.sw_replay.specs.declared.text.SchedFault.TheVariants.{BadItem, TooBig}

@@ -15,7 +15,8 @@ use Rattle.sw_scan.proofs.Positions.{IsRefusedIn, Fails-refused}
 use Rattle.sw_replay.specs.declared.items.TheConstants.{MAX_ITEMS}
 use Rattle.sw_replay.specs.declared.text.SchedFault.{SchedFault}
 use Rattle.sw_replay.specs.declared.text.SchedFault.TheVariants.{Memory}
-use Rattle.sw_replay.specs.Items.{IsItems, IsFirstFault, HasItems, IsItemFault, IsRun, star, job_of}
+use Rattle.sw_replay.specs.Items.{IsItems, IsFirstFault, HasItems, IsItemFault, IsJobRun, star}
+use Rattle.sw_replay.specs.Items.{job_of}
 use Rattle.sw_replay.specs.Items.{count_of, schedule_form, written_out, position_of}
 use Rattle.sw_replay.specs.Items as items
 use Rattle.sw_replay.specs.Reading.{runs_or_fault, written, items_or_fault, Schedules}
@@ -98,7 +99,7 @@ All-replicate P zero job more is rest = rest
 All-replicate P (suc count) job more is rest =
     All-cons P job (replicate count job ++ more) is (All-replicate P count job more is rest)
 
-run_fits : (text after : List ℕ) → IsRun text after → job_of text < 2 ^ 32
+run_fits : (text after : List ℕ) → IsJobRun text after → job_of text < 2 ^ 32
 run_fits _ _ (items.once job after is apart) =
     rw (once_is job after is.is_number).0 is.fits
 run_fits _ _ (items.often job count after is counts apart) =

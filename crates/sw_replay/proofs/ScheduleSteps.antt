@@ -5,7 +5,7 @@ use Rattle.std.proofs.Common.{◌++◌, length, take, drop, Result, Ok, Err, ref
 use Rattle.std.proofs.Common.{arith, length-append}
 use Rattle.std.proofs.lemmas.Bool.Decides.{nat_tests}
 use Rattle.std.proofs.lemmas.List.{append_assoc, take_at, drop_at, take-append-drop}
-use Rattle.sw_bytes.specs.Classes.{is_blank, is_digit}
+use Rattle.sw_scan.specs.Classes.{is_blank, is_digit}
 use Rattle.sw_scan.specs.declared.Step.TheVariants.{Skip, Take}
 use Rattle.sw_scan.proofs.Agreement.{StepHolds, Agrees, IsAny}
 use Rattle.sw_replay.specs.declared.items.TheConstants.{MAX_ITEMS}
@@ -14,7 +14,7 @@ use Rattle.sw_replay.specs.declared.text.SchedFault.{SchedFault}
 use Rattle.sw_replay.specs.declared.text.SchedFault.TheVariants.{BadItem, TooBig, TooMany}
 use Rattle.sw_replay.specs.declared.text.Found.{Found}
 use Rattle.sw_replay.specs.declared.text.Found.TheVariants as found
-use Rattle.sw_replay.specs.Items.{IsSeparator, BeginsApart, IsNumber, IsFitting, IsRun, IsItem}
+use Rattle.sw_replay.specs.Items.{IsSeparator, BeginsApart, IsNumber, IsFitting, IsJobRun, IsItem}
 use Rattle.sw_replay.specs.Items.{IsItemFault, star, job_of, count_of, schedule_form}
 use Rattle.sw_replay.specs.Items as items
 use Rattle.sw_replay.specs.Reading.{run_at, roomed, found_at, stepped, step}
@@ -28,7 +28,7 @@ abbrev run_of : List ℕ → Run
 run_of text = record { job = job_of text; count = count_of text; len = length text }
 
 -- a run begins with no separator
-run_begins : (text after : List ℕ) → IsRun text after
+run_begins : (text after : List ℕ) → IsJobRun text after
     → (b : ℕ) × (more : List ℕ) × (text ++ after ≡ b ∷ more) × (is_blank b ≡ false)
 run_begins _ _ (items.once job after is apart) =
     let begin = number_begins job after is.is_number in
@@ -41,7 +41,7 @@ run_begins _ _ (items.often job count after is counts apart) =
       begin.3,
     )
 
-run_found : (at : ℕ) (text after : List ℕ) → IsRun text after
+run_found : (at : ℕ) (text after : List ℕ) → IsJobRun text after
     → run_at at (text ++ after) ≡ Ok (run_of text)
 run_found at _ _ (items.once job after is apart) =
     let parts = once_is job after is.is_number in
@@ -75,7 +75,7 @@ skips : (at before : ℕ) (piece after : List ℕ) → IsSeparator piece after
 unfolding step found_at
 skips at before _ _ (items.separator byte after is) = rw is refl
 
-run_step : (at before : ℕ) (text after : List ℕ) → IsRun text after
+run_step : (at before : ℕ) (text after : List ℕ) → IsJobRun text after
     → step at before (text ++ after) ≡ stepped (roomed at before (Ok (run_of text)))
 run_step at before text after is =
     let begin = run_begins text after is in
@@ -135,7 +135,7 @@ data Finds (at before : ℕ) (bytes : List ℕ) : Type 0 where
   fault : (it : SchedFault) → IsItemFault at before bytes it → Finds at before bytes
 
 -- a run is an item, or one too many
-by_room : (at before : ℕ) (text after : List ℕ) → IsRun text after
+by_room : (at before : ℕ) (text after : List ℕ) → IsJobRun text after
     → Finds at before (text ++ after)
 by_room at before text after is = by (ltb MAX_ITEMS (before + count_of text)) refl where
   by : (full : Bool) → ltb MAX_ITEMS (before + count_of text) ≡ full
@@ -236,7 +236,7 @@ step_holds at before bytes = by (finds at before bytes) where
 some_separator : (piece after : List ℕ) → IsSeparator piece after → 0 < length piece
 some_separator _ _ (items.separator byte after is) = omega arith
 
-some_run : (text after : List ℕ) → IsRun text after → 0 < length text
+some_run : (text after : List ℕ) → IsJobRun text after → 0 < length text
 some_run _ _ (items.once job after is apart) = is.is_number.some
 some_run _ _ (items.often job count after is counts apart) =
     omega (arith, is.is_number.some, length-append job (star ∷ count))

@@ -17,7 +17,7 @@ use Rattle.sw_value.specs.Start.{start_of, start_frames}
 use Rattle.sw_value.proofs.ListLemmas.{some_injective}
 use Rattle.sw_value.proofs.ReachLemmas.{reach_none, reach_push}
 use Rattle.sw_race.specs.declared.target.Target.{Target}
-use Rattle.sw_race.specs.Index.{Stands, IsFoundOfAll}
+use Rattle.sw_race.specs.Index.{IsIndexOf, IsFoundOfAll}
 use Rattle.sw_race.specs.Target.{job_target}
 use Rattle.sw_race.proofs.TargetLemmas.{access_target}
 use Rattle.sw_step.specs.Event.{event_of}
@@ -51,7 +51,7 @@ nothing_taken (suc n) = refl
 
 -- a replay of no item
 pub on_way_none : (graph : Graph) (progress : Progress) → progress.state ≡ start_of graph
-    → Stands graph progress.state progress.index → progress.lines.items ≡ []
+    → IsIndexOf graph progress.state progress.index → progress.lines.items ≡ []
     → IsOnWay graph [] progress
 on_way_none graph progress starts stands none = record {
   played = rw (starts, none) (played_none graph);
@@ -70,14 +70,14 @@ prefix (x ∷ xs) ys (suc n) few = ap (λ l. x ∷ l) (prefix xs ys n (omega (ar
 -- one item more
 pub record Steps (graph : Graph) (items : List ℕ) (item : ℕ) (after : Progress) : Type 0 where
   pub played : IsPlayed graph (items ++ item ∷ []) after.state after.lines.items
-  pub stands : Stands graph after.state after.index
+  pub stands : IsIndexOf graph after.state after.index
   pub free : (n : ℕ) → IsRacingAt graph items n → ⊥
 
 pub steps : (graph : Graph) (items : List ℕ) (item : ℕ) (before after : Progress)
     → IsOnWay graph items before
     → after.state ≡ step_of graph before.state item
     → after.lines.items ≡ before.lines.items ++ line_of (event_of graph before.state item)
-    → Stands graph after.state after.index → Steps graph items item after
+    → IsIndexOf graph after.state after.index → Steps graph items item after
 steps graph items item before after way stepped printed stands = record {
   played = played_push graph items item before.state after.state before.lines.items
       after.lines.items way.played stepped printed;
@@ -131,7 +131,7 @@ step_stops graph items item after race step least =
 pub item_whole : (graph : Graph) (item : ℕ) (before after : Progress) (found : Option Race)
     → after.state ≡ step_of graph before.state item
     → after.lines.items ≡ before.lines.items ++ line_of (event_of graph before.state item)
-    → Stands graph after.state after.index → IsFoundOfAll graph after.state found
+    → IsIndexOf graph after.state after.index → IsFoundOfAll graph after.state found
     → IfNone found ((items : List ℕ) → IsOnWay graph items before
     → IsOnWay graph (items ++ item ∷ []) after)
 item_whole graph item before after None stepped printed stands calm = λ items way.
@@ -142,7 +142,7 @@ item_whole graph item before after (Some race) stepped printed stands least = tt
 pub item_stopped : (graph : Graph) (item : ℕ) (before after : Progress) (found : Option Race)
     → after.state ≡ step_of graph before.state item
     → after.lines.items ≡ before.lines.items ++ line_of (event_of graph before.state item)
-    → Stands graph after.state after.index → IsFoundOfAll graph after.state found
+    → IsIndexOf graph after.state after.index → IsFoundOfAll graph after.state found
     → IfSome found (λ race. (items : List ℕ) → IsOnWay graph items before
     → IsStopped graph (items ++ item ∷ []) after race)
 item_stopped graph item before after None stepped printed stands calm = tt

@@ -5,10 +5,10 @@ use Rattle.std.specs.Prelude.{◌≡◌, ◌≢◌, ℕ, ◌+◌, ◌^◌, ◌<�
 use Rattle.std.specs.Prelude.{take, drop, replicate, Result, Ok, Err}
 use Rattle.std.specs.Bool.{IsFalse}
 use Rattle.std.specs.List.{list_all, prefix_len}
-use Rattle.sw_bytes.specs.Classes.{is_blank, is_digit}
-use Rattle.sw_bytes.specs.Decimal.{number_of}
-use Rattle.sw_bytes.specs.Prefixes.{BeginsWithout}
-use Rattle.sw_scan.specs.Scan.{Form, Splits, Fails}
+use Rattle.sw_scan.specs.Classes.{is_blank, is_digit}
+use Rattle.sw_scan.specs.Decimal.{number_of}
+use Rattle.sw_scan.specs.Prefixes.{BeginsWithout}
+use Rattle.sw_scan.specs.Scan.{TextForm, Splits, Fails}
 use Rattle.sw_replay.specs.declared.items.TheConstants.{MAX_ITEMS}
 use Rattle.sw_replay.specs.declared.text.SchedFault.{SchedFault}
 use Rattle.sw_replay.specs.declared.text.SchedFault.TheVariants.{BadItem, TooBig, TooMany, Memory}
@@ -38,10 +38,10 @@ abbrev pub star : ℕ
 star = 42
 
 -- a job, or a job and how often it stands in the list, with a star between them
-pub data IsRun : List ℕ → List ℕ → Type 0 where
-  once : (job after : List ℕ) → IsFitting job after → BeginsApart after → IsRun job after
+pub data IsJobRun : List ℕ → List ℕ → Type 0 where
+  once : (job after : List ℕ) → IsFitting job after → BeginsApart after → IsJobRun job after
   often : (job count after : List ℕ) → IsFitting job (star ∷ (count ++ after))
-      → IsFitting count after → BeginsApart after → IsRun (job ++ star ∷ count) after
+      → IsFitting count after → BeginsApart after → IsJobRun (job ++ star ∷ count) after
 
 -- the job of a run's text
 abbrev pub job_of : List ℕ → ℕ
@@ -57,7 +57,7 @@ count_of text = count_past (drop (prefix_len is_digit text) text)
 
 -- `IsItem before text after`: the text is a run, and the list has room for it after `before` items.
 pub record IsItem (before : ℕ) (text after : List ℕ) : Type 0 where
-  pub is_run : IsRun text after
+  pub is_run : IsJobRun text after
   pub few : before + count_of text ≤ MAX_ITEMS
 
 -- `IsItemFault at before bytes fault`: the bytes, which stand at the offset `at` after `before`
@@ -87,12 +87,12 @@ pub data IsItemFault (at before : ℕ) : List ℕ → SchedFault → Type 0 wher
       → IsItemFault at before (job ++ star ∷ (count ++ byte ∷ after))
       (BadItem (at + length job + 1 + length count))
   -- a run for which there is no room
-  too_many : (text after : List ℕ) → IsRun text after → MAX_ITEMS < before + count_of text
+  too_many : (text after : List ℕ) → IsJobRun text after → MAX_ITEMS < before + count_of text
       → IsItemFault at before (text ++ after) (TooMany at)
 
 -- The form that schedule texts have. What it knows of the bytes before an offset is the number of
 -- items that they name.
-abbrev pub schedule_form : Form ℕ (ℕ × ℕ) SchedFault
+abbrev pub schedule_form : TextForm ℕ (ℕ × ℕ) SchedFault
 schedule_form = record {
   IsPiece = IsSeparator;
   IsItem = IsItem;

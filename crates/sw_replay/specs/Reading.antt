@@ -3,8 +3,8 @@
 use Rattle.std.specs.Prelude.{◌≡◌, ◌≢◌, ℕ, ◌+◌, ◌==◌, ◌^◌, nat_lt, if◌then◌else◌, List, [], ◌∷◌}
 use Rattle.std.specs.Prelude.{take, drop, Option, Some, None, Result, Ok, Err}
 use Rattle.std.specs.List.{prefix_len}
-use Rattle.sw_bytes.specs.Classes.{is_blank, is_digit}
-use Rattle.sw_bytes.specs.Decimal.{number_of}
+use Rattle.sw_scan.specs.Classes.{is_blank, is_digit}
+use Rattle.sw_scan.specs.Decimal.{number_of}
 use Rattle.sw_scan.specs.declared.Step.{Step}
 use Rattle.sw_scan.specs.declared.Step.TheVariants.{End, Skip, Take}
 use Rattle.sw_scan.specs.Reading.{StepOf, scan}

@@ -4,7 +4,7 @@ use Rattle.sw_graph.specs.declared.graph.Graph.{Graph}
 use Rattle.sw_value.specs.declared.race.Race.{Race}
 use Rattle.sw_value.specs.Racing.{IsLeastRace}
 use Rattle.sw_value.specs.Reach.{reach}
-use Rattle.sw_race.specs.Index.{Stands}
+use Rattle.sw_race.specs.Index.{IsIndexOf}
 use Rattle.sw_replay.specs.declared.replaying.Progress.{Progress}
 use Rattle.sw_replay.specs.Output.{IsPlayed}
 use Rattle.sw_replay.specs.Replay.{IsRacingAt}
@@ -13,7 +13,7 @@ use Rattle.sw_replay.specs.Replay.{IsRacingAt}
 -- leads to a state that is racing, nor do all of them.
 pub record IsOnWay (graph : Graph) (items : List ℕ) (progress : Progress) : Type 0 where
   pub played : IsPlayed graph items progress.state progress.lines.items
-  pub stands : Stands graph progress.state progress.index
+  pub stands : IsIndexOf graph progress.state progress.index
   pub free : (n : ℕ) → ¬ IsRacingAt graph items n
 
 -- The first n of the items were taken, and no others. They lead to a state that is racing, and no

@@ -1,11 +1,11 @@
 ghost use Rattle.std.specs.Prelude.{◌≡◌, ◌+◌, ◌<◌, ◌≤◌, ◌^◌, length, IfOk, IsTrue};
 ghost use Rattle.std.specs.List.{list_all};
-ghost use Rattle.sw_bytes.specs.Classes.{is_digit};
-ghost use Rattle.sw_bytes.specs.Decimal.{number_of};
+ghost use Rattle.sw_scan.specs.Classes.{is_digit};
+ghost use Rattle.sw_scan.specs.Decimal.{number_of};
 ghost use Rattle.sw_replay.specs.Reading.{fitting, number_at, run_past, run_at, counted, ending};
 
 use crate::text::SchedFault;
-use sw_bytes::{digits_len, is_blank};
+use sw_scan::{digits_len, is_blank};
 
 /// A number, and how many digits it has.
 #[derive(Clone, Copy)]

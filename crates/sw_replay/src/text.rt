@@ -5,8 +5,8 @@ ghost use Rattle.sw_replay.specs.Reading.{found_at, items_or_fault, Schedules};
 use crate::items::{MAX_ITEMS, Schedule};
 use crate::runs::{Run, run_at};
 use std::alloc::{AllocError, Global};
-use sw_bytes::is_blank;
 use sw_list::ListOf;
+use sw_scan::is_blank;
 use thiserror::Error;
 
 /// The most bytes of a schedule text.

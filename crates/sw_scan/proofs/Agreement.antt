@@ -2,11 +2,11 @@
 use Rattle.std.proofs.Common.{◌≡◌, ℕ, ◌<◌, List, [], ◌++◌, length, take, drop, Result, Ok, Err}
 use Rattle.sw_scan.specs.declared.Step.{Step}
 use Rattle.sw_scan.specs.declared.Step.TheVariants.{End, Skip, Take}
-use Rattle.sw_scan.specs.Scan.{Form}
+use Rattle.sw_scan.specs.Scan.{TextForm}
 use Rattle.sw_scan.specs.Reading.{StepOf}
 
 -- what the form says of a step that the function found
-abbrev pub StepHolds : {B T F : Type 0} → Form B T F → ℕ → B → List ℕ → Result Step F → Type 0
+abbrev pub StepHolds : {B T F : Type 0} → TextForm B T F → ℕ → B → List ℕ → Result Step F → Type 0
 StepHolds form at before bytes (Err fault) = form.IsRefused at before bytes fault
 StepHolds form at before bytes (Ok End) = bytes ≡ []
 StepHolds form at before bytes (Ok (Skip n)) = form.IsPiece (take n bytes) (drop n bytes)
@@ -14,7 +14,7 @@ StepHolds form at before bytes (Ok (Take n)) = form.IsItem before (take n bytes)
 
 -- The function finds what the form says, at any bytes, and at bytes that are sound, as UTF-8 may
 -- be, nothing else.
-pub record Agrees {B T F : Type 0} (form : Form B T F) (IsSound : List ℕ → Type 0)
+pub record Agrees {B T F : Type 0} (form : TextForm B T F) (IsSound : List ℕ → Type 0)
     (step : StepOf B F) : Type 0 where
   pub ends : (at : ℕ) (before : B) → step at before [] ≡ Ok End
   pub skips : (at : ℕ) (before : B) (piece after : List ℕ) → form.IsPiece piece after

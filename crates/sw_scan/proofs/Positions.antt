@@ -3,14 +3,14 @@ use Rattle.std.proofs.Common.{◌≡◌, ℕ, ◌+◌, List, ◌++◌, length, r
 use Rattle.std.proofs.Common.{length-append}
 use Rattle.std.specs.List.{AllByRecursion}
 use Rattle.std.proofs.lemmas.List.{append_assoc}
-use Rattle.sw_scan.specs.Scan.{Form, Splits, Fails}
+use Rattle.sw_scan.specs.Scan.{TextForm, Splits, Fails}
 use Rattle.sw_scan.specs.Scan as scans
 use Rattle.sw_scan.specs.Reading.{StepOf}
 use Rattle.sw_scan.proofs.Agreement.{Agrees}
 
 -- the item is made of a text that is one, at the offset where it stands in the whole, and the bytes
 -- from there on are sound
-pub record StandsIn {B T F : Type 0} (form : Form B T F) (IsSound : List ℕ → Type 0)
+pub record StandsIn {B T F : Type 0} (form : TextForm B T F) (IsSound : List ℕ → Type 0)
     (whole : List ℕ) (item : T) : Type 0 where
   pub prefix : List ℕ
   pub text : List ℕ
@@ -22,7 +22,7 @@ pub record StandsIn {B T F : Type 0} (form : Form B T F) (IsSound : List ℕ →
   pub sound : IsSound (text ++ after)
 
 -- the fault is that of bytes that are refused, at the offset where they stand in the whole
-pub record IsRefusedIn {B T F : Type 0} (form : Form B T F) (whole : List ℕ)
+pub record IsRefusedIn {B T F : Type 0} (form : TextForm B T F) (whole : List ℕ)
     (fault : F) : Type 0 where
   pub prefix : List ℕ
   pub rest : List ℕ
@@ -34,7 +34,7 @@ longer : (prefix piece : List ℕ) (at : ℕ) → at ≡ length prefix
     → at + length piece ≡ length (prefix ++ piece)
 longer prefix piece at here = omega (arith, length-append prefix piece)
 
-module _ {B T F : Type 0} {form : Form B T F} {IsSound : List ℕ → Type 0} {step : StepOf B F}
+module _ {B T F : Type 0} {form : TextForm B T F} {IsSound : List ℕ → Type 0} {step : StepOf B F}
     (agrees : Agrees form IsSound step) where
   pub Splits-stand : (prefix : List ℕ) (at : ℕ) (before : B) (bytes : List ℕ) (items : List T)
       → Splits form at before bytes items → at ≡ length prefix → IsSound bytes
@@ -60,7 +60,7 @@ module _ {B T F : Type 0} {form : Form B T F} {IsSound : List ℕ → Type 0} {s
         (agrees.sound_item before t after is sound)),
   )
 
-module _ {B T F : Type 0} (form : Form B T F) where
+module _ {B T F : Type 0} (form : TextForm B T F) where
   pub Fails-refused : (prefix : List ℕ) (at : ℕ) (before : B) (bytes : List ℕ) (fault : F)
       → Fails form at before bytes fault → at ≡ length prefix
       → IsRefusedIn form (prefix ++ bytes) fault

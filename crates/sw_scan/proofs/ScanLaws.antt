@@ -6,7 +6,7 @@ use Rattle.std.proofs.Common.{length-drop}
 use Rattle.std.proofs.lemmas.List.{take-append-drop, take_at, drop_at}
 use Rattle.sw_scan.specs.declared.Step.{Step}
 use Rattle.sw_scan.specs.declared.Step.TheVariants.{End, Skip, Take}
-use Rattle.sw_scan.specs.Scan.{Form, Splits, Fails, Scans}
+use Rattle.sw_scan.specs.Scan.{TextForm, Splits, Fails, Scans}
 use Rattle.sw_scan.specs.Scan as scans
 use Rattle.sw_scan.specs.Reading.{StepOf, with_prefix, past_step, read, scan}
 use Rattle.sw_scan.proofs.Agreement.{StepHolds, Agrees}
@@ -26,7 +26,7 @@ take_within n bytes long = omega (
   ap length (take-append-drop n bytes),
 )
 
-module _ {B T F : Type 0} {form : Form B T F} {IsSound : List ℕ → Type 0} {step : StepOf B F}
+module _ {B T F : Type 0} {form : TextForm B T F} {IsSound : List ℕ → Type 0} {step : StepOf B F}
     (agrees : Agrees form IsSound step) where
   -- what the form says is read
 

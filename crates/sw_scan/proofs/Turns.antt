@@ -6,13 +6,13 @@ use Rattle.std.proofs.Common.{length-drop}
 use Rattle.std.proofs.lemmas.List.{append-nil, append_assoc, drop-drop}
 use Rattle.sw_scan.specs.declared.Step.{Step}
 use Rattle.sw_scan.specs.declared.Step.TheVariants.{End, Skip, Take}
-use Rattle.sw_scan.specs.Scan.{Form}
+use Rattle.sw_scan.specs.Scan.{TextForm}
 use Rattle.sw_scan.specs.Reading.{StepOf, with_prefix, past_step, scan}
 use Rattle.sw_scan.proofs.Agreement.{Agrees}
 use Rattle.sw_scan.proofs.ScanLaws.{scan-step, step_ahead}
 
 -- The scan of `text`, whose outcome is known, has come to the offset `at` with these items taken.
-pub record IsAt {B T F : Type 0} (form : Form B T F) (IsSound : List ℕ → Type 0)
+pub record IsAt {B T F : Type 0} (form : TextForm B T F) (IsSound : List ℕ → Type 0)
     (step : StepOf B F) (text : List ℕ) (outcome : Result (List T) F)
     (items : List T) (at : ℕ) (before : B) : Type 0 where
   pub gives : with_prefix items (scan form step at before (drop at text)) ≡ outcome
@@ -28,7 +28,7 @@ with_prefix-append : {T F : Type 0} (passed more : List T) (outcome : Result (Li
 with_prefix-append passed more (Ok items) = ap Ok (sym (append_assoc passed more items))
 with_prefix-append passed more (Err fault) = refl
 
-module _ {B T F : Type 0} {form : Form B T F} {IsSound : List ℕ → Type 0} {step : StepOf B F}
+module _ {B T F : Type 0} {form : TextForm B T F} {IsSound : List ℕ → Type 0} {step : StepOf B F}
     (agrees : Agrees form IsSound step) where
   pub starts : (text : List ℕ) (before : B) → IsSound text
       → IsAt form IsSound step text (scan form step 0 before text) [] 0 before

@@ -3,7 +3,7 @@ use Rattle.std.specs.Prelude.{ℕ, zero, suc, ◌+◌, List, [], ◌∷◌, ◌+
 use Rattle.std.specs.Prelude.{Ok, Err}
 use Rattle.sw_scan.specs.declared.Step.{Step}
 use Rattle.sw_scan.specs.declared.Step.TheVariants.{End, Skip, Take}
-use Rattle.sw_scan.specs.Scan.{Form}
+use Rattle.sw_scan.specs.Scan.{TextForm}
 
 -- what the bytes at an offset begin with: nothing, a piece or an item, or a fault
 abbrev pub StepOf : Type 0 → Type 0 → Type 0
@@ -15,7 +15,7 @@ with_prefix items (Ok more) = Ok (items ++ more)
 with_prefix items (Err fault) = Err fault
 
 -- the answer where this step was found, and `on` goes on past it
-abbrev pub past_step : {B T F : Type 0} → Form B T F → Result Step F
+abbrev pub past_step : {B T F : Type 0} → TextForm B T F → Result Step F
     → (ℕ → B → List ℕ → Result (List T) F)
     → ℕ → B → List ℕ → Result (List T) F
 past_step form (Err fault) on at before bytes = Err fault
@@ -28,13 +28,13 @@ past_step form (Ok (Take n)) on at before bytes =
 
 -- The items of the bytes, which stand at the offset `at`, or their first fault. Each turn goes past
 -- some bytes, so that as many turns as bytes are enough.
-unfoldable pub read : {B T F : Type 0} → Form B T F → StepOf B F → ℕ → ℕ → B → List ℕ
+unfoldable pub read : {B T F : Type 0} → TextForm B T F → StepOf B F → ℕ → ℕ → B → List ℕ
     → Result (List T) F
 read form step zero at before bytes = Ok []
 read form step (suc turns) at before bytes =
     past_step form (step at before bytes) (read form step turns) at before bytes
 
 -- the same with as many turns as bytes
-unfoldable pub scan : {B T F : Type 0} → Form B T F → StepOf B F → ℕ → B → List ℕ
+unfoldable pub scan : {B T F : Type 0} → TextForm B T F → StepOf B F → ℕ → B → List ℕ
     → Result (List T) F
 scan form step at before bytes = read form step (length bytes) at before bytes

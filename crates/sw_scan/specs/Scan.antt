@@ -4,7 +4,7 @@ use Rattle.std.specs.Prelude.{ℕ, ◌+◌, List, [], ◌∷◌, ◌++◌, lengt
 
 -- A form of texts. `B` is what the form knows of the bytes before an offset, `T` is an item, `F` is
 -- a fault.
-pub record Form (B T F : Type 0) : Type 1 where
+pub record TextForm (B T F : Type 0) : Type 1 where
   -- `IsPiece piece after`: `piece` is skipped where `after` follows it.
   pub IsPiece : List ℕ → List ℕ → Type 0
   -- `IsItem before text after`: `text` is an item where `after` follows it.
@@ -20,7 +20,7 @@ pub record Form (B T F : Type 0) : Type 1 where
 
 -- `Splits form at before bytes items`: the bytes, which stand at the offset `at`, are pieces and
 -- these items in turn.
-pub data Splits {B T F : Type 0} (form : Form B T F) : ℕ → B → List ℕ → List T → Type 0 where
+pub data Splits {B T F : Type 0} (form : TextForm B T F) : ℕ → B → List ℕ → List T → Type 0 where
   nothing : (at : ℕ) (before : B) → Splits form at before [] []
   piece : (at : ℕ) (before : B) (piece after : List ℕ) (items : List T) → form.IsPiece piece after
       → Splits form (at + length piece) (form.past_piece before piece) after items
@@ -32,7 +32,7 @@ pub data Splits {B T F : Type 0} (form : Form B T F) : ℕ → B → List ℕ �
 
 -- `Fails form at before bytes fault`: pieces and items in turn lead to bytes that are refused with
 -- this fault.
-pub data Fails {B T F : Type 0} (form : Form B T F) : ℕ → B → List ℕ → F → Type 0 where
+pub data Fails {B T F : Type 0} (form : TextForm B T F) : ℕ → B → List ℕ → F → Type 0 where
   here : (at : ℕ) (before : B) (bytes : List ℕ) (fault : F) → form.IsRefused at before bytes fault
       → Fails form at before bytes fault
   past_piece : (at : ℕ) (before : B) (piece after : List ℕ) (fault : F) → form.IsPiece piece after
@@ -44,6 +44,6 @@ pub data Fails {B T F : Type 0} (form : Form B T F) : ℕ → B → List ℕ →
       → Fails form at before (text ++ after) fault
 
 -- what the bytes have: items, or a first fault
-abbrev pub Scans : {B T F : Type 0} → Form B T F → ℕ → B → List ℕ → Result (List T) F → Type 0
+abbrev pub Scans : {B T F : Type 0} → TextForm B T F → ℕ → B → List ℕ → Result (List T) F → Type 0
 Scans form at before bytes (Ok items) = Splits form at before bytes items
 Scans form at before bytes (Err fault) = Fails form at before bytes fault

@@ -9,7 +9,7 @@ use Rattle.std.proofs.lemmas.List.Elements.{Contains-append_right}
 use Rattle.std.proofs.Math.ListN.{length-set}
 use Rattle.std.proofs.Math.Nat.{mul-le-mul_left}
 use Rattle.sw_solve.specs.Annotation.{value_at, IsBelow, IsAtMost, IsAtMostEverywhere}
-use Rattle.sw_solve.specs.Work.{level_of, weighed, Listed, IsMerged, IsSpread}
+use Rattle.sw_solve.specs.Work.{level_of, weighed, Listed, TakesIn, IsSpread}
 use Rattle.sw_solve.proofs.Members.{contains_head, contains_cons_cases, contains_none}
 
 pub at_most_refl : {X : Type 0} (le : X → X → Type 0) → ((x : X) → le x x) → (o : Option X)
@@ -78,7 +78,7 @@ pub spread_one : {X : Type 0} (le : X → X → Type 0) (size : X → List ℕ) 
     → ((x : X) → le x x) → (value : X) (old : List (Option X)) (q : ℕ) (slot : Option X)
     (rose : Bool) (before after : Listed) → q < length old
     → ((p : ℕ) → IfSome (value_at old p) (λ x. size x ≡ size value))
-    → IsMerged le size rank value (value_at old q) slot rose → IsPushed q rose before after
+    → TakesIn le size rank value (value_at old q) slot rose → IsPushed q rose before after
     → IsSpread le size rank (q ∷ []) value old (set old q slot) before after
 spread_one {X} le size rank reflexive value old q slot rose before after lt sized merged pushed =
     let same : value_at (set old q slot) q ≡ slot = get_or-set_same old q slot None lt in
@@ -133,7 +133,7 @@ spread_one {X} le size rank reflexive value old q slot rose before after lt size
     }
   where
     merged_least : {X : Type 0} (le : X → X → Type 0) (size : X → List ℕ) (rank : X → ℕ) (value : X)
-        (o n z : Option X) (rose : Bool) → IsMerged le size rank value o n rose
+        (o n z : Option X) (rose : Bool) → TakesIn le size rank value o n rose
         → IfSome z (λ x. size x ≡ size value) → IsAtMost le o z → IsBelow le value z
         → IsAtMost le n z
     merged_least le size rank value o n None rose merged fits above below = absurd below

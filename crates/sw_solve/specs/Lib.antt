@@ -3,3 +3,4 @@ pub mod Ways
 pub mod Work
 pub mod Marks
 pub mod Chain
+pub mod Layout

@@ -25,7 +25,7 @@ pub record Listed : Type 0 where
 
 -- a slot takes a value in: it is the least that is at least both, and `rose` says whether it
 -- changed
-pub record IsMerged {X : Type 0} (le : X → X → Type 0) (size : X → List ℕ) (rank : X → ℕ)
+pub record TakesIn {X : Type 0} (le : X → X → Type 0) (size : X → List ℕ) (rank : X → ℕ)
     (value : X) (old new : Option X) (rose : Bool) : Type 0 where
   pub grown : IsAtMost le old new
   pub reached : IsBelow le value new

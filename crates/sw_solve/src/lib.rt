@@ -3,7 +3,8 @@
 //! A `Lattice` is a set of values with an order, a least upper bound and a height; a `Flow` is a
 //! graph of points with an entry value and a monotone step at each point. `solve` gives the least
 //! annotation of the points that is closed under the entry and the steps: it keeps a list of the
-//! points whose value rose, and each of its joins is counted by the `Steps` that it is handed.
+//! points whose value rose, and each of its joins is counted by the `Steps` that it is handed. A
+//! solution for blocks of points gives one for the points. The crate knows nothing of regions.
 #![tactic(auto)]
 
 mod answer;

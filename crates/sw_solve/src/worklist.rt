@@ -2,7 +2,7 @@
 ghost use Rattle.std.specs.Prelude.{◌≡◌, ℕ, ◌+◌, ◌*◌, ◌<◌, ◌≤◌, List, [], ◌∷◌, length, All, Option};
 ghost use Rattle.std.specs.Prelude.{None, IsSome, ◌↔◌, IfSome, IfOk, OnOk, vec_len, replicate};
 ghost use Rattle.sw_solve.specs.Annotation.{value_at, IsClosed, IsBound, IsAtMostEverywhere};
-ghost use Rattle.sw_solve.specs.Work.{IsMerged, IsSpread, IsVisited, edge_count};
+ghost use Rattle.sw_solve.specs.Work.{TakesIn, IsSpread, IsVisited, edge_count};
 ghost use Rattle.sw_solve.specs.Ways.{HasWay};
 
 use crate::answer::Solution;
@@ -22,7 +22,7 @@ fn merge<T: Lattice, L: Ledger>(
 ) -> Result<bool, AllocError>
     requires { IfSome slot.old (λ x. T.size x ≡ T.size value.now) }
     ensures merged { IfOk result
-        (λ rose. IsMerged T.le T.size T.rank value.now slot.old slot.new rose) }
+        (λ rose. TakesIn T.le T.size T.rank value.now slot.old slot.new rose) }
     ensures counted { steps.new ≤ steps.old + 1 }
 {
     match slot {

@@ -8,8 +8,8 @@ use Rattle.std.proofs.lemmas.Bool.{cases_Bool}
 use Rattle.std.proofs.lemmas.Bool.Decides.{nat_tests}
 use Rattle.unicode_ident.specs.Ident.{is_xid_start}
 use Rattle.unicode_ident.proofs.IdentLemmas.{is_xid_start-ascii}
-use Rattle.sw_bytes.specs.Classes.{is_blank, is_digit}
-use Rattle.sw_bytes.proofs.Prefixes.{chosen}
+use Rattle.sw_scan.specs.Classes.{is_blank, is_digit}
+use Rattle.sw_scan.proofs.Prefixes.{chosen}
 use Rattle.sw_token.specs.declared.literals.Literal.{Literal}
 use Rattle.sw_token.specs.declared.literals.Literal.TheVariants.{Decimal, Negative, Binary, Octal}
 use Rattle.sw_token.specs.declared.literals.Literal.TheVariants.{Hexadecimal}

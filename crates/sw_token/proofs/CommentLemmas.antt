@@ -5,7 +5,7 @@ use Rattle.std.proofs.Common.{sym, ap, ◌∙◌, inl, inr, arith, drop-cons, le
 use Rattle.std.proofs.Common.{◌&&◌}
 use Rattle.std.proofs.lemmas.Bool.Decides.{nat_tests}
 use Rattle.std.proofs.lemmas.List.{take-append-drop}
-use Rattle.sw_bytes.proofs.Prefixes.{chosen}
+use Rattle.sw_scan.proofs.Prefixes.{chosen}
 use Rattle.sw_token.specs.Comments.{opens, closes, IsComment, further, comment_len}
 use Rattle.sw_token.specs.Comments as comments
 

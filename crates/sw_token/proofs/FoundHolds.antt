@@ -9,9 +9,9 @@ use Rattle.std.proofs.lemmas.Bool.{cases_Bool, and_parts}
 use Rattle.std.proofs.lemmas.Bool.Decides.{nat_tests}
 use Rattle.std.proofs.lemmas.List.{take-append-drop, length-take-le, take_at, drop_at}
 use Rattle.std.proofs.lemmas.List.Sums.{prefix_len-le-length}
-use Rattle.sw_bytes.specs.Classes.{is_blank, is_digit}
-use Rattle.sw_bytes.specs.Prefixes.{BeginsWithout}
-use Rattle.sw_bytes.proofs.Prefixes.{chosen, prefix_passes, suffix_fails, prefix_len-yes}
+use Rattle.sw_scan.specs.Classes.{is_blank, is_digit}
+use Rattle.sw_scan.specs.Prefixes.{BeginsWithout}
+use Rattle.sw_scan.proofs.Prefixes.{chosen, prefix_passes, suffix_fails, prefix_len-yes}
 use Rattle.sw_scan.specs.declared.Step.{Step}
 use Rattle.sw_scan.specs.declared.Step.TheVariants.{End, Skip, Take}
 use Rattle.sw_token.specs.declared.literals.Literal.{Literal}

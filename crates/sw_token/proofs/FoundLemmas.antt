@@ -6,9 +6,9 @@ use Rattle.std.specs.List.{list_all, prefix_len}
 use Rattle.std.proofs.lemmas.Bool.{cases_Bool, and_parts, or_parts}
 use Rattle.std.proofs.lemmas.Bool.Decides.{nat_tests}
 use Rattle.std.proofs.lemmas.List.{take_at, drop_at}
-use Rattle.sw_bytes.specs.Classes.{is_blank, is_digit}
-use Rattle.sw_bytes.specs.Prefixes.{BeginsWithout}
-use Rattle.sw_bytes.proofs.Prefixes.{prefix_len-append}
+use Rattle.sw_scan.specs.Classes.{is_blank, is_digit}
+use Rattle.sw_scan.specs.Prefixes.{BeginsWithout}
+use Rattle.sw_scan.proofs.Prefixes.{prefix_len-append}
 use Rattle.sw_scan.specs.declared.Step.TheVariants.{Skip, Take}
 use Rattle.sw_token.specs.declared.literals.Literal.{Literal}
 use Rattle.sw_token.specs.declared.step.Refusal.{Refusal}

@@ -5,8 +5,8 @@ use Rattle.std.specs.Str.{IsUtf8}
 use Rattle.std.proofs.lemmas.Bool.{cases_Bool, and_parts}
 use Rattle.std.proofs.lemmas.Bool.Decides.{nat_tests}
 use Rattle.std.proofs.lemmas.List.{append-nil, drop_at}
-use Rattle.sw_bytes.specs.Classes.{is_digit}
-use Rattle.sw_bytes.proofs.Prefixes.{chosen}
+use Rattle.sw_scan.specs.Classes.{is_digit}
+use Rattle.sw_scan.proofs.Prefixes.{chosen}
 use Rattle.sw_scan.specs.declared.Step.TheVariants.{Take}
 use Rattle.sw_token.specs.declared.before.Before.{Before}
 use Rattle.sw_token.specs.declared.literals.Literal.{Literal}

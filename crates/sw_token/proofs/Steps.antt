@@ -10,8 +10,8 @@ use Rattle.std.proofs.lemmas.List.{take-append-drop}
 use Rattle.std.proofs.lemmas.Str.{IsUtf8-nil, IsUtf8-append, IsUtf8-from_ascii, IsAscii-append}
 use Rattle.std.proofs.lemmas.Str.{IsCharBoundary-from_drop}
 use Rattle.std.proofs.lemmas.Str.Ascii.{IsAscii-nil, IsAscii-cons}
-use Rattle.sw_bytes.specs.Classes.{is_blank}
-use Rattle.sw_bytes.specs.Prefixes.{BeginsWithout}
+use Rattle.sw_scan.specs.Classes.{is_blank}
+use Rattle.sw_scan.specs.Prefixes.{BeginsWithout}
 use Rattle.sw_scan.specs.declared.Step.{Step}
 use Rattle.sw_scan.specs.declared.Step.TheVariants.{End, Skip, Take}
 use Rattle.sw_scan.proofs.Agreement.{StepHolds, Agrees}

@@ -12,7 +12,7 @@ use Rattle.std.proofs.lemmas.List.{append-nil, take_all}
 use Rattle.std.proofs.lemmas.Slice.Eq.{bytes_eq-Decides}
 use Rattle.std.proofs.lemmas.Str.{encode_ascii}
 use Rattle.unicode_ident.proofs.IdentLemmas.{is_xid_start-ascii, is_xid_continue-ascii}
-use Rattle.sw_bytes.specs.Classes.{is_digit}
+use Rattle.sw_scan.specs.Classes.{is_digit}
 use Rattle.sw_token.specs.declared.literals.Literal.TheVariants.{Decimal}
 use Rattle.sw_token.specs.Bytes.{is_operator_byte, is_mark}
 use Rattle.sw_token.specs.Words.{is_word_start, is_word_char, IsWord}

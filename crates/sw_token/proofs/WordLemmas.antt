@@ -15,8 +15,8 @@ use Rattle.std.proofs.lemmas.Str.{chars_from_encodes, chars_past_char, scalars-c
 use Rattle.std.proofs.lemmas.Str.{len_utf8_bounds, IsUtf8-take, IsUtf8-drop}
 use Rattle.unicode_ident.specs.Ident.{is_xid_start}
 use Rattle.unicode_ident.proofs.IdentLemmas.{is_xid_continue-ascii, is_xid_start-is_xid_continue}
-use Rattle.sw_bytes.specs.Prefixes.{BeginsWithout}
-use Rattle.sw_bytes.proofs.Prefixes.{prefix_passes, suffix_fails, prefix_len-append, prefix_len-yes}
+use Rattle.sw_scan.specs.Prefixes.{BeginsWithout}
+use Rattle.sw_scan.proofs.Prefixes.{prefix_passes, suffix_fails, prefix_len-append, prefix_len-yes}
 use Rattle.sw_token.specs.Words.{is_word_start, is_word_char, first_passes, begins_word, goes_on}
 use Rattle.sw_token.specs.Words.{IsWord, word_len}
 use Rattle.sw_token.specs.Words as words

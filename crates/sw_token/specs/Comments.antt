@@ -3,8 +3,8 @@ use Rattle.std.specs.Prelude.{ℕ, suc, ◌+◌, ◌-◌, ◌==◌, Bool, false,
 use Rattle.std.specs.Prelude.{List, [], ◌∷◌, Option, Some, None, option_map}
 use Rattle.std.specs.Bool.{IsFalse}
 use Rattle.std.specs.List.{list_all}
-use Rattle.sw_bytes.specs.Classes.{is_blank}
-use Rattle.sw_bytes.specs.Prefixes.{BeginsWithout}
+use Rattle.sw_scan.specs.Classes.{is_blank}
+use Rattle.sw_scan.specs.Prefixes.{BeginsWithout}
 
 -- the two bytes that open a comment, `/*`
 abbrev pub opens : ℕ → ℕ → Bool

@@ -7,7 +7,7 @@ use Rattle.std.specs.List.{list_all}
 use Rattle.sw_token.specs.declared.literals.Literal.{Literal}
 use Rattle.sw_token.specs.declared.literals.Literal.TheVariants.{Decimal, Negative, Binary, Octal}
 use Rattle.sw_token.specs.declared.literals.Literal.TheVariants.{Hexadecimal}
-use Rattle.sw_bytes.specs.Classes.{is_digit}
+use Rattle.sw_scan.specs.Classes.{is_digit}
 
 -- the base of the digits
 abbrev pub radix : Literal → ℕ

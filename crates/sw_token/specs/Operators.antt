@@ -2,7 +2,7 @@
 use Rattle.std.specs.Prelude.{ℕ, ◌+◌, Bool, true, false, ◌||◌, ◌&&◌, not, IsTrue, if◌then◌else◌}
 use Rattle.std.specs.Prelude.{List, [], ◌∷◌, ◌++◌, codes, position, bytes_eq, is_some, Option}
 use Rattle.std.specs.Bool.{IsFalse}
-use Rattle.sw_bytes.specs.Classes.{is_blank}
+use Rattle.sw_scan.specs.Classes.{is_blank}
 use Rattle.sw_token.specs.declared.Fixity.{Fixity}
 use Rattle.sw_token.specs.declared.Fixity.TheVariants as fixities
 use Rattle.sw_token.specs.Bytes.{is_operator_byte, is_opening, is_closing}

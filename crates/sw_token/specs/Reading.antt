@@ -15,7 +15,7 @@ use Rattle.sw_token.specs.declared.LexFault.TheVariants as faults
 use Rattle.sw_token.specs.declared.literals.Literal.{Literal}
 use Rattle.sw_token.specs.declared.step.Refusal.{Refusal}
 use Rattle.sw_token.specs.declared.step.Refusal.TheVariants.{Unclosed, TooBig, Bad}
-use Rattle.sw_bytes.specs.Classes.{is_blank}
+use Rattle.sw_scan.specs.Classes.{is_blank}
 use Rattle.sw_token.specs.Bytes.{is_operator_byte, is_mark}
 use Rattle.sw_token.specs.Words.{begins_word, goes_on, word_len}
 use Rattle.sw_token.specs.Comments.{is_in_line, begins_line_comment, begins_block_comment}

@@ -16,9 +16,9 @@ use Rattle.sw_token.specs.declared.LexFault.TheVariants as faults
 use Rattle.sw_token.specs.declared.literals.Literal.{Literal}
 use Rattle.sw_token.specs.declared.step.Refusal.{Refusal}
 use Rattle.sw_token.specs.declared.step.Refusal.TheVariants.{Unclosed, TooBig, Bad}
-use Rattle.sw_bytes.specs.Classes.{is_blank, is_digit}
-use Rattle.sw_bytes.specs.Prefixes.{BeginsWithout}
-use Rattle.sw_scan.specs.Scan.{Form, Splits, Fails, Scans}
+use Rattle.sw_scan.specs.Classes.{is_blank, is_digit}
+use Rattle.sw_scan.specs.Prefixes.{BeginsWithout}
+use Rattle.sw_scan.specs.Scan.{TextForm, Splits, Fails, Scans}
 use Rattle.sw_token.specs.Bytes.{is_operator_byte, is_mark, has_line_feed}
 use Rattle.sw_token.specs.Words.{begins_word, goes_on, IsWord}
 use Rattle.sw_token.specs.Comments.{IsComment, IsGap}
@@ -140,7 +140,7 @@ past_token before text = record {
 }
 
 -- the form that programs have
-abbrev pub lexis : Form Before Token LexFault
+abbrev pub lexis : TextForm Before Token LexFault
 lexis = record {
   IsPiece = IsGap;
   IsItem = IsTaken;

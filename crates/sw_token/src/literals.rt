@@ -3,7 +3,7 @@ ghost use Rattle.std.specs.Prelude.{◌≡◌};
 ghost use Rattle.std.specs.Char.{digit_value};
 ghost use Rattle.sw_token.specs.Literals.{after_zero, unsigned_of, negative, literal_of};
 
-use sw_bytes::is_digit;
+use sw_scan::is_digit;
 
 /// The form of an integer literal.
 #[derive(Clone, Copy)]

@@ -8,7 +8,7 @@ use super::Fixity;
 use super::bytes::{is_closing, is_opening, is_operator_byte};
 use super::comments::{begins_block_comment, begins_line_comment};
 use super::numbers::number_of;
-use sw_bytes::is_blank;
+use sw_scan::is_blank;
 
 /// All operators, in the order of their numbers.
 const OPERATORS: [&str; 21] = [

@@ -15,8 +15,7 @@ use super::operators::{is_operator, run_len};
 use super::words::{begins_word, goes_on, word_len};
 use super::{LexFault, MOST_TOKENS};
 use crate::before::Before;
-use sw_bytes::is_blank;
-use sw_scan::Step;
+use sw_scan::{Step, is_blank};
 
 /// Why a text begins with neither a gap nor a token.
 #[derive(Clone, Copy)]

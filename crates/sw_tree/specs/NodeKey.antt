@@ -15,6 +15,7 @@ abbrev pub first_or : ℕ → List ℕ → ℕ
 first_or key [] = key
 first_or key (next ∷ more) = next
 
+-- what a fold gives for a tree of which it says nothing
 abbrev pub Nothing : Type 0
 Nothing = Unit {0}
 

@@ -1,11 +1,9 @@
 -- Which expressions can be assigned to.
 use Rattle.std.specs.Prelude.{Bool, true, false}
 use Rattle.sw_tree.specs.Folds.{Steps, fold_expr}
+use Rattle.sw_tree.specs.NodeKey.{Nothing}
 use Rattle.sw_tree.specs.declared.expr.Expr.{Expr}
 use Rattle.sw_tree.specs.declared.expr.Expr.TheOpen as layer
-
-abbrev pub Nothing : Type 0
-Nothing = Unit {0}
 
 -- a word, `self`, or a member of a place
 abbrev pub expr_layer : layer.Expr-F Bool Nothing Nothing Nothing Nothing Nothing Nothing Nothing

@@ -5,7 +5,7 @@ use Rattle.std.proofs.lemmas.Bool.{cases_lt}
 use Rattle.std.proofs.lemmas.List.{get_or-map, get_or_past, length-map, length-replicate}
 use Rattle.sw_types.specs.Depths.{by_depth, of_shape, LooksAtHeld}
 use Rattle.sw_types.specs.Held.{held_by, edges_of}
-use Rattle.sw_types.specs.Paths.{Leads, AreRanked}
+use Rattle.sw_types.specs.Paths.{IsEdge, AreRanked}
 use Rattle.sw_types.specs.declared.shape.Shape.{Shape}
 use Rattle.sw_types.specs.declared.shape.ShapeKind.TheVariants.{Struct}
 
@@ -41,7 +41,7 @@ module _ {A : Type 0} (none : A) (step : (ℕ → A) → Shape → A) (shapes : 
   said_deeper depth k d lt = get_or-map (step (said depth)) shapes k d none lt
 
   leads_of : (k : ℕ) (d : Shape) → k < length shapes → (b : ℕ)
-      → Contains (held_by (get_or shapes k d)) b → Leads (edges_of shapes) k b
+      → Contains (held_by (get_or shapes k d)) b → IsEdge (edges_of shapes) k b
   leads_of k d lt b has =
       subst (λ row. Contains row b) (sym (get_or-map held_by shapes k d _ lt)) has
 

@@ -8,7 +8,7 @@ use Rattle.std.proofs.lemmas.List.{take_more, take_all}
 use Rattle.std.proofs.lemmas.List.Elements.{Contains-push_cases}
 use Rattle.sw_types.specs.Depths.{of_shape, LooksAtHeld}
 use Rattle.sw_types.specs.Held.{held_by, edges_of}
-use Rattle.sw_types.specs.Paths.{AreRanked, AreOrdered, IsOrder}
+use Rattle.sw_types.specs.Paths.{AreRanked, IsTopologicalOrder, IsOrder}
 use Rattle.sw_types.specs.declared.shape.Shape.{Shape}
 use Rattle.sw_types.proofs.DepthLemmas.{of_shape-by_parts, of_shape-beyond}
 
@@ -31,7 +31,7 @@ module _ {A : Type 0} (none : A) (step : (ℕ → A) → Shape → A) (shapes : 
 
   -- the next shape of the order is said by what the table says
   pub filled_more : LooksAtHeld step → AreRanked (edges_of shapes) → (order : List ℕ)
-      → AreOrdered (edges_of shapes) order → (i : ℕ) (table : List A) (shape : Shape)
+      → IsTopologicalOrder (edges_of shapes) order → (i : ℕ) (table : List A) (shape : Shape)
       → i < length order → get_or order i 0 < length shapes → length table ≡ length shapes
       → shape ≡ get_or shapes (get_or order i 0) shape
       → IsFilled (take i order) table

@@ -6,7 +6,7 @@ use Rattle.std.proofs.lemmas.Bool.{cases_lt, eqb-true, eq-eqb, false≢true}
 use Rattle.std.proofs.lemmas.List.{get_or-take, length-take, get_or_past, get_or-replicate}
 use Rattle.std.proofs.lemmas.List.{length-replicate}
 use Rattle.std.proofs.lemmas.List.Sums.{fails_before_first, passes_at_first}
-use Rattle.sw_types.specs.Paths.{Leads, Path, one, more, AreRanked, IsOrder}
+use Rattle.sw_types.specs.Paths.{IsEdge, Path, one, more, AreRanked, IsOrder}
 use Rattle.sw_types.proofs.Searching.{path_begins}
 
 -- where a number stands first
@@ -38,7 +38,7 @@ ranked edges order is = record {
   falls = λ a b leads.
       let here = is.all a (path_begins edges a b (one b leads)) in
       let before = is.ordered (place_in order a) b (place_within order a here)
-      (subst (λ k. Leads edges k b) (sym (at_place order a here)) leads) in
+      (subst (λ k. IsEdge edges k b) (sym (at_place order a here)) leads) in
       let lt : before.0 < place_in order a =
       omega (arith, before.1, length-take (place_in order a) order) in
       let le = place-le order b before.0

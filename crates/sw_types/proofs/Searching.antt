@@ -11,7 +11,7 @@ use Rattle.std.proofs.lemmas.List.Elements.{Contains-push, Contains-append_left}
 use Rattle.std.proofs.lemmas.List.Elements.{Contains-push_cases}
 use Rattle.std.proofs.lemmas.List.Elements.{Contains-append_right}
 use Rattle.std.proofs.lemmas.List.Sums.{sum_by-set}
-use Rattle.sw_types.specs.Paths.{Leads, Path, one, more, AreInRange}
+use Rattle.sw_types.specs.Paths.{IsEdge, Path, one, more, AreInRange}
 use Rattle.sw_types.specs.Searches.{Marked, unmarked, IsMarked, IsSearch}
 use Rattle.sw_types.specs.declared.returning.Search.{Search}
 
@@ -95,7 +95,7 @@ mark_more targets target old middle new first last = record {
 pub path_begins : (edges : List (List ℕ)) (a b : ℕ) → Path edges a b → a < length edges
 path_begins edges a b (one c leads) = leads_from edges a c leads
   where
-    leads_from : (edges : List (List ℕ)) (a b : ℕ) → Leads edges a b → a < length edges
+    leads_from : (edges : List (List ℕ)) (a b : ℕ) → IsEdge edges a b → a < length edges
     leads_from edges a b (k, lt, e) = elim (cases_lt a (length edges)) [
       | inl here ↦ here
       | inr le ↦ absurd (let gone : k < 0 =
@@ -122,7 +122,7 @@ search_goes edges start here marks rest new is marked = record {
   sound = λ k found. elim (marked.found k found) [
     | inl old ↦ is.sound k old
     | inr (leads, waits) ↦ elim (is.source here (Contains-push rest here)) [
-      | inl e ↦ one k (subst (λ a. Leads edges a k) e leads)
+      | inl e ↦ one k (subst (λ a. IsEdge edges a k) e leads)
       | inr was ↦ more here k (is.sound here was) leads
     ]
   ];
@@ -143,11 +143,11 @@ search_goes edges start here marks rest new is marked = record {
 }
   where
     goes_on : (k : ℕ) → (k ≡ start) ⊎ Marked marks k
-        → Contains new.waiting k ⊎ ((b : ℕ) → Leads edges k b → Marked new.marks b)
+        → Contains new.waiting k ⊎ ((b : ℕ) → IsEdge edges k b → Marked new.marks b)
     goes_on k source = elim (is.closed k source) [
       | inl waits ↦ elim (Contains-push_cases rest here k waits) [
         | inl still ↦ inl (marked.kept k still)
-        | inr e ↦ inr (λ b leads. marked.reached b (subst (λ a. Leads edges a b) (sym e) leads))
+        | inr e ↦ inr (λ b leads. marked.reached b (subst (λ a. IsEdge edges a b) (sym e) leads))
       ]
       | inr all ↦ inr (λ b leads. marked.grown b (all b leads))
     ]

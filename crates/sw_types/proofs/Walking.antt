@@ -12,7 +12,7 @@ use Rattle.std.proofs.lemmas.List.Elements.{Contains-append_left}
 use Rattle.std.proofs.lemmas.List.Elements.{Contains-push_cases, Contains-get_or}
 use Rattle.std.proofs.lemmas.List.Quantifiers.{all_pairs_push}
 use Rattle.std.proofs.lemmas.List.Sums.{sum_by-set}
-use Rattle.sw_types.specs.Paths.{Leads, Path, one, more, AreInRange, AreOrdered}
+use Rattle.sw_types.specs.Paths.{IsEdge, Path, one, more, AreInRange, IsTopologicalOrder}
 use Rattle.sw_types.specs.Walks.{is_fresh, progress_at, fresh_count, numbers_on, ArePassed, IsWalk}
 use Rattle.sw_types.specs.Walks.{with_visit, with_open, with_settled, steps_left}
 use Rattle.sw_types.specs.declared.ordering.Progress.{Progress}
@@ -64,20 +64,20 @@ fresh_count-set : (progress : List Progress) (b : ℕ) (p : Progress) → b < le
 fresh_count-set progress b p lt = sum_by-set weight progress b p Fresh lt
 
 -- the numbers of a longer order still stand after those that they lead to
-ordered_push : (edges : List (List ℕ)) (order : List ℕ) (a : ℕ) → AreOrdered edges order
-    → ((b : ℕ) → Leads edges a b → Contains order b) → AreOrdered edges (order ++ a ∷ [])
+ordered_push : (edges : List (List ℕ)) (order : List ℕ) (a : ℕ) → IsTopologicalOrder edges order
+    → ((b : ℕ) → IsEdge edges a b → Contains order b) → IsTopologicalOrder edges (order ++ a ∷ [])
 ordered_push edges order a are stand i b lt leads = elim (cases_lt i (length order)) [
-  | inl old ↦ (let before = are i b old (subst (λ k. Leads edges k b)
+  | inl old ↦ (let before = are i b old (subst (λ k. IsEdge edges k b)
       (get_or_append_left order (a ∷ []) 0 i old) leads) in
       subst (λ l. Contains l b) (sym (take-append-le i order (a ∷ []) (omega arith))) before)
   | inr last ↦ (let here : i ≡ length order = omega (arith, length_push order a) in
       subst (λ l. Contains l b) (sym (take_at order (a ∷ []) i (sym here)))
-      (stand b (subst (λ k. Leads edges k b) (get_or_push order a 0 i (sym here)) leads)))
+      (stand b (subst (λ k. IsEdge edges k b) (get_or_push order a 0 i (sym here)) leads)))
 ]
 
 -- what the last number of a path leads to, each number of the path leads to
 leads_on : (edges : List (List ℕ)) (numbers : List ℕ) (a b : ℕ)
-    → AllPairs (Path edges) (numbers ++ a ∷ []) → Leads edges a b → (k d : ℕ)
+    → AllPairs (Path edges) (numbers ++ a ∷ []) → IsEdge edges a b → (k d : ℕ)
     → k < length (numbers ++ a ∷ []) → Path edges (get_or (numbers ++ a ∷ []) k d) b
 leads_on edges numbers a b linked leads k d lt = elim (cases_lt k (length numbers)) [
   | inl old ↦ more a b
@@ -94,7 +94,7 @@ numbers_push path visit = map-append number_of path (visit ∷ [])
 
 -- a number of the path that the last visit leads to leads back to itself
 pub path_returns : (edges : List (List ℕ)) (walk : Walk) (visit : Visit) (b : ℕ)
-    → IsWalk edges (with_visit walk visit) → Leads edges visit.number b
+    → IsWalk edges (with_visit walk visit) → IsEdge edges visit.number b
     → progress_at walk.progress b ≡ Open → Path edges b b
 path_returns edges walk visit b is leads opened =
     let linked = subst (AllPairs (Path edges)) (numbers_push walk.path visit) is.linked in
@@ -262,7 +262,7 @@ settled_walk edges walk visit is all =
     settled_not_open : Settled ≡ Open → ⊥
     settled_not_open e = cc
 
-    settled_at : (b : ℕ) → Leads edges visit.number b → progress_at walk.progress b ≡ Settled
+    settled_at : (b : ℕ) → IsEdge edges visit.number b → progress_at walk.progress b ≡ Settled
     settled_at b (k, lt, e) = subst (λ j. progress_at walk.progress j ≡ Settled)
         (get_or_default (get_or edges visit.number []) k 0 b lt ∙ e) (all k lt)
 
@@ -331,7 +331,7 @@ advanced_walk edges walk visit targets place is are e lt passed fresh =
     let moved = moved_walk edges walk visit place is
     (subst (λ row. (k : ℕ) → k < place → progress_at walk.progress (get_or row k 0) ≡ Settled) e
     passed) in
-    let leads : Leads edges visit.number (get_or targets place 0) =
+    let leads : IsEdge edges visit.number (get_or targets place 0) =
     subst (λ row. Contains row (get_or targets place 0)) e (Contains-get_or targets place 0 lt) in
     let same = numbers_push walk.path next in
     let linked = subst (AllPairs (Path edges)) same moved.linked in

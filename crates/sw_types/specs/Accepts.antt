@@ -21,5 +21,6 @@ abbrev pub unmarked : Ty → Ty
 unmarked ty = roll-Ty (unmarked_layer (out-Ty ty))
 
 -- The types are equal but for the mark at the top, and where the mark is expected it is there.
-abbrev pub Accepts : Ty → Ty → Type 0
-Accepts from to = (unmarked from ≡ unmarked to) × (IsTrue (is_marked to) → IsTrue (is_marked from))
+abbrev pub IsAcceptedAs : Ty → Ty → Type 0
+IsAcceptedAs from to =
+    (unmarked from ≡ unmarked to) × (IsTrue (is_marked to) → IsTrue (is_marked from))

@@ -15,7 +15,7 @@ abbrev pub place_of : List Shape → ℕ → ℕ
 place_of shapes k = slice_index_or (map (λ (shape : Shape). shape.at) shapes) k 0
 
 -- The shape holds itself, and of all that do its word stands first. Nothing is said of memory.
-abbrev pub IsRefusal : List Shape → ShapeFault → Type 0
-IsRefusal shapes (Cycle k) = HoldsItself shapes k
+abbrev pub IsShapeFault : List Shape → ShapeFault → Type 0
+IsShapeFault shapes (Cycle k) = HoldsItself shapes k
     × ((other : ℕ) → HoldsItself shapes other → place_of shapes k ≤ place_of shapes other)
-IsRefusal shapes Memory = Unit {0}
+IsShapeFault shapes Memory = Unit {0}

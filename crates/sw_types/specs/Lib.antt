@@ -8,3 +8,4 @@ pub mod Paths
 pub mod Searches
 pub mod Sendable
 pub mod Walks
+pub mod CallKinds

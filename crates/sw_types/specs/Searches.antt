@@ -2,7 +2,7 @@
 -- and waits until its targets were looked at.
 use Rattle.std.specs.Prelude.{◌≡◌, ℕ, ◌+◌, ◌≤◌, ◌⊎◌, Bool, true, false, not, List, length}
 use Rattle.std.specs.Prelude.{slice_index_or, Contains, count_by}
-use Rattle.sw_types.specs.Paths.{Leads, Path}
+use Rattle.sw_types.specs.Paths.{IsEdge, Path}
 use Rattle.sw_types.specs.declared.returning.Search.{Search}
 
 -- the number was found
@@ -35,4 +35,4 @@ pub record IsSearch (edges : List (List ℕ)) (start : ℕ) (search : Search) : 
   pub sound : (k : ℕ) → Marked search.marks k → Path edges start k
   pub source : (k : ℕ) → Contains search.waiting k → (k ≡ start) ⊎ Marked search.marks k
   pub closed : (k : ℕ) → (k ≡ start) ⊎ Marked search.marks k
-      → Contains search.waiting k ⊎ ((b : ℕ) → Leads edges k b → Marked search.marks b)
+      → Contains search.waiting k ⊎ ((b : ℕ) → IsEdge edges k b → Marked search.marks b)

@@ -2,7 +2,7 @@
 -- number whose targets are all settled.
 use Rattle.std.specs.Prelude.{◌≡◌, ℕ, ◌+◌, ◌<◌, Bool, true, false, List, [], ◌∷◌, ◌++◌, length, map}
 use Rattle.std.specs.Prelude.{slice_index_or, slice_set, Contains, All, AllPairs, count_by}
-use Rattle.sw_types.specs.Paths.{Path, AreOrdered, IsOrder}
+use Rattle.sw_types.specs.Paths.{Path, IsTopologicalOrder, IsOrder}
 use Rattle.sw_types.specs.declared.ordering.Progress.{Progress}
 use Rattle.sw_types.specs.declared.ordering.Progress.TheVariants.{Fresh, Open, Settled}
 use Rattle.sw_types.specs.declared.ordering.Visit.{Visit}
@@ -42,7 +42,7 @@ pub record IsWalk (edges : List (List ℕ)) (walk : Walk) : Type 0 where
   pub passed : All (λ (visit : Visit). ArePassed edges walk.progress visit.number visit.from)
       walk.path
   pub settled : (k : ℕ) → progress_at walk.progress k ≡ Settled → Contains walk.order k
-  pub ordered : AreOrdered edges walk.order
+  pub ordered : IsTopologicalOrder edges walk.order
   pub within : All (λ k. k < length edges) walk.order
   pub counted : fresh_count walk.progress + length walk.path + length walk.order ≡ length edges
 

@@ -1,11 +1,11 @@
 ghost use Rattle.std.specs.Prelude.{◌≡◌, ◌↔◌, IsTrue};
-ghost use Rattle.sw_types.specs.Accepts.{Accepts, is_marked, unmarked};
+ghost use Rattle.sw_types.specs.Accepts.{IsAcceptedAs, is_marked, unmarked};
 
 use crate::ty::Ty;
 
 /// Whether a value of the type `from` may go where `to` is expected.
 pub fn accepts(from: &Ty, to: &Ty) -> bool
-    ensures { IsTrue result ↔ Accepts from.now to.now }
+    ensures { IsTrue result ↔ IsAcceptedAs from.now to.now }
 {
     is_same_unmarked(from, to) && (is_marked(from) || !is_marked(to))
 }

@@ -72,7 +72,7 @@ impl Shapes {
     ghost use Rattle.std.specs.Prelude.{◌≡◌, ◌<◌, ◌^◌, Some, length, IsTrue, IfOk, IfErr, OnOk};
     ghost use Rattle.std.specs.Prelude.{slice_get};
     ghost use Rattle.std.specs.Prelude.{slice_index_or};
-    ghost use Rattle.sw_types.specs.Cycles.{IsRefusal};
+    ghost use Rattle.sw_types.specs.Cycles.{IsShapeFault};
     ghost use Rattle.sw_types.specs.Held.{AreWithin, edges_of};
     ghost use Rattle.sw_types.specs.Named.{is_within};
     ghost use Rattle.sw_types.specs.Parts.{object_parts, parts_of};
@@ -86,7 +86,7 @@ impl Shapes {
         requires in_range { AreWithin list }
         ensures shapes { IfOk result (λ shapes. shapes ≡ list) }
         ensures ranked { OnOk result (AreRanked (edges_of list)) }
-        ensures refused { IfErr result (IsRefusal list) }
+        ensures refused { IfErr result (IsShapeFault list) }
     {
         let edges = edges_of(alloc, list.as_slice())?;
         match sorting_of(alloc, edges.as_slice())? {

@@ -14,9 +14,9 @@ use Rattle.sw_typing_rules.specs.Worlds.{World}
 use Rattle.sw_typing_rules.specs.declared.row.Row.{Row}
 use Rattle.sw_typing_rules.specs.declared.scope.Returned.{Returned}
 use Rattle.sw_typing_rules.specs.declared.scope.Returned.TheVariants.{Wants}
-use Rattle.sw_typing_forms.specs.Steps.{left_since, state_of, went_of, with_rows}
-use Rattle.sw_typing_forms.specs.declared.known.Went.{Went}
-use Rattle.sw_typing_forms.specs.declared.table.Table.{Table}
+use Rattle.sw_typing_steps.specs.Steps.{left_since, state_of, went_of, with_rows}
+use Rattle.sw_typing_steps.specs.declared.known.Went.{Went}
+use Rattle.sw_typing_steps.specs.declared.table.Table.{Table}
 use Rattle.sw_typing.specs.Walked.{block_left}
 
 abbrev lacks_by : List Row → Returned → Bool → Bool

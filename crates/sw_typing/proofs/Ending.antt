@@ -20,12 +20,12 @@ use Rattle.sw_typing_rules.specs.Statements.{in_switch, marked_result, plain_lef
 use Rattle.sw_typing_rules.specs.Statements.{switch_left}
 use Rattle.sw_typing_rules.specs.Worlds.{World}
 use Rattle.sw_typing_rules.specs.declared.scope.Inside.{Inside}
-use Rattle.sw_typing_forms.specs.Steps.{after, cut, judged_of, judged_since, known_of, left_since}
-use Rattle.sw_typing_forms.specs.Steps.{setting_in, state_of, went_of}
-use Rattle.sw_typing_forms.specs.Switches.{head_at, switched}
-use Rattle.sw_typing_forms.specs.declared.known.Known.{Known}
-use Rattle.sw_typing_forms.specs.declared.known.Went.{Went}
-use Rattle.sw_typing_forms.specs.declared.table.Table.{Table}
+use Rattle.sw_typing_steps.specs.Steps.{after, cut, judged_of, judged_since, known_of, left_since}
+use Rattle.sw_typing_steps.specs.Steps.{setting_in, state_of, went_of}
+use Rattle.sw_typing_steps.specs.Switches.{head_at, switched}
+use Rattle.sw_typing_steps.specs.declared.known.Known.{Known}
+use Rattle.sw_typing_steps.specs.declared.known.Went.{Went}
+use Rattle.sw_typing_steps.specs.declared.table.Table.{Table}
 use Rattle.sw_typing.proofs.Since.{plain_rows, return_rows, switch_rows}
 use Rattle.sw_typing.proofs.Walking.{heads_are}
 use Rattle.sw_typing.specs.Walked.{case_arms_left, expr_known, otherwise_left, stmt_left}

@@ -26,11 +26,11 @@ use Rattle.sw_typing_rules.specs.declared.row.Row.{Row}
 use Rattle.sw_typing_rules.specs.declared.scope.Inside.{Inside}
 use Rattle.sw_typing_rules.specs.declared.scope.Var.{Var}
 use Rattle.sw_typing_rules.specs.declared.verdict.Given.{Given}
-use Rattle.sw_typing_forms.specs.Steps.{enclosed_of, judged_since, known_of, setting_in, state_of}
-use Rattle.sw_typing_forms.specs.Steps.{with_rows}
-use Rattle.sw_typing_forms.specs.declared.known.Enclosed.{Enclosed}
-use Rattle.sw_typing_forms.specs.declared.known.Known.{Known}
-use Rattle.sw_typing_forms.specs.declared.table.Table.{Table}
+use Rattle.sw_typing_steps.specs.Steps.{enclosed_of, judged_since, known_of, setting_in, state_of}
+use Rattle.sw_typing_steps.specs.Steps.{with_rows}
+use Rattle.sw_typing_steps.specs.declared.known.Enclosed.{Enclosed}
+use Rattle.sw_typing_steps.specs.declared.known.Known.{Known}
+use Rattle.sw_typing_steps.specs.declared.table.Table.{Table}
 use Rattle.sw_typing.proofs.Forms.{fun_is, method_is, spawn_is}
 use Rattle.sw_typing.proofs.Keeping.{stmts_keep}
 use Rattle.sw_typing.proofs.Since.{chain_is, take_is}

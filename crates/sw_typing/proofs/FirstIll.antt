@@ -4,15 +4,15 @@ use Rattle.std.proofs.Common.{subst, sym}
 use Rattle.std.proofs.lemmas.List.Elements.{All-contains}
 use Rattle.std.specs.Ordering.{is_lt}
 use Rattle.sw_tree.specs.declared.decl.Decl.{Decl}
-use Rattle.sw_resolve.specs.Placed.{IsFirst, placed_cmp}
-use Rattle.sw_resolve.specs.declared.placed.Placed.{Placed}
+use Rattle.sw_decl_words.specs.Placed.{IsFirstPlaced, placed_cmp}
+use Rattle.sw_decl_words.specs.declared.placed.Placed.{Placed}
 use Rattle.sw_typing_rules.proofs.Saying.{ill_is, is_ill, none_in}
 use Rattle.sw_typing_rules.specs.Programs.{IsFirstIll, IsIll, said}
 use Rattle.sw_typing_rules.specs.Verdicts.{ills_in}
 use Rattle.sw_typing_rules.specs.Worlds.{World}
 
 module _ (world : World) (decls : List Decl) where
-  pub is_first_ill : (first : Option Placed) → IsFirst (ills_in (said world decls)) first
+  pub is_first_ill : (first : Option Placed) → IsFirstPlaced (ills_in (said world decls)) first
       → IsFirstIll world decls first
   is_first_ill None none = λ at code ill. none_in (record { at = at; code = code })
       (subst (λ list. Contains list (record { at = at; code = code })) none

@@ -1,11 +1,9 @@
-mod AnswerLemmas
 mod Bodies
 mod Ending
 mod Finishing
 mod FirstIll
 mod Forms
 mod Keeping
-mod Looking
 mod Loops
 mod Since
 mod Walking

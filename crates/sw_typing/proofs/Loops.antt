@@ -1,8 +1,8 @@
 -- What loops over statements and branches keep: what went so far, with what is left, is the whole.
 use Rattle.std.proofs.Common.{◌≡◌, ◌++◌, ◌&&◌, ◌||◌, Bool, true, false, refl}
 use Rattle.sw_typing_rules.specs.Statements.{Left}
-use Rattle.sw_typing_forms.specs.declared.known.Went.{Went}
-use Rattle.sw_typing_forms.specs.declared.table.Table.{Table}
+use Rattle.sw_typing_steps.specs.declared.known.Went.{Went}
+use Rattle.sw_typing_steps.specs.declared.table.Table.{Table}
 
 -- statements: what went so far, the table, what is left, the table before, and the whole
 abbrev pub follows : Went → Table → Left → Table → Left → Type 0

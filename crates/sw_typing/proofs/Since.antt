@@ -13,11 +13,11 @@ use Rattle.sw_typing_rules.specs.declared.row.Row.{Row}
 use Rattle.sw_typing_rules.specs.declared.scope.Returned.{Returned}
 use Rattle.sw_typing_rules.specs.declared.scope.Var.{Var}
 use Rattle.sw_typing_rules.specs.declared.verdict.Given.{Given}
-use Rattle.sw_typing_forms.specs.Steps.{after, cut, judged_of, judged_since, known_of, left_since}
-use Rattle.sw_typing_forms.specs.Steps.{setting_in, state_of, went_of}
-use Rattle.sw_typing_forms.specs.declared.known.Known.{Known}
-use Rattle.sw_typing_forms.specs.declared.known.Went.{Went}
-use Rattle.sw_typing_forms.specs.declared.table.Table.{Table}
+use Rattle.sw_typing_steps.specs.Steps.{after, cut, judged_of, judged_since, known_of, left_since}
+use Rattle.sw_typing_steps.specs.Steps.{setting_in, state_of, went_of}
+use Rattle.sw_typing_steps.specs.declared.known.Known.{Known}
+use Rattle.sw_typing_steps.specs.declared.known.Went.{Went}
+use Rattle.sw_typing_steps.specs.declared.table.Table.{Table}
 use Rattle.sw_typing.specs.Walked.{links_known}
 
 pub rows_after : (a b c : List Row) → (a ++ b) ++ c ≡ a ++ (b ++ c)

@@ -8,7 +8,7 @@ use Rattle.sw_tree.specs.declared.expr.Arg.{Arg, out-Arg}
 use Rattle.sw_tree.specs.declared.stmt.Block.{Block, out-Block}
 use Rattle.sw_tree.specs.declared.stmt.CaseArm.{CaseArm}
 use Rattle.sw_types.specs.declared.shape.CaseShape.{CaseShape}
-use Rattle.sw_typing_forms.specs.Switches.{head_at}
+use Rattle.sw_typing_steps.specs.Switches.{head_at}
 use Rattle.sw_typing_rules.proofs.Complete.{is_one-map}
 use Rattle.sw_typing_rules.specs.Calls.{Slot}
 use Rattle.sw_typing_rules.specs.Expressions.{Passed, first_marked, later, one_passed}
@@ -20,8 +20,8 @@ use Rattle.sw_typing_rules.specs.Words.{Setting}
 use Rattle.sw_typing_rules.specs.declared.row.Row.{Row}
 use Rattle.sw_typing_rules.specs.declared.scope.Inside.{Inside}
 use Rattle.sw_typing_rules.specs.declared.verdict.Given.{Given}
-use Rattle.sw_typing_forms.specs.Steps.{known_of}
-use Rattle.sw_typing_forms.specs.declared.known.Known.{Known}
+use Rattle.sw_typing_steps.specs.Steps.{known_of}
+use Rattle.sw_typing_steps.specs.declared.known.Known.{Known}
 use Rattle.sw_typing.specs.Walked.{args_passed, block_left, case_arms_left, expr_known}
 use Rattle.sw_typing.specs.Walked.{stmts_left}
 

@@ -1,2 +1,2 @@
-pub mod Typed
 pub mod Walked
+pub mod Ill

@@ -3,14 +3,12 @@
 //! isolation.
 #![tactic(auto)]
 
-mod answers;
-mod laws;
+mod ills;
 mod programs;
 mod settings;
 mod steps;
 mod typing;
 mod walk;
 
-pub use answers::Typed;
-pub use laws::keys_find_what_nodes_have;
+pub use sw_typing_table::Typed;
 pub use typing::{TypeFault, type_program};

@@ -7,19 +7,19 @@ ghost use Rattle.sw_typing_rules.specs.Programs.{values_from, values_of};
 ghost use Rattle.sw_typing_rules.specs.Statements.{in_body};
 ghost use Rattle.sw_typing_rules.specs.Worlds.{world_of};
 ghost use Rattle.sw_types.specs.declared.ty.Ty.TheVariants as types;
-ghost use Rattle.sw_resolve.specs.Shaped.{stated_type};
+ghost use Rattle.sw_decl_words.specs.Shaped.{stated_type};
 
 use crate::settings::in_body;
 use crate::walk::{block, expr};
 use std::alloc::{AllocError, Global};
+use sw_decl_words::{prop_type, shapes_made};
 use sw_decls::Decls;
 use sw_list::ListOf;
-use sw_resolve::{prop_type, shapes_made};
 use sw_tree::{Block, Decl, FuncTree, InitTree, ParamTree, PropTree, TypeTree};
 use sw_types::Ty;
-use sw_typing_forms::typing_words::{Scope, is_marked, written};
-use sw_typing_forms::{Rows, Table, body_rows, open_body};
 use sw_typing_rules::Returned;
+use sw_typing_steps::{Rows, Table, body_rows, open_body};
+use sw_typing_words::{Scope, is_marked, written};
 
 /// The result that is written, or `Void`.
 fn stated(alloc: Global, world: &Decls, tree: &Option<TypeTree>) -> Result<Ty, AllocError>

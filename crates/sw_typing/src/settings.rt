@@ -4,8 +4,8 @@ ghost use Rattle.sw_typing_rules.specs.Statements.{in_body, in_loop, in_switch, 
 ghost use Rattle.sw_typing_rules.specs.Statements.{with_only};
 
 use sw_tree::Stmt;
-use sw_typing_forms::Went;
 use sw_typing_rules::Inside;
+use sw_typing_steps::Went;
 
 /// In a block of an `if` or a `switch`.
 pub fn in_branch(inside: Inside) -> Inside

@@ -2,10 +2,10 @@
 ghost use Rattle.std.specs.Prelude.{◌≡◌, ◌++◌, ◌||◌, [], IfOk, OnOk};
 ghost use Rattle.sw_typing_rules.specs.Expressions.{fun_types, noted, task_types};
 ghost use Rattle.sw_typing_rules.specs.Verdicts.{rows_of};
-ghost use Rattle.sw_typing_forms.specs.Steps.{known_of, with_rows};
+ghost use Rattle.sw_typing_steps.specs.Steps.{known_of, with_rows};
 
 use std::alloc::{AllocError, Global};
-use sw_typing_forms::{Enclosed, Known, Table, fun_types, note, task_types};
+use sw_typing_steps::{Enclosed, Known, Table, fun_types, note, task_types};
 
 /// Notes a closure, where a `@Sendable` function is `expected` or not.
 pub fn note_fun(

@@ -2,14 +2,16 @@
 ghost use Rattle.std.specs.Prelude.{◌<◌, ◌^◌, None, length, IfErr, IfOk, OnOk};
 ghost use Rattle.sw_typing_rules.specs.Programs.{IsFirstIll};
 ghost use Rattle.sw_typing_rules.specs.Worlds.{world_of};
-ghost use Rattle.sw_typing.specs.Typed.{IsIllProgram, IsTyped};
+ghost use Rattle.sw_typing.specs.Ill.{IsIllProgram};
+ghost use Rattle.sw_typing_table.specs.Typed.{IsTyped};
 ghost use Rattle.sw_typing.specs.declared.typing.TypeFault.{TypeFault};
 
-use crate::answers::{Typed, first_ill};
+use crate::ills::first_ill;
 use crate::programs::rows_of_program;
 use std::alloc::{AllocError, Global};
 use sw_decls::Decls;
 use sw_tree::Program;
+use sw_typing_table::Typed;
 use thiserror::Error;
 
 /// Why a program has no types.

@@ -4,9 +4,9 @@ ghost use Rattle.std.specs.Option.{option_copied};
 ghost use Rattle.sw_typing_rules.specs.Calls.{slots_of};
 ghost use Rattle.sw_typing_rules.specs.Expressions.{base_rows};
 ghost use Rattle.sw_typing_rules.specs.Worlds.{world_of};
-ghost use Rattle.sw_typing_forms.specs.typing_words.Callees.{as_callee};
-ghost use Rattle.sw_typing_forms.specs.Steps.{enclosed_of, judged_since, known_of, setting_in};
-ghost use Rattle.sw_typing_forms.specs.Steps.{state_of, went_of};
+ghost use Rattle.sw_typing_words.specs.Callees.{as_callee};
+ghost use Rattle.sw_typing_steps.specs.Steps.{enclosed_of, judged_since, known_of, setting_in};
+ghost use Rattle.sw_typing_steps.specs.Steps.{state_of, went_of};
 ghost use Rattle.sw_typing.specs.Walked.{args_passed, block_left, case_arm_left, case_arms_left};
 ghost use Rattle.sw_typing.specs.Walked.{called_member, closure_known, expr_known, if_arm_left};
 ghost use Rattle.sw_typing.specs.Walked.{if_arms_left, links_known, otherwise_left, stmt_left};
@@ -19,16 +19,14 @@ use sw_decls::{Decls, label_id};
 use sw_list::ListOf;
 use sw_tree::{Arg, Block, CaseArm, Closure, Expr, IfArm, Link, Name, Stmt};
 use sw_types::{CaseList, Ty};
-use sw_typing_forms::typing_words::{
-    Callee, cases_of, is_marked_at, marked_type, me_types, written,
-};
-use sw_typing_forms::{
+use sw_typing_rules::{Given, Inside, Verdict};
+use sw_typing_steps::{
     Enclosed, Known, Table, Went, assign, assign_place, awaited, bind, break_out, call,
     callee_by_member, callee_by_word, close_closure, condition, continue_on, declare_patterns,
     expects, forget_enum, infix, literal_bool, marked_result, member, note, open_closure, plain,
     prefix, return_value, return_void, switch_end, word,
 };
-use sw_typing_rules::{Given, Inside, Verdict};
+use sw_typing_words::{Callee, cases_of, is_marked_at, marked_type, me_types, written};
 
 /// An expression, where a `@Sendable` function is `expected` or not.
 #[cycle(walk)]

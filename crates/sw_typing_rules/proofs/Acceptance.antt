@@ -2,7 +2,7 @@
 use Rattle.std.proofs.Common.{◌≡◌, Bool, true, false, not, ◌||◌, List, [], ◌∷◌, map, refl}
 use Rattle.std.proofs.Common.{sym, subst, ap, ◌∙◌, IsTrue}
 use Rattle.std.proofs.lemmas.Bool.{false≢true, eqb-true, eq-eqb}
-use Rattle.sw_types.specs.Accepts.{Accepts, is_marked, unmarked}
+use Rattle.sw_types.specs.Accepts.{IsAcceptedAs, is_marked, unmarked}
 use Rattle.sw_types.specs.declared.ty.Ty.{Ty, out-Ty, roll-Ty, roll-out-Ty, out-roll-Ty}
 use Rattle.sw_types.specs.declared.ty.Ty.TheFolds as folds
 use Rattle.sw_types.specs.declared.ty.Ty.TheOpen as layer
@@ -110,7 +110,7 @@ mark_back true b f = refl
 mark_back false true f = f refl
 mark_back false false f = refl
 
-pub fits_accepts : (from to : Ty) → fits from to ≡ true → Accepts from to
+pub fits_accepts : (from to : Ty) → fits from to ≡ true → IsAcceptedAs from to
 fits_accepts from to e = (
   same_types (unmarked from) (unmarked to)
       (and_left (same_type (unmarked from) (unmarked to)) _ e),
@@ -118,7 +118,7 @@ fits_accepts from to e = (
       (and_right (same_type (unmarked from) (unmarked to)) _ e),
 )
 
-pub accepts_fits : (from to : Ty) → Accepts from to → fits from to ≡ true
+pub accepts_fits : (from to : Ty) → IsAcceptedAs from to → fits from to ≡ true
 accepts_fits from to is =
     and_both (same_type (unmarked from) (unmarked to)) _
     (subst (λ t. same_type (unmarked from) t ≡ true) is.0 (type_self (unmarked from)))

@@ -28,10 +28,10 @@ use Rattle.sw_tree.specs.declared.decl.InitTree.{InitTree}
 use Rattle.sw_tree.specs.declared.name.Name.{Name}
 use Rattle.sw_types.specs.declared.isolation.Iso.{Iso}
 use Rattle.sw_types.specs.declared.isolation.Iso.TheVariants as iso
-use Rattle.sw_resolve.specs.Evident.{meanings_of}
-use Rattle.sw_resolve.specs.Shaped.{written_actor}
-use Rattle.sw_resolve.specs.Words.{shapes_made, top_meaning}
-use Rattle.sw_resolve.specs.declared.words.Meaning.{Meaning}
+use Rattle.sw_decl_words.specs.Evident.{meanings_of}
+use Rattle.sw_decl_words.specs.Shaped.{written_actor}
+use Rattle.sw_decl_words.specs.Words.{shapes_made, top_meaning}
+use Rattle.sw_decl_words.specs.declared.words.Meaning.{Meaning}
 use Rattle.sw_decls.specs.Declaring.{IsDeclared, key_place, made_shapes, maker_keys}
 use Rattle.sw_decls.specs.Declaring.{numbered}
 use Rattle.sw_decls.specs.Signatures.{actor_iso, func_of, funcs_from, funcs_of, init_of, inits_of}

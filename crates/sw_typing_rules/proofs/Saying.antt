@@ -9,8 +9,8 @@ use Rattle.std.proofs.lemmas.List.Elements.{Contains-append_left, Contains-appen
 use Rattle.std.specs.Ordering.{is_lt}
 use Rattle.sw_tree.specs.declared.decl.Decl.{Decl}
 use Rattle.sw_types.specs.Accepts.{is_marked}
-use Rattle.sw_resolve.specs.Placed.{placed_cmp}
-use Rattle.sw_resolve.specs.declared.placed.Placed.{Placed}
+use Rattle.sw_decl_words.specs.Placed.{placed_cmp}
+use Rattle.sw_decl_words.specs.declared.placed.Placed.{Placed}
 use Rattle.sw_typing_rules.specs.Programs.{Says, of_body, of_value, IsIll, IsFirstIll}
 use Rattle.sw_typing_rules.specs.Programs.{said, said_of_body, said_of_value, bodies_from}
 use Rattle.sw_typing_rules.specs.Programs.{values_from}

@@ -10,4 +10,3 @@ pub mod Judging
 pub mod Judges
 pub mod Programs
 pub mod Typedness
-pub use Rattle.sw_decls.specs as decls

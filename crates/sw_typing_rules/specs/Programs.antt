@@ -14,11 +14,11 @@ use Rattle.sw_tree.specs.declared.stmt.Block.{Block}
 use Rattle.sw_types.specs.Accepts.{is_marked}
 use Rattle.sw_types.specs.declared.ty.Ty.{Ty}
 use Rattle.sw_types.specs.declared.ty.Ty.TheVariants as types
-use Rattle.sw_resolve.specs.Placed.{placed_cmp}
-use Rattle.sw_resolve.specs.Shaped.{prop_type, stated_type}
-use Rattle.sw_resolve.specs.TypeWords.{type_of}
-use Rattle.sw_resolve.specs.Words.{shapes_made}
-use Rattle.sw_resolve.specs.declared.placed.Placed.{Placed}
+use Rattle.sw_decl_words.specs.Placed.{placed_cmp}
+use Rattle.sw_decl_words.specs.Shaped.{prop_type, stated_type}
+use Rattle.sw_decl_words.specs.TypeWords.{type_of}
+use Rattle.sw_decl_words.specs.Words.{shapes_made}
+use Rattle.sw_decl_words.specs.declared.placed.Placed.{Placed}
 use Rattle.sw_typing_rules.specs.Expressions.{Judged}
 use Rattle.sw_typing_rules.specs.Judges.{Judges, LeavesBlock}
 use Rattle.sw_typing_rules.specs.Judging.{judge, leave_block}

@@ -16,7 +16,7 @@ use Rattle.sw_types.specs.declared.shape.ShapeKind.TheVariants as kind
 use Rattle.sw_types.specs.declared.ty.Ty.{Ty, out-Ty}
 use Rattle.sw_types.specs.declared.ty.Ty.TheOpen as layer
 use Rattle.sw_types.specs.declared.ty.Ty.TheVariants as types
-use Rattle.sw_resolve.specs.TypeWords.{type_of}
+use Rattle.sw_decl_words.specs.TypeWords.{type_of}
 use Rattle.sw_typing_rules.specs.Expressions.{Judged, Closed}
 use Rattle.sw_typing_rules.specs.Fits.{fits}
 use Rattle.sw_typing_rules.specs.Operators.{assigns}

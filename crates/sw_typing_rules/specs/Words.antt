@@ -6,12 +6,12 @@ use Rattle.sw_types.specs.declared.ty.Ty.{Ty, out-Ty}
 use Rattle.sw_types.specs.declared.ty.Ty.TheOpen as layer
 use Rattle.sw_types.specs.declared.ty.Ty.TheVariants as types
 use Rattle.sw_tree.specs.Names.{print_id, value_id}
-use Rattle.sw_resolve.specs.Evident.{enum_of}
-use Rattle.sw_resolve.specs.declared.members.Member.{Member}
-use Rattle.sw_resolve.specs.declared.members.Role.{Role}
-use Rattle.sw_resolve.specs.declared.members.Role.TheVariants as role
-use Rattle.sw_resolve.specs.declared.words.Meaning as words
-use Rattle.sw_resolve.specs.declared.words.Meaning.TheVariants as word
+use Rattle.sw_decl_words.specs.Evident.{enum_of}
+use Rattle.sw_decl_words.specs.declared.members.Member.{Member}
+use Rattle.sw_decl_words.specs.declared.members.Role.{Role}
+use Rattle.sw_decl_words.specs.declared.members.Role.TheVariants as role
+use Rattle.sw_decl_words.specs.declared.words.Meaning as words
+use Rattle.sw_decl_words.specs.declared.words.Meaning.TheVariants as word
 use Rattle.sw_decls.specs.declared.signature.GlobalVar.{GlobalVar}
 use Rattle.sw_typing_rules.specs.declared.verdict.Verdict.{Verdict}
 use Rattle.sw_typing_rules.specs.declared.verdict.Verdict.TheVariants.{Has, Fails, Held}

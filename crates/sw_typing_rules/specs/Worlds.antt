@@ -9,9 +9,9 @@ use Rattle.sw_types.specs.declared.shape.Part.{Part}
 use Rattle.sw_types.specs.declared.shape.Shape.{Shape}
 use Rattle.sw_types.specs.declared.shape.ShapeKind.{ShapeKind}
 use Rattle.sw_types.specs.declared.shape.ShapeKind.TheVariants as kind
-use Rattle.sw_resolve.specs.Evident.{Meanings, meanings_of, tabled}
-use Rattle.sw_resolve.specs.Members.{member_of}
-use Rattle.sw_resolve.specs.Words.{top_meaning}
+use Rattle.sw_decl_words.specs.Evident.{Meanings, meanings_of, tabled}
+use Rattle.sw_decl_words.specs.Members.{member_of}
+use Rattle.sw_decl_words.specs.Words.{top_meaning}
 use Rattle.sw_decls.specs.Declaring.{key_place, made_shapes, maker_keys, numbered}
 use Rattle.sw_decls.specs.Signatures.{funcs_from, global_of}
 use Rattle.sw_decls.specs.declared.declaring.Decls.{Decls}

@@ -3,7 +3,7 @@ ghost use Rattle.std.specs.Prelude.{◌≡◌, ◌≤◌, ℕ, Bool, true, List,
 ghost use Rattle.sw_tree.specs.Contents.{AreKeyed};
 ghost use Rattle.sw_tree.specs.NodeKey.{expr_key};
 ghost use Rattle.sw_tree.specs.declared.decl.Decl.{Decl};
-ghost use Rattle.sw_resolve.specs.declared.placed.Placed.{Placed};
+ghost use Rattle.sw_decl_words.specs.declared.placed.Placed.{Placed};
 ghost use Rattle.sw_decls.specs.Declaring.{IsDeclared};
 ghost use Rattle.sw_decls.specs.declared.declaring.Decls.{Decls};
 ghost use Rattle.sw_decls.specs.declared.signature.AsyncDefault.{AsyncDefault};
@@ -15,7 +15,7 @@ ghost use Rattle.sw_tree.specs.declared.expr.Expr.{Expr};
 ghost use Rattle.sw_tree.specs.declared.stmt.Stmt.{Stmt};
 ghost use Rattle.sw_typing_rules.specs.Expressions.{Judged};
 ghost use Rattle.sw_typing_rules.specs.Judges.{Judges, Leaves, LeavesBlock};
-ghost use Rattle.sw_types.specs.Accepts.{Accepts, is_marked};
+ghost use Rattle.sw_types.specs.Accepts.{IsAcceptedAs, is_marked};
 ghost use Rattle.sw_types.specs.declared.ty.Ty.{Ty};
 ghost use Rattle.sw_typing_rules.specs.Fits.{fits};
 ghost use Rattle.sw_typing_rules.specs.Judging.{judge, leave};
@@ -112,8 +112,8 @@ pub fn well_programs_have_types()
 /// The test of types says where a value may go (SE-0302).
 #[tactic(auto, using(crate::proofs::Acceptance::fits_accepts, crate::proofs::Acceptance::accepts_fits))]
 pub fn types_fit_where_they_are_accepted()
-    ensures accepted { (from to : Ty) → fits from to ≡ true → Accepts from to }
-    ensures fits { (from to : Ty) → Accepts from to → fits from to ≡ true }
+    ensures accepted { (from to : Ty) → fits from to ≡ true → IsAcceptedAs from to }
+    ensures fits { (from to : Ty) → IsAcceptedAs from to → fits from to ≡ true }
 {}
 
 /// What is known of an expression has the key of the expression's own node.

@@ -1,6 +1,7 @@
-//! The rules of types: what the type of each node of a program is by those of its parts, what each
-//! word means, and which nodes are ill (E401 to E408). They stand in specs/ as definitions; this
-//! crate has the types that they speak of and their laws, and no code that goes over a program.
+//! The rules of types: what the type of each node of a program is, by the types of its parts, what
+//! each word means, and which nodes are ill (E401 to E408). They stand in specs/ as definitions;
+//! this crate has the types that they speak of and their laws, and no code that goes over a
+//! program.
 #![tactic(auto)]
 
 mod found;
@@ -19,5 +20,4 @@ pub use laws::{
 };
 pub use row::{Meaning, Row};
 pub use scope::{Inside, Returned, Var};
-pub use sw_decls as decls;
 pub use verdict::{Given, Verdict};

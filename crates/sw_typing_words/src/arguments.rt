@@ -14,8 +14,8 @@ use crate::callee::{Callee, case_at, has_payload};
 use crate::codes::{LABELS, NO_MEMBER, NO_VALUE, TYPES};
 use crate::types::{copy_of, is_accepted, is_bool, is_int, is_marked};
 use std::alloc::{AllocError, Global};
+use sw_decls::Decls;
 use sw_types::Ty;
-use sw_typing_rules::decls::Decls;
 use sw_typing_rules::{Given, Verdict};
 
 /// The type that the parameter at an index takes.

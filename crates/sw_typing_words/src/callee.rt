@@ -5,9 +5,9 @@ ghost use Rattle.sw_typing_rules.specs.Calls.{callee_meaning};
 ghost use Rattle.sw_typing_rules.specs.Worlds.{case_at, world_of};
 ghost use Rattle.sw_typing_words.specs.Callees.{as_callee, has_payload};
 
+use sw_decls::Decls;
 use sw_types::{CaseShape, Ty, TyList};
 use sw_typing_rules::Meaning;
-use sw_typing_rules::decls::Decls;
 
 /// What is called. What declarations say of it stands there, and here its number.
 #[derive(Drop)]

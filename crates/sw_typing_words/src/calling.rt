@@ -18,9 +18,9 @@ use crate::meant::Outer;
 use crate::types::{copies_of, copy_of};
 use crate::words::part_at;
 use std::alloc::{AllocError, Global};
-use sw_resolve::{Meaning as WordMeaning, Member, Role};
+use sw_decl_words::{Meaning as WordMeaning, Member, Role};
+use sw_decls::{Decls, GlobalVar};
 use sw_types::{CaseShape, Part, ShapeKind, Ty};
-use sw_typing_rules::decls::{Decls, GlobalVar};
 use sw_typing_rules::{Found, Meaning, Verdict};
 
 /// The call of a value of this type; `code` is said where it isn't a function type.

@@ -5,10 +5,10 @@ ghost use Rattle.sw_typing_rules.specs.Statements.{cases_of, cases_of_shape, wri
 ghost use Rattle.sw_typing_rules.specs.Worlds.{world_of};
 
 use std::alloc::{AllocError, Global};
-use sw_resolve::type_of;
+use sw_decl_words::type_of;
+use sw_decls::Decls;
 use sw_tree::TypeTree;
 use sw_types::{CaseList, Shape, ShapeKind, Ty};
-use sw_typing_rules::decls::Decls;
 
 /// The cases of a shape, where it is an enum.
 fn cases_of_shape(shape: Option<&Shape>) -> Option<&CaseList>

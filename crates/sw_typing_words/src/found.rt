@@ -8,9 +8,9 @@ use crate::codes::NO_MEMBER;
 use crate::types::copy_of;
 use crate::words::{is_object, is_var_part, part_at, part_types};
 use std::alloc::{AllocError, Global};
-use sw_resolve::{Member, Role};
+use sw_decl_words::{Member, Role};
+use sw_decls::Decls;
 use sw_types::Ty;
-use sw_typing_rules::decls::Decls;
 use sw_typing_rules::{Found, Meaning, Verdict};
 
 /// The id of `value`, which each program has before it declares any name.

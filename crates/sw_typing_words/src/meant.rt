@@ -1,4 +1,4 @@
-use sw_resolve::Meaning as WordMeaning;
+use sw_decl_words::Meaning as WordMeaning;
 
 /// What a word means that no visible variable has as its name.
 #[derive(Clone, Copy)]

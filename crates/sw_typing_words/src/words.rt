@@ -12,9 +12,9 @@ use crate::codes::NO_VALUE;
 use crate::meant::Outer;
 use crate::types::copy_of;
 use std::alloc::{AllocError, Global};
-use sw_resolve::{Meaning as WordMeaning, Member, Role, enum_of};
+use sw_decl_words::{Meaning as WordMeaning, Member, Role, enum_of};
+use sw_decls::{Decls, GlobalVar};
 use sw_types::{Part, ShapeKind, Ty};
-use sw_typing_rules::decls::{Decls, GlobalVar};
 use sw_typing_rules::{Meaning, Verdict};
 
 /// The id of `print`, which each program has before it declares any name.

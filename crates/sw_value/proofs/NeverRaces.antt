@@ -7,7 +7,7 @@ use Rattle.sw_graph.specs.declared.instr.Instr.TheVariants as instr
 use Rattle.sw_graph.specs.declared.function.Function.{Function}
 use Rattle.sw_graph.specs.declared.graph.Graph.{Graph}
 use Rattle.sw_graph.specs.Points.{Point, Middle, End, points_of, point_in}
-use Rattle.sw_graph.proofs.ListLemmas.{at_index}
+use Rattle.sw_list.proofs.ListLemmas.{at_index}
 use Rattle.sw_value.specs.declared.frame.Frame.{Frame}
 use Rattle.sw_value.specs.declared.job.Job.{Job}
 use Rattle.sw_value.specs.declared.state.State.{State}

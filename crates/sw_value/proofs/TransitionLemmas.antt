@@ -39,7 +39,7 @@ use Rattle.sw_value.specs.Transition.{Describes}
 use Rattle.sw_value.specs.Reach.{after_act, step_of}
 use Rattle.sw_value.proofs.ListLemmas.{some_injective, length-changed_at, changed_at_found}
 use Rattle.sw_value.proofs.ListLemmas.{slice_get_end}
-use Rattle.sw_graph.proofs.ListLemmas.{slice_get_before}
+use Rattle.sw_list.proofs.ListLemmas.{slice_get_before}
 use Rattle.sw_value.proofs.ReachLemmas.{after_acts, step_by_act}
 use Rattle.sw_value.proofs.StaysInBounds.{HasRoom, effect_has_room}
 

@@ -13,15 +13,15 @@ use Rattle.sw_parse_decl.specs.declared.fault.ParseFault.{ParseFault}
 use Rattle.sw_parse_decl.specs.declared.fault.ParseFault.TheVariants as parse_faults
 use Rattle.sw_parse_decl.specs.Programs.{Explains, IsProgramOf}
 use Rattle.sw_tree.specs.declared.decl.Decl.{Decl}
-use Rattle.sw_decls.specs.Declaring.{IsRefusal}
+use Rattle.sw_decls.specs.Declaring.{IsDeclarationFault}
 use Rattle.sw_decls.specs.declared.declaring.DeclFault.TheVariants as decl_faults
 use Rattle.sw_decls.specs.declared.signature.AsyncDefault.{AsyncDefault}
 use Rattle.sw_typing_rules.specs.Worlds.{IsWorldOf, World}
-use Rattle.sw_isolation.specs.Isolated.{IsRefused}
+use Rattle.sw_isolation.specs.Refused.{IsIsolationFault}
 use Rattle.sw_isolation.specs.declared.isolating.IsoFault.TheVariants as isolation_faults
-use Rattle.sw_lower_graph.specs.lower.Lowered.{IsTooLarge}
-use Rattle.sw_lower_graph.specs.lower.declared.lowering.LowerFault.TheVariants as lower_faults
-use Rattle.sw_typing.specs.Typed.{IsIllProgram}
+use Rattle.sw_lower.specs.Lowered.{IsTooLarge}
+use Rattle.sw_lower.specs.declared.lowering.LowerFault.TheVariants as lower_faults
+use Rattle.sw_typing.specs.Ill.{IsIllProgram}
 use Rattle.sw_typing.specs.declared.typing.TypeFault.TheVariants as type_faults
 use Rattle.sw_breach.specs.declared.Breach.{Breach}
 use Rattle.sw_verdict.specs.declared.phases.Refusal.{Refusal}
@@ -89,7 +89,7 @@ found_syntax_fault text tokens parse_faults.Memory (Breached list) are place is 
 -- what the first breach of the rules on declarations is found as
 pub found_first : (text : List ℕ) (tokens : List Token) (decls : List Decl) (code at : ℕ)
     (refusal : Refusal) → IsTokens text tokens → IsProgramOf decls (spelling_of text tokens)
-    → IsRefusal decls (decl_faults.Breach code at)
+    → IsDeclarationFault decls (decl_faults.Breach code at)
     → (refusal ≢ Memory → refusal ≡ Breached (breach_at code at))
     → FoundBy (DeclarationsFinds text) refusal
 found_first text tokens decls code at refusal are spelled first is =
@@ -113,7 +113,8 @@ pub found_refusal : (rule : AsyncDefault) (text : List ℕ) (tokens : List Token
     (world : World)
     (code at : ℕ) (refusal : Refusal) → IsTokens text tokens
     → IsProgramOf decls (spelling_of text tokens) → IsWorldOf decls rule world
-    → IsRefused world (answers_of_program world decls) decls (isolation_faults.Breach code at)
+    → IsIsolationFault world (answers_of_program world decls) decls
+    (isolation_faults.Breach code at)
     → (refusal ≢ Memory → refusal ≡ Breached (breach_at code at))
     → FoundBy (IsolationFinds rule text) refusal
 found_refusal rule text tokens decls world code at refusal are spelled is_world first is =

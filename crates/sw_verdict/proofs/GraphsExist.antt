@@ -5,18 +5,18 @@ use Rattle.sw_token.specs.Spelling.{spelling_of}
 use Rattle.sw_token.specs.Tokens.{IsTokens}
 use Rattle.sw_token.specs.declared.Token.{Token}
 use Rattle.sw_graph.specs.declared.graph.Graph.{Graph}
-use Rattle.sw_resolve.specs.Placed.{IsFirst}
+use Rattle.sw_decl_words.specs.Placed.{IsFirstPlaced}
 use Rattle.sw_parse_decl.specs.Programs.{IsProgramOf}
 use Rattle.sw_decls.specs.Declaring.{IsFirstBreach}
 use Rattle.sw_decls.specs.declared.signature.AsyncDefault.{AsyncDefault}
 use Rattle.sw_typing_rules.specs.Programs.{IsFirstIll}
 use Rattle.sw_typing_rules.specs.Worlds.{IsWorldOf, World}
 use Rattle.sw_lower_code.specs.Whole.{Body}
-use Rattle.sw_lower_table.specs.Bodies.{AreOrdered, functions_of, global_kind, too_large_in}
-use Rattle.sw_lower_safe.proofs.GraphsFit.{graphs_fit}
-use Rattle.sw_lower_total.proofs.Lowering.{bodies_are_found, bodies_are_made, has_entry_number}
-use Rattle.sw_lower_total.proofs.Lowering.{has_starts}
-use Rattle.sw_lower_total.specs.Programs.{IsWelltyped}
+use Rattle.sw_lower_rules.specs.Bodies.{AreOrdered, functions_of, global_kind, too_large_in}
+use Rattle.sw_lower_formed_facts.proofs.GraphsFit.{graphs_fit}
+use Rattle.sw_lower_total_facts.proofs.Lowering.{bodies_are_found, bodies_are_made, has_entry_number}
+use Rattle.sw_lower_total_facts.proofs.Lowering.{has_starts}
+use Rattle.sw_lower_total_facts.specs.Programs.{IsWelltyped}
 use Rattle.sw_verdict.specs.Phases.{DeclarationsFinds, IsGraphOf, SizeFinds, TypesFinds, keeps_all}
 use Rattle.sw_verdict.specs.Phases.{isolation_of_program, phases_to_size, tables_of_program}
 use Rattle.sw_verdict.specs.Phases.{well_typed, within}
@@ -36,7 +36,7 @@ pub record Keeps (rule : AsyncDefault) (text : List ℕ) : Type 0 where
   pub welltyped : IsWelltyped decls rule world
   pub ordered : List Body
   pub are_ordered : AreOrdered (tables_of_program world decls) decls ordered
-  pub none_large : IsFirst (too_large_in (functions_of ordered)) None
+  pub none_large : IsFirstPlaced (too_large_in (functions_of ordered)) None
 
 kept : (rule : AsyncDefault) (text : List ℕ) → DeclarationsFinds text [] → TypesFinds rule text []
     → SizeFinds rule text []

@@ -2,14 +2,14 @@
 use Rattle.std.proofs.Common.{ℕ, ◌++◌, ◌⊎◌, inl, inr, List, [], ◌∷◌, subst}
 use Rattle.sw_breach.specs.declared.Breach.{Breach}
 use Rattle.sw_graph.specs.declared.graph.Graph.{Graph}
-use Rattle.sw_capture.specs.Known.{answers_of}
+use Rattle.sw_isolation_table.specs.Known.{answers_of}
 use Rattle.sw_decls.specs.declared.signature.AsyncDefault.{AsyncDefault}
-use Rattle.sw_isolation.proofs.Answering.{answers_are_said}
+use Rattle.sw_isolation_table.proofs.Answering.{answers_are_said}
 use Rattle.sw_typing_rules.proofs.OneWorld.{declared_world}
 use Rattle.sw_typing_rules.specs.Worlds.{world_of}
-use Rattle.sw_lower_graph.specs.lower_known.Knowledge.{isolation_of}
-use Rattle.sw_lower_table.specs.Bodies.{Lowered}
-use Rattle.sw_verdict.specs.Decided.{IsAnalysed, IsSpelled}
+use Rattle.sw_lower_known.specs.Knowledge.{isolation_of}
+use Rattle.sw_lower_rules.specs.Bodies.{Lowered}
+use Rattle.sw_verdict.specs.Decided.{IsAnalysed, IsSpelledText}
 use Rattle.sw_verdict.specs.Phases.{IsGraphOf, Phase, answers_of_program, phases_to_size}
 use Rattle.sw_verdict.specs.Verdict.{Accepts, Breaches, Refuses, later, none}
 use Rattle.sw_verdict.specs.declared.judging.Analysed.{Analysed}
@@ -46,7 +46,7 @@ some_graph_of rule text accepts = some_graph rule text (accepted_to_size rule te
 -- the graph that was made of a text's program, which was read and analysed
 pub made_graph : (rule : AsyncDefault) (text : List ℕ) (read : Read) (found : Analysed)
     (graph : Graph)
-    → IsSpelled text read → IsAnalysed rule read.program.decls found
+    → IsSpelledText text read → IsAnalysed rule read.program.decls found
     → Lowered (world_of found.declared) (answers_of found.typed) (isolation_of found.isolated)
     read.program.decls graph
     → IsGraphOf rule text graph

@@ -18,12 +18,12 @@ use Rattle.sw_decls.specs.declared.signature.AsyncDefault.{AsyncDefault}
 use Rattle.sw_typing_rules.specs.Worlds.{World, and_then}
 use Rattle.sw_isolation_rules.specs.Answers.{Answers}
 use Rattle.sw_lower_code.specs.Whole.{Body}
-use Rattle.sw_lower_table.specs.Bodies.{AreNumbered, AreOrdered, Lowered, entry_key, functions_of}
-use Rattle.sw_lower_table.specs.Bodies.{numbers_of, order_of, program_bodies, tables_of}
-use Rattle.sw_lower_table.specs.Tables.{Isolation, Tables, name_of, plain}
-use Rattle.sw_lower_table.proofs.Orders.{one_numbering}
-use Rattle.sw_lower_graph.specs.lower.Lowered.{IsLowering}
-use Rattle.sw_lower_graph.specs.lower.declared.lowering.Lowering.{Lowering}
+use Rattle.sw_lower_rules.specs.Bodies.{AreNumbered, AreOrdered, Lowered, entry_key, functions_of}
+use Rattle.sw_lower_rules.specs.Bodies.{numbers_of, order_of, program_bodies, tables_of}
+use Rattle.sw_lower_rules.specs.Tables.{Isolation, Tables, name_of, plain}
+use Rattle.sw_lower_rules.proofs.Orders.{one_numbering}
+use Rattle.sw_lower.specs.Lowered.{IsLowering}
+use Rattle.sw_lower.specs.declared.lowering.Lowering.{Lowering}
 use Rattle.sw_verdict.specs.Phases.{IsGraphOf, answers_of_program, isolation_of_program}
 use Rattle.sw_verdict.proofs.SameProgram.{of_same, same_world}
 

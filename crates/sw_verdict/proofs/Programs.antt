@@ -6,16 +6,16 @@ use Rattle.sw_tree.specs.CasePlaces.{CasesApart}
 use Rattle.sw_tree.specs.Names.{id_in}
 use Rattle.sw_tree.specs.declared.decl.Decl.{Decl}
 use Rattle.sw_grammar.specs.Program.{Spells}
-use Rattle.sw_grammar_keys.proofs.CaseWords.{cases_are_apart}
-use Rattle.sw_grammar_keys.proofs.Order.KeysRise.{spelled_are_in_order}
-use Rattle.sw_grammar_keys.proofs.TextForms.{are_written, globals_are_valued}
+use Rattle.sw_grammar_facts.proofs.CaseWords.{cases_are_apart}
+use Rattle.sw_grammar_facts.proofs.Order.KeysRise.{spelled_are_in_order}
+use Rattle.sw_grammar_facts.proofs.TextForms.{are_written, globals_are_valued}
 use Rattle.sw_parse_decl.proofs.ProgramFaults.{keyed_program}
 use Rattle.sw_parse_decl.specs.Programs.{IsProgramOf, most_nests, texts_of}
 use Rattle.sw_decls.specs.Declaring.{IsFirstBreach}
 use Rattle.sw_decls.specs.declared.signature.AsyncDefault.{AsyncDefault}
 use Rattle.sw_typing_rules.specs.Programs.{IsFirstIll}
 use Rattle.sw_typing_rules.specs.Worlds.{IsWorldOf, World}
-use Rattle.sw_lower_total.specs.Programs.{IsWelltyped}
+use Rattle.sw_lower_total_facts.specs.Programs.{IsWelltyped}
 
 -- The tokens spell the declarations, however many nests are open.
 spells : (tokens : List Spelled) (decls : List Decl) → IsProgramOf decls tokens

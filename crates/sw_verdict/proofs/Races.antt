@@ -6,12 +6,12 @@ use Rattle.sw_breach.specs.Order.{breach_cmp}
 use Rattle.sw_breach.specs.declared.Breach.{Breach}
 use Rattle.sw_tree.specs.declared.decl.Decl.{Decl}
 use Rattle.sw_graph.specs.declared.graph.Graph.{Graph}
-use Rattle.sw_resolve.specs.declared.placed.Placed.{Placed}
-use Rattle.sw_capture.specs.Known.{answers_of}
+use Rattle.sw_decl_words.specs.declared.placed.Placed.{Placed}
+use Rattle.sw_isolation_table.specs.Known.{answers_of}
 use Rattle.sw_decls.specs.declared.signature.AsyncDefault.{AsyncDefault}
 use Rattle.sw_typing_rules.proofs.OneWorld.{declared_world}
 use Rattle.sw_typing_rules.specs.Worlds.{World, world_of}
-use Rattle.sw_isolation.proofs.Answering.{answers_are_said}
+use Rattle.sw_isolation_table.proofs.Answering.{answers_are_said}
 use Rattle.sw_isolation.proofs.SomeMerged.{some_merged}
 use Rattle.sw_isolation_rules.proofs.OneMerged.{one_merged}
 use Rattle.sw_isolation_rules.specs.Races.{AreRaces, races as all_races}
@@ -19,9 +19,10 @@ use Rattle.sw_region_flow.proofs.OneList.{kind_in_order, one_of_kind}
 use Rattle.sw_region_flow.proofs.OneSites.{member_cases, member_first, member_later, no_member}
 use Rattle.sw_region_flow.proofs.SomeList.{all_with, listed, some_list}
 use Rattle.sw_region_flow.specs.Breaches.{AreAll, IsBreachOf}
-use Rattle.sw_verdict.specs.Decided.{IsAnalysed, IsSpelled}
+use Rattle.sw_verdict.specs.Decided.{IsAnalysed, IsSpelledText}
 use Rattle.sw_verdict.specs.Found.{FoundBy}
-use Rattle.sw_verdict.specs.Phases.{IsGraphOf, IsRace, RacesFinds, answers_of_program, breach_of}
+use Rattle.sw_verdict.specs.Phases.{IsGraphOf, IsRaceBreach, RacesFinds, answers_of_program}
+use Rattle.sw_verdict.specs.Phases.{breach_of}
 use Rattle.sw_verdict.specs.Phases.{races}
 use Rattle.sw_verdict.specs.declared.judging.Analysed.{Analysed}
 use Rattle.sw_verdict.specs.declared.judging.Spelled.{Spelled as Read}
@@ -42,10 +43,10 @@ races_one rule text _ _ (races a ds v shared graph one are_a is_a world_a shared
     one_merged (all_races w (answers_of_program w es) es) shared values
     (of_same (λ world decls. Shared world decls shared) v w ds es
     (same_world rule text a b ds es v w are_a is_a world_a are_b is_b world_b) shared_a) shared_b in
-    one_of_kind (IsRace values made) one other
-    (subst (λ of_text. AreAll (IsRace values of_text) one)
+    one_of_kind (IsRaceBreach values made) one other
+    (subst (λ of_text. AreAll (IsRaceBreach values of_text) one)
     (one_graph_of rule text graph made of_a of_b)
-    (subst (λ list. AreAll (IsRace list graph) one) same_shared all_a)) all_b
+    (subst (λ list. AreAll (IsRaceBreach list graph) one) same_shared all_a)) all_b
 
 -- a text with a graph has a list of races
 pub some_races : (rule : AsyncDefault) (text : List ℕ) (graph : Graph) → IsGraphOf rule text graph
@@ -64,7 +65,7 @@ pub races_in_order : (rule : AsyncDefault) (text : List ℕ) (list : List Breach
     → RacesFinds rule text list
     → IsStrictlySortedBy breach_cmp list
 races_in_order rule text _ (races _ _ _ shared graph list _ _ _ _ _ all) =
-    kind_in_order (IsRace shared graph) list all
+    kind_in_order (IsRaceBreach shared graph) list all
 
 -- what holds of the codes of values that are shared holds of those of their breaches
 pub of_each : (shared : List Placed) (P : ℕ → Type 0)
@@ -84,9 +85,9 @@ of_each (one ∷ shared) P each breach has =
 -- the races of a text's program, which was read and analysed
 pub found_races : (rule : AsyncDefault) (text : List ℕ) (read : Read) (found : Analysed)
     (shared : List Placed)
-    (graph : Graph) → IsSpelled text read → IsAnalysed rule read.program.decls found
+    (graph : Graph) → IsSpelledText text read → IsAnalysed rule read.program.decls found
     → AreRaces (world_of found.declared) (answers_of found.typed) read.program.decls shared
-    → IsGraphOf rule text graph → (list : List Breach) → AreAll (IsRace shared graph) list
+    → IsGraphOf rule text graph → (list : List Breach) → AreAll (IsRaceBreach shared graph) list
     → RacesFinds rule text list
 found_races rule text read found shared graph is known are of_text list all =
     let decls = read.program.decls in

@@ -3,21 +3,21 @@ use Rattle.std.proofs.Common.{◌≡◌, ℕ, List, [], ◌∷◌, Bool, true, f
 use Rattle.std.proofs.Common.{refl, ap, sym, ◌∙◌, arith, zero, suc, ◌||◌}
 use Rattle.std.proofs.lemmas.Grind.{common_steps}
 use Rattle.std.proofs.lemmas.List.Elements.{Contains-append_right}
-use Rattle.sw_capture.specs.Known.{answers_of}
-use Rattle.sw_isolation.proofs.Answering.{answers_are_said}
-use Rattle.sw_isolation.specs.Isolated.{HasNotes, IsIsolated}
-use Rattle.sw_isolation.specs.declared.isolated.Isolated.{Isolated}
+use Rattle.sw_isolation_table.specs.Known.{answers_of}
+use Rattle.sw_isolation_table.proofs.Answering.{answers_are_said}
+use Rattle.sw_isolation_table.specs.Isolated.{HasNotes, IsIsolated}
+use Rattle.sw_isolation_table.specs.declared.isolated.Isolated.{Isolated}
 use Rattle.sw_isolation_rules.specs.Answers.{Answers}
 use Rattle.sw_isolation_rules.specs.Captures.{is_among}
 use Rattle.sw_isolation_rules.specs.Lists.{bodies_in, boxes_in, captures_in, kinds_in}
 use Rattle.sw_isolation_rules.specs.Programs.{noted}
 use Rattle.sw_isolation_rules.specs.declared.note.Note.{Note}
-use Rattle.sw_lower_graph.specs.lower_known.Knowledge.{isolation_of}
-use Rattle.sw_lower_table.specs.Bodies.{tables_of}
-use Rattle.sw_lower_table.specs.Tables.{isolation_by, isolation_in}
+use Rattle.sw_lower_known.specs.Knowledge.{isolation_of}
+use Rattle.sw_lower_rules.specs.Bodies.{tables_of}
+use Rattle.sw_lower_rules.specs.Tables.{isolation_by, isolation_in}
 use Rattle.sw_tree.specs.declared.decl.Decl.{Decl}
-use Rattle.sw_typing.specs.Typed.{IsTyped}
-use Rattle.sw_typing.specs.declared.answers.Typed.{Typed}
+use Rattle.sw_typing_table.specs.Typed.{IsTyped}
+use Rattle.sw_typing_table.specs.declared.typed.Typed.{Typed}
 use Rattle.sw_typing_rules.specs.Worlds.{World}
 use Rattle.sw_verdict.specs.Phases.{isolation_of_program, tables_of_program}
 

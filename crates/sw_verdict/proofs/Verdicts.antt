@@ -23,7 +23,7 @@ use Rattle.sw_parse_decl.specs.declared.fault.ParseFault.{ParseFault}
 use Rattle.sw_parse_decl.specs.declared.fault.ParseFault.TheVariants as parse_faults
 use Rattle.sw_parse_decl.specs.Programs.{IsProgramOf, IsSyntaxFault}
 use Rattle.sw_parse_decl.proofs.ProgramFaults as programs
-use Rattle.sw_resolve.specs.declared.placed.Placed.{Placed}
+use Rattle.sw_decl_words.specs.declared.placed.Placed.{Placed}
 use Rattle.sw_decls.specs.Declaring.{IsFirstBreach}
 use Rattle.sw_decls.proofs.SomeFirst.{some_first, some_first_breach}
 use Rattle.sw_decls.proofs.OneFirst.{one_first, one_first_breach}
@@ -36,14 +36,15 @@ use Rattle.sw_typing_rules.proofs.OneWorld.{some_world}
 use Rattle.sw_typing_rules.proofs.Saying.{one_first_ill, some_first_ill}
 use Rattle.sw_isolation_rules.proofs.SoundPrograms.{race_codes, refusal_codes}
 use Rattle.sw_isolation_rules.specs.Programs.{IsFirstRefusal, refusals}
-use Rattle.sw_lower_table.proofs.FirstTooLarge.{one_too_large, some_too_large, too_large_code}
-use Rattle.sw_lower_table.specs.Bodies.{IsFirstTooLarge}
-use Rattle.sw_reader.proofs.TokensSpelled.{tokens_spelled}
+use Rattle.sw_lower_rules.proofs.FirstTooLarge.{one_too_large, some_too_large, too_large_code}
+use Rattle.sw_lower_rules.specs.Bodies.{IsFirstTooLarge}
+use Rattle.sw_grammar_forms.proofs.TokensSpelled.{tokens_spelled}
 use Rattle.sw_text.specs.declared.TheConstants.{MAX_LENGTH}
 use Rattle.sw_region_flow.proofs.Codes.{breach_code}
 use Rattle.sw_region_flow.proofs.OneList.{each_breach}
 use Rattle.sw_verdict.specs.Phases.{Declarations, DeclarationsFinds, Encoding, EncodingFinds, Finds}
-use Rattle.sw_verdict.specs.Phases.{IsRace, Isolation, IsolationFinds, Lexis, LexisFinds, Phase}
+use Rattle.sw_verdict.specs.Phases.{IsRaceBreach, Isolation, IsolationFinds, Lexis, LexisFinds}
+use Rattle.sw_verdict.specs.Phases.{Phase}
 use Rattle.sw_verdict.specs.Phases.{Races, RacesFinds, Size, SizeFinds, Syntax, SyntaxFinds, Types}
 use Rattle.sw_verdict.specs.Phases.{TypesFinds, all_phases, answers_of_program, breach_at}
 use Rattle.sw_verdict.specs.Phases.{breaks_one, has_fault, has_syntax_fault, has_tokens, ill_typed}
@@ -57,7 +58,7 @@ use Rattle.sw_verdict.proofs.GraphsExist.{some_graph}
 use Rattle.sw_verdict.proofs.InOrder.{decided_before, decided_later, passed}
 use Rattle.sw_verdict.proofs.Races.{Shared, of_each, races_one, some_races}
 use Rattle.sw_verdict.proofs.SameProgram.{of_same, same_decls, same_world}
-use Rattle.sw_verdict.specs.Decided.{IsSpelled}
+use Rattle.sw_verdict.specs.Decided.{IsSpelledText}
 use Rattle.sw_verdict.specs.declared.judging.Spelled.{Spelled as Read}
 
 -- each phase finds one list
@@ -395,7 +396,7 @@ races_coded : (rule : AsyncDefault) (text : List ℕ) (list : List Breach) → R
 races_coded rule text _ (races _ decls world shared graph list _ _ _ all _ are) =
     each_breach (λ breach. IsCode breach.code) list (λ breach has. by breach (are.sound breach has))
   where
-    by : (breach : Breach) → IsRace shared graph breach → IsCode breach.code
+    by : (breach : Breach) → IsRaceBreach shared graph breach → IsCode breach.code
     by breach (inl is_shared) = of_each shared IsCode
         (λ placed has. shared_is_code world decls shared placed all has) breach is_shared
     by breach (inr of_graph) = breach_code graph breach of_graph
@@ -589,7 +590,7 @@ few_decls text tokens decls are few short =
 pub spelled_read : (text : List ℕ) (read : Read) (given : List Token) → read.source ≡ text
     → given ≡ read.tokens.items → IsTokens read.source read.tokens.items
     → IsProgramOf read.program.decls (spelling_of read.source given)
-    → length read.program.decls ≤ length given → length text ≤ MAX_LENGTH → IsSpelled text read
+    → length read.program.decls ≤ length given → length text ≤ MAX_LENGTH → IsSpelledText text read
 spelled_read text read given same handed are is few short =
     let are_tokens = subst (λ source. IsTokens source read.tokens.items) same are in
     record {

@@ -5,12 +5,12 @@ use Rattle.sw_decls.specs.Declaring.{IsDeclared, IsFirstBreach}
 use Rattle.sw_decls.specs.declared.signature.AsyncDefault.{AsyncDefault}
 use Rattle.sw_typing_rules.specs.Programs.{IsFirstIll}
 use Rattle.sw_typing_rules.specs.Worlds.{world_of}
-use Rattle.sw_typing.specs.Typed.{IsTyped}
-use Rattle.sw_capture.specs.Known.{answers_of}
-use Rattle.sw_isolation.specs.Isolated.{IsIsolated}
-use Rattle.sw_lower_graph.specs.lower_known.Knowledge.{isolation_of}
-use Rattle.sw_lower_table.specs.Bodies.{tables_of}
-use Rattle.sw_lower_graph.specs.lower.Lowered.{IsLowering}
+use Rattle.sw_typing_table.specs.Typed.{IsTyped}
+use Rattle.sw_isolation_table.specs.Known.{answers_of}
+use Rattle.sw_isolation_table.specs.Isolated.{IsIsolated}
+use Rattle.sw_lower_known.specs.Knowledge.{isolation_of}
+use Rattle.sw_lower_rules.specs.Bodies.{tables_of}
+use Rattle.sw_lower.specs.Lowered.{IsLowering}
 use Rattle.sw_verdict.specs.declared.judging.Analysed.{Analysed}
 use Rattle.sw_parse_decl.specs.Programs.{IsProgramOf}
 use Rattle.sw_token.specs.Spelling.{spelling_of}
@@ -33,7 +33,7 @@ Decided rule phases text (Ok value) = Breaches rule phases text []
 Decided rule phases text (Err refusal) = DecidedBy rule phases text refusal
 
 -- what was read is the text with its tokens and the program that they spell
-pub record IsSpelled (text : List ℕ) (read : Spelled) : Type 0 where
+pub record IsSpelledText (text : List ℕ) (read : Spelled) : Type 0 where
   pub source : read.source ≡ text
   pub are_tokens : IsTokens text read.tokens.items
   pub is_program : IsProgramOf read.program.decls (spelling_of text read.tokens.items)

@@ -18,7 +18,7 @@ use Rattle.sw_tree.specs.declared.decl.Decl.{Decl}
 use Rattle.sw_parse_decl.specs.declared.fault.ParseFault.{ParseFault}
 use Rattle.sw_parse_decl.specs.declared.fault.ParseFault.TheVariants as faults
 use Rattle.sw_parse_decl.specs.Programs.{IsProgramOf, IsSyntaxFault}
-use Rattle.sw_resolve.specs.declared.placed.Placed.{Placed}
+use Rattle.sw_decl_words.specs.declared.placed.Placed.{Placed}
 use Rattle.sw_decls.specs.Declaring.{IsFirstBreach}
 use Rattle.sw_decls.specs.declared.signature.AsyncDefault.{AsyncDefault}
 use Rattle.sw_typing_rules.specs.Programs.{IsFirstIll, said}
@@ -26,8 +26,8 @@ use Rattle.sw_typing_rules.specs.Worlds.{IsWorldOf, World}
 use Rattle.sw_isolation_rules.specs.Answers.{Answers, answers_in}
 use Rattle.sw_isolation_rules.specs.Programs.{IsFirstRefusal, noted}
 use Rattle.sw_isolation_rules.specs.Races.{AreRaces}
-use Rattle.sw_lower_table.specs.Bodies.{AreNumbered, IsFirstTooLarge, Lowered, tables_of}
-use Rattle.sw_lower_table.specs.Tables.{Isolation as Noted, Tables, isolation_in}
+use Rattle.sw_lower_rules.specs.Bodies.{AreNumbered, IsFirstTooLarge, Lowered, tables_of}
+use Rattle.sw_lower_rules.specs.Tables.{Isolation as Noted, Tables, isolation_in}
 use Rattle.sw_region_flow.specs.Breaches.{AreAll, IsBreachOf}
 
 pub data Phase : Type 0 where
@@ -184,8 +184,8 @@ pub record IsGraphOf (rule : AsyncDefault) (text : List ℕ) (graph : Graph) : T
   pub numbered : AreNumbered lowered.ordered
 
 -- a breach of a value that may not be shared, or of the regions of a graph
-abbrev pub IsRace : List Placed → Graph → Breach → Type 0
-IsRace shared graph breach = Contains (map breach_of shared) breach ⊎ IsBreachOf graph breach
+abbrev pub IsRaceBreach : List Placed → Graph → Breach → Type 0
+IsRaceBreach shared graph breach = Contains (map breach_of shared) breach ⊎ IsBreachOf graph breach
 
 -- The breaches are all values that may not be shared, and all region breaches of the text's graph,
 -- by position and then by code, each once, with the least note (SE-0302, SE-0414, SE-0430).
@@ -194,7 +194,7 @@ pub data RacesFinds (rule : AsyncDefault) (text : List ℕ) : List Breach → Ty
       (graph : Graph) (list : List Breach) → IsTokens text tokens
       → IsProgramOf decls (spelling_of text tokens) → IsWorldOf decls rule world
       → AreRaces world (answers_of_program world decls) decls shared → IsGraphOf rule text graph
-      → AreAll (IsRace shared graph) list → RacesFinds rule text list
+      → AreAll (IsRaceBreach shared graph) list → RacesFinds rule text list
 
 -- `Finds rule phase text list`: under this default, where the phases before it find no breach in
 -- the text, this one finds these.

@@ -1,17 +1,17 @@
 ghost use Rattle.std.specs.Prelude.{◌<◌, ◌≤◌, ◌^◌, ◌∷◌, [], ℕ, List, IfOk, IsErrOf, Ok, Err};
 ghost use Rattle.std.specs.Prelude.{length};
 ghost use Rattle.sw_breach.specs.declared.Breach.{Breach};
-ghost use Rattle.sw_capture.specs.Known.{answers_of};
+ghost use Rattle.sw_isolation_table.specs.Known.{answers_of};
 ghost use Rattle.sw_decls.specs.declared.signature.AsyncDefault.{AsyncDefault};
-ghost use Rattle.sw_lower_graph.specs.lower_known.Knowledge.{isolation_of};
-ghost use Rattle.sw_lower_table.specs.Bodies.{Lowered};
+ghost use Rattle.sw_lower_known.specs.Knowledge.{isolation_of};
+ghost use Rattle.sw_lower_rules.specs.Bodies.{Lowered};
 ghost use Rattle.sw_parse_decl.specs.Programs.{IsProgramOf};
 ghost use Rattle.sw_token.specs.Spelling.{spelling_of};
 ghost use Rattle.sw_token.specs.Tokens.{IsTokens};
 ghost use Rattle.sw_token.specs.declared.Token.{Token};
 ghost use Rattle.sw_tree.specs.CasePlaces.{CasesApart};
 ghost use Rattle.sw_typing_rules.specs.Worlds.{world_of};
-ghost use Rattle.sw_verdict.specs.Decided.{Decided, IsAnalysed, IsSpelled};
+ghost use Rattle.sw_verdict.specs.Decided.{Decided, IsAnalysed, IsSpelledText};
 ghost use Rattle.sw_verdict.specs.Phases.{Declarations, Encoding, Isolation, Lexis, Size};
 ghost use Rattle.sw_verdict.specs.Phases.{Syntax, Types, all_phases, phases_to_size};
 ghost use Rattle.sw_verdict.specs.Verdict.{IsVerdict};
@@ -23,12 +23,12 @@ use std::alloc::{AllocError, Global};
 use sw_decls::{AsyncDefault, Decls};
 use sw_graph::Graph;
 use sw_isolation::{Isolated, race_forms};
+use sw_lower::Lowering;
 use sw_lower_graph::graph_of;
-use sw_lower_graph::lower::Lowering;
 use sw_text::{MAX_LENGTH, Source};
 use sw_token::Token;
 use sw_tree::Program;
-use sw_typing::Typed;
+use sw_typing_table::Typed;
 
 /// A text with its tokens and the program that they spell.
 #[derive(Drop)]
@@ -43,7 +43,7 @@ fn read(alloc: Global, text: &[u8]) -> Result<Spelled, Refusal>
     requires { length text.now ≤ MAX_LENGTH }
     ensures decided { (rule : AsyncDefault)
         → Decided rule (Encoding ∷ Lexis ∷ Syntax ∷ []) text.now result }
-    ensures spelled { IfOk result (IsSpelled text.now) }
+    ensures spelled { IfOk result (IsSpelledText text.now) }
 {
     let source = encoding(alloc, text)?;
     let tokens = lexis(alloc, &source)?;

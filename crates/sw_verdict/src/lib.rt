@@ -1,7 +1,7 @@
 //! The verdict on a program's text: its phases in order, the graph of a text in which none of them
-//! finds a breach, and the graph of one in which none of those up to the size of functions does. It
-//! knows what each phase asks of a text. It knows nothing of files, of commands or of how a verdict
-//! is written.
+//! finds a breach, and the graph of a text in which none of those up to the size of functions does.
+//! It knows what each phase requires of a text. It knows nothing of files, of commands or of how a
+//! verdict is written.
 #![tactic(auto)]
 
 mod judging;

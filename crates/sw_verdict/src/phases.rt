@@ -8,16 +8,16 @@ ghost use Rattle.sw_token.specs.Spelling.{spelling_of};
 ghost use Rattle.sw_parse_decl.specs.Programs.{IsProgramOf};
 ghost use Rattle.sw_decls.specs.Declaring.{IsDeclared, IsFirstBreach};
 ghost use Rattle.sw_decls.specs.declared.signature.AsyncDefault.{AsyncDefault};
-ghost use Rattle.sw_typing.specs.Typed.{IsTyped};
+ghost use Rattle.sw_typing_table.specs.Typed.{IsTyped};
 ghost use Rattle.sw_typing_rules.specs.Programs.{IsFirstIll};
 ghost use Rattle.sw_typing_rules.specs.Worlds.{world_of};
-ghost use Rattle.sw_capture.specs.Known.{answers_of};
-ghost use Rattle.sw_isolation.specs.Isolated.{IsIsolated};
-ghost use Rattle.sw_lower_graph.specs.lower_known.Knowledge.{isolation_of};
-ghost use Rattle.sw_lower_graph.specs.lower.Lowered.{IsLowering};
-ghost use Rattle.sw_lower_table.specs.Bodies.{tables_of};
+ghost use Rattle.sw_isolation_table.specs.Known.{answers_of};
+ghost use Rattle.sw_isolation_table.specs.Isolated.{IsIsolated};
+ghost use Rattle.sw_lower_known.specs.Knowledge.{isolation_of};
+ghost use Rattle.sw_lower.specs.Lowered.{IsLowering};
+ghost use Rattle.sw_lower_rules.specs.Bodies.{tables_of};
 ghost use Rattle.sw_region_flow.specs.Breaches.{AreAll};
-ghost use Rattle.sw_verdict.specs.Phases.{DeclarationsFinds, EncodingFinds, IsRace};
+ghost use Rattle.sw_verdict.specs.Phases.{DeclarationsFinds, EncodingFinds, IsRaceBreach};
 ghost use Rattle.sw_verdict.specs.Phases.{IsolationFinds, LexisFinds, SizeFinds, SyntaxFinds};
 ghost use Rattle.sw_verdict.specs.Phases.{TypesFinds, breach_at, breach_of, lexical_code};
 ghost use Rattle.sw_verdict.specs.Phases.{syntax_code, token_of, token_position};
@@ -27,15 +27,15 @@ use std::alloc::{AllocError, Global};
 use std::marker::Brand;
 use std::sync::ledger::{Blank, Ledger};
 use sw_breach::Breach;
+use sw_decl_words::Placed;
 use sw_decls::{AsyncDefault, DeclFault, Decls, declare};
 use sw_graph::Graph;
 use sw_isolation::{IsoFault, Isolated, isolate};
 use sw_list::ListOf;
-use sw_lower_graph::lower::{LowerFault, Lowering, lower};
+use sw_lower::{LowerFault, Lowering, lower};
 use sw_parse_body::program;
 use sw_parse_decl::ParseFault;
 use sw_region_flow::{breaches, in_order};
-use sw_resolve::Placed;
 use sw_solve::Steps;
 use sw_text::{MAX_LENGTH, Source, TextFault};
 use sw_token::{LexFault, Token, tokens};
@@ -297,7 +297,7 @@ fn all_races<L: Ledger>(
     requires name { blank.name ≡ L.name }
     requires parts { blank.parts ≡ L.parts }
     requires part { 0 < blank.parts }
-    ensures { IfOk result (λ list. AreAll (IsRace shared.now graph.now) list.items) }
+    ensures { IfOk result (λ list. AreAll (IsRaceBreach shared.now graph.now) list.items) }
 {
     let mut steps = Steps::<L>::new(blank);
     let regions = breaches(alloc, graph, &mut steps)?;
@@ -308,7 +308,7 @@ fn all_races<L: Ledger>(
 
 /// Refuses a program that shares these values, or whose graph has a region breach.
 pub fn races(alloc: Global, shared: &[Placed], graph: &Graph) -> Result<(), Refusal>
-    ensures { Found (AreAll (IsRace shared.now graph.now)) result }
+    ensures { Found (AreAll (IsRaceBreach shared.now graph.now)) result }
 {
     let list = all_races::<Brand>(alloc, shared, graph, Blank::new(1))?;
     let breaches = ListOf::from_vec(list);

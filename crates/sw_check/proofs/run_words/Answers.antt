@@ -1,5 +1,5 @@
 use Rattle.std.proofs.Common.{subst}
-use Rattle.sw_course.specs.Written.{Appended}
+use Rattle.sw_check_parts.specs.Written.{Appended}
 use Rattle.sw_check.proofs.CallLemmas.{of_words, answer_says, answer_no_race, answer_exact}
 use Rattle.sw_check.proofs.CallLemmas.{answer_breached, answer_accepted, answer_not_raced}
 use Rattle.sw_check.proofs.CallLemmas.{answer_only}

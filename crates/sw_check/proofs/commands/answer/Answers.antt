@@ -1,6 +1,6 @@
 use Rattle.std.proofs.Common.{Ok, Err, ap}
 use Rattle.std.proofs.lemmas.Result.{err_from_is_err_and}
-use Rattle.sw_course.specs.declared.stop.Stop.TheVariants.{Memory}
+use Rattle.sw_check_parts.specs.declared.stop.Stop.TheVariants.{Memory}
 use Rattle.sw_check.proofs.PartLemmas.{no_form}
 use Rattle.sw_check.proofs.commands.answer.Goals as goal
 

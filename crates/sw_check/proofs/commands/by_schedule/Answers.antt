@@ -1,8 +1,8 @@
 use Rattle.std.proofs.Common.{ℕ, List, Ok, Err, subst}
 use Rattle.std.proofs.lemmas.Result.{err_from_is_err_and}
-use Rattle.sw_course.specs.declared.stop.Stop.TheVariants.{Memory}
-use Rattle.sw_course.specs.Leaves.{Decides}
-use Rattle.sw_course.proofs.Doing.{does_on, does_stop, does_alone, decides_on, decides_stop}
+use Rattle.sw_check_parts.specs.declared.stop.Stop.TheVariants.{Memory}
+use Rattle.sw_check_parts.specs.Leaves.{Decides}
+use Rattle.sw_check_parts.proofs.Doing.{does_on, does_stop, does_alone, decides_on, decides_stop}
 use Rattle.sw_check.specs.Reply.{Scheduled, Replayed}
 use Rattle.sw_check.proofs.commands.by_schedule.Goals as goal
 

@@ -1,10 +1,10 @@
 use Rattle.std.proofs.Common.{Ok, Err, subst}
 use Rattle.std.proofs.lemmas.Result.{err_from_is_err_and}
 use Rattle.sw_graph.specs.declared.graph.Graph.{Graph}
-use Rattle.sw_course.specs.Leaves.{Decides}
-use Rattle.sw_course.proofs.Doing.{does_on, does_stop, decides_on, decides_stop}
+use Rattle.sw_check_parts.specs.Leaves.{Decides}
+use Rattle.sw_check_parts.proofs.Doing.{does_on, does_stop, decides_on, decides_stop}
 use Rattle.sw_check.specs.Phases.{list_of}
-use Rattle.sw_check.specs.Reply.{Judged}
+use Rattle.sw_check.specs.Reply.{IsJudgement}
 use Rattle.sw_check.proofs.PartLemmas.{replays_lent}
 use Rattle.sw_check.proofs.commands.replay.Goals as goal
 
@@ -19,16 +19,17 @@ returns-in_err-graph g c =
     c.from_residual-in_err-graph.ensures.1 in
     let stop = c.in_err-graph.field-0.0 in
     rw (p.1, p.2) (does_on c.in_ok-text.ensures.done
-    (decides_stop (Judged c.args.default (list_of c.args.phases) c.in_ok-text.text) _ stop
-    (subst (λ text. Decides {A = Graph} (Judged c.args.default (list_of c.args.phases) text)
+    (decides_stop (IsJudgement c.args.default (list_of c.args.phases) c.in_ok-text.text) _ stop
+    (subst (λ text. Decides {A = Graph} (IsJudgement c.args.default (list_of c.args.phases) text)
     (Err stop))
     c.as_slice.ensures c.in_err-graph.ensures)))
 
 pub returns : goal.returns
 returns g c =
     does_on c.in_ok-text.ensures.done
-    (decides_on (Judged c.args.default (list_of c.args.phases) c.in_ok-text.text)
-    (subst (λ text. Judged c.args.default (list_of c.args.phases) text (Ok c.in_ok-graph.graph))
+    (decides_on (IsJudgement c.args.default (list_of c.args.phases) c.in_ok-text.text)
+    (subst (λ text. IsJudgement c.args.default (list_of c.args.phases) text
+    (Ok c.in_ok-graph.graph))
     c.as_slice.ensures
     c.in_ok-graph.ensures)
     (replays_lent c.args.schedule_file.now c.in_ok-graph.graph c.as_slice-2.ensures

@@ -1,5 +1,5 @@
 use Rattle.std.proofs.Common.{◌++◌, None, Some, ap, sym, subst, ◌∙◌}
-use Rattle.sw_resolve.specs.Placed.{IsFirst}
+use Rattle.sw_decl_words.specs.Placed.{IsFirstPlaced}
 use Rattle.sw_decls.specs.Declaring.{breaches_of_shapes}
 use Rattle.sw_decls.specs.Holders.{AreHolders}
 use Rattle.sw_decls.specs.Hollow.{hollowed}
@@ -29,7 +29,7 @@ returns-in-None-clause-none c =
     first_found c.args.decls.now list marks before found c.in_ok-list.ensures.shapes is
     (subst (λ s. AreHolders s marks) c.as_slice.ensures c.in_ok-marks.ensures)
     c.in_ok-found.ensures None
-    (subst (λ f. IsFirst f None) c.as_slice-3.ensures c.in-None.ensures)
+    (subst (λ f. IsFirstPlaced f None) c.as_slice-3.ensures c.in-None.ensures)
 
 pub returns-clause-refused : goal.returns-clause-refused
 returns-clause-refused c =
@@ -42,4 +42,4 @@ returns-clause-refused c =
     first_found c.args.decls.now list marks before found c.in_ok-list.ensures.shapes is
     (subst (λ s. AreHolders s marks) c.as_slice.ensures c.in_ok-marks.ensures)
     c.in_ok-found.ensures (Some c.in-Some.first)
-    (subst (λ f. IsFirst f (Some c.in-Some.first)) c.as_slice-3.ensures c.in-Some.ensures)
+    (subst (λ f. IsFirstPlaced f (Some c.in-Some.first)) c.as_slice-3.ensures c.in-Some.ensures)

@@ -1,6 +1,6 @@
 use Rattle.std.proofs.Common.{◌≡◌, drop}
 use Rattle.std.specs.List.{flat_map}
-use Rattle.sw_members.specs.Members.{entry_place}
+use Rattle.sw_decl_members.specs.Members.{entry_place}
 use Rattle.sw_decls.specs.Declaring.{entry_key, first_or}
 use Rattle.sw_decls.proofs.declaring.entry_key.Given as goal
 

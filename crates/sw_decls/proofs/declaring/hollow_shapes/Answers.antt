@@ -1,5 +1,5 @@
 use Rattle.std.proofs.Common.{length, ap, sym, subst, ◌∙◌, arith}
-use Rattle.sw_types.specs.Cycles.{IsRefusal}
+use Rattle.sw_types.specs.Cycles.{IsShapeFault}
 use Rattle.sw_types.specs.Held.{AreWithin, edges_of}
 use Rattle.sw_types.specs.Paths.{Path}
 use Rattle.sw_decls.proofs.HollowLemmas.{hollowed_within, length_hollowed, none_holds_itself}
@@ -21,7 +21,7 @@ pub unreachable-requires : goal.unreachable-requires
 unreachable-requires c =
     let number = c.in-Err-Cycle.field-0-0 in
     let fault = c.in-Err-Cycle.field-0-is in
-    let refused = subst (IsRefusal c.in_ok-hollowed.field-0) fault
+    let refused = subst (IsShapeFault c.in_ok-hollowed.field-0) fault
     c.in-Err-Cycle.ensures.refused in
     none_holds_itself c.args.marks.now c.args.list c.requires.marked number
     (subst (λ shapes. Path (edges_of shapes) number number) c.in_ok-hollowed.ensures refused.0)

@@ -1,8 +1,8 @@
 use Rattle.std.proofs.Common.{◌<◌, length, ap, sym, subst, ◌∙◌, arith}
 use Rattle.sw_types.specs.Held.{AreWithin}
-use Rattle.sw_resolve.specs.Evident.{meanings_of}
-use Rattle.sw_resolve.specs.Shaped.{shapes_from}
-use Rattle.sw_resolve.proofs.WithinLemmas.{shapes_few, shapes_within}
+use Rattle.sw_decl_words.specs.Evident.{meanings_of}
+use Rattle.sw_decl_words.specs.Shaped.{shapes_from}
+use Rattle.sw_decl_words.proofs.WithinLemmas.{shapes_few, shapes_within}
 use Rattle.sw_decls.proofs.declaring.made_shapes.Goals as goal
 
 pub returns-clause-within : goal.returns-clause-within

@@ -1,6 +1,6 @@
 use Rattle.std.proofs.Common.{◌≡◌, take}
 use Rattle.std.specs.List.{flat_map}
-use Rattle.sw_resolve.specs.Evident.{tabled}
+use Rattle.sw_decl_words.specs.Evident.{tabled}
 use Rattle.sw_decls.specs.Signatures.{global_of}
 use Rattle.sw_decls.proofs.signature.globals_of.Given as goal
 

@@ -1,4 +1,4 @@
-use Rattle.sw_resolve.proofs.WithinLemmas.{named_within}
+use Rattle.sw_decl_words.proofs.WithinLemmas.{named_within}
 use Rattle.std.proofs.Common.{length}
 use Rattle.sw_decls.proofs.wide.declared_parts.Goals as goal
 

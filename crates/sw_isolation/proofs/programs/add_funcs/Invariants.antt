@@ -1,7 +1,7 @@
 use Rattle.std.proofs.Common.{◌≡◌, ◌++◌, drop}
 use Rattle.std.specs.List.{flat_map}
 use Rattle.sw_typing_rules.specs.Worlds.{world_of}
-use Rattle.sw_noting.specs.capture.Known.{answers_of}
+use Rattle.sw_isolation_table.specs.Known.{answers_of}
 use Rattle.sw_isolation_rules.specs.Programs.{func_notes}
 use Rattle.sw_isolation.proofs.programs.add_funcs.Given as goal
 

@@ -1,6 +1,6 @@
 use Rattle.std.proofs.Common.{◌≡◌, ◌++◌, ◌≤◌, drop}
 use Rattle.sw_typing_rules.specs.Worlds.{world_of}
-use Rattle.sw_noting.specs.capture.Known.{answers_of}
+use Rattle.sw_isolation_table.specs.Known.{answers_of}
 use Rattle.sw_isolation_rules.specs.Programs.{noted, notes_from}
 use Rattle.sw_isolation.proofs.programs.noted.Given as goal
 

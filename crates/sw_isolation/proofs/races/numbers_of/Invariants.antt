@@ -1,6 +1,6 @@
 use Rattle.std.proofs.Common.{◌≡◌, ℕ, drop, nat_eq, option_map}
 use Rattle.indexmap.specs.IndexMap.{get}
-use Rattle.sw_resolve.specs.Words.{or_else}
+use Rattle.sw_decl_words.specs.Words.{or_else}
 use Rattle.sw_types.specs.declared.ty.Ty.TheVariants as types
 use Rattle.sw_isolation_rules.specs.Races.{shape_from}
 use Rattle.sw_isolation.proofs.races.numbers_of.Given as goal

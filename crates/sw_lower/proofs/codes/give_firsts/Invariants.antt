@@ -1,9 +1,9 @@
 use Rattle.std.proofs.Common.{◌≡◌, drop}
-use Rattle.sw_draft.specs.Drafts.{making_of}
-use Rattle.sw_lower_bodies.specs.lower_known.Knowledge.{tables_by}
+use Rattle.sw_lower_draft.specs.Drafts.{making_of}
+use Rattle.sw_lower_known.specs.Knowledge.{tables_by}
 use Rattle.sw_lower_stmt.specs.Giving.{values_given}
-use Rattle.sw_lower_table.specs.Bodies.{first_values, give_value}
-use Rattle.sw_lower_stmt.specs.lower_uses.Gathering.{each_after}
+use Rattle.sw_lower_rules.specs.Bodies.{first_values, give_value}
+use Rattle.sw_lower_uses.specs.Gathering.{each_after}
 use Rattle.sw_lower.proofs.codes.give_firsts.Given as goal
 
 -- what is left to give goes on where the whole would

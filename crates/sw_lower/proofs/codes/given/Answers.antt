@@ -1,12 +1,12 @@
 use Rattle.std.proofs.Common.{ap, sym, ◌∙◌}
 use Rattle.std.specs.Option.{option_copied}
 use Rattle.std.proofs.lemmas.Result.{err_from_is_err_and}
-use Rattle.sw_draft.specs.Drafts.{making_of}
+use Rattle.sw_lower_draft.specs.Drafts.{making_of}
 use Rattle.sw_lower_bodies.specs.Trees.{gives_by}
-use Rattle.sw_lower_bodies.specs.lower_known.Knowledge.{tables_by}
+use Rattle.sw_lower_known.specs.Knowledge.{tables_by}
 use Rattle.sw_lower_stmt.specs.Giving.{values_given}
-use Rattle.sw_lower_table.specs.Bodies.{first_values, give_value}
-use Rattle.sw_lower_stmt.specs.lower_uses.Gathering.{each_after}
+use Rattle.sw_lower_rules.specs.Bodies.{first_values, give_value}
+use Rattle.sw_lower_uses.specs.Gathering.{each_after}
 use Rattle.sw_lower.proofs.Givens.{both_given, first_fails}
 use Rattle.sw_lower.proofs.codes.given.Goals as goal
 

@@ -1,5 +1,5 @@
 use Rattle.std.proofs.Common.{◌≡◌, ◌++◌, drop, Ok}
-use Rattle.sw_lower_run.specs.Run.{Making, run_after}
+use Rattle.sw_lower_plans.specs.Run.{Making, run_after}
 use Rattle.sw_lower_stmt.specs.Giving.{values_given}
 use Rattle.sw_lower.specs.Initialised.{parts_code}
 use Rattle.sw_lower.proofs.codes.parts_given.Given as goal

@@ -1,6 +1,6 @@
 use Rattle.std.proofs.Common.{◌≡◌, drop}
 use Rattle.sw_lower_stmt.specs.Giving.{values_given}
-use Rattle.sw_lower_table.specs.Bodies.{value_of}
+use Rattle.sw_lower_rules.specs.Bodies.{value_of}
 use Rattle.sw_lower.proofs.codes.value_of.Given as goal
 
 -- the values so far are those of other properties

@@ -1,7 +1,7 @@
 use Rattle.std.proofs.Common.{subst}
-use Rattle.sw_lower_bodies.specs.capture.Known.{answers_of}
-use Rattle.sw_lower_bodies.specs.lower_known.Knowledge.{isolation_of}
-use Rattle.sw_lower_table.specs.Bodies.{tables_of}
+use Rattle.sw_isolation_table.specs.Known.{answers_of}
+use Rattle.sw_lower_known.specs.Knowledge.{isolation_of}
+use Rattle.sw_lower_rules.specs.Bodies.{tables_of}
 use Rattle.sw_typing_rules.specs.Worlds.{world_of}
 use Rattle.sw_lower.specs.Lowered.{IsMadeOf}
 use Rattle.sw_lower.proofs.lowering.lower.Goals as goal

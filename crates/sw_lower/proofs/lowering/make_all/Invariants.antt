@@ -1,5 +1,5 @@
 use Rattle.std.proofs.Common.{◌≡◌, ◌++◌, [], All, drop, map, take}
-use Rattle.sw_lower_table.specs.Bodies.{too_large_in}
+use Rattle.sw_lower_rules.specs.Bodies.{too_large_in}
 use Rattle.sw_lower.specs.Lowered.{EndsWell, function_by}
 use Rattle.sw_lower.proofs.lowering.make_all.Given as goal
 

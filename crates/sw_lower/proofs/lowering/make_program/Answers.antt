@@ -1,16 +1,16 @@
 use Rattle.std.proofs.Common.{◌≡◌, List, Some, All, ap, map, subst, ◌∙◌}
 use Rattle.std.specs.List.Sorted.{IsPermutation}
 use Rattle.sw_decls.specs.declared.signature.GlobalVar.{GlobalVar}
-use Rattle.sw_draft.specs.Drafts.{number_by}
-use Rattle.sw_lower_run.specs.Plan.{Numbers}
-use Rattle.sw_lower_run.specs.declared.name.FunctionName.{FunctionName}
+use Rattle.sw_lower_draft.specs.Drafts.{number_by}
+use Rattle.sw_lower_plans.specs.Plan.{Numbers}
+use Rattle.sw_lower_plans.specs.declared.name.FunctionName.{FunctionName}
 use Rattle.sw_lower_bodies.specs.Trees.{bodies_by}
-use Rattle.sw_lower_bodies.specs.lower_known.Knowledge.{tables_by}
-use Rattle.sw_lower_table.specs.Bodies.{entry_key}
-use Rattle.sw_lower_table.specs.Tables.{number_in, plain}
+use Rattle.sw_lower_known.specs.Knowledge.{tables_by}
+use Rattle.sw_lower_rules.specs.Bodies.{entry_key}
+use Rattle.sw_lower_rules.specs.Tables.{number_in, plain}
 use Rattle.sw_typing_rules.specs.Worlds.{and_then}
 use Rattle.sw_lower.specs.Ordered.{AreFound, tree_name}
-use Rattle.sw_lower_table.specs.Bodies.{starts_in}
+use Rattle.sw_lower_rules.specs.Bodies.{starts_in}
 use Rattle.sw_lower.specs.Lowered.{EndsWell, HasMade, function_by}
 use Rattle.sw_lower.proofs.Numbered.{bodies_found}
 use Rattle.sw_lower.proofs.Programs.{bodies_end, bodies_moved, functions_are, order_kept}

@@ -1,8 +1,8 @@
 use Rattle.std.proofs.Common.{ap, length, map, ◌∙◌}
-use Rattle.sw_draft.specs.Drafts.{making_of, number_by}
+use Rattle.sw_lower_draft.specs.Drafts.{making_of, number_by}
 use Rattle.sw_lower_bodies.specs.Trees.{body_by}
 use Rattle.sw_lower_code.specs.declared.taken.Taken.{Taken}
-use Rattle.sw_lower_bodies.specs.lower_known.Knowledge.{tables_by}
+use Rattle.sw_lower_known.specs.Knowledge.{tables_by}
 use Rattle.sw_lower.proofs.Finishing.{finishes}
 use Rattle.sw_lower.proofs.making.made.Goals as goal
 

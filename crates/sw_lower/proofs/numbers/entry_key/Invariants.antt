@@ -1,5 +1,5 @@
 use Rattle.std.proofs.Common.{◌≡◌, drop}
-use Rattle.sw_lower_table.specs.Bodies.{entry_key}
+use Rattle.sw_lower_rules.specs.Bodies.{entry_key}
 use Rattle.sw_lower.proofs.numbers.entry_key.Given as goal
 
 -- no entry is among the declarations before this one

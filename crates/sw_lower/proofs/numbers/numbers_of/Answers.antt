@@ -1,8 +1,8 @@
 use Rattle.std.proofs.Common.{ap, arith, map, sym, ◌∙◌}
 use Rattle.std.proofs.lemmas.List.{at_drop_all, length-map}
-use Rattle.sw_draft.specs.Drafts.{number_by}
-use Rattle.sw_lower_table.specs.Tables.{number_from}
-use Rattle.sw_resolve.specs.Words.{or_else}
+use Rattle.sw_lower_draft.specs.Drafts.{number_by}
+use Rattle.sw_lower_rules.specs.Tables.{number_from}
+use Rattle.sw_decl_words.specs.Words.{or_else}
 use Rattle.sw_lower.specs.Ordered.{tree_name}
 use Rattle.sw_lower.proofs.Numbered.{all_found, found_next, name_at, noted_next}
 use Rattle.sw_lower.proofs.Programs.{or_else-none}

@@ -1,8 +1,8 @@
 use Rattle.std.proofs.Common.{◌≡◌, drop, map}
-use Rattle.sw_draft.specs.Drafts.{number_by}
-use Rattle.sw_lower_run.specs.declared.name.FunctionName.{FunctionName}
-use Rattle.sw_lower_table.specs.Tables.{number_from, number_in}
-use Rattle.sw_resolve.specs.Words.{or_else}
+use Rattle.sw_lower_draft.specs.Drafts.{number_by}
+use Rattle.sw_lower_plans.specs.declared.name.FunctionName.{FunctionName}
+use Rattle.sw_lower_rules.specs.Tables.{number_from, number_in}
+use Rattle.sw_decl_words.specs.Words.{or_else}
 use Rattle.sw_lower.specs.Ordered.{tree_name}
 use Rattle.sw_lower.proofs.Numbered.{AreFoundBelow}
 use Rattle.sw_lower.proofs.numbers.numbers_of.Given as goal

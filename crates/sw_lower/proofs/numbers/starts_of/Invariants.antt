@@ -1,6 +1,6 @@
 use Rattle.std.proofs.Common.{◌≡◌, ◌++◌, Some, drop, map}
-use Rattle.sw_draft.specs.Drafts.{number_by}
-use Rattle.sw_lower_table.specs.Bodies.{starts_in}
+use Rattle.sw_lower_draft.specs.Drafts.{number_by}
+use Rattle.sw_lower_rules.specs.Bodies.{starts_in}
 use Rattle.sw_lower.proofs.numbers.starts_of.Given as goal
 
 -- what was found so far, with what is left to find, is the whole

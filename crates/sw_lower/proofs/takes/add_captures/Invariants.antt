@@ -1,6 +1,6 @@
 use Rattle.std.proofs.Common.{◌≡◌, ◌++◌, drop, map}
-use Rattle.sw_lower_bodies.specs.lower_known.Knowledge.{tables_by}
-use Rattle.sw_lower_table.specs.Expressions.{capture_taken}
+use Rattle.sw_lower_known.specs.Knowledge.{tables_by}
+use Rattle.sw_lower_rules.specs.Expressions.{capture_taken}
 use Rattle.sw_lower.proofs.takes.add_captures.Given as goal
 
 -- what was added so far, with what is left to add, is the whole

@@ -1,5 +1,5 @@
 use Rattle.std.proofs.Common.{◌≡◌, drop}
-use Rattle.sw_draft.specs.Drafts.{making_of}
+use Rattle.sw_lower_draft.specs.Drafts.{making_of}
 use Rattle.sw_lower_code.specs.Code.{all}
 use Rattle.sw_lower_code.specs.Whole.{enter}
 use Rattle.sw_lower.proofs.takes.enter_all.Given as goal

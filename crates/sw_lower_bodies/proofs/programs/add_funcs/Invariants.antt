@@ -3,7 +3,7 @@ use Rattle.std.proofs.Common.{◌≡◌, ◌++◌, drop}
 use Rattle.std.specs.List.{flat_map}
 use Rattle.sw_lower_bodies.specs.Trees.{bodies_by}
 use Rattle.sw_lower_known.specs.Knowledge.{tables_by}
-use Rattle.sw_lower_table.specs.Bodies.{func_tree_bodies}
+use Rattle.sw_lower_rules.specs.Bodies.{func_tree_bodies}
 use Rattle.sw_lower_bodies.proofs.programs.add_funcs.Given as goal
 
 abbrev pub invariant-loop-func : goal.invariant-loop-func

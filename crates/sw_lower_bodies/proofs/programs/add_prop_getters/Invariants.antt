@@ -2,7 +2,7 @@
 use Rattle.std.proofs.Common.{◌≡◌, ◌++◌, drop}
 use Rattle.sw_lower_bodies.specs.Trees.{bodies_by}
 use Rattle.sw_lower_known.specs.Knowledge.{tables_by}
-use Rattle.sw_lower_table.specs.Bodies.{prop_getters}
+use Rattle.sw_lower_rules.specs.Bodies.{prop_getters}
 use Rattle.sw_lower_bodies.proofs.programs.add_prop_getters.Given as goal
 
 abbrev pub invariant-loop-index : goal.invariant-loop-index

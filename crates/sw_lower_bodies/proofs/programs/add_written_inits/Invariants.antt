@@ -3,7 +3,7 @@ use Rattle.std.proofs.Common.{◌≡◌, ◌++◌, drop}
 use Rattle.std.specs.List.{flat_map}
 use Rattle.sw_lower_bodies.specs.Trees.{bodies_by}
 use Rattle.sw_lower_known.specs.Knowledge.{tables_by}
-use Rattle.sw_lower_table.specs.Bodies.{init_bodies}
+use Rattle.sw_lower_rules.specs.Bodies.{init_bodies}
 use Rattle.sw_lower_bodies.proofs.programs.add_written_inits.Given as goal
 
 abbrev pub invariant-loop-init : goal.invariant-loop-init

@@ -2,7 +2,7 @@
 use Rattle.std.proofs.Common.{◌≡◌, ◌++◌, ◌≤◌, drop}
 use Rattle.sw_lower_bodies.specs.Trees.{bodies_by}
 use Rattle.sw_lower_known.specs.Knowledge.{tables_by}
-use Rattle.sw_lower_table.specs.Bodies.{bodies_from, program_bodies}
+use Rattle.sw_lower_rules.specs.Bodies.{bodies_from, program_bodies}
 use Rattle.sw_lower_bodies.proofs.programs.bodies_of.Given as goal
 
 abbrev pub invariant-loop-decl : goal.invariant-loop-decl

@@ -1,5 +1,5 @@
 use Rattle.std.proofs.Common.{◌∙◌, sym}
-use Rattle.sw_lower_table.proofs.CodedKeys.{coded_key}
+use Rattle.sw_lower_rules.proofs.CodedKeys.{coded_key}
 use Rattle.sw_lower_expr.proofs.keys.key_of.Goals as goal
 
 pub returns : goal.returns

@@ -1,8 +1,8 @@
 -- What the other arguments give, after what was given, is the whole, and so with operators.
 use Rattle.std.proofs.Common.{◌≡◌, drop}
-use Rattle.sw_draft.specs.Drafts.{making_of}
-use Rattle.sw_lower_uses.specs.lower_known.Knowledge.{tables_by}
-use Rattle.sw_lower_table.specs.Expressions.{args_read, links_read}
+use Rattle.sw_lower_draft.specs.Drafts.{making_of}
+use Rattle.sw_lower_known.specs.Knowledge.{tables_by}
+use Rattle.sw_lower_rules.specs.Expressions.{args_read, links_read}
 use Rattle.sw_lower_uses.specs.Gathering.{each_after}
 use Rattle.sw_lower_expr.specs.Walked.{arg_codes, arg_value, link_codes, links_run}
 use Rattle.sw_lower_expr.proofs.walk.+walk.Given as goal

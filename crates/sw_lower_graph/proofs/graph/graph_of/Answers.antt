@@ -1,8 +1,8 @@
 use Rattle.std.proofs.Common.{map, arith, ap, subst, sym, ◌∙◌}
 use Rattle.sw_tree.specs.Contents.{AreKeyed}
 use Rattle.sw_graph.specs.WellFormed.{IsWellFormed}
-use Rattle.sw_lower.specs.lower_known.Knowledge.{isolation_of}
-use Rattle.sw_lower_table.specs.Bodies.{global_kind}
+use Rattle.sw_lower_known.specs.Knowledge.{isolation_of}
+use Rattle.sw_lower_rules.specs.Bodies.{global_kind}
 use Rattle.sw_lower_graph.proofs.graph.graph_of.Goals as goal
 
 pub new-requires : goal.new-requires

@@ -1,5 +1,5 @@
 use Rattle.std.proofs.Common.{◌≡◌, ◌++◌, drop, map}
-use Rattle.sw_lower_table.specs.Bodies.{global_kind}
+use Rattle.sw_lower_rules.specs.Bodies.{global_kind}
 use Rattle.sw_lower_graph.proofs.graph.kinds_of.Given as goal
 
 -- the kinds so far, with those that are left, are all

@@ -1,7 +1,7 @@
 use Rattle.std.proofs.Common.{map, subst, sym}
 use Rattle.sw_graph.specs.WellFormed.{IsWellFormed}
 use Rattle.sw_typing_rules.specs.Worlds.{world_of}
-use Rattle.sw_lower_table.specs.Bodies.{AreOrdered, global_kind, tables_of}
+use Rattle.sw_lower_rules.specs.Bodies.{AreOrdered, global_kind, tables_of}
 use Rattle.sw_lower_graph.proofs.graph.lowerings_are_well_formed.Goals as goal
 
 pub returns : goal.returns

@@ -1,7 +1,7 @@
 use Rattle.std.proofs.Common.{◌≡◌, ℕ, drop, nat_eq}
 use Rattle.indexmap.specs.IndexMap.{get}
-use Rattle.sw_resolve.specs.Words.{or_else}
-use Rattle.sw_lower_table.specs.Tables.{body_with}
+use Rattle.sw_decl_words.specs.Words.{or_else}
+use Rattle.sw_lower_rules.specs.Tables.{body_with}
 use Rattle.sw_lower_known.proofs.tables.isolations_of.Given as goal
 
 -- the bodies so far, or else those that are left

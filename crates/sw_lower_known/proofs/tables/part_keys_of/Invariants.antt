@@ -1,5 +1,5 @@
 use Rattle.std.proofs.Common.{◌≡◌, ◌++◌, drop, flat_map}
-use Rattle.sw_lower_table.specs.Tables.{shape_keys}
+use Rattle.sw_lower_rules.specs.Tables.{shape_keys}
 use Rattle.sw_lower_known.proofs.tables.part_keys_of.Given as goal
 
 -- the keys so far, and those of the declarations that are left

@@ -1,5 +1,5 @@
 use Rattle.std.proofs.Common.{◌≡◌, ◌++◌, drop}
-use Rattle.sw_lower_table.specs.Tables.{prop_keys}
+use Rattle.sw_lower_rules.specs.Tables.{prop_keys}
 use Rattle.sw_lower_known.proofs.tables.prop_keys.Given as goal
 
 -- the keys so far, and those of the properties that are left

@@ -1,6 +1,6 @@
 use Rattle.std.proofs.Common.{sym}
 use Rattle.std.proofs.lemmas.Result.{err_from_is_err_and}
-use Rattle.sw_draft.specs.Drafts.{making_of}
+use Rattle.sw_lower_draft.specs.Drafts.{making_of}
 use Rattle.sw_lower_stmt.proofs.Loops.{each_ends, each_fails, each_next, next_item}
 use Rattle.sw_lower_stmt.proofs.Loops.{no_item}
 use Rattle.sw_lower_stmt.specs.Parts.{arm_number}

@@ -1,9 +1,9 @@
 -- What was made so far, with what is left to make, is the whole.
 use Rattle.std.proofs.Common.{◌≡◌, drop}
-use Rattle.sw_draft.specs.Drafts.{making_of}
+use Rattle.sw_lower_draft.specs.Drafts.{making_of}
 use Rattle.sw_lower_code.specs.Code.{each}
 use Rattle.sw_lower_stmt.specs.Parts.{arm_number}
-use Rattle.sw_lower_expr.specs.lower_uses.Gathering.{each_after}
+use Rattle.sw_lower_uses.specs.Gathering.{each_after}
 use Rattle.sw_lower_stmt.proofs.cases.arm_numbers.Given as goal
 
 abbrev pub invariant-loop-arm : goal.invariant-loop-arm

@@ -1,5 +1,5 @@
 use Rattle.std.proofs.Common.{◌≡◌, drop}
-use Rattle.sw_lower_table.specs.Statements.{case_from}
+use Rattle.sw_lower_rules.specs.Statements.{case_from}
 use Rattle.sw_lower_stmt.proofs.cases.case_number.Given as goal
 
 abbrev pub invariant-loop-number : goal.invariant-loop-number

@@ -5,10 +5,10 @@ use Rattle.sw_tree.specs.declared.stmt.CaseArm.{CaseArm}
 use Rattle.sw_graph.specs.declared.instr.Last.TheVariants as last
 use Rattle.sw_graph.specs.declared.instr.Operand.{Operand}
 use Rattle.sw_types.specs.declared.shape.Shape.{Shape}
-use Rattle.sw_draft.specs.Drafts.{making_of}
-use Rattle.sw_lower_run.specs.Run.{Making, run_block, run_close}
+use Rattle.sw_lower_draft.specs.Drafts.{making_of}
+use Rattle.sw_lower_plans.specs.Run.{Making, run_block, run_close}
 use Rattle.sw_lower_code.specs.Code.{block_for, close, done, each, ◌>>◌}
-use Rattle.sw_lower_table.specs.Expressions.{block_made}
+use Rattle.sw_lower_rules.specs.Expressions.{block_made}
 use Rattle.sw_lower_stmt.proofs.Loops.{given_then}
 use Rattle.sw_lower_stmt.specs.Parts.{arm_number, blocks_opened, default_number, goes_to}
 use Rattle.sw_lower_stmt.specs.declared.cases.OpenSwitch.{OpenSwitch}

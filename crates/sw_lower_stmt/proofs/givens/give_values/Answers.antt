@@ -1,6 +1,6 @@
 use Rattle.std.proofs.lemmas.Result.{err_from_is_err_and}
-use Rattle.sw_draft.specs.Drafts.{making_of}
-use Rattle.sw_lower_expr.specs.lower_known.Knowledge.{tables_by}
+use Rattle.sw_lower_draft.specs.Drafts.{making_of}
+use Rattle.sw_lower_known.specs.Knowledge.{tables_by}
 use Rattle.sw_lower_stmt.proofs.GivenValues.{block_gives, gives_end, gives_fail, gives_next}
 use Rattle.sw_lower_stmt.specs.Giving.{values_given}
 use Rattle.sw_lower_stmt.proofs.givens.give_values.Goals as goal

@@ -1,9 +1,9 @@
 -- What is left to give from here is what there was to give.
 use Rattle.std.proofs.Common.{◌≡◌, drop}
-use Rattle.sw_draft.specs.Drafts.{making_of}
-use Rattle.sw_lower_expr.specs.lower_known.Knowledge.{tables_by}
-use Rattle.sw_lower_table.specs.Bodies.{give_value}
-use Rattle.sw_lower_expr.specs.lower_uses.Gathering.{each_after}
+use Rattle.sw_lower_draft.specs.Drafts.{making_of}
+use Rattle.sw_lower_known.specs.Knowledge.{tables_by}
+use Rattle.sw_lower_rules.specs.Bodies.{give_value}
+use Rattle.sw_lower_uses.specs.Gathering.{each_after}
 use Rattle.sw_lower_stmt.specs.Giving.{values_given}
 use Rattle.sw_lower_stmt.specs.Parts.{gives_of}
 use Rattle.sw_lower_stmt.proofs.givens.give_values.Given as goal

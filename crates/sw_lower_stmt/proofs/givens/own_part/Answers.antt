@@ -4,9 +4,9 @@ use Rattle.sw_tree.proofs.FoldEquations as eq
 use Rattle.sw_tree.specs.declared.expr.Expr.{Expr}
 use Rattle.sw_tree.specs.declared.expr.Expr.TheVariants as exprs
 use Rattle.sw_tree.specs.declared.name.Name.{Name}
-use Rattle.sw_lower_table.specs.Expressions.{own_part_of}
-use Rattle.sw_lower_table.specs.Statements.{code_steps, expr_code}
-use Rattle.sw_lower_table.specs.Tables.{Tables}
+use Rattle.sw_lower_rules.specs.Expressions.{own_part_of}
+use Rattle.sw_lower_rules.specs.Statements.{code_steps, expr_code}
+use Rattle.sw_lower_rules.specs.Tables.{Tables}
 use Rattle.sw_lower_stmt.proofs.givens.own_part.Goals as goal
 
 member_part : (tables : Tables) (owner : Option ℕ) (tree base part : Expr) (name : Name)

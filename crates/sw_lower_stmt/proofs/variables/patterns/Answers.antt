@@ -1,6 +1,6 @@
 use Rattle.std.proofs.lemmas.Result.{err_from_is_err_and}
-use Rattle.sw_draft.specs.Drafts.{making_of}
-use Rattle.sw_lower_expr.specs.lower_known.Knowledge.{tables_by}
+use Rattle.sw_lower_draft.specs.Drafts.{making_of}
+use Rattle.sw_lower_known.specs.Knowledge.{tables_by}
 use Rattle.sw_lower_stmt.proofs.Patterns.{patterns_end, patterns_fail, patterns_next}
 use Rattle.sw_lower_stmt.proofs.variables.patterns.Goals as goal
 

@@ -1,8 +1,8 @@
 -- What is left to do from here is what there was to do.
 use Rattle.std.proofs.Common.{◌≡◌, drop}
-use Rattle.sw_draft.specs.Drafts.{making_of}
-use Rattle.sw_lower_expr.specs.lower_known.Knowledge.{tables_by}
-use Rattle.sw_lower_table.specs.Statements.{patterns_code}
+use Rattle.sw_lower_draft.specs.Drafts.{making_of}
+use Rattle.sw_lower_known.specs.Knowledge.{tables_by}
+use Rattle.sw_lower_rules.specs.Statements.{patterns_code}
 use Rattle.sw_lower_stmt.proofs.variables.patterns.Given as goal
 
 abbrev pub invariant-loop-number : goal.invariant-loop-number

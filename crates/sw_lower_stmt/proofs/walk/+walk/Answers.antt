@@ -2,10 +2,10 @@ use Rattle.std.proofs.Common.{◌≡◌, ◌⊎◌, ◌∙◌, ap, inl, inr, len
 use Rattle.std.proofs.lemmas.Result.{err_from_is_err_and}
 use Rattle.std.specs.Iterator.Adapters.{zip_first, zip_second}
 use Rattle.std.specs.Slice.Iter.{iter_rest}
-use Rattle.sw_draft.specs.Drafts.{making_of}
-use Rattle.sw_lower_expr.specs.lower_known.Knowledge.{tables_by}
-use Rattle.sw_lower_table.specs.Carriers.{StmtCode}
-use Rattle.sw_lower_table.specs.Statements.{arm_code, default_code, else_code, stmt_code}
+use Rattle.sw_lower_draft.specs.Drafts.{making_of}
+use Rattle.sw_lower_known.specs.Knowledge.{tables_by}
+use Rattle.sw_lower_rules.specs.Carriers.{StmtCode}
+use Rattle.sw_lower_rules.specs.Statements.{arm_code, default_code, else_code, stmt_code}
 use Rattle.sw_lower_code.specs.Code.{all, each, resume}
 use Rattle.sw_lower_stmt.proofs.CaseArms.{next_numbered, none_numbered}
 use Rattle.sw_lower_stmt.proofs.Loops.{all_ends, all_fails, all_next, each_ends, each_fails}

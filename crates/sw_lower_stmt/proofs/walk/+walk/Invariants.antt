@@ -2,12 +2,12 @@
 use Rattle.std.proofs.Common.{◌≡◌, drop}
 use Rattle.std.specs.Iterator.Adapters.{zip_first, zip_second}
 use Rattle.std.specs.Slice.Iter.{iter_rest}
-use Rattle.sw_draft.specs.Drafts.{making_of}
+use Rattle.sw_lower_draft.specs.Drafts.{making_of}
 use Rattle.sw_lower_code.specs.Code.{all, each}
-use Rattle.sw_lower_expr.specs.lower_known.Knowledge.{tables_by}
-use Rattle.sw_lower_table.specs.Carriers.{StmtCode}
-use Rattle.sw_lower_table.specs.Statements.{arm_code}
-use Rattle.sw_lower_expr.specs.lower_uses.Gathering.{each_after}
+use Rattle.sw_lower_known.specs.Knowledge.{tables_by}
+use Rattle.sw_lower_rules.specs.Carriers.{StmtCode}
+use Rattle.sw_lower_rules.specs.Statements.{arm_code}
+use Rattle.sw_lower_uses.specs.Gathering.{each_after}
 use Rattle.sw_lower_stmt.specs.Parts.{arm_opened, if_codes, numbered, stmt_codes}
 use Rattle.sw_lower_stmt.proofs.walk.+walk.Given as goal
 

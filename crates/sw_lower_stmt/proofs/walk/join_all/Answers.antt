@@ -1,5 +1,5 @@
 use Rattle.std.proofs.lemmas.Result.{err_from_is_err_and}
-use Rattle.sw_draft.specs.Drafts.{making_of}
+use Rattle.sw_lower_draft.specs.Drafts.{making_of}
 use Rattle.sw_lower_stmt.proofs.Arms.{joins_end, joins_fail, joins_next}
 use Rattle.sw_lower_stmt.proofs.walk.join_all.Goals as goal
 

@@ -1,6 +1,6 @@
 -- What is left to do from here is what there was to do.
 use Rattle.std.proofs.Common.{◌≡◌, length}
-use Rattle.sw_draft.specs.Drafts.{making_of}
+use Rattle.sw_lower_draft.specs.Drafts.{making_of}
 use Rattle.sw_lower_stmt.specs.Parts.{joined_all}
 use Rattle.sw_lower_stmt.proofs.walk.join_all.Given as goal
 

@@ -1,9 +1,9 @@
 -- What the other captures give, after what was given, is the whole.
 use Rattle.std.proofs.Common.{◌≡◌, drop}
-use Rattle.sw_draft.specs.Drafts.{making_of}
+use Rattle.sw_lower_draft.specs.Drafts.{making_of}
 use Rattle.sw_lower_code.specs.Code.{each}
 use Rattle.sw_lower_known.specs.Knowledge.{tables_by}
-use Rattle.sw_lower_table.specs.Uses.{capture}
+use Rattle.sw_lower_rules.specs.Uses.{capture}
 use Rattle.sw_lower_uses.specs.Gathering.{each_after}
 use Rattle.sw_lower_uses.proofs.capturing.captures.Given as goal
 

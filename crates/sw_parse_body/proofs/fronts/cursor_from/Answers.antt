@@ -2,7 +2,7 @@ use Rattle.std.proofs.Common.{◌-◌, length, drop, ◌∙◌, arith}
 use Rattle.std.proofs.lemmas.List.Elements.{All-take, All-drop}
 use Rattle.sw_token.proofs.TokenLaws.{IsTokens-few}
 use Rattle.sw_token.specs.Spelling.{IsReadable}
-use Rattle.sw_reader.proofs.TokensSpelled.{tokens_readable, tokens_spelled}
+use Rattle.sw_grammar_forms.proofs.TokensSpelled.{tokens_readable, tokens_spelled}
 use Rattle.sw_parse_body.proofs.FrontSteps.{from_spelled}
 use Rattle.sw_parse_body.proofs.fronts.cursor_from.Goals as goal
 

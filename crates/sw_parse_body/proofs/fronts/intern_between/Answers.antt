@@ -5,9 +5,9 @@ use Rattle.std.proofs.lemmas.Result.{on_err_weaker}
 use Rattle.std.specs.Prelude.{OnOk}
 use Rattle.sw_token.proofs.TokenLaws.{IsTokens-few}
 use Rattle.sw_token.specs.Spelling.{IsReadable, spelled, spelling_of}
-use Rattle.sw_reader.proofs.TokensSpelled.{tokens_readable}
+use Rattle.sw_grammar_forms.proofs.TokensSpelled.{tokens_readable}
 use Rattle.sw_tree.specs.Names.{with_texts}
-use Rattle.sw_grammar_keys.specs.Interned.{texts_in}
+use Rattle.sw_grammar_facts.specs.Interned.{texts_in}
 use Rattle.sw_parse_body.proofs.FrontSteps.{between_spelled, some_between}
 use Rattle.sw_parse_body.proofs.fronts.intern_between.Goals as goal
 

@@ -1,5 +1,5 @@
 use Rattle.std.proofs.Common.{◌++◌, sym, ◌∙◌, refl, codes}
-use Rattle.sw_reader.specs.Sets.{quoted, not_first}
+use Rattle.sw_grammar_forms.specs.Sets.{quoted, not_first}
 use Rattle.sw_grammar.specs.Tokens.{expr_ext}
 use Rattle.sw_grammar.specs.Exprs.{operators}
 use Rattle.sw_parse_parts.proofs.BeginSets.{joined_left, joined_right}

@@ -1,5 +1,5 @@
 use Rattle.std.proofs.Common.{codes, refl, sym, ◌∙◌}
-use Rattle.sw_reader.specs.Sets.{quoted}
+use Rattle.sw_grammar_forms.specs.Sets.{quoted}
 use Rattle.sw_tree.specs.Names.{id_in}
 use Rattle.sw_parse_decl.proofs.MarkSteps.{mark_gives}
 use Rattle.sw_parse_decl.proofs.decls.global_actor_mark.Goals as goal

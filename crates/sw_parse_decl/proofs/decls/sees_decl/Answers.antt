@@ -1,6 +1,6 @@
 use Rattle.std.proofs.Common.{◌∙◌, refl, codes, [], ◌∷◌, ◌++◌}
-use Rattle.sw_reader.specs.Relations.{head}
-use Rattle.sw_reader.specs.Sets.{Set, one_of}
+use Rattle.sw_grammar_forms.specs.Relations.{head}
+use Rattle.sw_grammar_forms.specs.Sets.{Set, one_of}
 use Rattle.sw_grammar.specs.Tokens.{at_word}
 use Rattle.sw_grammar.specs.Decls.{decl_first}
 use Rattle.sw_parse_decl.proofs.DeclSets.{of_first, of_second, starts-same}

@@ -1,9 +1,9 @@
 use Rattle.std.proofs.Common.{◌≡◌, sym, ◌∙◌, ap, refl, codes, not, ◌&&◌, [], ◌∷◌}
 use Rattle.std.specs.Prelude.{Option}
 use Rattle.sw_token.specs.Spelling.{Spelled}
-use Rattle.sw_reader.specs.Relations.{head}
-use Rattle.sw_reader.specs.Sets.{Set, starts, one_of}
-use Rattle.sw_reader.proofs.KindSets.{starts-without}
+use Rattle.sw_grammar_forms.specs.Relations.{head}
+use Rattle.sw_grammar_forms.specs.Sets.{Set, starts, one_of}
+use Rattle.sw_grammar_forms.proofs.KindSets.{starts-without}
 use Rattle.sw_grammar.specs.Tokens.{at_word, plain_at_word}
 use Rattle.sw_parse_decl.proofs.decls.sees_plain_mark.Goals as goal
 

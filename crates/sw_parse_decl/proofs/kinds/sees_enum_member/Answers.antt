@@ -1,6 +1,6 @@
 use Rattle.std.proofs.Common.{codes}
-use Rattle.sw_reader.specs.Relations.{head}
-use Rattle.sw_reader.specs.Sets.{quoted}
+use Rattle.sw_grammar_forms.specs.Relations.{head}
+use Rattle.sw_grammar_forms.specs.Sets.{quoted}
 use Rattle.sw_grammar.specs.Nests.{method_first}
 use Rattle.sw_parse_decl.proofs.DeclSets.{of_first, of_second}
 use Rattle.sw_parse_decl.proofs.kinds.sees_enum_member.Goals as goal

@@ -1,6 +1,6 @@
 use Rattle.std.proofs.Common.{codes, [], ◌∷◌}
-use Rattle.sw_reader.specs.Relations.{head}
-use Rattle.sw_reader.specs.Sets.{one_of}
+use Rattle.sw_grammar_forms.specs.Relations.{head}
+use Rattle.sw_grammar_forms.specs.Sets.{one_of}
 use Rattle.sw_grammar.specs.Tokens.{at_word}
 use Rattle.sw_parse_decl.proofs.DeclSets.{of_first, of_second}
 use Rattle.sw_parse_decl.proofs.kinds.sees_method.Goals as goal

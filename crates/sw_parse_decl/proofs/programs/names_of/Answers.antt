@@ -1,6 +1,6 @@
 use Rattle.std.proofs.Common.{◌∙◌, ap, length, arith}
 use Rattle.sw_tree.specs.Names.{with_texts}
-use Rattle.sw_grammar_keys.specs.Interned.{texts_in}
+use Rattle.sw_grammar_facts.specs.Interned.{texts_in}
 use Rattle.sw_parse_decl.specs.Programs.{texts_of}
 use Rattle.sw_parse_decl.proofs.InternSteps.{predeclared_few}
 use Rattle.sw_parse_decl.proofs.programs.names_of.Goals as goal

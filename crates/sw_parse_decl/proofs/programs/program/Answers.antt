@@ -3,10 +3,10 @@ use Rattle.std.proofs.lemmas.List.{length-map}
 use Rattle.std.specs.Prelude.{Err}
 use Rattle.sw_token.proofs.TokenLaws.{IsTokens-few}
 use Rattle.sw_token.specs.Spelling.{spelled, spelling_of}
-use Rattle.sw_reader.specs.Reader.Fault.{unexpected, too_deep}
-use Rattle.sw_reader.specs.Outcome.{Gives}
-use Rattle.sw_reader.specs.declared.stop.Stop.TheVariants as stops
-use Rattle.sw_reader.proofs.TokensSpelled.{tokens_spelled, tokens_readable}
+use Rattle.sw_grammar_forms.specs.Reader.Fault.{unexpected, too_deep}
+use Rattle.sw_grammar_forms.specs.Outcome.{Gives}
+use Rattle.sw_grammar_forms.specs.declared.stop.Stop.TheVariants as stops
+use Rattle.sw_grammar_forms.proofs.TokensSpelled.{tokens_spelled, tokens_readable}
 use Rattle.sw_tree.specs.Contents.{AreNamed}
 use Rattle.sw_tree.specs.Names.{id_in}
 use Rattle.sw_parse_decl.specs.Programs.{texts_of, whole_program, IsProgramOf, IsSyntaxFault}

@@ -1,5 +1,5 @@
 use Rattle.std.proofs.Common.{codes}
-use Rattle.sw_reader.specs.Quotes.{quote}
+use Rattle.sw_grammar_forms.specs.Quotes.{quote}
 use Rattle.sw_tree.specs.Names.{id_in}
 use Rattle.sw_grammar.specs.Nests.Nest.{in_enum}
 use Rattle.sw_parse_decl.specs.Members.{collected}

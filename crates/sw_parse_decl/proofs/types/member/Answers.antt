@@ -1,5 +1,5 @@
 use Rattle.std.proofs.Common.{sym, subst}
-use Rattle.sw_reader.specs.Outcome.{Gives}
+use Rattle.sw_grammar_forms.specs.Outcome.{Gives}
 use Rattle.sw_tree.specs.Names.{id_in}
 use Rattle.sw_grammar.specs.Reading.{read}
 use Rattle.sw_parse_decl.specs.Kinds.{member_of}

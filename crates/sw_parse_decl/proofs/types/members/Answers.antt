@@ -1,7 +1,7 @@
 use Rattle.std.proofs.Common.{sym, ◌∙◌, refl, []}
 use Rattle.std.proofs.lemmas.Result.{err_from_is_err_and}
 use Rattle.sw_tree.specs.Names.{id_in}
-use Rattle.sw_reader.proofs.ItemLoops.{refuses}
+use Rattle.sw_grammar_forms.proofs.ItemLoops.{refuses}
 use Rattle.sw_parse_decl.proofs.MemberLoops.{stops_at_start, stops_at_member, one_turn, shorter}
 use Rattle.sw_parse_decl.proofs.MemberLoops.{all_read}
 use Rattle.sw_parse_decl.proofs.types.members.Goals as goal

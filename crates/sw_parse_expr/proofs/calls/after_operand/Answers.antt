@@ -1,6 +1,6 @@
 use Rattle.std.proofs.Common.{◌∙◌, sym, arith}
 use Rattle.std.proofs.lemmas.Result.{err_from_is_err_and}
-use Rattle.sw_reader.proofs.ItemLoops.{refuses}
+use Rattle.sw_grammar_forms.proofs.ItemLoops.{refuses}
 use Rattle.sw_tree.specs.Names.{id_in}
 use Rattle.sw_parse_expr.proofs.MemberSteps.{members_end, stops_at_dot, member_turn}
 use Rattle.sw_parse_expr.proofs.MemberSteps.{stops_at_member}

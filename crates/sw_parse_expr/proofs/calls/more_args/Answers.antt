@@ -1,6 +1,6 @@
 use Rattle.std.proofs.Common.{◌∙◌, ap, codes, refl}
 use Rattle.std.specs.Prelude.{Ok}
-use Rattle.sw_reader.proofs.ListLoops.{list_turn, list_shorter}
+use Rattle.sw_grammar_forms.proofs.ListLoops.{list_turn, list_shorter}
 use Rattle.sw_tree.specs.Names.{id_in}
 use Rattle.sw_grammar.specs.Grammar.{body, good}
 use Rattle.sw_grammar.specs.Nests.{El, shape_of}

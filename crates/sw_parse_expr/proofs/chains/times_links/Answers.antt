@@ -2,7 +2,7 @@ use Rattle.std.proofs.Common.{refl, sym, ◌∙◌, ap, codes}
 use Rattle.std.proofs.lemmas.Result.{err_from_is_err_and}
 use Rattle.std.specs.Prelude.{Ok}
 use Rattle.sw_tree.specs.Names.{id_in}
-use Rattle.sw_reader.proofs.ItemLoops.{refuses}
+use Rattle.sw_grammar_forms.proofs.ItemLoops.{refuses}
 use Rattle.sw_grammar.specs.Exprs.{unary}
 use Rattle.sw_grammar.specs.Tokens.{times, infix_in}
 use Rattle.sw_parse_expr.proofs.LinkLoops.{link_turn, stops_at_link, link_shorter, links_read}

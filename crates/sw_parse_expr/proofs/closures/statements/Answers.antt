@@ -2,7 +2,7 @@ use Rattle.std.proofs.Common.{sym, ◌∙◌, ap}
 use Rattle.std.proofs.lemmas.Result.{err_from_is_err_and}
 use Rattle.std.specs.Prelude.{Ok}
 use Rattle.sw_tree.specs.Names.{id_in}
-use Rattle.sw_reader.proofs.ItemLoops.{refuses}
+use Rattle.sw_grammar_forms.proofs.ItemLoops.{refuses}
 use Rattle.sw_parse_expr.proofs.StmtLoops.{stops_at_start, stops_at_stmt, one_turn, shorter}
 use Rattle.sw_parse_expr.proofs.StmtLoops.{all_read}
 use Rattle.sw_parse_expr.proofs.closures.statements.Goals as goal

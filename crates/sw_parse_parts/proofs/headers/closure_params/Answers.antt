@@ -1,8 +1,8 @@
 use Rattle.std.proofs.Common.{codes}
 use Rattle.std.proofs.lemmas.Result.{err_from_is_err_and}
-use Rattle.sw_reader.specs.Quotes.{quote}
-use Rattle.sw_reader.proofs.ItemLoops.{refuses}
-use Rattle.sw_reader.proofs.NestReads.{nest_read, nest_stops}
+use Rattle.sw_grammar_forms.specs.Quotes.{quote}
+use Rattle.sw_grammar_forms.proofs.ItemLoops.{refuses}
+use Rattle.sw_grammar_forms.proofs.NestReads.{nest_read, nest_stops}
 use Rattle.sw_tree.specs.Names.{id_in}
 use Rattle.sw_grammar.specs.Grammar.{body}
 use Rattle.sw_grammar.specs.Nests.{El, shape_of, in_closure_params}

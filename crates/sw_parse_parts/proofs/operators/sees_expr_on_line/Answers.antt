@@ -1,5 +1,5 @@
 use Rattle.std.proofs.Common.{sym, ◌∙◌}
-use Rattle.sw_reader.proofs.CursorSteps.{first_line, within_line}
+use Rattle.sw_grammar_forms.proofs.CursorSteps.{first_line, within_line}
 use Rattle.sw_grammar.specs.Tokens.{expr_first}
 use Rattle.sw_parse_parts.proofs.operators.sees_expr_on_line.Goals as goal
 

@@ -1,5 +1,5 @@
 use Rattle.std.proofs.Common.{sym, ◌∙◌, refl}
-use Rattle.sw_reader.specs.Sets.{integer}
+use Rattle.sw_grammar_forms.specs.Sets.{integer}
 use Rattle.sw_grammar.specs.Tokens.{literal_first}
 use Rattle.sw_parse_parts.specs.Begin.{booleans}
 use Rattle.sw_parse_parts.proofs.BeginSets.{joined_left, joined_right}

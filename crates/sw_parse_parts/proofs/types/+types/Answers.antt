@@ -1,10 +1,10 @@
 use Rattle.std.proofs.Common.{◌∙◌, ap, rules, codes, refl}
 use Rattle.std.specs.Prelude.{Ok}
 use Rattle.std.proofs.lemmas.Result.{err_from_is_err_and}
-use Rattle.sw_reader.specs.Quotes.{quote}
-use Rattle.sw_reader.proofs.ItemLoops.{refuses}
-use Rattle.sw_reader.proofs.NestReads.{nest_read, nest_stops}
-use Rattle.sw_reader.proofs.ListLoops.{list_turn, list_shorter}
+use Rattle.sw_grammar_forms.specs.Quotes.{quote}
+use Rattle.sw_grammar_forms.proofs.ItemLoops.{refuses}
+use Rattle.sw_grammar_forms.proofs.NestReads.{nest_read, nest_stops}
+use Rattle.sw_grammar_forms.proofs.ListLoops.{list_turn, list_shorter}
 use Rattle.sw_tree.specs.Names.{id_in}
 use Rattle.sw_grammar.specs.Grammar.{body, good}
 use Rattle.sw_grammar.specs.Nests.{El, shape_of, in_types, in_result, in_task_type}

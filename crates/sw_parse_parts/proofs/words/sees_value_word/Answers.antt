@@ -1,6 +1,6 @@
 use Rattle.std.proofs.Common.{sym, ◌∙◌, ap, not, ◌&&◌, codes}
-use Rattle.sw_reader.specs.Relations.{head}
-use Rattle.sw_reader.specs.Sets.{starts, quoted}
+use Rattle.sw_grammar_forms.specs.Relations.{head}
+use Rattle.sw_grammar_forms.specs.Sets.{starts, quoted}
 use Rattle.sw_parse_parts.proofs.WordSets.{starts-value_word}
 use Rattle.sw_parse_parts.proofs.words.sees_value_word.Goals as goal
 

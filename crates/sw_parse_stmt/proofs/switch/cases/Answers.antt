@@ -1,7 +1,7 @@
 use Rattle.std.proofs.Common.{sym, ◌∙◌}
 use Rattle.std.proofs.lemmas.Result.{err_from_is_err_and}
 use Rattle.sw_tree.specs.Names.{id_in}
-use Rattle.sw_reader.proofs.ItemLoops.{refuses}
+use Rattle.sw_grammar_forms.proofs.ItemLoops.{refuses}
 use Rattle.sw_parse_stmt.proofs.CaseLoops.{one_turn, stops_at_case, shorter}
 use Rattle.sw_parse_stmt.proofs.switch.cases.Goals as goal
 

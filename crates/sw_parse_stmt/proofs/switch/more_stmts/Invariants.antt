@@ -1,6 +1,6 @@
 -- What is left of the arm gives the same answer as the whole arm.
 use Rattle.std.proofs.Common.{◌≡◌, [], ◌∷◌, length}
-use Rattle.sw_reader.specs.Form.Form.{more_items}
+use Rattle.sw_grammar_forms.specs.Form.Form.{more_items}
 use Rattle.sw_tree.specs.Names.{id_in}
 use Rattle.sw_grammar.specs.Stmts.{stmt}
 use Rattle.sw_grammar.specs.Reading.{read}

@@ -1,5 +1,5 @@
-use Rattle.sw_bytes.specs.Classes.{is_digit}
-use Rattle.sw_bytes.proofs.Prefixes.{prefix_passes}
+use Rattle.sw_scan.specs.Classes.{is_digit}
+use Rattle.sw_scan.proofs.Prefixes.{prefix_passes}
 use Rattle.sw_replay.proofs.runs.number_at.Goals as goal
 
 pub number_of-requires : goal.number_of-requires

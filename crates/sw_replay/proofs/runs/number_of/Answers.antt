@@ -1,5 +1,5 @@
 use Rattle.std.proofs.Common.{◌≡◌, ◌≤◌, ◌^◌, ◌*◌, ◌+◌, ◌-◌, get_or, arith, sym, ◌∙◌}
-use Rattle.sw_bytes.proofs.Digits.{digit_at}
+use Rattle.sw_scan.proofs.Digits.{digit_at}
 use Rattle.sw_replay.proofs.Numbers.{number_from-zero, number_from-drop, grown_too_big, number_done}
 use Rattle.sw_replay.proofs.runs.number_of.Goals as goal
 

@@ -1,5 +1,5 @@
 use Rattle.std.proofs.Common.{◌≡◌, ◌<◌, ◌^◌, drop}
-use Rattle.sw_bytes.specs.Decimal.{number_of}
+use Rattle.sw_scan.specs.Decimal.{number_of}
 use Rattle.sw_replay.proofs.Numbers.{number_from}
 use Rattle.sw_replay.proofs.runs.number_of.Given as goal
 

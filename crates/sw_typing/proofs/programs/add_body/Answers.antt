@@ -2,7 +2,7 @@ use Rattle.std.proofs.Common.{rules, ap, ◌∙◌, ◌++◌}
 use Rattle.sw_typing_rules.specs.Statements.{in_body}
 use Rattle.sw_typing_rules.specs.Worlds.{world_of}
 use Rattle.sw_typing_rules.specs.declared.scope.Inside.{Inside}
-use Rattle.sw_typing_forms.specs.Steps.{state_of, went_of}
+use Rattle.sw_typing_steps.specs.Steps.{state_of, went_of}
 use Rattle.sw_typing.specs.Walked.{block_left}
 use Rattle.sw_typing.proofs.Bodies.{body_said}
 use Rattle.sw_typing.proofs.programs.add_body.Goals as goal

@@ -6,9 +6,9 @@ use Rattle.sw_typing_rules.specs.Calls.{slots_of}
 use Rattle.sw_typing_rules.specs.Expressions.{Passed}
 use Rattle.sw_typing_rules.specs.Worlds.{world_of}
 use Rattle.sw_typing_rules.specs.declared.scope.Var.{Var}
-use Rattle.sw_typing_forms.specs.typing_words.Callees.{as_callee}
+use Rattle.sw_typing_words.specs.Callees.{as_callee}
 use Rattle.sw_typing.specs.Walked.{expr_known}
-use Rattle.sw_typing_forms.specs.Steps.{known_of, setting_in, state_of}
+use Rattle.sw_typing_steps.specs.Steps.{known_of, setting_in, state_of}
 use Rattle.sw_typing.proofs.Ending.{plain_end, return_end, switch_end, switch_went, went_by}
 use Rattle.sw_typing.proofs.Finishing.{await_whole, block_vars, chain_rows, chain_same, fun_same}
 use Rattle.sw_typing.proofs.Finishing.{fun_whole, known_by, method_rows, method_same, noted_rows}

@@ -2,8 +2,8 @@ use Rattle.std.proofs.Common.{◌≡◌, ◌++◌, ◌≤◌, drop, take, length
 use Rattle.std.specs.Option.{option_copied}
 use Rattle.sw_typing_rules.specs.Calls.{slots_of}
 use Rattle.sw_typing_rules.specs.Worlds.{world_of}
-use Rattle.sw_typing_forms.specs.typing_words.Callees.{as_callee}
-use Rattle.sw_typing_forms.specs.Steps.{judged_since, setting_in, state_of}
+use Rattle.sw_typing_words.specs.Callees.{as_callee}
+use Rattle.sw_typing_steps.specs.Steps.{judged_since, setting_in, state_of}
 use Rattle.sw_typing.specs.Walked.{args_passed, case_arms_left, if_arms_left, links_known}
 use Rattle.sw_typing.specs.Walked.{stmts_left}
 use Rattle.sw_typing.proofs.Loops.{branches, follows}

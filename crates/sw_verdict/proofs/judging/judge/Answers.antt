@@ -1,12 +1,13 @@
 use Rattle.std.proofs.Common.{[], ◌∷◌, ap, arith, length, subst, sym}
-use Rattle.sw_capture.specs.Known.{answers_of}
+use Rattle.sw_isolation_table.specs.Known.{answers_of}
 use Rattle.sw_isolation_rules.specs.Races.{AreRaces}
 use Rattle.sw_typing_rules.specs.Worlds.{world_of}
-use Rattle.sw_resolve.proofs.WithinLemmas.{shapes_few}
-use Rattle.sw_resolve.specs.Evident.{meanings_of}
+use Rattle.sw_decl_words.proofs.WithinLemmas.{shapes_few}
+use Rattle.sw_decl_words.specs.Evident.{meanings_of}
 use Rattle.sw_token.specs.Spelling.{spelling_of}
 use Rattle.sw_region_flow.specs.Breaches.{AreAll}
-use Rattle.sw_verdict.specs.Phases.{Declarations, Encoding, Finds, IsRace, Isolation, Lexis, Races}
+use Rattle.sw_verdict.specs.Phases.{Declarations, Encoding, Finds, IsRaceBreach, Isolation, Lexis}
+use Rattle.sw_verdict.specs.Phases.{Races}
 use Rattle.sw_verdict.specs.Phases.{Size, Syntax, Types, all_phases, phases_to_size}
 use Rattle.sw_verdict.proofs.Programs.{program_apart}
 use Rattle.sw_verdict.proofs.InOrder.{all_pass, breaches_decided, decided_by, passed, stopped}
@@ -65,7 +66,7 @@ returns-in_err-races-clause-breaches c =
     (subst (AreRaces (world_of found.declared) (answers_of found.typed) read.program.decls)
     (sym c.as_slice.ensures) (c.in_ok-shared.ensures read.program.decls known.isolated))
     (made_graph c.args.default text read found graph is known c.in_ok-graph.ensures) in
-    let finds = found_by_as (AreAll (IsRace c.as_slice.result.now graph))
+    let finds = found_by_as (AreAll (IsRaceBreach c.as_slice.result.now graph))
     (Finds c.args.default Races text)
     c.in_err-races.field-0.0 holds c.in_err-races.ensures in
     breaches_decided c.args.default all_phases text _

@@ -1,5 +1,5 @@
 use Rattle.std.proofs.Common.{subst}
-use Rattle.sw_decls.specs.Declaring.{IsRefusal}
+use Rattle.sw_decls.specs.Declaring.{IsDeclarationFault}
 use Rattle.sw_verdict.specs.Phases.{keeps_all}
 use Rattle.sw_verdict.proofs.Finding.{found_first}
 use Rattle.sw_verdict.proofs.phases.declarations.Goals as goal
@@ -12,6 +12,6 @@ pub returns-in-Err-Breach-clause-found : goal.returns-in-Err-Breach-clause-found
 returns-in-Err-Breach-clause-found c text tokens are is =
     found_first text tokens c.args.program.now.decls c.in-Err-Breach.code c.in-Err-Breach.at _
     are is
-    (subst (IsRefusal c.args.program.now.decls) c.in-Err-Breach.field-0-is
+    (subst (IsDeclarationFault c.args.program.now.decls) c.in-Err-Breach.field-0-is
     c.in-Err-Breach.ensures.refused)
     c.refused.ensures

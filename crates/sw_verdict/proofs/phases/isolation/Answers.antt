@@ -1,7 +1,7 @@
 use Rattle.std.proofs.Common.{None, subst}
-use Rattle.sw_isolation.proofs.Answering.{answers_are_said}
-use Rattle.sw_capture.specs.Known.{answers_of}
-use Rattle.sw_isolation.specs.Isolated.{IsRefused}
+use Rattle.sw_isolation_table.proofs.Answering.{answers_are_said}
+use Rattle.sw_isolation_table.specs.Known.{answers_of}
+use Rattle.sw_isolation.specs.Refused.{IsIsolationFault}
 use Rattle.sw_isolation.specs.declared.isolating.IsoFault.TheVariants.{Breach}
 use Rattle.sw_isolation_rules.specs.Programs.{IsFirstRefusal}
 use Rattle.sw_typing_rules.proofs.OneWorld.{declared_world}
@@ -25,9 +25,9 @@ returns-in-Err-Breach-clause-found c rule text tokens declared are is =
     let world = world_of c.args.declared.now in
     found_refusal rule text tokens decls world c.in-Err-Breach.code c.in-Err-Breach.at _ are is
     (declared_world decls rule c.args.declared.now declared)
-    (subst (λ answers. IsRefused world answers decls
+    (subst (λ answers. IsIsolationFault world answers decls
     (Breach c.in-Err-Breach.code c.in-Err-Breach.at))
     (answers_are_said world decls c.args.typed.now c.requires.typed)
-    (subst (IsRefused world (answers_of c.args.typed.now) decls) c.in-Err-Breach.field-0-is
+    (subst (IsIsolationFault world (answers_of c.args.typed.now) decls) c.in-Err-Breach.field-0-is
     c.in-Err-Breach.ensures.refused))
     c.refused.ensures

@@ -1,9 +1,9 @@
 use Rattle.std.proofs.Common.{None, subst}
-use Rattle.sw_capture.specs.Known.{answers_of}
-use Rattle.sw_lower_graph.specs.lower.Lowered.{IsTooLarge}
-use Rattle.sw_lower_graph.specs.lower.declared.lowering.LowerFault.TheVariants.{Breach}
-use Rattle.sw_lower_graph.specs.lower_known.Knowledge.{isolation_of}
-use Rattle.sw_lower_table.specs.Bodies.{IsFirstTooLarge, tables_of}
+use Rattle.sw_isolation_table.specs.Known.{answers_of}
+use Rattle.sw_lower.specs.Lowered.{IsTooLarge}
+use Rattle.sw_lower.specs.declared.lowering.LowerFault.TheVariants.{Breach}
+use Rattle.sw_lower_known.specs.Knowledge.{isolation_of}
+use Rattle.sw_lower_rules.specs.Bodies.{IsFirstTooLarge, tables_of}
 use Rattle.sw_typing_rules.proofs.OneWorld.{declared_world}
 use Rattle.sw_typing_rules.specs.Worlds.{world_of}
 use Rattle.sw_verdict.specs.Phases.{within}

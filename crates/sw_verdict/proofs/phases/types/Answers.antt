@@ -1,5 +1,5 @@
 use Rattle.std.proofs.Common.{subst}
-use Rattle.sw_typing.specs.Typed.{IsIllProgram}
+use Rattle.sw_typing.specs.Ill.{IsIllProgram}
 use Rattle.sw_typing_rules.proofs.OneWorld.{declared_world}
 use Rattle.sw_typing_rules.specs.Worlds.{world_of}
 use Rattle.sw_verdict.specs.Phases.{well_typed}

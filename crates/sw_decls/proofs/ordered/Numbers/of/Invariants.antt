@@ -1,6 +1,6 @@
 use Rattle.std.proofs.Common.{◌≡◌, ℕ, drop, nat_eq}
 use Rattle.indexmap.specs.IndexMap.{get}
-use Rattle.sw_resolve.specs.Words.{or_else}
+use Rattle.sw_decl_words.specs.Words.{or_else}
 use Rattle.sw_decls.specs.Declaring.{numbered, numbered_from}
 use Rattle.sw_decls.proofs.ordered.Numbers.of.Given as goal
 

@@ -5,7 +5,7 @@ use Rattle.sw_types.specs.declared.shape.Shape.{Shape}
 use Rattle.sw_isolation_rules.specs.Answers.{for_some}
 use Rattle.sw_isolation_rules.specs.Captures.{is_among}
 use Rattle.sw_lower_known.specs.Knowledge.{tables_by}
-use Rattle.sw_lower_table.specs.Uses.{self_key}
+use Rattle.sw_lower_rules.specs.Uses.{self_key}
 use Rattle.sw_lower_known.proofs.known.Known.is_self.Goals as goal
 
 alone : (same : Bool) → same ≡ (same || false)

@@ -2,12 +2,12 @@ use Rattle.std.proofs.Common.{◌≡◌, ◌∙◌, ◌==◌, ℕ, List, [], fil
 use Rattle.std.specs.Option.{unwrap_or}
 use Rattle.indexmap.specs.IndexMap.{get}
 use Rattle.indexmap.specs.IndexSet.{contains}
-use Rattle.sw_isolation.specs.capture.Known.{answers_of}
+use Rattle.sw_isolation_table.specs.Known.{answers_of}
 use Rattle.sw_isolation_rules.specs.Captures.{is_among}
 use Rattle.sw_isolation_rules.specs.declared.note.BodyIso.{BodyIso}
 use Rattle.sw_isolation_rules.specs.declared.note.Capture.{Capture}
 use Rattle.sw_typing_rules.specs.Worlds.{and_then, world_of}
-use Rattle.sw_lower_table.specs.Tables.{body_with}
+use Rattle.sw_lower_rules.specs.Tables.{body_with}
 use Rattle.sw_lower_known.specs.Knowledge.{tables_by}
 use Rattle.sw_lower_known.proofs.known.Known.of.Goals as goal
 

@@ -1,0 +1,37 @@
+/// How a call ends. The numbers are the program's exit statuses, from 0 in the order of the
+/// variants.
+#[derive(Clone, Copy, Debug, PartialEq, Eq)]
+pub enum Exit {
+    /// The reply was written: `accepted`, or a replay that ran to the end of its schedule.
+    Done,
+    /// The program was refused, and its breaches were written.
+    Breached,
+    /// The words have no form.
+    Usage,
+    /// A file couldn't be read. Nothing was written.
+    NotRead,
+    /// A file is above its limit. Nothing was written.
+    TooLong,
+    /// A write failed. A prefix of the reply was written.
+    NotWritten,
+    /// Memory ran out. Nothing was written.
+    Memory,
+    /// The replay trapped.
+    Trapped,
+    /// The schedule's text is wrong.
+    BadSchedule,
+    /// The replay met a race.
+    Raced,
+}
+
+impl Exit {
+    ghost use Rattle.std.specs.Prelude.{◌≡◌};
+    ghost use Rattle.sw_check_parts.specs.Exit.{status_of};
+
+    /// The exit status of the program.
+    pub fn status(self) -> u8
+        ensures { result ≡ status_of self }
+    {
+        self as u8
+    }
+}

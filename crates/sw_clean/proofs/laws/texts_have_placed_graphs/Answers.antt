@@ -1,5 +1,0 @@
-use Rattle.sw_clean.proofs.Graphs.{text_placed}
-use Rattle.sw_clean.proofs.laws.texts_have_placed_graphs.Goals as goal
-
-pub returns : goal.returns
-returns c = text_placed

@@ -1,0 +1,16 @@
+pub mod Weighing
+pub mod NestWeights
+pub mod TypeRules
+pub mod ExprRules
+pub mod ClosureRules
+pub mod StmtRules
+pub mod DeclRules
+pub mod DeclWeights
+pub mod DeclsFew
+pub mod ProgramRules
+pub mod KeysDiffer
+pub mod CaseWords
+pub mod Order
+pub mod TextForms
+pub mod NamesKnown
+pub mod Owning

@@ -1,0 +1,134 @@
+-- What types weigh, and lists that commas part.
+use Rattle.std.proofs.Common.{◌≡◌, ℕ, ◌+◌, true, List, [], ◌∷◌, codes}
+use Rattle.std.proofs.Common.{None, Some, refl, arith}
+use Rattle.sw_grammar_forms.specs.Sets.{Set, word, attribute, within, quoted}
+use Rattle.sw_grammar_forms.specs.Form.{Shape}
+use Rattle.sw_grammar_forms.specs.Form.Form.{nest}
+use Rattle.sw_grammar_forms.specs.Relations.{Relation, One, spelled}
+use Rattle.sw_grammar_forms.specs.Quotes.{quote, quote_on_line}
+use Rattle.sw_grammar_forms.proofs.SetLemmas.{has-within}
+use Rattle.sw_tree.proofs.Counting.{Weight, in_all, in_option, in_all-append}
+use Rattle.sw_grammar_facts.proofs.Owning.{none, Owns, own_done, own_token, own_then, own_either}
+use Rattle.sw_grammar_facts.proofs.Owning.{own_only, own_past, own_turns, own_nest, own_from}
+use Rattle.sw_grammar.specs.Nests.{Nest, El, shape_of, Form}
+use Rattle.sw_grammar.specs.Nests.Nest.{in_types, in_result, in_task_type}
+use Rattle.sw_grammar.specs.Tokens.{name_in, at_in, value_word, infix_in, a_prefix}
+use Rattle.sw_grammar.specs.Types.{round_type, marked_type, task_type, named_type, type, more_of}
+use Rattle.sw_grammar.specs.Types.{some_of, list_of, types, payload, task_inner}
+use Rattle.sw_grammar_facts.proofs.Weighing.{Weighing}
+use Rattle.sw_grammar_facts.proofs.NestWeights.{weight}
+
+module _ {id_of : List ℕ → ℕ} (w : Weighing id_of) (table : (n : Nest) → Relation (El n)) where
+  -- a form's values weigh no more than what is left over and its tokens
+  abbrev pub Keeps : {s : Shape} {A : Type 0} → Form s A → Weight → (A → Weight) → Type 0
+  Keeps form base weigh = Owns w.of_token base (spelled El shape_of table form) weigh
+
+  -- Lists.
+  module _ {A : Type 0} {s : Shape} (item : Form s A) (u : A → Weight) (each : Keeps item none u)
+    where
+      pub own_more_of : (first : List A)
+          → Keeps (more_of id_of first item) (in_all u first) (in_all u)
+      unfolding in_all
+      own_more_of first =
+          own_turns _ (λ xs. own_only _ true (own_past _ (λ _. own_then _ u each (λ x.
+          own_done _ (λ k. omega (arith, in_all-append u xs (x ∷ []) k)))))) first
+
+      pub own_some_of : (text : List ℕ) → Keeps (some_of id_of text item) none (in_all u)
+      unfolding in_all
+      own_some_of text =
+          own_then _ u each (λ x. own_from _ none (in_all u) (λ k. omega arith)
+          (own_more_of (x ∷ [])) (λ xs. own_past _ (λ _. own_done _ (λ k. omega arith))))
+
+      pub own_list_of : (text : List ℕ) → Keeps (list_of id_of text item) none (in_all u)
+      unfolding in_all
+      own_list_of text =
+          own_either _ (own_past _ (λ _. own_done _ (λ k. omega arith))) (own_some_of text)
+
+  -- Tokens.
+  pub own_quote : (text : List ℕ) → Owns w.of_token none (One (quote text)) w.place
+  own_quote text = own_token _ (quote text) (λ token _ k. w.of_place token k)
+
+  pub own_name : (set : Set) (text : List ℕ) → within set word ≡ true
+      → Owns w.of_token none (One (name_in id_of set text))
+      (λ name k. w.node name k + w.label name k)
+  own_name set text less =
+      own_token _ (name_in id_of set text)
+      (λ token member k. w.of_word token (has-within set word token less member) k)
+
+  pub own_mark : (set : Set) (text : List ℕ) → within set attribute ≡ true
+      → Owns w.of_token none (One (at_in id_of set text)) w.label
+  own_mark set text less =
+      own_token _ (at_in id_of set text)
+      (λ token member k. w.of_mark token (has-within set attribute token less member) k)
+
+  pub own_infix : (set : Set) (text : List ℕ)
+      → Owns w.of_token none (One (infix_in set text)) (λ op. w.place op.1)
+  own_infix set text = own_token _ (infix_in set text) (λ token _ k. w.of_place token k)
+
+  pub own_prefix : Owns w.of_token none (One a_prefix) (λ op. w.place op.1)
+  own_prefix = own_token _ a_prefix (λ token _ k. w.of_place token k)
+
+  -- Nests.
+  module _ (nests : (n : Nest) → Owns w.of_token none (table n) (weight w n)) where
+    pub own_opened : (text : List ℕ) (n : Nest)
+        → Keeps (nest (quote text) n) none (λ both k. w.place both.0 k + weight w n both.1 k)
+    own_opened text n =
+        own_nest _ w.place (weight w n) (own_quote text) (nests n) (λ a b k. omega arith)
+
+    pub own_opened_on_line : (text : List ℕ) (n : Nest)
+        → Keeps (nest (quote_on_line text) n) none
+        (λ both k. w.place both.0 k + weight w n both.1 k)
+    own_opened_on_line text n =
+        own_nest _ w.place (weight w n)
+        (own_token _ (quote_on_line text) (λ token _ k. w.of_place token k)) (nests n)
+        (λ a b k. omega arith)
+
+    own_round_type : Keeps (round_type id_of) none w.type
+    unfolding round_type in_option
+    own_round_type =
+        own_then _ _ (own_opened (codes "(") in_types) (λ params. own_either _
+        (own_then _ _ (own_opened (codes "->") in_result) (λ result. own_done _ (λ k.
+        omega (arith, w.type-Arrow params.0 None params.1 result.1 k))))
+        (own_only _ _ (own_done _ (λ k. omega (arith, w.type-Unit params.0 k)))))
+
+    own_marked_type : Keeps (marked_type id_of) none w.type
+    unfolding marked_type in_option
+    own_marked_type =
+        own_then _ _ (own_mark (quoted (codes "@Sendable")) (codes "@Sendable") refl) (λ mark.
+        own_then _ _ (own_opened (codes "(") in_types) (λ params.
+        own_then _ _ (own_opened (codes "->") in_result) (λ result. own_done _ (λ k.
+        omega (arith, w.type-Arrow params.0 (Some mark) params.1 result.1 k)))))
+
+    own_task_type : Keeps (task_type id_of) none w.type
+    unfolding task_type
+    own_task_type =
+        own_then _ _ (own_name (quoted (codes "Task")) (codes "Task") refl) (λ name. own_either _
+        (own_then _ _ (own_opened (codes "<") in_task_type) (λ inner. own_done _ (λ k.
+        omega (arith, w.type-TaskOf name.at inner.1 k))))
+        (own_done _ (λ k. omega (arith, w.type-Named name k))))
+
+    own_named_type : Keeps (named_type id_of) none w.type
+    unfolding named_type
+    own_named_type =
+        own_then _ _ (own_name value_word (codes "print") refl) (λ name.
+        own_done _ (λ k. omega (arith, w.type-Named name k)))
+
+    pub own_type : Keeps (type id_of) none w.type
+    unfolding type
+    own_type =
+        own_either _ own_marked_type (own_either _ own_round_type (own_either _ own_task_type
+        own_named_type))
+
+    pub own_types : Keeps (types id_of) none (in_all w.type)
+    unfolding types
+    own_types = own_list_of (type id_of) w.type own_type (codes ")")
+
+    pub own_payload : Keeps (payload id_of) none (in_all w.type)
+    unfolding payload
+    own_payload = own_some_of (type id_of) w.type own_type (codes ")")
+
+    pub own_task_inner : Keeps (task_inner id_of) none w.type
+    unfolding task_inner
+    own_task_inner =
+        own_then _ _ own_type (λ inner. own_past _ (λ _. own_past _ (λ _. own_past _ (λ _.
+        own_done _ (λ k. omega arith)))))

@@ -1,5 +1,0 @@
-use Rattle.sw_grammar_keys.proofs.DeclsFew.{spelled_are_few}
-use Rattle.sw_grammar_keys.proofs.spelled_declarations_are_few.Goals as goal
-
-pub returns : goal.returns
-returns c = spelled_are_few

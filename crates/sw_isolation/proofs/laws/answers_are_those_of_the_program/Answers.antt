@@ -1,5 +1,0 @@
-use Rattle.sw_isolation.proofs.Answering.{answers_are_said}
-use Rattle.sw_isolation.proofs.laws.answers_are_those_of_the_program.Goals as goal
-
-pub returns : goal.returns
-returns c = answers_are_said

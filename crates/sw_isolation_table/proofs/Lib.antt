@@ -1,0 +1,2 @@
+pub mod KindFound
+pub mod Answering

@@ -1,6 +1,0 @@
-use Rattle.sw_kinded.proofs.EndlessExample.{supplied_graph}
-use Rattle.sw_kinded.proofs.SureLemmas.{way_of}
-use Rattle.sw_kinded.proofs.laws.constants_rule_out_ways.Goals as goal
-
-pub returns : goal.returns
-returns c = record { ways = way_of; fewer = supplied_graph }

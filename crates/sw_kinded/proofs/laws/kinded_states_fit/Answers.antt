@@ -1,5 +1,0 @@
-use Rattle.sw_kinded.proofs.StackLemmas as stack
-use Rattle.sw_kinded.proofs.laws.kinded_states_fit.Goals as goal
-
-pub returns : goal.returns
-returns c = record { frames = stack.frame_at; cells = stack.cell_named }

@@ -1,9 +1,0 @@
-pub mod Annotations
-pub mod FirstValues
-pub mod Kinded
-pub mod Kinds
-pub mod Operands
-pub mod Standing
-pub mod Stuck
-pub mod Supplied
-pub mod Sure

@@ -1,9 +1,0 @@
-use Rattle.sw_lets.proofs.LetLemmas as let_lemma
-use Rattle.sw_lets.proofs.laws.lets_are_no_locations.Goals as goal
-
-pub returns : goal.returns
-returns c = record {
-  objects = let_lemma.object_apart;
-  actors = let_lemma.actor_apart;
-  globals = let_lemma.global_apart;
-}

@@ -1,5 +1,0 @@
-use Rattle.sw_lets.proofs.KeepLemmas.{reached_spares, step_spares}
-use Rattle.sw_lets.proofs.laws.steps_change_what_they_write.Goals as goal
-
-pub returns : goal.returns
-returns c = record { reached = reached_spares; kinded = step_spares }

@@ -1,0 +1,13 @@
+pub mod Bodies
+pub mod Expressions
+pub mod Functions
+pub mod Graphs
+pub mod GraphsFit
+pub mod Grounded
+pub mod Headers
+pub mod Induction
+pub mod Positions
+pub mod Programs
+pub mod Said
+pub mod Statements
+pub mod Types

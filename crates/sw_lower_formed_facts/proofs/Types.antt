@@ -1,0 +1,2 @@
+-- Types by their forms, the types that they name, and where values of them go.
+pub mod Going

@@ -1,5 +1,0 @@
-use Rattle.sw_lower_placed.proofs.Graphs.Keeping.{clean_graph}
-use Rattle.sw_lower_placed.proofs.laws.graphs_are_clean.Goals as goal
-
-pub returns : goal.returns
-returns c = clean_graph

@@ -1,5 +1,0 @@
-use Rattle.sw_lower_placed.proofs.Graphs.Keeping.{placed_graph}
-use Rattle.sw_lower_placed.proofs.laws.graphs_are_placed.Goals as goal
-
-pub returns : goal.returns
-returns c = placed_graph

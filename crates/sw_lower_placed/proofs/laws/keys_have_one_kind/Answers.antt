@@ -1,5 +1,0 @@
-use Rattle.sw_lower_placed.proofs.Settling.Found.{one_kind}
-use Rattle.sw_lower_placed.proofs.laws.keys_have_one_kind.Goals as goal
-
-pub returns : goal.returns
-returns c = one_kind

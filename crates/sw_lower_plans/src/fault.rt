@@ -1,0 +1,23 @@
+use std::alloc::AllocError;
+use thiserror::Error;
+
+/// Why a piece of code isn't made to its end.
+#[derive(Clone, Copy, Debug, PartialEq, Eq, Error)]
+pub enum CodeFault {
+    /// The function would have more registers than a function of a graph.
+    #[error("too many registers")]
+    Registers,
+    #[error("out of memory")]
+    Memory,
+}
+
+impl From<AllocError> for CodeFault {
+    ghost use Rattle.std.specs.Prelude.{◌≡◌};
+    ghost use Rattle.sw_lower_plans.specs.declared.fault.CodeFault.TheVariants.{Memory};
+
+    ghost from_gives = { λ _ fault. fault ≡ Memory };
+
+    fn from(_error: AllocError) -> CodeFault {
+        CodeFault::Memory
+    }
+}

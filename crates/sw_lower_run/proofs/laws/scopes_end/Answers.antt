@@ -1,5 +1,0 @@
-use Rattle.sw_lower_run.proofs.SameThen.{same_scope}
-use Rattle.sw_lower_run.proofs.laws.scopes_end.Goals as goal
-
-pub returns : goal.returns
-returns g c = same_scope

@@ -1,5 +1,0 @@
-use Rattle.sw_lower_table.proofs.Numbers.{number_named, number_within}
-use Rattle.sw_lower_table.proofs.laws.numbers_are_places.Goals as goal
-
-pub returns : goal.returns
-returns c = record { within = number_within; named = number_named }

@@ -1,5 +1,0 @@
-use Rattle.sw_lower_table.proofs.Forms.{branch_of_both, branch_of_either}
-use Rattle.sw_lower_table.proofs.laws.the_right_operand_is_skipped.Goals as goal
-
-pub returns : goal.returns
-returns c = record { and = branch_of_both; or = branch_of_either }

@@ -1,0 +1,218 @@
+-- What is part of a tree: of its keys the same is noted of the whole, and it is in order where the
+-- whole is. So it stands where the whole stands.
+use Rattle.std.proofs.Common.{◌≡◌, ℕ, ◌≤◌, ◌⊎◌, inl, inr, List, ◌∷◌, ◌++◌, nat_eq, Contains}
+use Rattle.std.proofs.Common.{sym, subst, ◌∙◌, arith}
+use Rattle.std.specs.List.{IsDistinct}
+use Rattle.std.proofs.lemmas.List.Elements.{All-contains}
+use Rattle.sw_tree.specs.Keys.{Keys}
+use Rattle.sw_tree.proofs.Counting.{IsDistinct-count, count, hits, in_all-append, in_all-cons}
+use Rattle.sw_typing_rules.proofs.OneWorld.{distinct_once}
+use Rattle.sw_isolation_rules.specs.declared.note.BodyIso.{BodyIso}
+use Rattle.sw_isolation_rules.specs.declared.note.Note.{Note}
+use Rattle.sw_isolation_rules.specs.declared.note.Note.TheVariants.{Body}
+use Rattle.sw_lower_total_facts.specs.Noted.{IsAll, StandsInText}
+use Rattle.sw_lower_total_facts.proofs.Standing.Covering.{Covers}
+use Rattle.sw_lower_total_facts.proofs.Standing.Keys.{contained, counted}
+use Rattle.sw_lower_total_facts.proofs.Standing.Noting.{AreBare, IsAlike, alike_body, alike_left}
+use Rattle.sw_lower_total_facts.proofs.Standing.Noting.{alike_right, alike_same, alike_then, bare_lacks}
+use Rattle.sw_lower_total_facts.proofs.Standing.Orders.{IsBefore, IsWithin, all_of_each}
+use Rattle.sw_lower_total_facts.proofs.Standing.Orders.{within_left, within_next, within_part}
+use Rattle.sw_lower_total_facts.proofs.Standing.Orders.{within_right, within_same}
+
+-- Notes of some of these keys: they have all that is noted of them.
+pub record IsShare (notes : List Note) (keys : Keys) (part : List Note) (part_keys : Keys)
+    : Type 0 where
+  pub alike : (key : ℕ) → 1 ≤ count part_keys key → count keys key ≤ 1 → IsAlike key notes part
+  pub fewer : (key : ℕ) → count part_keys key ≤ count keys key
+
+pub share_same : (notes : List Note) (keys : Keys) → IsShare notes keys notes keys
+share_same notes keys = record {
+  alike = λ key some once. alike_same key notes;
+  fewer = λ key. omega arith;
+}
+
+pub share_then : (notes : List Note) (keys : Keys) (middle : List Note) (middle_keys : Keys)
+    (part : List Note) (part_keys : Keys) → IsShare notes keys middle middle_keys
+    → IsShare middle middle_keys part part_keys → IsShare notes keys part part_keys
+share_then notes keys middle middle_keys part part_keys one other = record {
+  alike = λ key some once.
+      alike_then key notes middle part
+      (one.alike key (omega (arith, some, other.fewer key)) once)
+      (other.alike key some (omega (arith, once, one.fewer key)));
+  fewer = λ key. omega (arith, one.fewer key, other.fewer key);
+}
+
+pub share_left : (one other : List Note) (keys more : Keys) → Covers other more
+    → IsShare (one ++ other) (keys ++ more) one keys
+share_left one other keys more covers = record {
+  alike = λ key some once.
+      alike_left key one other
+      (covers key (omega (arith, some, once, in_all-append hits keys more key)));
+  fewer = λ key. omega (arith, in_all-append hits keys more key);
+}
+
+pub share_right : (one other : List Note) (keys more : Keys) → Covers one keys
+    → IsShare (one ++ other) (keys ++ more) other more
+share_right one other keys more covers = record {
+  alike = λ key some once.
+      alike_right key one other
+      (covers key (omega (arith, some, once, in_all-append hits keys more key)));
+  fewer = λ key. omega (arith, in_all-append hits keys more key);
+}
+
+-- by other keys that are as many
+pub share_keys : (notes : List Note) (keys other : Keys) (part : List Note) (part_keys : Keys)
+    → ((key : ℕ) → count keys key ≡ count other key) → IsShare notes other part part_keys
+    → IsShare notes keys part part_keys
+share_keys notes keys other part part_keys same is = record {
+  alike = λ key some once. is.alike key some (omega (arith, once, same key));
+  fewer = λ key. omega (arith, is.fewer key, same key);
+}
+
+-- More keys may be about.
+pub share_next : (at : ℕ) (notes : List Note) (keys : Keys) → IsShare notes (at ∷ keys) notes keys
+share_next at notes keys = record {
+  alike = λ key some once. alike_same key notes;
+  fewer = λ key. omega (arith, in_all-cons hits at keys key);
+}
+
+pub share_bare : (first notes : List Note) (keys : Keys) → AreBare first
+    → IsShare (first ++ notes) keys notes keys
+share_bare first notes keys bare = record {
+  alike = λ key some once. alike_right key first notes (bare_lacks first key bare);
+  fewer = λ key. omega arith;
+}
+
+pub share_before : (notes rest : List Note) (keys : Keys) → AreBare rest
+    → IsShare (notes ++ rest) keys notes keys
+share_before notes rest keys bare = record {
+  alike = λ key some once. alike_left key notes rest (bare_lacks rest key bare);
+  fewer = λ key. omega arith;
+}
+
+pub share_body : (body : BodyIso) (notes : List Note) (keys : Keys)
+    → IsShare (Body body ∷ notes) keys notes keys
+share_body body notes keys = record {
+  alike = λ key some once. alike_body key body notes;
+  fewer = λ key. omega arith;
+}
+
+-- All that is noted of the keys of a part is noted of the part.
+pub share_all : (all : List Note) (notes : List Note) (keys : Keys) (part : List Note)
+    (part_keys : Keys) → IsShare notes keys part part_keys → IsDistinct nat_eq keys
+    → IsAll all notes keys → IsAll all part part_keys
+share_all all notes keys part part_keys is apart alone = record {
+  kinds = λ key has.
+      alone.kinds key (among key has) ∙ (alike key has).kinds;
+  held = λ key has. alone.held key (among key has) ∙ (alike key has).held;
+  vars = λ key has. alone.vars key (among key has) ∙ (alike key has).vars;
+} where
+  among : (key : ℕ) → Contains part_keys key → Contains keys key
+  among key has =
+      contained keys key (omega (arith, counted part_keys key has, is.fewer key))
+
+  alike : (key : ℕ) → Contains part_keys key → IsAlike key notes part
+  alike key has = is.alike key (counted part_keys key has) (distinct_once keys apart key)
+
+-- and the part's keys are distinct
+pub share_apart : (notes : List Note) (keys : Keys) (part : List Note) (part_keys : Keys)
+    → IsShare notes keys part part_keys → IsDistinct nat_eq keys → IsDistinct nat_eq part_keys
+share_apart notes keys part part_keys is apart =
+    IsDistinct-count part_keys (λ key.
+    omega (arith, is.fewer key, distinct_once keys apart key))
+
+-- a part, with its keys in the order of the text
+pub record IsPart (notes : List Note) (keys order : Keys) (part : List Note)
+    (part_keys part_order : Keys) : Type 0 where
+  pub share : IsShare notes keys part part_keys
+  pub within : IsWithin order part_order
+
+-- A part of a tree stands where the tree does.
+pub part_stands : (all : List Note) (seen : List ℕ) (notes : List Note) (keys order : Keys)
+    (part : List Note) (part_keys part_order : Keys)
+    → IsPart notes keys order part part_keys part_order → StandsInText all seen notes keys order
+    → StandsInText all seen part part_keys part_order
+part_stands all seen notes keys order part part_keys part_order is stands = record {
+  alone = share_all all notes keys part part_keys is.share stands.apart stands.alone;
+  apart = share_apart notes keys part part_keys is.share stands.apart;
+  rising = is.within.rising stands.rising;
+  before = all_of_each (IsBefore part_order) seen (λ key has.
+      is.within.before key (All-contains (IsBefore order) seen key stands.before has));
+}
+
+-- and where more variables are seen that are declared before it
+pub more_seen : (all : List Note) (seen more : List ℕ) (notes : List Note) (keys order : Keys)
+    → StandsInText all seen notes keys order
+    → ((key : ℕ) → Contains more key → Contains seen key ⊎ IsBefore order key)
+    → StandsInText all more notes keys order
+more_seen all seen more notes keys order stands each = record {
+  alone = stands.alone;
+  apart = stands.apart;
+  rising = stands.rising;
+  before = all_of_each (IsBefore order) more (λ key has. elim (each key has) [
+    | inl known ↦ All-contains (IsBefore order) seen key stands.before known
+    | inr new ↦ new
+  ]);
+}
+
+-- by equations
+pub part_by : (notes notes' : List Note) (keys keys' order order' : Keys) (part : List Note)
+    (part_keys part_order : Keys) → notes ≡ notes' → keys ≡ keys' → order ≡ order'
+    → IsPart notes' keys' order' part part_keys part_order
+    → IsPart notes keys order part part_keys part_order
+part_by notes notes' keys keys' order order' part part_keys part_order same those placed is =
+    subst (λ n. IsPart n keys order part part_keys part_order) (sym same)
+    (subst (λ k. IsPart notes' k order part part_keys part_order) (sym those)
+    (subst (λ o. IsPart notes' keys' o part part_keys part_order) (sym placed) is))
+
+pub part_then : (notes : List Note) (keys order : Keys) (middle : List Note)
+    (middle_keys middle_order : Keys) (part : List Note) (part_keys part_order : Keys)
+    → IsPart notes keys order middle middle_keys middle_order
+    → IsPart middle middle_keys middle_order part part_keys part_order
+    → IsPart notes keys order part part_keys part_order
+part_then notes keys order middle middle_keys middle_order part part_keys part_order one other =
+    record {
+      share = share_then notes keys middle middle_keys part part_keys one.share other.share;
+      within = within_part order middle_order part_order one.within other.within;
+    }
+
+pub part_same : (notes : List Note) (keys order : Keys)
+    → IsPart notes keys order notes keys order
+part_same notes keys order =
+    record { share = share_same notes keys; within = within_same order }
+
+pub part_left : (one other : List Note) (keys more order rest : Keys) → Covers other more
+    → IsPart (one ++ other) (keys ++ more) (order ++ rest) one keys order
+part_left one other keys more order rest covers = record {
+  share = share_left one other keys more covers;
+  within = within_left order rest;
+}
+
+pub part_right : (one other : List Note) (keys more order rest : Keys) → Covers one keys
+    → IsPart (one ++ other) (keys ++ more) (order ++ rest) other more rest
+part_right one other keys more order rest covers = record {
+  share = share_right one other keys more covers;
+  within = within_right order rest;
+}
+
+-- the same notes without the key of the form itself
+pub part_next : (at : ℕ) (notes : List Note) (keys order : Keys)
+    → IsPart notes (at ∷ keys) (at ∷ order) notes keys order
+part_next at notes keys order =
+    record { share = share_next at notes keys; within = within_next at order }
+
+-- the same notes by fewer keys
+pub share_fewer : (notes : List Note) (keys part_keys : Keys)
+    → ((key : ℕ) → count part_keys key ≤ count keys key) → IsShare notes keys notes part_keys
+share_fewer notes keys part_keys fewer = record {
+  alike = λ key some once. alike_same key notes;
+  fewer = fewer;
+}
+
+-- by equations
+pub share_by : (notes notes' : List Note) (keys keys' : Keys) (part : List Note) (part_keys : Keys)
+    → notes ≡ notes' → keys ≡ keys' → IsShare notes' keys' part part_keys
+    → IsShare notes keys part part_keys
+share_by notes notes' keys keys' part part_keys same those is =
+    subst (λ n. IsShare n keys part part_keys) (sym same)
+    (subst (λ k. IsShare notes' k part part_keys) (sym those) is)

@@ -1,5 +1,0 @@
-use Rattle.sw_owned.proofs.WithinLemmas.{no_frames}
-use Rattle.sw_owned.proofs.laws.no_frames_are_sound.Goals as goal
-
-pub returns : goal.returns
-returns c = no_frames

@@ -1,6 +1,0 @@
-use Rattle.std.proofs.Common.{◌∙◌}
-use Rattle.sw_reader.proofs.CursorSteps.{sees_quoted}
-use Rattle.sw_reader.proofs.cursor.Cursor.sees.Goals as goal
-
-pub returns : goal.returns
-returns c = c.has_text.ensures ∙ sees_quoted _ _ c.requires

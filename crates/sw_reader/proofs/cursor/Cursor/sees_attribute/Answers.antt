@@ -1,6 +1,0 @@
-use Rattle.std.proofs.Common.{◌∙◌}
-use Rattle.sw_reader.proofs.CursorSteps.{starts_attribute}
-use Rattle.sw_reader.proofs.cursor.Cursor.sees_attribute.Goals as goal
-
-pub returns : goal.returns
-returns c = c.is_attribute.ensures ∙ starts_attribute _

@@ -1,9 +1,0 @@
-use Rattle.std.proofs.Common.{◌≡◌, ◌++◌, drop}
-use Rattle.sw_resolve.specs.Members.{cases_from}
-use Rattle.sw_resolve.proofs.members.add_cases.Given as goal
-
--- the members so far, and the cases that are left
-abbrev pub invariant-loop-number : goal.invariant-loop-number
-invariant-loop-number l =
-    l.members ++ cases_from l.shape l.number (drop l.number l.cases)
-    ≡ l.fn.members ++ cases_from l.shape 0 l.cases

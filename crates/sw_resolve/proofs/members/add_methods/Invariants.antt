@@ -1,7 +1,0 @@
-use Rattle.std.proofs.Common.{◌≡◌, ◌++◌, take}
-use Rattle.sw_resolve.specs.Members.{methods_of}
-use Rattle.sw_resolve.proofs.members.add_methods.Given as goal
-
-abbrev pub invariant-loop-func : goal.invariant-loop-func
-invariant-loop-func l =
-    l.members ≡ l.fn.members ++ methods_of l.shape (take l.func-index l.funcs)

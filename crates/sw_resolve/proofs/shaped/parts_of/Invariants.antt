@@ -1,8 +1,0 @@
-use Rattle.std.proofs.Common.{◌≡◌, map, take, Some}
-use Rattle.sw_resolve.specs.Evident.{tabled}
-use Rattle.sw_resolve.specs.Shaped.{part_of}
-use Rattle.sw_resolve.proofs.shaped.parts_of.Given as goal
-
-abbrev pub invariant-loop-prop : goal.invariant-loop-prop
-invariant-loop-prop l = l.parts
-    ≡ map (part_of (tabled l.words l.members) (Some l.number)) (take l.prop-index l.props)

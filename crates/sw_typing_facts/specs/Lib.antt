@@ -1,0 +1,2 @@
+pub mod EnumWords
+pub mod Rows
