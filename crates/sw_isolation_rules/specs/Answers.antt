@@ -15,12 +15,12 @@ pub record Answers : Type 0 where
 abbrev pub type_row : ℕ → Row → Option Ty
 type_row key (Typed at ty) = if at == key then Some ty else None
 type_row key (Means at meaning) = None
-type_row key (Ill at code) = None
+type_row key (Ill at code unless) = None
 
 abbrev pub meaning_row : ℕ → Row → Option Meaning
 meaning_row key (Typed at ty) = None
 meaning_row key (Means at meaning) = if at == key then Some meaning else None
-meaning_row key (Ill at code) = None
+meaning_row key (Ill at code unless) = None
 
 abbrev pub type_in : List Row → ℕ → Option Ty
 type_in [] key = None

@@ -25,7 +25,7 @@ type_found (Typed at ty ∷ rows) key = by (nat_eq at key) (type_found rows key)
   by true more = refl
   by false more = more
 type_found (Means at meaning ∷ rows) key = type_found rows key
-type_found (Ill at code ∷ rows) key = type_found rows key
+type_found (Ill at code unless ∷ rows) key = type_found rows key
 
 meaning_found : (rows : List Row) (key : ℕ)
     → tables.meaning_in rows key ≡ rules.meaning_in rows key
@@ -37,7 +37,7 @@ meaning_found (Means at meaning ∷ rows) key = by (nat_eq at key) (meaning_foun
       ≡ or_else (if same then Some meaning else None) (rules.meaning_in rows key)
   by true more = refl
   by false more = more
-meaning_found (Ill at code ∷ rows) key = meaning_found rows key
+meaning_found (Ill at code unless ∷ rows) key = meaning_found rows key
 
 pub answers_are_said : (world : World) (decls : List Decl) (typed : typing.Typed)
     → tables.IsTyped world decls typed → answers_of typed ≡ answers_in (said world decls)

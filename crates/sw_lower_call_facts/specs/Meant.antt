@@ -30,4 +30,4 @@ module _ (world : World) where
   abbrev pub RowSo : Row → Type 0
   RowSo (Typed at ty) = Unit {0}
   RowSo (Means at meaning) = MeaningSo meaning
-  RowSo (Ill at code) = Unit {0}
+  RowSo (Ill at code unless) = Unit {0}

@@ -76,7 +76,7 @@ no_meaning_answered rows at is =
       untold : (at : ℕ) (row : Row) → meanings_told row at ≡ 0 → meaning_row at row ≡ None
       untold at (Typed key ty) is = refl
       untold at (Means key meaning) is = unlike key at meaning is
-      untold at (Ill key code) is = refl
+      untold at (Ill key code unless) is = refl
 
 unmeant : (world : World) (decls : List Decl) → AreKeyed decls → (key : ℕ) (found : List ℕ)
     → in_all meanings_told (said world decls) key + count found key

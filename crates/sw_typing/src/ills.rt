@@ -14,7 +14,7 @@ fn ills_in(alloc: Global, rows: &[Row]) -> Result<ListOf<Placed>, AllocError>
 {
     let mut ills = ListOf::new(alloc);
     for row in rows {
-        if let Row::Ill { at, code } = row {
+        if let Row::Ill { at, code, .. } = row {
             ills.push(Placed {
                 at: *at,
                 code: *code,

@@ -8,7 +8,7 @@ use Rattle.sw_isolation_rules.specs.Answers.{Answers}
 abbrev pub RowHolds : Answers → Row → Type 0
 RowHolds answers (Typed at ty) = answers.type_at at ≡ Some ty
 RowHolds answers (Means at meaning) = answers.meaning_at at ≡ Some meaning
-RowHolds answers (Ill at code) = ⊥
+RowHolds answers (Ill at code unless) = ⊥
 
 -- each of these rows
 abbrev pub RowsHold : Answers → List Row → Type 0

@@ -43,6 +43,7 @@ use Rattle.sw_typing_rules.specs.Fits.{fits}
 use Rattle.sw_typing_rules.specs.Judges as is
 use Rattle.sw_typing_rules.specs.Judges.{head_of, arm_state, case_of}
 use Rattle.sw_typing_rules.specs.Operators as operators
+use Rattle.sw_typing_rules.proofs.Doubts.{decided_keep}
 use Rattle.sw_typing_rules.specs.Programs.{IsIll, Says, of_body, of_value, params_of, body_noted}
 use Rattle.sw_typing_rules.specs.Programs.{body_state, value_noted, value_setting}
 use Rattle.sw_typing_rules.specs.Statements as left
@@ -51,7 +52,7 @@ use Rattle.sw_typing_rules.specs.Statements.{in_switch, in_body, with_only, is_o
 use Rattle.sw_typing_rules.specs.Statements.{marked_type, place_type, marked_result, expects}
 use Rattle.sw_typing_rules.specs.Statements.{cases_of, arm_payload, closure_state, beside}
 use Rattle.sw_typing_rules.specs.Verdicts.{rows_of, meaning_rows, variable_rows, ill_if, is_unit}
-use Rattle.sw_typing_rules.specs.Verdicts.{is_int, is_bool}
+use Rattle.sw_typing_rules.specs.Verdicts.{ill_unless, is_int, is_bool}
 use Rattle.sw_typing_rules.specs.Words as senses
 use Rattle.sw_typing_rules.specs.Words.{Setting, Sense, Variable, OwnProperty, OwnMethod, OwnCase}
 use Rattle.sw_typing_rules.specs.Words.{Top, Printing, Nothing}
@@ -78,7 +79,7 @@ IsTypeCode code = (401 ≤ code) × (code ≤ 408)
 abbrev IsCoded : Row → Type 0
 IsCoded (Typed at ty) = Unit {0}
 IsCoded (Means at meaning) = Unit {0}
-IsCoded (Ill at code) = IsTypeCode code
+IsCoded (Ill at code unless) = IsTypeCode code
 
 abbrev AreCoded : List Row → Type 0
 AreCoded rows = AllByRecursion IsCoded rows
@@ -129,9 +130,13 @@ each : {X : Type 0} (f : X → List Row) → ((x : X) → AreCoded (f x)) → (x
 each f are [] = tt
 each f are (x ∷ xs) = join (f x) (flat_map f xs) (are x) (each f are xs)
 
+ill_unless_of : (fails : Bool) (at code : ℕ) (unless : Option ℕ) → IsTypeCode code
+    → AreCoded (ill_unless fails at code unless)
+ill_unless_of true at code unless is = (is, tt)
+ill_unless_of false at code unless is = tt
+
 ill : (fails : Bool) (at code : ℕ) → IsTypeCode code → AreCoded (ill_if fails at code)
-ill true at code is = (is, tt)
-ill false at code is = tt
+ill fails at code is = ill_unless_of fails at code None is
 
 meanings : (at : ℕ) (meaning : Option Meaning) → AreCoded (meaning_rows at meaning)
 meanings at None = tt
@@ -435,7 +440,7 @@ accepted : (state : State) (at : ℕ) (value : Judged) (ty : Ty) → AreCoded va
     → AreCoded (left.accepted_left state at value ty).rows
 accepted state at value ty are = join value.rows _ are (refused at value.ty ty)
 
-ill_each : (places : List ℕ) → AreCoded (map (λ at. Ill at 402) places)
+ill_each : (places : List ℕ) → AreCoded (map (λ at. Ill at 402 None) places)
 ill_each [] = tt
 ill_each (at ∷ places) = (type_code, ill_each places)
 
@@ -446,7 +451,7 @@ unless false rows are = are
 
 bare : (places : List ℕ) (ty : Option Ty) → AreCoded (left.bare_rows places ty)
 bare places None = tt
-bare places (Some ty) = unless (is_unit ty) (map (λ at. Ill at 402) places) (ill_each places)
+bare places (Some ty) = unless (is_unit ty) (map (λ at. Ill at 402 None) places) (ill_each places)
 
 first_value : (state : State) (places : List ℕ) (value : Judged) → AreCoded value.rows
     → AreCoded (left.first_value_left state places value).rows
@@ -481,7 +486,7 @@ switch : (cases : Option (List CaseShape)) (at : ℕ) (subject : Judged) (heads 
     → AreCoded (left.switch_left cases at subject heads otherwise inner).rows
 switch cases at subject heads otherwise inner first second =
     join subject.rows _ first
-    (join inner.rows _ second (ill _ at 405 switch_code))
+    (join inner.rows _ second (ill_unless_of _ at 405 _ switch_code))
 
 body : (at : ℕ) (l : Left) → AreCoded l.rows → AreCoded (left.body_rows at l)
 body at l are = join l.rows _ are (ill (left.lacks_result l) at 406 result_code)
@@ -502,7 +507,9 @@ module _ (world : World) where
       (each (λ (name : Name). left.capture_rows name (senses.local s.vars name.id))
       (λ name. capture name (senses.local s.vars name.id)) captures)
       (join (left.vars_rows (map (left.param_var world) params)) _
-      (vars (map (left.param_var world) params)) (body at l are))
+      (vars (map (left.param_var world) params))
+      (decided_keep IsCoded (λ _ _ _ is. (type_code, is)) _ (left.body_rows at l)
+      (body at l are)))
 
   mutual
     coded_expr : (s : Setting) (m : Bool) (e : Expr) (j : Judged) → is.Judges world s m e j
@@ -659,4 +666,4 @@ module _ (world : World) where
 
   pub ill_is_coded : (decls : List Decl) (at code : ℕ) → IsIll world decls at code
       → IsTypeCode code
-  ill_is_coded decls at code is = coded_row decls (Ill at code) is
+  ill_is_coded decls at code is = coded_row decls (Ill at code is.0) is.1

@@ -3,6 +3,7 @@ pub mod Sound
 pub mod Unique
 pub mod Saying
 pub mod Steps
+pub mod Doubts
 pub mod Welltyped
 pub mod Wellness
 pub mod Acceptance

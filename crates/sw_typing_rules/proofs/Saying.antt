@@ -84,23 +84,28 @@ module _ (world : World) (decls : List Decl) where
       ]
 
   -- an ill row of the list, and an ill node
-  of_ill : (row : Row) (one : Placed) → Contains (ill_in row) one → row ≡ Ill one.at one.code
+  of_ill : (row : Row) (one : Placed) → Contains (ill_in row) one
+      → (unless : Option ℕ) × (row ≡ Ill one.at one.code unless)
   of_ill (Typed at ty) one has = absurd (none_in one has)
   of_ill (Means at meaning) one has = absurd (none_in one has)
-  of_ill (Ill at code) one has = ap (λ (p : Placed). Ill p.at p.code)
-      (one_in (record { at = at; code = code }) one has)
+  of_ill (Ill at code unless) one has = (
+    unless,
+    ap (λ (p : Placed). Ill p.at p.code unless)
+        (one_in (record { at = at; code = code }) one has),
+  )
 
   pub ill_is : (one : Placed) → Contains (ills_in (said world decls)) one
       → IsIll world decls one.at one.code
   ill_is one has =
       let found = of_flat_map ill_in (said world decls) one has in
-      subst (Says world decls) (of_ill found.0 one found.2) (is_said found.0 found.1)
+      let ill = of_ill found.0 one found.2 in
+      (ill.0, subst (Says world decls) ill.1 (is_said found.0 found.1))
 
   pub is_ill : (at code : ℕ) → IsIll world decls at code
       → Contains (ills_in (said world decls)) (record { at = at; code = code })
   is_ill at code is =
-      in_flat_map ill_in (said world decls) (Ill at code) (record { at = at; code = code })
-      (said_is (Ill at code) is) (in_one (record { at = at; code = code }))
+      in_flat_map ill_in (said world decls) (Ill at code is.0) (record { at = at; code = code })
+      (said_is (Ill at code is.0) is.1) (in_one (record { at = at; code = code }))
 
 itself : (one : Placed) → is_lt (placed_cmp one one) ≡ false
 itself one = grind (arith, common_steps)

@@ -33,7 +33,7 @@ use Rattle.sw_typing_rules.specs.Operators.{assigns}
 use Rattle.sw_typing_rules.specs.Statements as stmts
 use Rattle.sw_typing_rules.specs.Statements.{State, Left, Head}
 use Rattle.sw_typing_rules.specs.Typedness.{vars_typed, returned_typed}
-use Rattle.sw_typing_rules.specs.Verdicts.{type_in, rows_of, ill_if}
+use Rattle.sw_typing_rules.specs.Verdicts.{type_in, rows_of, ill_if, ill_unless}
 use Rattle.sw_typing_rules.specs.declared.verdict.Verdict.{Verdict}
 use Rattle.sw_typing_rules.specs.declared.verdict.Verdict.TheVariants.{Has, Fails, Held}
 use Rattle.sw_typing_rules.specs.Verdicts.{all_well, is_well, is_accepted, is_bool, is_int, is_unit}
@@ -96,9 +96,13 @@ well_both (row ∷ a) b p q =
     and_both (is_well row) (all_well (a ++ b)) (and_left (is_well row) (all_well a) p)
     (well_both a b (and_right (is_well row) (all_well a) p) q)
 
+pub not_ill_unless : (b : Bool) (at code : ℕ) (unless : Option ℕ)
+    → all_well (ill_unless b at code unless) ≡ true → b ≡ false
+not_ill_unless true at code unless e = sym e
+not_ill_unless false at code unless e = refl
+
 pub not_ill : (b : Bool) (at code : ℕ) → all_well (ill_if b at code) ≡ true → b ≡ false
-not_ill true at code e = sym e
-not_ill false at code e = refl
+not_ill b at code e = not_ill_unless b at code None e
 
 abbrev pub is_held : Verdict → Bool
 is_held (Has ty) = false
@@ -388,7 +392,7 @@ condition None key p q = p
 condition (Some ty) key p q = not_false (is_bool ty) (not_ill (not (is_bool ty)) key 402 q)
 
 all_ill : (u : Bool) (at : ℕ) (places : List ℕ)
-    → all_well (if u then [] else map (λ at. Ill at 402) (at ∷ places)) ≡ true → u ≡ true
+    → all_well (if u then [] else map (λ at. Ill at 402 None) (at ∷ places)) ≡ true → u ≡ true
 all_ill true at places e = refl
 all_ill false at places e = e
 

@@ -1,5 +1,5 @@
 -- A program without an ill node: all that its bodies and first values hold has types.
-use Rattle.std.proofs.Common.{◌≡◌, ℕ, true, List, [], ◌∷◌, None, is_some}
+use Rattle.std.proofs.Common.{◌≡◌, ℕ, true, List, [], ◌∷◌, Option, None, is_some}
 use Rattle.std.proofs.Common.{Contains, map, refl, arith}
 use Rattle.std.proofs.lemmas.List.Elements.{Contains-append_left, Contains-append_right}
 use Rattle.sw_tree.specs.declared.decl.Decl.{Decl}
@@ -19,16 +19,18 @@ use Rattle.sw_typing_rules.specs.declared.row.Row.TheVariants.{Typed, Means, Ill
 use Rattle.sw_typing_rules.proofs.Steps.{and_both}
 use Rattle.sw_typing_rules.proofs.Welltyped.{typed_expr, fine_block}
 
-well_rows : (rows : List Row) → ((at code : ℕ) → Contains rows (Ill at code) → ⊥)
+well_rows : (rows : List Row)
+    → ((at code : ℕ) (unless : Option ℕ) → Contains rows (Ill at code unless) → ⊥)
     → all_well rows ≡ true
 well_rows [] none = refl
 well_rows (Typed at ty ∷ rows) none =
-    well_rows rows (λ a c has. none a c (Contains-append_right (Typed at ty ∷ []) rows
-    (Ill a c) has))
+    well_rows rows (λ a c u has. none a c u (Contains-append_right (Typed at ty ∷ []) rows
+    (Ill a c u) has))
 well_rows (Means at meaning ∷ rows) none =
     well_rows rows
-    (λ a c has. none a c (Contains-append_right (Means at meaning ∷ []) rows (Ill a c) has))
-well_rows (Ill at code ∷ rows) none = absurd (none at code (0, (omega arith), refl))
+    (λ a c u has. none a c u (Contains-append_right (Means at meaning ∷ []) rows (Ill a c u) has))
+well_rows (Ill at code unless ∷ rows) none =
+    absurd (none at code unless (0, (omega arith), refl))
 
 params_typed : (world : World) (params : List ParamTree)
     → vars_typed (map (param_var world) params) ≡ true
@@ -46,10 +48,13 @@ module _ (world : World) (decls : List Decl) (none : IsFirstIll world decls None
       (fine_block world (in_body body.owner body.init)
       (body_state world body) body.block left leaves
       (begins_typed world body)
-      (well_rows left.rows (λ at code has. none at code (of_body body left (Ill at code) is leaves
-      (Contains-append_right (vars_rows (params_of world body)) _ (Ill at code)
-      (Contains-append_left left.rows (ill_if (lacks_result left) body.at 406) (Ill at code)
-      has)))))).0
+      (well_rows left.rows (λ at code unless has. none at code (
+        unless,
+        of_body body left (Ill at code unless) is leaves
+            (Contains-append_right (vars_rows (params_of world body)) _ (Ill at code unless)
+            (Contains-append_left left.rows (ill_if (lacks_result left) body.at 406)
+            (Ill at code unless) has)),
+      )))).0
 
   pub well_value : (value : ValueOf) (judged : Judged)
       → Contains (values_from world 0 decls) value
@@ -57,6 +62,9 @@ module _ (world : World) (decls : List Decl) (none : IsFirstIll world decls None
       → is_some judged.ty ≡ true
   well_value value judged is judges =
       typed_expr world (value_setting value) (is_marked value.wanted) value.value judged judges refl
-      (well_rows judged.rows (λ at code has. none at code (of_value value judged (Ill at code) is
-      judges (Contains-append_left judged.rows (refused value.at judged.ty value.wanted)
-      (Ill at code) has))))
+      (well_rows judged.rows (λ at code unless has. none at code (
+        unless,
+        of_value value judged (Ill at code unless) is judges
+            (Contains-append_left judged.rows (refused value.at judged.ty value.wanted)
+            (Ill at code unless) has),
+      )))

@@ -1,6 +1,6 @@
 -- Where no node is ill, each expression has a type, and all that a statement holds has one.
 use Rattle.std.proofs.Common.{◌≡◌, ℕ, Bool, true, false, List, [], ◌∷◌, Option, Some, None, is_some}
-use Rattle.std.proofs.Common.{map}
+use Rattle.std.proofs.Common.{map, sym, ◌∙◌}
 use Rattle.std.proofs.Common.{ap, refl, ◌++◌, ◌&&◌, not, flat_map, if◌then◌else◌}
 use Rattle.std.proofs.lemmas.Bool.{false≢true}
 use Rattle.sw_tree.specs.declared.expr.Arg.{Arg}
@@ -39,6 +39,7 @@ use Rattle.sw_typing_rules.specs.Worlds.{World}
 use Rattle.sw_typing_rules.specs.Judges.{closure_of, head_of, arm_state, case_of}
 use Rattle.sw_typing_rules.specs.Judges as is
 use Rattle.sw_types.specs.declared.ty.Ty.{Ty}
+use Rattle.sw_typing_rules.proofs.Doubts.{all_decided}
 use Rattle.sw_typing_rules.proofs.Steps as step
 use Rattle.sw_typing_rules.proofs.Steps.{and_both, and_left, and_right, well_left, well_right}
 use Rattle.sw_typing_rules.proofs.Steps.{well_both}
@@ -209,7 +210,8 @@ module _ (world : World) where
       let outer = flat_map (λ (word : Name). left.capture_rows word (senses.local s.vars word.id))
       captures in
       let rest = well_right outer _ w in
-      let inner = well_right (left.vars_rows (map (left.param_var world) params)) _ rest in
+      let inner = sym (all_decided _ (left.body_rows at l))
+      ∙ well_right (left.vars_rows (map (left.param_var world) params)) _ rest in
       let good = k (well_left l.rows _ inner) in
       let none = not_ill (left.lacks_result l) at 406 (well_right l.rows _ inner) in
       if_some (left.are_captured s.vars captures) (left.result_of l)
@@ -314,7 +316,7 @@ module _ (world : World) where
       let some = k outer in
       let fits = step.switch_ok (is_some j.ty) (all_well (j.rows ++ l.rows))
       (left.switch_fits cases heads b) some (well_both j.rows l.rows outer inner)
-      (not_ill _ at 405 (well_right l.rows _ rest)) in
+      (step.not_ill_unless _ at 405 _ (well_right l.rows _ rest)) in
       let good = kl (step.fits_heads cases heads b fits) inner in
       (and_both (is_some j.ty) _ some (and_both l.fine _ good.0 fits), good.1)
 

@@ -5,6 +5,7 @@ pub mod Verdicts
 pub mod Words
 pub mod Worlds
 pub mod Expressions
+pub mod Doubts
 pub mod Statements
 pub mod Judging
 pub mod Judges

@@ -172,9 +172,9 @@ HasType world decls at ty = Says world decls (Typed at ty)
 abbrev pub HasMeaning : World → List Decl → ℕ → Meaning → Type 0
 HasMeaning world decls at meaning = Says world decls (Means at meaning)
 
--- the node with this key is ill with the code
+-- the node with this key is ill with the code; in a whole body nothing is in doubt any more
 abbrev pub IsIll : World → List Decl → ℕ → ℕ → Type 0
-IsIll world decls at code = Says world decls (Ill at code)
+IsIll world decls at code = (unless : Option ℕ) × Says world decls (Ill at code unless)
 
 -- the first ill node of a program by position, then by code, where it has one
 abbrev pub IsFirstIll : World → List Decl → Option Placed → Type 0

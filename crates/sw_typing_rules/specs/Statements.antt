@@ -17,11 +17,12 @@ use Rattle.sw_types.specs.declared.ty.Ty.{Ty, out-Ty}
 use Rattle.sw_types.specs.declared.ty.Ty.TheOpen as layer
 use Rattle.sw_types.specs.declared.ty.Ty.TheVariants as types
 use Rattle.sw_decl_words.specs.TypeWords.{type_of}
+use Rattle.sw_typing_rules.specs.Doubts.{bare_in, decided}
 use Rattle.sw_typing_rules.specs.Expressions.{Judged, Closed}
 use Rattle.sw_typing_rules.specs.Fits.{fits}
 use Rattle.sw_typing_rules.specs.Operators.{assigns}
-use Rattle.sw_typing_rules.specs.Verdicts.{ill_if, all_well, is_accepted, is_bool, is_unit}
-use Rattle.sw_typing_rules.specs.Verdicts.{meaning_rows, variable_rows}
+use Rattle.sw_typing_rules.specs.Verdicts.{ill_if, ill_unless, all_well, is_accepted, is_bool}
+use Rattle.sw_typing_rules.specs.Verdicts.{is_unit, meaning_rows, variable_rows}
 use Rattle.sw_typing_rules.specs.Words.{Setting, local}
 use Rattle.sw_typing_rules.specs.Worlds.{World}
 use Rattle.sw_typing_rules.specs.declared.row.Meaning.TheVariants as means
@@ -234,7 +235,7 @@ accepted_left state at value ty =
 -- value before it is ill then, unless that type is `Void`.
 abbrev pub bare_rows : List ℕ → Option Ty → List Row
 bare_rows places None = []
-bare_rows places (Some ty) = if is_unit ty then [] else map (λ at. Ill at 402) places
+bare_rows places (Some ty) = if is_unit ty then [] else map (λ at. Ill at 402 None) places
 
 abbrev pub no_bare : List ℕ → Option Ty → Bool
 no_bare places None = false
@@ -358,13 +359,14 @@ switch_fits None heads otherwise = false
 switch_fits (Some cases) heads otherwise =
     heads_fit (Some cases) heads && (otherwise || list_all (has_arm heads) cases)
 
--- A `switch` is ill where nothing inside it is. A `break` leaves it, so its ways don't end then.
+-- A `switch` is ill where nothing inside it is; it is in doubt where a `return` inside it may turn
+-- out ill. A `break` leaves it, so its ways don't end then.
 abbrev pub switch_left : Option (List CaseShape) → ℕ → Judged → List Head → Bool → Left → Left
 switch_left cases at subject heads otherwise inner = record {
   state = inner.state;
   rows = subject.rows ++ (inner.rows
-      ++ ill_if (is_some subject.ty && (all_well (subject.rows ++ inner.rows)
-      && not (switch_fits cases heads otherwise))) at 405);
+      ++ ill_unless (is_some subject.ty && (all_well (subject.rows ++ inner.rows)
+      && not (switch_fits cases heads otherwise))) at 405 (bare_in at inner.state.returned));
   fine = is_some subject.ty && (inner.fine && switch_fits cases heads otherwise);
   ends = inner.ends && not inner.breaks;
   breaks = false;
@@ -389,6 +391,11 @@ lacks_result left =
 abbrev pub body_rows : ℕ → Left → List Row
 body_rows at left = left.rows ++ ill_if (lacks_result left) at 406
 
+-- what is noted of the body of a closure or a task, whose result is known at its end
+abbrev pub decided_rows : ℕ → Left → List Row
+decided_rows at left =
+    map (decided (is_result (body_result left.state.returned))) (body_rows at left)
+
 -- the result of a body all of which has types
 abbrev pub result_of : Left → Option Ty
 result_of left =
@@ -404,7 +411,7 @@ captured None = []
 captured (Some one) = record one { mutable = false } ∷ []
 
 abbrev pub capture_rows : Name → Option Var → List Row
-capture_rows word None = Ill word.at 401 ∷ []
+capture_rows word None = Ill word.at 401 None ∷ []
 capture_rows word (Some one) =
     meaning_rows word.at (Some (means.Local one.at)) ++ variable_rows word.at one.ty
 
@@ -471,5 +478,5 @@ module _ (world : World) where
     marked = is_some mark;
     result = if are_captured setting.vars captures then result_of left else None;
     rows = flat_map (λ (word : Name). capture_rows word (local setting.vars word.id)) captures
-        ++ (vars_rows (map param_var params) ++ body_rows at left);
+        ++ (vars_rows (map param_var params) ++ decided_rows at left);
   }

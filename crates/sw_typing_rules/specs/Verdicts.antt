@@ -19,7 +19,7 @@ type_in Held = None
 -- what is noted of the node with this key
 abbrev pub rows_of : ℕ → Verdict → List Row
 rows_of at (Has ty) = Typed at ty ∷ []
-rows_of at (Fails code) = Ill at code ∷ []
+rows_of at (Fails code) = Ill at code None ∷ []
 rows_of at Held = []
 
 abbrev pub meaning_rows : ℕ → Option Meaning → List Row
@@ -31,13 +31,17 @@ abbrev pub variable_rows : ℕ → Option Ty → List Row
 variable_rows at None = []
 variable_rows at (Some ty) = Typed at ty ∷ []
 
+-- a node that fails, in doubt or not
+abbrev pub ill_unless : Bool → ℕ → ℕ → Option ℕ → List Row
+ill_unless fails at code unless = if fails then Ill at code unless ∷ [] else []
+
 abbrev pub ill_if : Bool → ℕ → ℕ → List Row
-ill_if fails at code = if fails then Ill at code ∷ [] else []
+ill_if fails at code = ill_unless fails at code None
 
 abbrev pub ill_in : Row → List Placed
 ill_in (Typed at ty) = []
 ill_in (Means at meaning) = []
-ill_in (Ill at code) = record { at = at; code = code } ∷ []
+ill_in (Ill at code unless) = record { at = at; code = code } ∷ []
 
 -- the ill nodes among what was noted
 abbrev pub ills_in : List Row → List Placed
@@ -46,7 +50,7 @@ ills_in rows = flat_map ill_in rows
 abbrev pub is_well : Row → Bool
 is_well (Typed at ty) = true
 is_well (Means at meaning) = true
-is_well (Ill at code) = false
+is_well (Ill at code unless) = false
 
 -- no node among these is ill
 abbrev pub all_well : List Row → Bool

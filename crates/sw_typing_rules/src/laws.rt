@@ -138,7 +138,6 @@ pub fn programs_have_one_world()
 {}
 
 /// The codes of ill nodes are those of types.
-#[tactic(auto, using(crate::proofs::IllCodes::ill_is_coded))]
 pub fn ill_nodes_have_codes_of_types()
     ensures { (world : World) (decls : List Decl) (at code : ℕ) → IsIll world decls at code
         → (401 ≤ code) × (code ≤ 408) }

@@ -30,9 +30,20 @@ pub enum Meaning {
 #[derive(Drop)]
 pub enum Row {
     /// The type of an expression, a place or a variable.
-    Typed { at: u32, ty: Ty },
+    Typed {
+        at: u32,
+        ty: Ty,
+    },
     /// What a name, a member or a call means.
-    Means { at: u32, meaning: Meaning },
-    /// The node is ill: the number of the code, 401 of E401.
-    Ill { at: u32, code: u16 },
+    Means {
+        at: u32,
+        meaning: Meaning,
+    },
+    /// The node is ill: the number of the code, 401 of E401. If it is in doubt, it is so `unless`
+    /// the `return` without a value with this key is.
+    Ill {
+        at: u32,
+        code: u16,
+        unless: Option<u32>,
+    },
 }

@@ -1,2 +1,3 @@
 pub mod PlaceLemmas
+pub mod DoubtLemmas
 pub mod TableLemmas

@@ -22,19 +22,19 @@ push_from : (at : ℕ) (rows : List Row) (row : Row)
 push_from at [] row = grind (arith, common_steps)
 push_from at (Typed a ty ∷ rows) row = grind (arith, push_from (at + 1) rows row)
 push_from at (Means a meaning ∷ rows) row = grind (arith, push_from (at + 1) rows row)
-push_from at (Ill a code ∷ rows) row = grind (arith, push_from (at + 1) rows row)
+push_from at (Ill a code unless ∷ rows) row = grind (arith, push_from (at + 1) rows row)
 
 pub pushed_ill : (rows : List Row) (row : Row) → is_well row ≡ false
     → ill_places (rows ++ row ∷ []) ≡ ill_places rows ++ length rows ∷ []
 unfolding ill_places
-pushed_ill rows (Ill at code) e = grind (arith, push_from 0 rows (Ill at code))
+pushed_ill rows (Ill at code unless) e = grind (arith, push_from 0 rows (Ill at code unless))
 pushed_ill rows (Typed at ty) e = cc
 pushed_ill rows (Means at meaning) e = cc
 
 pub pushed_well : (rows : List Row) (row : Row) → is_well row ≡ true
     → ill_places (rows ++ row ∷ []) ≡ ill_places rows
 unfolding ill_places
-pushed_well rows (Ill at code) e = cc
+pushed_well rows (Ill at code unless) e = cc
 pushed_well rows (Typed at ty) e = grind (arith, common_steps, push_from 0 rows (Typed at ty))
 pushed_well rows (Means at meaning) e =
     grind (arith, common_steps, push_from 0 rows (Means at meaning))
@@ -47,7 +47,7 @@ after_start start at place (Typed a ty ∷ rows) p q =
     after_start start (at + 1) place rows p (omega arith)
 after_start start at place (Means a meaning ∷ rows) p q =
     after_start start (at + 1) place rows p (omega arith)
-after_start start at place (Ill a code ∷ rows) p q =
+after_start start at place (Ill a code unless ∷ rows) p q =
     after_start start (at + 1) at rows q (omega arith)
 
 all_after : (start at : ℕ) (rows : List Row) → start ≤ at
@@ -55,7 +55,7 @@ all_after : (start at : ℕ) (rows : List Row) → start ≤ at
 all_after start at [] q = refl
 all_after start at (Typed a ty ∷ rows) q = all_after start (at + 1) rows (omega arith)
 all_after start at (Means a meaning ∷ rows) q = all_after start (at + 1) rows (omega arith)
-all_after start at (Ill a code ∷ rows) q = after_start start (at + 1) at rows q (omega arith)
+all_after start at (Ill a code unless ∷ rows) q = after_start start (at + 1) at rows q (omega arith)
 
 one_before : (start place : ℕ) (places : List ℕ) → place < start
     → last_before start (place ∷ places) ≡ last_before start places
@@ -68,7 +68,7 @@ well_from zero at rows = all_after (at + 0) at rows (omega arith)
 well_from (suc start) at [] = refl
 well_from (suc start) at (Typed a ty ∷ rows) = grind (arith, well_from start (at + 1) rows)
 well_from (suc start) at (Means a meaning ∷ rows) = grind (arith, well_from start (at + 1) rows)
-well_from (suc start) at (Ill a code ∷ rows) =
+well_from (suc start) at (Ill a code unless ∷ rows) =
     let before : at < at + suc start = omega arith in
     one_before (at + suc start) at (ill_places_from (at + 1) rows) before
     ∙ grind (arith, well_from start (at + 1) rows)

@@ -13,15 +13,16 @@ use Rattle.sw_tree.specs.declared.stmt.Pattern.{Pattern}
 use Rattle.sw_tree.specs.declared.stmt.Pattern.TheVariants.{Skip, Let}
 use Rattle.sw_types.specs.declared.shape.CaseShape.{CaseShape}
 use Rattle.sw_types.specs.declared.ty.Ty.{Ty}
+use Rattle.sw_typing_rules.specs.Doubts.{bare_in}
 use Rattle.sw_typing_rules.specs.Statements.{bind_left, refused, return_value, variable, vars_rows}
 use Rattle.sw_typing_rules.specs.Statements.{pattern_vars, switch_fits}
-use Rattle.sw_typing_rules.specs.Verdicts.{all_well, ill_if, variable_rows}
+use Rattle.sw_typing_rules.specs.Verdicts.{all_well, ill_unless, variable_rows}
 use Rattle.sw_typing_rules.specs.declared.row.Row.{Row}
 use Rattle.sw_typing_rules.specs.declared.scope.Returned.{Returned}
 use Rattle.sw_typing_rules.specs.declared.scope.Returned.TheVariants.{Wants, Open, Gives}
 use Rattle.sw_typing_rules.specs.declared.scope.Var.{Var}
 use Rattle.sw_typing_steps.specs.Results.{value_rows, with_value}
-use Rattle.sw_typing_steps.specs.Steps.{after, cut, judged_since, state_of}
+use Rattle.sw_typing_steps.specs.Steps.{after, cut, judged_since, state_of, with_rows}
 use Rattle.sw_typing_steps.specs.Variables.{with_variables}
 use Rattle.sw_typing_steps.specs.declared.known.Known.{Known}
 use Rattle.sw_typing_steps.specs.declared.known.Went.{Went}
@@ -152,17 +153,17 @@ patterns_more table more patterns tys i other ty all within typed one rest =
     ∙ rest
 
 pub switched_end : (cases : Option (List CaseShape)) (start at : ℕ) (subject : Known)
-    (arms : List CaseArm) (otherwise : Bool) (inner : Went) (table : Table) (typed fits : Bool)
-    (rows : List Row) → typed ≡ is_some subject.ty
-    → fits ≡ switch_fits cases (map head_at arms) otherwise
-    → rows ≡ table.rows ++ ill_if (typed && (all_well (drop start table.rows) && not fits)) at 405
-    → record table { rows = rows }
-    ≡ after (cut start table) (switched cases start at subject arms otherwise inner table)
-switched_end cases start at subject arms otherwise inner table typed fits rows is_typed is_fit
+    (arms : List CaseArm) (otherwise : Bool) (inner : Went) (table now : Table) (typed fits : Bool)
+    → typed ≡ is_some subject.ty → fits ≡ switch_fits cases (map head_at arms) otherwise
+    → now ≡ with_rows table (ill_unless (typed && (all_well (drop start table.rows) && not fits))
+    at 405 (bare_in at table.returned))
+    → now ≡ after (cut start table) (switched cases start at subject arms otherwise inner table)
+switched_end cases start at subject arms otherwise inner table now typed fits is_typed is_fit
     noted =
-    ap (with table table.vars table.returned) (noted
-    ∙ ap (λ b. table.rows
-    ++ ill_if (b && (all_well (drop start table.rows) && not fits)) at 405) is_typed
-    ∙ ap (λ b. table.rows ++ ill_if (is_some subject.ty && (all_well (drop start table.rows)
-    && not b)) at 405) is_fit
-    ∙ seam start table.rows _)
+    let bare = bare_in at table.returned in
+    noted
+    ∙ ap (λ b. with_rows table
+    (ill_unless (b && (all_well (drop start table.rows) && not fits)) at 405 bare)) is_typed
+    ∙ ap (λ b. with_rows table (ill_unless (is_some subject.ty
+    && (all_well (drop start table.rows) && not b)) at 405 bare)) is_fit
+    ∙ ap (with table table.vars table.returned) (seam start table.rows _)

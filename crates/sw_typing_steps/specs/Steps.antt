@@ -1,5 +1,6 @@
 -- What the steps of a walk over a program know, note and leave.
-use Rattle.std.specs.Prelude.{ℕ, List, ◌++◌, Option, take, drop}
+use Rattle.std.specs.Prelude.{ℕ, Bool, List, ◌++◌, Option, map, take, drop}
+use Rattle.sw_typing_rules.specs.Doubts.{decided}
 use Rattle.sw_typing_rules.specs.Expressions.{Judged, Closed}
 use Rattle.sw_typing_rules.specs.Statements.{State, Left}
 use Rattle.sw_typing_rules.specs.Words.{Setting}
@@ -55,6 +56,10 @@ setting_in owner table = record { owner = owner; vars = table.vars }
 -- the table with more rows
 abbrev pub with_rows : Table → List Row → Table
 with_rows table rows = record table { rows = table.rows ++ rows }
+
+-- rows of which those from the place `start` on are no longer in doubt
+abbrev pub decided_since : ℕ → Bool → List Row → List Row
+decided_since start valued rows = take start rows ++ map (decided valued) (drop start rows)
 
 -- the table as it was when it had `start` rows, but for variables and the result
 abbrev pub cut : ℕ → Table → Table

@@ -63,7 +63,7 @@ pub fn open_body(
 }
 
 /// Whether a body has a result other than `Void`.
-fn has_result(returned: &Returned) -> bool
+pub fn has_result(returned: &Returned) -> bool
     ensures { result ≡ is_result (body_result returned.now) }
 {
     match returned {

@@ -5,16 +5,16 @@ ghost use Rattle.sw_tree.specs.declared.expr.ClosureParam.{ClosureParam};
 ghost use Rattle.sw_decl_words.specs.TypeWords.{type_of};
 ghost use Rattle.sw_typing_rules.specs.Expressions.{fun_types, task_types};
 ghost use Rattle.sw_typing_rules.specs.Statements.{are_captured, body_result, capture_rows};
-ghost use Rattle.sw_typing_rules.specs.Statements.{captured, is_captured, lacks_result, param_var};
-ghost use Rattle.sw_typing_rules.specs.Statements.{result_wanted};
+ghost use Rattle.sw_typing_rules.specs.Statements.{captured, is_captured, is_result, lacks_result};
+ghost use Rattle.sw_typing_rules.specs.Statements.{param_var, result_wanted};
 ghost use Rattle.sw_typing_rules.specs.Verdicts.{ill_if};
 ghost use Rattle.sw_typing_rules.specs.Worlds.{world_of};
 ghost use Rattle.sw_typing_steps.specs.Closures.{captured_vars, captures_rows, closed_after};
 ghost use Rattle.sw_typing_steps.specs.Closures.{opened, opening};
-ghost use Rattle.sw_typing_steps.specs.Steps.{left_since};
+ghost use Rattle.sw_typing_steps.specs.Steps.{decided_since, left_since};
 ghost use Rattle.sw_typing_steps.specs.Variables.{with_variables};
 
-use crate::bodies::lacks_result;
+use crate::bodies::{has_result, lacks_result};
 use crate::codes::{NO_RESULT, NO_VALUE};
 use crate::declare::declare;
 use crate::known::{Enclosed, Went};
@@ -230,7 +230,8 @@ fn body_result(returned: Returned) -> Option<Ty>
     }
 }
 
-/// Ends a closure or the body of a task, whose statements went like this.
+/// Ends a closure or the body of a task, whose statements went like this, and decides what is in
+/// doubt in it.
 pub fn close_closure(
     at: u32,
     mark: Option<Name>,
@@ -241,12 +242,15 @@ pub fn close_closure(
     ensures enclosed { IfOk result (λ made. made
         ≡ closed_after at mark opened (left_since went opened.start table.old)) }
     ensures vars { OnOk result (table.new.vars ≡ take opened.depth table.old.vars) }
-    ensures rows { OnOk result (table.new.rows ≡ table.old.rows
-        ++ ill_if (lacks_result (left_since went opened.start table.old)) at 406) }
+    ensures rows { OnOk result (table.new.rows ≡ decided_since opened.start
+        (is_result (body_result table.old.returned))
+        (table.old.rows ++ ill_if (lacks_result (left_since went opened.start table.old)) at 406)) }
     ensures returned { OnOk result (table.new.returned ≡ opened.outer) }
 {
     let lacks = lacks_result(opened.start, went, table);
     table.rows.note_ill(lacks, at, NO_RESULT)?;
+    let valued = has_result(&table.returned);
+    table.rows.decide(opened.start, valued);
     table.vars.truncate(opened.depth);
     let returned = replace(&mut table.returned, opened.outer);
     let whole = opened.captured && (went.fine && !lacks);

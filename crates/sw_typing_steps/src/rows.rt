@@ -1,5 +1,6 @@
 //! What is noted of nodes, in order.
-ghost use Rattle.std.specs.Prelude.{◌≡◌};
+ghost use Rattle.std.specs.Prelude.{◌≡◌, MatchOption};
+ghost use Rattle.sw_typing_rules.specs.Doubts.{decided};
 ghost use Rattle.sw_typing_rules.specs.Verdicts.{is_well};
 ghost use Rattle.sw_typing_steps.specs.Places.{last_before};
 
@@ -45,6 +46,34 @@ fn is_well(row: &Row) -> bool
     }
 }
 
+/// The row that takes the place of one in doubt, by whether the result of the body is a value other
+/// than `Void`.
+fn decision(valued: bool, row: &Row) -> Option<Row>
+    ensures { MatchOption result (decided valued row.now ≡ row.now)
+        (λ made. made ≡ decided valued row.now) }
+{
+    match row {
+        Row::Ill {
+            at,
+            code,
+            unless: Some(bare),
+        } => Some(if valued {
+            Row::Ill {
+                at: *bare,
+                code: TYPES,
+                unless: None,
+            }
+        } else {
+            Row::Ill {
+                at: *at,
+                code: *code,
+                unless: None,
+            }
+        }),
+        Row::Typed { .. } | Row::Means { .. } | Row::Ill { unless: None, .. } => None,
+    }
+}
+
 /// Whether the last of these places, if there is one, stands before `start`.
 #[tactic(auto, using(crate::proofs::PlaceLemmas::none_last, crate::proofs::PlaceLemmas::some_last))]
 fn last_before(start: usize, places: &[usize]) -> bool
@@ -60,8 +89,10 @@ impl Rows {
     ghost use Rattle.std.specs.Prelude.{◌≡◌, [], ◌∷◌, ◌++◌, length, take, drop, MatchOption};
     ghost use Rattle.std.specs.Prelude.{OnOk};
     ghost use Rattle.sw_typing_rules.specs.Statements.{refused};
-    ghost use Rattle.sw_typing_rules.specs.Verdicts.{all_well, ill_if, meaning_rows, rows_of};
-    ghost use Rattle.sw_typing_rules.specs.Verdicts.{variable_rows};
+    ghost use Rattle.sw_typing_rules.specs.Verdicts.{all_well, ill_if, ill_unless, meaning_rows};
+    ghost use Rattle.sw_typing_rules.specs.Verdicts.{rows_of, variable_rows};
+    ghost use Rattle.sw_typing_steps.specs.Steps.{decided_since};
+    ghost use Rattle.std.specs.Prelude.{◌<◌, ◌+◌};
 
     /// Nothing is noted yet.
     #[tactic(auto, using(crate::proofs::PlaceLemmas::no_places))]
@@ -136,14 +167,54 @@ impl Rows {
         }
     }
 
+    /// Decides a doubt, if the row at an index has one.
+    #[tactic(auto, using(crate::proofs::DoubtLemmas::decided_places, crate::proofs::DoubtLemmas::since_next, crate::proofs::DoubtLemmas::since_same))]
+    fn decide_at(&mut self, valued: bool, index: usize)
+        requires { index < length self.old }
+        ensures many { length self.new ≡ length self.old }
+        ensures left { decided_since (index + 1) valued self.new
+            ≡ decided_since index valued self.old }
+    {
+        if let Some(made) = decision(valued, self.list.at(index)) {
+            self.list.set(index, made);
+        }
+    }
+
+    /// Decides all doubts from the place `start` on, by whether the result of the body is a value
+    /// other than `Void`. Takes no time if no node is ill there.
+    #[tactic(auto, using(crate::proofs::DoubtLemmas::since_end))]
+    pub fn decide(&mut self, start: usize, valued: bool)
+        ensures { self.new ≡ decided_since start valued self.old }
+    {
+        if self.well_since(start) {
+            return;
+        }
+        for index in start..self.len() {
+            self.decide_at(valued, index);
+        }
+    }
+
+    /// Notes that a node is ill, if it `fails`; in doubt, `unless` a `return` is.
+    pub fn note_unless(
+        &mut self,
+        fails: bool,
+        at: u32,
+        code: u16,
+        unless: Option<u32>,
+    ) -> Result<(), AllocError>
+        ensures { OnOk result (self.new ≡ self.old ++ ill_unless fails at code unless) }
+    {
+        if fails {
+            self.push(Row::Ill { at, code, unless })?;
+        }
+        Ok(())
+    }
+
     /// Notes that a node is ill, if it `fails`.
     pub fn note_ill(&mut self, fails: bool, at: u32, code: u16) -> Result<(), AllocError>
         ensures { OnOk result (self.new ≡ self.old ++ ill_if fails at code) }
     {
-        if fails {
-            self.push(Row::Ill { at, code })?;
-        }
-        Ok(())
+        self.note_unless(fails, at, code, None)
     }
 
     /// Notes the type of a variable, if it has one.
@@ -183,7 +254,7 @@ impl Rows {
                 let ty = copy_of(alloc, ty)?;
                 self.push(Row::Typed { at, ty })
             }
-            Verdict::Fails(code) => self.push(Row::Ill { at, code: *code }),
+            Verdict::Fails(code) => self.note_ill(true, at, *code),
             Verdict::Held => Ok(()),
         }
     }

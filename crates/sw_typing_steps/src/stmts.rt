@@ -1,6 +1,6 @@
 //! Statements.
 ghost use Rattle.std.specs.Prelude.{◌≡◌, ◌++◌, ◌&&◌, ◌||◌, [], true, false, IfOk, OnOk, is_some};
-ghost use Rattle.std.specs.Prelude.{map, not};
+ghost use Rattle.std.specs.Prelude.{None, map, not};
 ghost use Rattle.sw_typing_rules.specs.Statements.{assigned, bind_left, break_left, continue_left};
 ghost use Rattle.sw_typing_rules.specs.Statements.{expects, fixed, is_condition, marked_result};
 ghost use Rattle.sw_typing_rules.specs.Statements.{bare_rows, misassigned, no_bare, place_type};
@@ -21,7 +21,7 @@ use crate::table::Table;
 use std::alloc::{AllocError, Global};
 use sw_tree::{AssignOp, Name};
 use sw_types::Ty;
-use sw_typing_rules::{Inside, Returned, Row};
+use sw_typing_rules::{Inside, Returned};
 use sw_typing_words::{assigned, assigns, is_accepted, is_bool, is_marked, is_unit, marked_type};
 
 /// A statement after which the ways go on.
@@ -229,13 +229,10 @@ fn takes_value(ty: &Option<Ty>, returned: &Returned) -> bool
 
 /// Notes that each `return` at these places has no value.
 fn note_places(places: &[u32], rows: &mut Rows) -> Result<(), AllocError>
-    ensures { OnOk result (rows.new ≡ rows.old ++ map (λ at. Ill at 402) places.now) }
+    ensures { OnOk result (rows.new ≡ rows.old ++ map (λ at. Ill at 402 None) places.now) }
 {
     for at in places {
-        rows.push(Row::Ill {
-            at: *at,
-            code: TYPES,
-        })?;
+        rows.note_ill(true, *at, TYPES)?;
     }
     Ok(())
 }

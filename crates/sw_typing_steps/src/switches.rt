@@ -2,23 +2,24 @@
 ghost use Rattle.std.specs.Prelude.{◌≡◌, ◌++◌, ◌&&◌, false, drop, map, not, slice_get, IfOk, OnOk};
 ghost use Rattle.std.specs.List.{list_all};
 ghost use Rattle.std.specs.Option.{option_copied};
+ghost use Rattle.sw_typing_rules.specs.Doubts.{bare_in, last_after};
 ghost use Rattle.sw_typing_rules.specs.Statements.{arm_payload, arm_vars, case_named, has_arm};
 ghost use Rattle.sw_typing_rules.specs.Statements.{heads_fit, pattern_types, pattern_vars};
 ghost use Rattle.sw_typing_rules.specs.Statements.{patterns_fit, payload_of, switch_fits};
 ghost use Rattle.sw_typing_rules.specs.Statements.{vars_rows};
-ghost use Rattle.sw_typing_rules.specs.Verdicts.{all_well, ill_if};
-ghost use Rattle.sw_typing_steps.specs.Steps.{after, cut, went_of};
+ghost use Rattle.sw_typing_rules.specs.Verdicts.{all_well, ill_unless};
+ghost use Rattle.sw_typing_steps.specs.Steps.{after, cut, went_of, with_rows};
 ghost use Rattle.sw_typing_steps.specs.Switches.{head_at, pattern_var, switched};
 ghost use Rattle.sw_typing_steps.specs.Variables.{with_variables};
 
 use crate::codes::ARMS;
 use crate::declare::declare;
 use crate::known::{Known, Went};
-use crate::rows::Rows;
 use crate::table::Table;
 use std::alloc::{AllocError, Global};
 use sw_tree::{CaseArm, Pattern};
 use sw_types::{CaseList, CaseShape, Ty, TyList};
+use sw_typing_rules::Returned;
 use sw_typing_words::copy_of;
 
 /// The payload of the case with this name, if there is one.
@@ -178,6 +179,27 @@ fn switch_fits(cases: Option<&CaseList>, arms: &[CaseArm], otherwise: bool) -> b
     }
 }
 
+/// The last of these keys, if it stands after `at`.
+#[tactic(auto, using(crate::proofs::DoubtLemmas::none_after))]
+fn last_after(at: u32, places: &[u32]) -> Option<u32>
+    ensures { result ≡ last_after at places.now }
+{
+    match places.last() {
+        None => None,
+        Some(place) => { if at < *place { Some(*place) } else { None } }
+    }
+}
+
+/// A `return` without a value in a `switch`, if it may turn out ill.
+fn bare_in(at: u32, returned: &Returned) -> Option<u32>
+    ensures { result ≡ bare_in at returned.now }
+{
+    match returned {
+        Returned::Open(places) => last_after(at, places.as_slice()),
+        Returned::Wants(_) | Returned::Gives(_) => None,
+    }
+}
+
 /// Notes a `switch` whose subject has a type, whose arms don't fit and in which nothing is ill, by
 /// what is noted since there were `start` rows.
 fn note_arms(
@@ -185,13 +207,15 @@ fn note_arms(
     at: u32,
     typed: bool,
     fits: bool,
-    rows: &mut Rows,
+    table: &mut Table,
 ) -> Result<(), AllocError>
-    ensures { OnOk result (rows.new ≡ rows.old
-        ++ ill_if (typed && (all_well (drop start rows.old) && not fits)) at 405) }
+    ensures { OnOk result (table.new ≡ with_rows table.old
+        (ill_unless (typed && (all_well (drop start table.old.rows) && not fits)) at 405
+        (bare_in at table.old.returned))) }
 {
-    let fails = typed && (rows.well_since(start) && !fits);
-    rows.note_ill(fails, at, ARMS)
+    let fails = typed && (table.rows.well_since(start) && !fits);
+    let bare = bare_in(at, &table.returned);
+    table.rows.note_unless(fails, at, ARMS, bare)
 }
 
 /// How a `switch` goes, by whether its subject has a type and its arms fit. A `break` leaves it.
@@ -229,6 +253,6 @@ pub fn switch_end(
 {
     let fits = switch_fits(cases, arms, otherwise);
     let typed = subject.ty.is_some();
-    note_arms(start, at, typed, fits, &mut table.rows)?;
+    note_arms(start, at, typed, fits, table)?;
     Ok(switch_went(typed, fits, inner))
 }

@@ -21,7 +21,7 @@ type_more (Typed at ty ∷ rows) row key =
     either_more (at == key) ty _ (type_in rows key) (type_in (row ∷ []) key)
     (type_more rows row key)
 type_more (Means at meaning ∷ rows) row key = type_more rows row key
-type_more (Ill at code ∷ rows) row key = type_more rows row key
+type_more (Ill at code unless ∷ rows) row key = type_more rows row key
 
 pub meaning_more : (rows : List Row) (row : Row) (key : ℕ)
     → meaning_in (rows ++ row ∷ []) key
@@ -31,4 +31,4 @@ meaning_more (Typed at ty ∷ rows) row key = meaning_more rows row key
 meaning_more (Means at meaning ∷ rows) row key =
     either_more (at == key) meaning _ (meaning_in rows key) (meaning_in (row ∷ []) key)
     (meaning_more rows row key)
-meaning_more (Ill at code ∷ rows) row key = meaning_more rows row key
+meaning_more (Ill at code unless ∷ rows) row key = meaning_more rows row key

@@ -62,17 +62,17 @@ module _ {X : Type 0} (row : ℕ → X → Row) where
 abbrev row_key : Row → ℕ
 row_key (Typed at ty) = at
 row_key (Means at meaning) = at
-row_key (Ill at code) = at
+row_key (Ill at code unless) = at
 
 abbrev is_type : Row → Bool
 is_type (Typed at ty) = true
 is_type (Means at meaning) = false
-is_type (Ill at code) = false
+is_type (Ill at code unless) = false
 
 abbrev is_meaning : Row → Bool
 is_meaning (Typed at ty) = false
 is_meaning (Means at meaning) = true
-is_meaning (Ill at code) = false
+is_meaning (Ill at code unless) = false
 
 type_found : (rows : List Row) (at : ℕ) (ty : Ty) → type_in rows at ≡ Some ty
     → Contains rows (Typed at ty)
@@ -81,8 +81,8 @@ type_found (Typed key t ∷ rows) at ty p =
     found_here Typed (key == at) key at t ty (type_in rows at) rows refl p (type_found rows at ty)
 type_found (Means key meaning ∷ rows) at ty p =
     Contains-append_right (Means key meaning ∷ []) rows (Typed at ty) (type_found rows at ty p)
-type_found (Ill key code ∷ rows) at ty p =
-    Contains-append_right (Ill key code ∷ []) rows (Typed at ty) (type_found rows at ty p)
+type_found (Ill key code unless ∷ rows) at ty p =
+    Contains-append_right (Ill key code unless ∷ []) rows (Typed at ty) (type_found rows at ty p)
 
 no_type : (rows : List Row) (at : ℕ) (ty : Ty) → Contains rows (Typed at ty)
     → type_in rows at ≡ None → ⊥
@@ -99,9 +99,10 @@ no_type (Means key meaning ∷ rows) at ty has p = elim (Contains-append_cases
       | inl here ↦ false≢true (ap is_type (the_one (Means key meaning) (Typed at ty) here))
       | inr there ↦ no_type rows at ty there p
     ]
-no_type (Ill key code ∷ rows) at ty has p = elim (Contains-append_cases (Ill key code ∷ []) rows
+no_type (Ill key code unless ∷ rows) at ty has p =
+    elim (Contains-append_cases (Ill key code unless ∷ []) rows
     (Typed at ty) has) [
-      | inl here ↦ false≢true (ap is_type (the_one (Ill key code) (Typed at ty) here))
+      | inl here ↦ false≢true (ap is_type (the_one (Ill key code unless) (Typed at ty) here))
       | inr there ↦ no_type rows at ty there p
     ]
 
@@ -113,7 +114,8 @@ meaning_found (Typed key t ∷ rows) at meaning p = Contains-append_right (Typed
 meaning_found (Means key m ∷ rows) at meaning p =
     found_here Means (key == at) key at m meaning (meaning_in rows at) rows refl p
     (meaning_found rows at meaning)
-meaning_found (Ill key code ∷ rows) at meaning p = Contains-append_right (Ill key code ∷ []) rows
+meaning_found (Ill key code unless ∷ rows) at meaning p =
+    Contains-append_right (Ill key code unless ∷ []) rows
     (Means at meaning) (meaning_found rows at meaning p)
 
 no_meaning : (rows : List Row) (at : ℕ) (meaning : Meaning) → Contains rows (Means at meaning)
@@ -131,9 +133,11 @@ no_meaning (Means key m ∷ rows) at meaning has p = elim (Contains-append_cases
       | inr there ↦ no_meaning rows at meaning there
           (unless_here Means (key == at) m (meaning_in rows at) p)
     ]
-no_meaning (Ill key code ∷ rows) at meaning has p = elim (Contains-append_cases (Ill key code ∷ [])
+no_meaning (Ill key code unless ∷ rows) at meaning has p =
+    elim (Contains-append_cases (Ill key code unless ∷ [])
     rows (Means at meaning) has) [
-      | inl here ↦ false≢true (ap is_meaning (the_one (Ill key code) (Means at meaning) here))
+      | inl here ↦
+          false≢true (ap is_meaning (the_one (Ill key code unless) (Means at meaning) here))
       | inr there ↦ no_meaning rows at meaning there p
     ]
 

@@ -16,14 +16,14 @@ abbrev pub type_in : List Row → ℕ → Option Ty
 type_in [] at = None
 type_in (Typed key ty ∷ rows) at = if key == at then Some ty else type_in rows at
 type_in (Means key meaning ∷ rows) at = type_in rows at
-type_in (Ill key code ∷ rows) at = type_in rows at
+type_in (Ill key code unless ∷ rows) at = type_in rows at
 
 -- the meaning that is first said of a key
 abbrev pub meaning_in : List Row → ℕ → Option Meaning
 meaning_in [] at = None
 meaning_in (Typed key ty ∷ rows) at = meaning_in rows at
 meaning_in (Means key meaning ∷ rows) at = if key == at then Some meaning else meaning_in rows at
-meaning_in (Ill key code ∷ rows) at = meaning_in rows at
+meaning_in (Ill key code unless ∷ rows) at = meaning_in rows at
 
 -- the types and the meanings are those that are said of the program's nodes
 pub record IsTyped (world : World) (decls : List Decl) (typed : typing.Typed) : Type 0 where

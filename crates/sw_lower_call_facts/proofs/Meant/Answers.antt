@@ -26,9 +26,10 @@ found_so P [] key meaning all is = cc
 found_so P (Typed at ty ∷ rows) key meaning all is =
     found_so P rows key meaning
     (λ k one has. all k one (Contains-append_right (Typed at ty ∷ []) rows (Means k one) has)) is
-found_so P (Ill at code ∷ rows) key meaning all is =
+found_so P (Ill at code unless ∷ rows) key meaning all is =
     found_so P rows key meaning
-    (λ k one has. all k one (Contains-append_right (Ill at code ∷ []) rows (Means k one) has)) is
+    (λ k one has. all k one
+    (Contains-append_right (Ill at code unless ∷ []) rows (Means k one) has)) is
 found_so P (Means at other ∷ rows) key meaning all is =
     by (at == key) is (found_so P rows key meaning
     (λ k one has. all k one (Contains-append_right (Means at other ∷ []) rows (Means k one) has)))

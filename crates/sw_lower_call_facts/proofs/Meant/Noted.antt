@@ -18,6 +18,7 @@ use Rattle.sw_typing_rules.specs.Statements.{in_switch, in_body, with_only, is_o
 use Rattle.sw_typing_rules.specs.Statements.{marked_type, place_type, marked_result, expects}
 use Rattle.sw_typing_rules.specs.Statements.{cases_of, arm_payload, closure_state, beside}
 use Rattle.sw_typing_rules.specs.Verdicts.{rows_of, meaning_rows, variable_rows, ill_if}
+use Rattle.sw_typing_rules.specs.Verdicts.{ill_unless}
 use Rattle.sw_typing_rules.specs.Worlds.{World}
 use Rattle.sw_typing_rules.specs.declared.row.Meaning.{Meaning}
 use Rattle.sw_typing_rules.specs.declared.row.Row.{Row}
@@ -44,9 +45,13 @@ module _ (world : World) where
   each f are [] = tt
   each f are (x ∷ xs) = join (f x) (flat_map f xs) (are x) (each f are xs)
 
+  pub doubted : (fails : Bool) (at code : ℕ) (unless : Option ℕ)
+      → RowsSo (ill_unless fails at code unless)
+  doubted true at code unless = (tt, tt)
+  doubted false at code unless = tt
+
   pub ill : (fails : Bool) (at code : ℕ) → RowsSo (ill_if fails at code)
-  ill true at code = (tt, tt)
-  ill false at code = tt
+  ill fails at code = doubted fails at code None
 
   pub meanings : (at : ℕ) (meaning : Option Meaning) → IfSo meaning
       → RowsSo (meaning_rows at meaning)

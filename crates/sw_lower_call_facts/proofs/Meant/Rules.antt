@@ -48,9 +48,12 @@ use Rattle.sw_typing_rules.specs.declared.scope.Returned.{Returned}
 use Rattle.sw_typing_rules.specs.declared.scope.Returned.TheVariants.{Wants, Open, Gives}
 use Rattle.sw_typing_rules.specs.declared.scope.Var.{Var}
 use Rattle.sw_typing_rules.specs.declared.verdict.Verdict.TheVariants.{Held}
+use Rattle.sw_typing_rules.proofs.Doubts.{decided_keep}
+use Rattle.sw_typing_rules.specs.Doubts.{bare_in}
 use Rattle.sw_lower_call_facts.specs.Meant.{RowSo}
-use Rattle.sw_lower_call_facts.proofs.Meant.Noted.{RowsSo, call, each, ill, join, meanings, noted}
-use Rattle.sw_lower_call_facts.proofs.Meant.Noted.{refused, rows_by, variables, vars}
+use Rattle.sw_lower_call_facts.proofs.Meant.Noted.{RowsSo, call, doubted, each, ill, join}
+use Rattle.sw_lower_call_facts.proofs.Meant.Noted.{meanings, noted, refused, rows_by, variables}
+use Rattle.sw_lower_call_facts.proofs.Meant.Noted.{vars}
 use Rattle.sw_lower_call_facts.proofs.Meant.Callees.{case_meant, found_meant, method_called}
 use Rattle.sw_lower_call_facts.proofs.Meant.Callees.{word_called, word_meant}
 
@@ -98,7 +101,7 @@ module _ (world : World) where
       → RowsSo world (left.accepted_left state at value ty).rows
   accepted state at value ty are = join world value.rows _ are (refused world at value.ty ty)
 
-  ill_each : (places : List ℕ) → RowsSo world (map (λ at. Ill at 402) places)
+  ill_each : (places : List ℕ) → RowsSo world (map (λ at. Ill at 402 None) places)
   ill_each [] = tt
   ill_each (at ∷ places) = (tt, ill_each places)
 
@@ -109,7 +112,7 @@ module _ (world : World) where
 
   bare : (places : List ℕ) (ty : Option Ty) → RowsSo world (left.bare_rows places ty)
   bare places None = tt
-  bare places (Some ty) = unless (is_unit ty) (map (λ at. Ill at 402) places) (ill_each places)
+  bare places (Some ty) = unless (is_unit ty) (map (λ at. Ill at 402 None) places) (ill_each places)
 
   first_value : (state : State) (places : List ℕ) (value : Judged) → RowsSo world value.rows
       → RowsSo world (left.first_value_left state places value).rows
@@ -145,7 +148,7 @@ module _ (world : World) where
       → RowsSo world (left.switch_left cases at subject heads otherwise inner).rows
   switch cases at subject heads otherwise inner first second =
       join world subject.rows _ first
-      (join world inner.rows _ second (ill world _ at 405))
+      (join world inner.rows _ second (doubted world _ at 405 (bare_in at inner.state.returned)))
 
   body : (at : ℕ) (l : Left) → RowsSo world l.rows → RowsSo world (left.body_rows at l)
   body at l are = join world l.rows _ are (ill world (left.lacks_result l) at 406)
@@ -183,7 +186,8 @@ module _ (world : World) where
       (each world (λ (name : Name). left.capture_rows name (senses.local s.vars name.id))
       (λ name. capture name (senses.local s.vars name.id)) captures)
       (join world (left.vars_rows (map (left.param_var world) params)) _
-      (vars world (map (left.param_var world) params)) (body at l are))
+      (vars world (map (left.param_var world) params))
+      (decided_keep (RowSo world) (λ _ _ _ _. (tt, tt)) _ (left.body_rows at l) (body at l are)))
 
   mutual
     meant_expr : (s : Setting) (m : Bool) (e : Expr) (j : Judged) → is.Judges world s m e j

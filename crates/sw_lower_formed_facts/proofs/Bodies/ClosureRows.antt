@@ -16,7 +16,7 @@ use Rattle.sw_typing_rules.specs.Expressions.{task_types}
 use Rattle.sw_typing_rules.specs.Statements.{Left, are_captured, body_result, body_rows}
 use Rattle.sw_typing_rules.specs.Statements.{capture_rows, captured, closed, closure_vars}
 use Rattle.sw_typing_rules.specs.Statements.{lacks_result, param_var, result_of, result_wanted}
-use Rattle.sw_typing_rules.specs.Statements.{vars_rows}
+use Rattle.sw_typing_rules.specs.Statements.{decided_rows, is_result, vars_rows}
 use Rattle.sw_typing_rules.specs.Typedness.{vars_typed}
 use Rattle.sw_typing_rules.specs.Verdicts.{ill_if, type_in}
 use Rattle.sw_typing_rules.specs.Words.{Setting, local}
@@ -29,7 +29,7 @@ use Rattle.sw_isolation_rules.specs.Answers.{Answers}
 use Rattle.sw_lower_formed_facts.specs.Forms.{IsBegun, ReturnsOk, VarHolds, VarsHold}
 use Rattle.sw_typing_facts.specs.Rows.{RowsHold}
 use Rattle.sw_typing_facts.proofs.Lists.Found.{local_has}
-use Rattle.sw_typing_facts.proofs.Said.Rows.{rows_left, rows_right}
+use Rattle.sw_typing_facts.proofs.Said.Rows.{rows_left, rows_right, rows_undecided}
 
 module _ (answers : Answers) where
   -- Variables that hold have types.
@@ -90,19 +90,20 @@ module _ (answers : Answers) where
       pub params_rows : RowsHold answers closing.rows
           → RowsHold answers (vars_rows (map (param_var world) params))
       params_rows hold =
-          rows_left answers (vars_rows (map (param_var world) params)) (body_rows at left)
+          rows_left answers (vars_rows (map (param_var world) params)) (decided_rows at left)
           (rows_right answers listed_rows
-          (vars_rows (map (param_var world) params) ++ body_rows at left)
+          (vars_rows (map (param_var world) params) ++ decided_rows at left)
           hold)
 
       -- the rows of its block
       pub inner_rows : RowsHold answers closing.rows → RowsHold answers left.rows
       inner_rows hold =
           rows_left answers left.rows (ill_if (lacks_result left) at 406)
-          (rows_right answers (vars_rows (map (param_var world) params)) (body_rows at left)
+          (rows_undecided answers (is_result (body_result left.state.returned)) (body_rows at left)
+          (rows_right answers (vars_rows (map (param_var world) params)) (decided_rows at left)
           (rows_right answers listed_rows
-          (vars_rows (map (param_var world) params) ++ body_rows at left)
-          hold))
+          (vars_rows (map (param_var world) params) ++ decided_rows at left)
+          hold)))
 
       -- The variables that the body sees have types.
       pub inner_vars : VarsHold answers setting.vars → RowsHold answers closing.rows

@@ -19,8 +19,8 @@ type_is_in : (rows : List Row) (key : ℕ) (ty : Ty) → type_in rows key ≡ So
 type_is_in [] key ty is = cc
 type_is_in (Means at meaning ∷ rows) key ty is =
     Contains-append_right (Means at meaning ∷ []) rows (Typed key ty) (type_is_in rows key ty is)
-type_is_in (Ill at code ∷ rows) key ty is =
-    Contains-append_right (Ill at code ∷ []) rows (Typed key ty) (type_is_in rows key ty is)
+type_is_in (Ill at code unless ∷ rows) key ty is =
+    Contains-append_right (Ill at code unless ∷ []) rows (Typed key ty) (type_is_in rows key ty is)
 type_is_in (Typed at other ∷ rows) key ty is =
     by (at == key) refl is (type_is_in rows key ty) where
       by : (same : Bool) → (at == key) ≡ same

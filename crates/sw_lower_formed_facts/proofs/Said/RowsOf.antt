@@ -44,7 +44,7 @@ module _ (world : World) (decls : List Decl) (keyed : AreKeyed decls)
   row_holds : (row : Row) → Says world decls row → RowHolds said_answers row
   row_holds (Typed at ty) says = typed_once world decls keyed at ty says
   row_holds (Means at meaning) says = meant_once world decls keyed at meaning says
-  row_holds (Ill at code) says = well at code says
+  row_holds (Ill at code unless) says = well at code (unless, says)
 
   -- what the statements of a body leave
   pub body_rows_hold : (body : BodyOf) (left : Left) → Contains (bodies_from world 0 decls) body

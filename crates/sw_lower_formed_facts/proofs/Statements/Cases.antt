@@ -19,18 +19,19 @@ use Rattle.sw_graph.specs.Kinds.{is_enum, number_of, payload, shape_at, shape_of
 use Rattle.sw_graph.specs.Payloads.{payload_at}
 use Rattle.sw_graph.specs.declared.function.RegKind.{RegKind}
 use Rattle.sw_graph.specs.declared.function.RegKind.TheVariants.{Plain}
+use Rattle.sw_typing_rules.specs.Doubts.{bare_in}
 use Rattle.sw_typing_rules.specs.Expressions.{Judged}
 use Rattle.sw_typing_rules.specs.Statements.{Head, arm_payload, case_named, cases_layer, cases_of}
 use Rattle.sw_typing_rules.specs.Statements.{cases_of_shape, has_arm, heads_fit, pattern_types}
 use Rattle.sw_typing_rules.specs.Statements.{Left, patterns_fit, switch_fits, switch_left}
-use Rattle.sw_typing_rules.specs.Verdicts.{all_well, ill_if}
+use Rattle.sw_typing_rules.specs.Verdicts.{all_well, ill_unless}
 use Rattle.sw_typing_rules.specs.Worlds.{World}
 use Rattle.sw_typing_rules.specs.declared.row.Row.{Row}
 use Rattle.sw_typing_rules.proofs.Steps.{and_left, and_right, switch_ok, well_both}
 use Rattle.sw_isolation_rules.specs.Answers.{Answers}
 use Rattle.sw_lower_rules.specs.Statements.{Arm, block_of, case_from, switch_to}
 use Rattle.sw_typing_facts.specs.Rows.{RowsHold}
-use Rattle.sw_typing_facts.proofs.Said.Rows.{not_ill, rows_left, rows_right, rows_well}
+use Rattle.sw_typing_facts.proofs.Said.Rows.{not_in_doubt, rows_left, rows_right, rows_well}
 
 -- No two cases have one name.
 abbrev pub CasesDiffer : List CaseShape → Type 0
@@ -206,13 +207,16 @@ fits_cases answers cases at judged heads otherwise inner typed hold =
     (well_both judged.rows inner.rows
     (rows_well answers judged.rows (rows_left answers judged.rows (inner.rows ++ ill) hold))
     (rows_well answers inner.rows (rows_left answers inner.rows ill rest)))
-    (not_ill answers fails at 405 (rows_right answers inner.rows ill rest)) where
+    (not_in_doubt answers fails at 405 bare (rows_right answers inner.rows ill rest)) where
       fails : Bool
       fails = is_some judged.ty && (all_well (judged.rows ++ inner.rows)
           && not (switch_fits cases heads otherwise))
 
+      bare : Option ℕ
+      bare = bare_in at inner.state.returned
+
       ill : List Row
-      ill = ill_if fails at 405
+      ill = ill_unless fails at 405 bare
 
       rest : RowsHold answers (inner.rows ++ ill)
       rest = rows_right answers judged.rows (inner.rows ++ ill) hold

@@ -13,7 +13,7 @@ use Rattle.sw_typing_rules.specs.Expressions.{Closed, fun_judged, fun_types, spa
 use Rattle.sw_typing_rules.specs.Expressions.{task_types}
 use Rattle.sw_typing_rules.specs.Statements.{Left, State, are_captured, body_result, body_rows}
 use Rattle.sw_typing_rules.specs.Statements.{capture_rows, closed, lacks_result, param_var}
-use Rattle.sw_typing_rules.specs.Statements.{result_of, vars_rows}
+use Rattle.sw_typing_rules.specs.Statements.{decided_rows, is_result, result_of, vars_rows}
 use Rattle.sw_typing_rules.specs.Verdicts.{rows_of}
 use Rattle.sw_typing_rules.specs.Words.{Setting, local}
 use Rattle.sw_lower_plans.specs.Plan.{Numbers}
@@ -23,7 +23,7 @@ use Rattle.sw_lower_rules.specs.Expressions.{spawn_result}
 use Rattle.sw_lower_rules.specs.Tables.{Tables, func_result, or_void, result_layer}
 use Rattle.sw_typing_facts.specs.Rows.{RowsHold}
 use Rattle.sw_lower_formed_facts.proofs.Bodies.ClosureRows.{fun_gives, spawn_gives}
-use Rattle.sw_typing_facts.proofs.Said.Rows.{rows_left, rows_right}
+use Rattle.sw_typing_facts.proofs.Said.Rows.{rows_left, rows_right, rows_undecided}
 use Rattle.sw_lower_return_facts.specs.Forms.{BlockReturns, BodyReturns}
 use Rattle.sw_lower_return_facts.proofs.Bodies.Codes.{body_closes}
 use Rattle.sw_lower_return_facts.proofs.Functions.Bodies.{body_returns}
@@ -75,11 +75,14 @@ module _ (tables : Tables) (number : Numbers) (owner : Option ℕ) where
     rows_inside : RowsHold tables.answers closing.rows
         → RowsHold tables.answers (body_rows closure.at left)
     rows_inside hold =
-        rows_right tables.answers (vars_rows (map (param_var tables.world) closure.params))
+        rows_undecided tables.answers (is_result (body_result left.state.returned))
         (body_rows closure.at left)
+        (rows_right tables.answers (vars_rows (map (param_var tables.world) closure.params))
+        (decided_rows closure.at left)
         (rows_right tables.answers
         (flat_map (λ (word : Name). capture_rows word (local setting.vars word.id)) captures)
-        (vars_rows (map (param_var tables.world) closure.params) ++ body_rows closure.at left) hold)
+        (vars_rows (map (param_var tables.world) closure.params) ++ decided_rows closure.at left)
+        hold))
 
     gives_result : (given : Ty) → closing.result ≡ Some given
         → body_result left.state.returned ≡ Some given

@@ -53,11 +53,15 @@ lacks_none world decls well body left stands leaves = by (lacks_result left) ref
   by : (lacks : Bool) → lacks_result left ≡ lacks → lacks_result left ≡ false
   by false is = is
   by true is =
-      absurd (well body.at 406 (of_body body left (Ill body.at 406) stands leaves
-      (Contains-append_right (vars_rows (params_of world body)) _ (Ill body.at 406)
-      (Contains-append_right left.rows _ (Ill body.at 406)
-      (subst (λ so. Contains (ill_if so body.at 406) (Ill body.at 406)) (sym is)
-      (in_first (Ill body.at 406) []))))))
+      let lacking = Ill body.at 406 None in
+      absurd (well body.at 406 (
+        None,
+        of_body body left lacking stands leaves
+            (Contains-append_right (vars_rows (params_of world body)) _ lacking
+            (Contains-append_right left.rows _ lacking
+            (subst (λ so. Contains (ill_if so body.at 406) lacking) (sym is)
+            (in_first lacking [])))),
+      ))
 
 module _ (world : World) (isolation : Isolation) (decls : List Decl) (rule : AsyncDefault)
     (number : Numbers) (functions : List Function)

@@ -25,7 +25,7 @@ use Rattle.sw_typing_rules.specs.declared.row.Row.TheVariants.{Ill, Means, Typed
 use Rattle.sw_types.specs.declared.ty.Ty.TheVariants as types
 use Rattle.sw_lower_rules.specs.Uses.{no_shape}
 use Rattle.sw_typing_facts.specs.Rows.{RowsHold}
-use Rattle.sw_typing_facts.proofs.Said.Rows.{not_ill, rows_left, rows_right, rows_well}
+use Rattle.sw_typing_facts.proofs.Said.Rows.{not_in_doubt, rows_left, rows_right, rows_well}
 use Rattle.sw_lower_formed_facts.proofs.Statements.Cases.{enum_cases}
 use Rattle.sw_typing_facts.proofs.Types.Forms.{is_Named}
 use Rattle.sw_lower_return_facts.specs.Flows.{OneOf}
@@ -45,7 +45,7 @@ both_well : (one other : List Row) → all_well one ≡ true → all_well other 
 both_well [] other first second = second
 both_well (Typed at ty ∷ one) other first second = both_well one other first second
 both_well (Means at meaning ∷ one) other first second = both_well one other first second
-both_well (Ill at code ∷ one) other first second = absurd (false≢true first)
+both_well (Ill at code unless ∷ one) other first second = absurd (false≢true first)
 
 pub switch_fit : (answers : Answers) (cases : Option (List CaseShape)) (at : ℕ) (judged : Judged)
     (heads : List Head) (otherwise : Bool) (inner : Left) → is_some judged.ty ≡ true
@@ -58,7 +58,7 @@ switch_fit answers cases at judged heads otherwise inner typed hold =
     (both_well judged.rows inner.rows (rows_well answers judged.rows
     (rows_left answers judged.rows _ hold))
     (rows_well answers inner.rows (rows_left answers inner.rows _ rest)))
-    (not_ill answers _ at 405 (rows_right answers inner.rows _ rest))
+    (not_in_doubt answers _ at 405 _ (rows_right answers inner.rows _ rest))
 
 has_name : (heads : List Head) (one : CaseShape) → has_arm heads one ≡ true
     → OneOf one.name (map (λ (head : Head). head.name) heads)

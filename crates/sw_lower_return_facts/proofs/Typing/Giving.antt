@@ -45,7 +45,8 @@ first_back : (answers : Answers) (places : List ℕ) (found : Option Ty)
 first_back answers [] found hold gives = tt
 first_back answers (at ∷ places) None hold gives = gives
 first_back answers (at ∷ places) (Some ty) hold gives =
-    (subst (λ unit. RowsHold answers (if unit then [] else map (λ one. Ill one 402) (at ∷ places)))
+    (subst (λ unit. RowsHold answers
+    (if unit then [] else map (λ one. Ill one 402 None) (at ∷ places)))
     gives hold).0
 
 -- What is given at the end was to be given before a `return` with a value.

@@ -13,8 +13,8 @@ use Rattle.sw_graph.specs.declared.instr.Instr.TheVariants.{NewClosure, NewTask}
 use Rattle.sw_graph.specs.declared.instr.Operand.{Operand}
 use Rattle.sw_typing_rules.specs.Expressions.{Closed, fun_judged, fun_types, spawn_judged}
 use Rattle.sw_typing_rules.specs.Expressions.{task_types}
-use Rattle.sw_typing_rules.specs.Statements.{Left, body_rows, capture_rows, closed, closure_state}
-use Rattle.sw_typing_rules.specs.Statements.{in_body, param_var, vars_rows}
+use Rattle.sw_typing_rules.specs.Statements.{Left, capture_rows, closed, closure_state}
+use Rattle.sw_typing_rules.specs.Statements.{decided_rows, in_body, param_var, vars_rows}
 use Rattle.sw_typing_rules.specs.Verdicts.{rows_of}
 use Rattle.sw_typing_rules.specs.Words.{Setting, local}
 use Rattle.sw_isolation_rules.specs.Captures.{is_among}
@@ -191,7 +191,7 @@ module _ (tables : Tables) (number : Numbers) (all : List Note)
   word_rows rows =
       rows_left tables.answers
       (flat_map (λ (word : Name). capture_rows word (local setting.vars word.id)) words)
-      (vars_rows (map (param_var tables.world) code.params) ++ body_rows code.at left) rows
+      (vars_rows (map (param_var tables.world) code.params) ++ decided_rows code.at left) rows
 
   -- A closure that has a type proceeds, and so do the bodies in it.
   pub fun_proceeds : (expected : Bool) → is_some (fun_judged expected closing).ty ≡ true

@@ -17,9 +17,11 @@ use Rattle.sw_typing_rules.specs.declared.row.Meaning.TheVariants as means
 use Rattle.sw_typing_rules.specs.declared.scope.Returned.{Returned}
 use Rattle.sw_typing_rules.specs.declared.scope.Returned.TheVariants.{Gives, Open, Wants}
 use Rattle.sw_typing_rules.specs.declared.scope.Var.{Var}
+use Rattle.sw_typing_rules.proofs.Doubts.{decided_keep}
 use Rattle.sw_typing_facts.proofs.Declared.Lookups.{written_is}
 use Rattle.sw_typing_facts.proofs.Declared.Noted.{ClosedWithin, LeftWithin, ReturnedWithin}
-use Rattle.sw_typing_facts.proofs.Declared.Noted.{RowsWithin, StateWithin, VarWithin, VarsWithin}
+use Rattle.sw_typing_facts.proofs.Declared.Noted.{RowWithin, RowsWithin, StateWithin, VarWithin}
+use Rattle.sw_typing_facts.proofs.Declared.Noted.{VarsWithin}
 use Rattle.sw_typing_facts.proofs.Declared.Noted.{each, ill, join, meanings, size, variables}
 use Rattle.sw_typing_facts.proofs.Declared.Noted.{vars_rows}
 use Rattle.sw_typing_facts.proofs.Declared.Senses.{local}
@@ -109,5 +111,6 @@ module _ (world : World) (tables : TablesWithin world) where
         (local (size world) setting.vars name.id vars)) list)
         (join (size world) (stmts.vars_rows (map (stmts.param_var world) params)) _
         (vars_rows (size world) (map (stmts.param_var world) params) (param_vars params))
-        (body (size world) at left are.1)),
+        (decided_keep (RowWithin (size world)) (λ _ _ _ _. (tt, tt)) _ (stmts.body_rows at left)
+        (body (size world) at left are.1))),
   )

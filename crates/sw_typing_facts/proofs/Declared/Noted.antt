@@ -10,7 +10,7 @@ use Rattle.sw_typing_rules.specs.Expressions.{Closed, Judged}
 use Rattle.sw_typing_rules.specs.Fits.{fits}
 use Rattle.sw_typing_rules.specs.Statements as stmts
 use Rattle.sw_typing_rules.specs.Statements.{Left, State}
-use Rattle.sw_typing_rules.specs.Verdicts.{ill_if, meaning_rows, variable_rows}
+use Rattle.sw_typing_rules.specs.Verdicts.{ill_if, ill_unless, meaning_rows, variable_rows}
 use Rattle.sw_typing_rules.specs.Worlds.{World}
 use Rattle.sw_typing_rules.specs.declared.row.Meaning.{Meaning}
 use Rattle.sw_typing_rules.specs.declared.row.Row.{Row}
@@ -25,7 +25,7 @@ use Rattle.sw_typing_facts.proofs.Types.Within.{AreWithin, IfWithin, Within, all
 abbrev pub RowWithin : ℕ → Row → Type 0
 RowWithin n (Typed at ty) = Within n ty
 RowWithin n (Means at meaning) = Unit {0}
-RowWithin n (Ill at code) = Unit {0}
+RowWithin n (Ill at code unless) = Unit {0}
 
 -- the types that are noted of nodes
 abbrev pub RowsWithin : ℕ → List Row → Type 0
@@ -88,9 +88,13 @@ module _ (n : ℕ) where
   each f are (x ∷ list) = join (f x) (flat_map f list) (are x) (each f are list)
 
   -- the row of an ill node
+  pub doubted : (fails : Bool) (at code : ℕ) (unless : Option ℕ)
+      → RowsWithin n (ill_unless fails at code unless)
+  doubted true at code unless = (tt, tt)
+  doubted false at code unless = tt
+
   pub ill : (fails : Bool) (at code : ℕ) → RowsWithin n (ill_if fails at code)
-  ill true at code = (tt, tt)
-  ill false at code = tt
+  ill fails at code = doubted fails at code None
 
   pub meanings : (at : ℕ) (meaning : Option Meaning) → RowsWithin n (meaning_rows at meaning)
   meanings at None = tt

@@ -18,8 +18,10 @@ use Rattle.sw_typing_rules.specs.declared.scope.Inside.{Inside}
 use Rattle.sw_typing_rules.specs.declared.scope.Returned.{Returned}
 use Rattle.sw_typing_rules.specs.declared.scope.Returned.TheVariants.{Gives, Open, Wants}
 use Rattle.sw_typing_facts.proofs.Declared.Lookups.{written_is}
+use Rattle.sw_typing_rules.specs.Doubts.{bare_in}
 use Rattle.sw_typing_facts.proofs.Declared.Noted.{JudgedWithin, LeftWithin, RowsWithin, StateWithin}
-use Rattle.sw_typing_facts.proofs.Declared.Noted.{VarWithin, ill, join, refused, size, variables}
+use Rattle.sw_typing_facts.proofs.Declared.Noted.{VarWithin, doubted, ill, join, refused, size}
+use Rattle.sw_typing_facts.proofs.Declared.Noted.{variables}
 use Rattle.sw_typing_facts.proofs.Declared.Tables.{TablesWithin}
 use Rattle.sw_typing_facts.proofs.Types.Within.{IfWithin, all_append}
 
@@ -77,7 +79,7 @@ module _ (n : ℕ) where
       → JudgedWithin n value → LeftWithin n (stmts.accepted_left state at value ty)
   accepted state at value ty is are = (is, join n value.rows _ are.1 (refused n at value.ty ty))
 
-  ill_each : (places : List ℕ) → RowsWithin n (map (λ at. Ill at 402) places)
+  ill_each : (places : List ℕ) → RowsWithin n (map (λ at. Ill at 402 None) places)
   ill_each [] = tt
   ill_each (at ∷ places) = (tt, ill_each places)
 
@@ -88,7 +90,7 @@ module _ (n : ℕ) where
 
   bare : (places : List ℕ) (ty : Option Ty) → RowsWithin n (stmts.bare_rows places ty)
   bare places None = tt
-  bare places (Some ty) = unless (is_unit ty) (map (λ at. Ill at 402) places) (ill_each places)
+  bare places (Some ty) = unless (is_unit ty) (map (λ at. Ill at 402 None) places) (ill_each places)
 
   first_value : (state : State) (places : List ℕ) (value : Judged) → StateWithin n state
       → JudgedWithin n value → LeftWithin n (stmts.first_value_left state places value)
@@ -127,8 +129,11 @@ module _ (n : ℕ) where
   pub switch : (cases : Option (List CaseShape)) (at : ℕ) (subject : Judged) (heads : List Head)
       (otherwise : Bool) (inner : Left) → JudgedWithin n subject → LeftWithin n inner
       → LeftWithin n (stmts.switch_left cases at subject heads otherwise inner)
-  switch cases at subject heads otherwise inner first second =
-      (second.0, join n subject.rows _ first.1 (join n inner.rows _ second.1 (ill n _ at 405)))
+  switch cases at subject heads otherwise inner first second = (
+    second.0,
+    join n subject.rows _ first.1
+        (join n inner.rows _ second.1 (doubted n _ at 405 (bare_in at inner.state.returned))),
+  )
 
 module _ (world : World) (tables : TablesWithin world) where
   -- a type that is written

@@ -1,7 +1,7 @@
 -- How often a thing is noted of a key: each form of node notes it of its own key once at most.
 use Rattle.std.proofs.Common.{◌≡◌, ℕ, ◌+◌, ◌≤◌, Bool, true, false, List, [], ◌∷◌, ◌++◌, Option}
 use Rattle.std.proofs.Common.{Some, None, arith, map, flat_map, refl, if◌then◌else◌, not, ◌&&◌}
-use Rattle.std.proofs.Common.{is_some}
+use Rattle.std.proofs.Common.{is_some, sym, ◌∙◌}
 use Rattle.sw_tree.proofs.Counting.{Weight, hits, in_all, in_all-append, in_all-cons, in_all-map}
 use Rattle.sw_tree.proofs.Counting.{in_all-nil}
 use Rattle.sw_tree.proofs.KeyCounts.{in_closure_param, in_name, in_pattern, in_pattern-Let}
@@ -18,12 +18,13 @@ use Rattle.sw_typing_rules.specs.Calls as calls
 use Rattle.sw_typing_rules.specs.Calls.{Callee, callee_meaning}
 use Rattle.sw_typing_rules.specs.Expressions as exps
 use Rattle.sw_typing_rules.specs.Expressions.{Judged, Passed, call_judged}
+use Rattle.sw_typing_rules.specs.Doubts.{bare_in, decided}
 use Rattle.sw_typing_rules.specs.Fits.{fits}
 use Rattle.sw_typing_rules.specs.Operators as operators
 use Rattle.sw_typing_rules.specs.Statements as left
 use Rattle.sw_typing_rules.specs.Statements.{State, Left, place_type}
 use Rattle.sw_typing_rules.specs.Verdicts.{rows_of, meaning_rows, variable_rows, ill_if, is_unit}
-use Rattle.sw_typing_rules.specs.Verdicts.{all_well}
+use Rattle.sw_typing_rules.specs.Verdicts.{all_well, ill_unless}
 use Rattle.sw_typing_rules.specs.Words as senses
 use Rattle.sw_typing_rules.specs.Words.{Setting}
 use Rattle.sw_typing_rules.specs.Worlds.{World}
@@ -42,25 +43,55 @@ use Rattle.sw_typing_rules.specs.declared.verdict.Verdict.TheVariants.{Has, Fail
 pub record Counts (w : Row → Weight) : Type 0 where
   pub pair : (at : ℕ) (ty : Ty) (meaning : Meaning) (k : ℕ)
       → w (Typed at ty) k + w (Means at meaning) k ≤ hits at k
-  pub ill : (at code k : ℕ) → w (Ill at code) k ≡ 0
+  pub ill : (at code : ℕ) (unless : Option ℕ) (k : ℕ) → w (Ill at code unless) k ≡ 0
 
 module _ (w : Row → Weight) (counts : Counts w) where
-  -- An ill node is not counted.
+  -- An ill node is not counted, in doubt or not.
+  doubted : (fails : Bool) (at code : ℕ) (unless : Option ℕ) (k : ℕ)
+      → in_all w (ill_unless fails at code unless) k ≡ 0
+  doubted true at code unless k =
+      omega (
+        arith,
+        in_all-cons w (Ill at code unless) [] k,
+        in_all-nil w k,
+        counts.ill at code unless k,
+      )
+  doubted false at code unless k = in_all-nil w k
+
   ill : (fails : Bool) (at code k : ℕ) → in_all w (ill_if fails at code) k ≡ 0
-  ill true at code k =
-      omega (arith, in_all-cons w (Ill at code) [] k, in_all-nil w k, counts.ill at code k)
-  ill false at code k = in_all-nil w k
+  ill fails at code k = doubted fails at code None k
+
+  decided_one : (valued : Bool) (row : Row) (k : ℕ) → w (decided valued row) k ≡ w row k
+  decided_one valued (Typed at ty) k = refl
+  decided_one valued (Means at meaning) k = refl
+  decided_one valued (Ill at code None) k = refl
+  decided_one true (Ill at code (Some bare)) k =
+      counts.ill bare 402 None k ∙ sym (counts.ill at code (Some bare) k)
+  decided_one false (Ill at code (Some bare)) k =
+      counts.ill at code None k ∙ sym (counts.ill at code (Some bare) k)
+
+  decided_all : (valued : Bool) (rows : List Row) (k : ℕ)
+      → in_all w (map (decided valued) rows) k ≡ in_all w rows k
+  decided_all valued [] k = refl
+  decided_all valued (row ∷ rows) k =
+      omega (
+        arith,
+        in_all-cons w (decided valued row) (map (decided valued) rows) k,
+        in_all-cons w row rows k,
+        decided_one valued row k,
+        decided_all valued rows k,
+      )
 
   -- what is noted of one node
   pub node : (at : ℕ) (meaning : Option Meaning) (says : Verdict) (k : ℕ)
       → in_all w (meaning_rows at meaning) k + in_all w (rows_of at says) k ≤ hits at k
   unfolding in_all
   node at None (Has ty) k = omega (arith, counts.pair at ty means.Print k)
-  node at None (Fails code) k = omega (arith, counts.ill at code k)
+  node at None (Fails code) k = omega (arith, counts.ill at code None k)
   node at None Held k = omega arith
   node at (Some meaning) (Has ty) k = omega (arith, counts.pair at ty meaning k)
   node at (Some meaning) (Fails code) k =
-      omega (arith, counts.pair at types.Unit meaning k, counts.ill at code k)
+      omega (arith, counts.pair at types.Unit meaning k, counts.ill at code None k)
   node at (Some meaning) Held k = omega (arith, counts.pair at types.Unit meaning k)
 
   -- and its type alone
@@ -109,7 +140,7 @@ module _ (w : Row → Weight) (counts : Counts w) where
   pub capture : (name : Name) (one : Option Var) (k : ℕ)
       → in_all w (left.capture_rows name one) k ≤ hits name.at k
   unfolding in_all
-  capture name None k = omega (arith, counts.ill name.at 401 k)
+  capture name None k = omega (arith, counts.ill name.at 401 None k)
   capture name (Some one) k = by one.ty where
     by : (ty : Option Ty)
         → in_all w (meaning_rows name.at (Some (means.Local one.at)) ++ variable_rows name.at ty) k
@@ -272,10 +303,10 @@ module _ (w : Row → Weight) (counts : Counts w) where
         refused at value.ty ty k,
       )
 
-  ill_each : (places : List ℕ) (k : ℕ) → in_all w (map (λ at. Ill at 402) places) k ≡ 0
+  ill_each : (places : List ℕ) (k : ℕ) → in_all w (map (λ at. Ill at 402 None) places) k ≡ 0
   unfolding in_all
   ill_each [] k = refl
-  ill_each (at ∷ places) k = omega (arith, counts.ill at 402 k, ill_each places k)
+  ill_each (at ∷ places) k = omega (arith, counts.ill at 402 None k, ill_each places k)
 
   unless : (test : Bool) (rows : List Row) (k : ℕ) → in_all w rows k ≡ 0
       → in_all w (if test then [] else rows) k ≡ 0
@@ -285,7 +316,7 @@ module _ (w : Row → Weight) (counts : Counts w) where
   bare : (places : List ℕ) (ty : Option Ty) (k : ℕ) → in_all w (left.bare_rows places ty) k ≡ 0
   bare places None k = in_all-nil w k
   bare places (Some ty) k =
-      unless (is_unit ty) (map (λ at. Ill at 402) places) k (ill_each places k)
+      unless (is_unit ty) (map (λ at. Ill at 402 None) places) k (ill_each places k)
 
   first_value : (state : State) (places : List ℕ) (value : Judged) (k : ℕ)
       → in_all w (left.first_value_left state places value).rows k ≡ in_all w value.rows k
@@ -328,13 +359,14 @@ module _ (w : Row → Weight) (counts : Counts w) where
       → in_all w (left.switch_left cases at subject heads otherwise inner).rows k
       ≡ in_all w subject.rows k + in_all w inner.rows k
   switch cases at subject heads otherwise inner k =
+      let bare = bare_in at inner.state.returned in
       let fails = is_some subject.ty && (all_well (subject.rows ++ inner.rows)
       && not (left.switch_fits cases heads otherwise)) in
       omega (
         arith,
-        in_all-append w subject.rows (inner.rows ++ ill_if fails at 405) k,
-        in_all-append w inner.rows (ill_if fails at 405) k,
-        ill fails at 405 k,
+        in_all-append w subject.rows (inner.rows ++ ill_unless fails at 405 bare) k,
+        in_all-append w inner.rows (ill_unless fails at 405 bare) k,
+        doubted fails at 405 bare k,
       )
 
   -- the end of a body
@@ -372,8 +404,9 @@ module _ (w : Row → Weight) (counts : Counts w) where
       let declared = map (left.param_var world) params in
       omega (
         arith,
-        in_all-append w own (left.vars_rows declared ++ left.body_rows at l) k,
-        in_all-append w (left.vars_rows declared) (left.body_rows at l) k,
+        in_all-append w own (left.vars_rows declared ++ left.decided_rows at l) k,
+        in_all-append w (left.vars_rows declared) (left.decided_rows at l) k,
+        decided_all (left.is_result (left.body_result l.state.returned)) (left.body_rows at l) k,
         captures s.vars words k,
         vars declared k,
         in_all-map (λ (one : Var). hits one.at) (left.param_var world) params k,

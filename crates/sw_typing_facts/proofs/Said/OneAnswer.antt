@@ -59,21 +59,21 @@ module _ {A : Type 0} (w : Row → Weight) (at : ℕ) (look : Row → Option A)
 abbrev pub types_told : Row → Weight
 types_told (Typed at ty) k = hits at k
 types_told (Means at meaning) k = 0
-types_told (Ill at code) k = 0
+types_told (Ill at code unless) k = 0
 
 -- how often a row tells the meaning of a key
 abbrev pub meanings_told : Row → Weight
 meanings_told (Typed at ty) k = 0
 meanings_told (Means at meaning) k = hits at k
-meanings_told (Ill at code) k = 0
+meanings_told (Ill at code unless) k = 0
 
 -- Both are counts of one thing.
 pub types_count : Counts types_told
-types_count = record { pair = λ at ty meaning k. omega arith; ill = λ at code k. refl }
+types_count = record { pair = λ at ty meaning k. omega arith; ill = λ at code unless k. refl }
 
 -- This counts what is noted of keys.
 pub meanings_count : Counts meanings_told
-meanings_count = record { pair = λ at ty meaning k. omega arith; ill = λ at code k. refl }
+meanings_count = record { pair = λ at ty meaning k. omega arith; ill = λ at code unless k. refl }
 
 -- What a row answers of another key than its own, and of its own.
 unlike : {A : Type 0} (at key : ℕ) (x : A) → hits at key ≡ 0
@@ -88,12 +88,12 @@ alike at x = grind (arith, common_steps)
 type_untold : (key : ℕ) (row : Row) → types_told row key ≡ 0 → type_row key row ≡ None
 type_untold key (Typed at ty) is = unlike at key ty is
 type_untold key (Means at meaning) is = refl
-type_untold key (Ill at code) is = refl
+type_untold key (Ill at code unless) is = refl
 
 meaning_untold : (key : ℕ) (row : Row) → meanings_told row key ≡ 0 → meaning_row key row ≡ None
 meaning_untold key (Typed at ty) is = refl
 meaning_untold key (Means at meaning) is = unlike at key meaning is
-meaning_untold key (Ill at code) is = refl
+meaning_untold key (Ill at code unless) is = refl
 
 -- What rows answer of a key of whose type they tell once at most.
 pub type_answered : (rows : List Row) (at : ℕ) (ty : Ty) → in_all types_told rows at ≤ 1

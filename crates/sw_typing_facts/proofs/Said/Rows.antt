@@ -1,6 +1,6 @@
 -- What rows say that hold: no node is ill, and each has the type that is noted.
 use Rattle.std.proofs.Common.{◌≡◌, ℕ, Bool, true, false, not, List, [], ◌∷◌, ◌++◌, refl, subst, ◌∙◌}
-use Rattle.std.proofs.Common.{Option, Some, None}
+use Rattle.std.proofs.Common.{Option, Some, None, map}
 use Rattle.std.proofs.lemmas.Option.{none-some, same_Some}
 use Rattle.std.proofs.lemmas.Bool.{not-false}
 use Rattle.std.specs.Prelude.{if◌then◌else◌}
@@ -8,9 +8,11 @@ use Rattle.sw_typing_rules.specs.declared.verdict.Verdict.TheVariants.{Has, Fail
 use Rattle.sw_typing_rules.specs.declared.verdict.Verdict.{Verdict}
 use Rattle.sw_types.specs.Accepts.{IsAcceptedAs}
 use Rattle.sw_types.specs.declared.ty.Ty.{Ty}
+use Rattle.sw_typing_rules.specs.Doubts.{decided}
 use Rattle.sw_typing_rules.specs.Fits.{fits}
 use Rattle.sw_typing_rules.specs.Statements.{refused}
-use Rattle.sw_typing_rules.specs.Verdicts.{all_well, ill_if, variable_rows, rows_of}
+use Rattle.sw_typing_rules.specs.Verdicts.{all_well, ill_if, ill_unless, variable_rows}
+use Rattle.sw_typing_rules.specs.Verdicts.{rows_of}
 use Rattle.sw_typing_rules.specs.declared.row.Row.{Row}
 use Rattle.sw_typing_rules.specs.declared.row.Row.TheVariants.{Ill, Means, Typed}
 use Rattle.sw_typing_rules.proofs.Acceptance.{fits_accepts}
@@ -35,13 +37,29 @@ pub rows_well : (answers : Answers) (rows : List Row) → RowsHold answers rows
 rows_well answers [] hold = refl
 rows_well answers (Typed at ty ∷ rows) hold = rows_well answers rows hold.1
 rows_well answers (Means at meaning ∷ rows) hold = rows_well answers rows hold.1
-rows_well answers (Ill at code ∷ rows) hold = absurd hold.0
+rows_well answers (Ill at code unless ∷ rows) hold = absurd hold.0
 
--- Where a node isn't ill, the test that makes it ill fails.
+-- Where a node isn't ill or in doubt, the test that makes it ill fails.
+pub not_in_doubt : (answers : Answers) (fails : Bool) (at code : ℕ) (unless : Option ℕ)
+    → RowsHold answers (ill_unless fails at code unless) → fails ≡ false
+not_in_doubt answers true at code unless hold = absurd hold.0
+not_in_doubt answers false at code unless hold = refl
+
 pub not_ill : (answers : Answers) (fails : Bool) (at code : ℕ)
     → RowsHold answers (ill_if fails at code) → fails ≡ false
-not_ill answers true at code hold = absurd hold.0
-not_ill answers false at code hold = refl
+not_ill answers fails at code hold = not_in_doubt answers fails at code None hold
+
+-- Rows that hold when all doubts are decided had none.
+pub rows_undecided : (answers : Answers) (valued : Bool) (rows : List Row)
+    → RowsHold answers (map (decided valued) rows) → RowsHold answers rows
+rows_undecided answers valued [] hold = tt
+rows_undecided answers valued (Typed at ty ∷ rows) hold =
+    (hold.0, rows_undecided answers valued rows hold.1)
+rows_undecided answers valued (Means at meaning ∷ rows) hold =
+    (hold.0, rows_undecided answers valued rows hold.1)
+rows_undecided answers valued (Ill at code None ∷ rows) hold = absurd hold.0
+rows_undecided answers true (Ill at code (Some bare) ∷ rows) hold = absurd hold.0
+rows_undecided answers false (Ill at code (Some bare) ∷ rows) hold = absurd hold.0
 
 -- and the test that it has to pass holds
 pub well_if : (answers : Answers) (holds : Bool) (at code : ℕ)
