@@ -1,4 +1,2 @@
-pub mod Forms
 pub mod Induction
 pub mod Logic
-pub mod Uses

@@ -51,18 +51,18 @@ use Rattle.sw_lower_formed_facts.proofs.Statements.Sequences.{return_rows, some_
 use Rattle.sw_lower_formed_facts.proofs.Expressions.Typed.{member_rows}
 use Rattle.sw_lower_total_facts.proofs.Trees.Enums.{enum_alone}
 use Rattle.sw_lower_formed_facts.proofs.Expressions.Typed.{has_type, rows_before, type_of_expr}
+use Rattle.sw_lower_code_facts.proofs.Declaring.{has_assign, has_declare}
 use Rattle.sw_lower_return_facts.specs.Flows.{CodeFlows}
 use Rattle.sw_lower_return_facts.specs.Forms.{BlockReturns, BodyReturns, StmtReturns}
 use Rattle.sw_lower_return_facts.specs.Forms.{StmtsReturn}
 use Rattle.sw_lower_return_facts.proofs.Bodies.Closures.{fun_returns, spawn_returns}
-use Rattle.sw_lower_return_facts.proofs.Expressions.Induction.{expr_flows}
+use Rattle.sw_lower_return_facts.proofs.Expressions.Induction.{expr_flows, flowing, variables_flow}
 use Rattle.sw_lower_return_facts.proofs.Flow.Then.{flows_then}
 use Rattle.sw_lower_return_facts.proofs.Forms.Parts.{ArmsReturn, CasesReturn, DefaultReturns}
 use Rattle.sw_lower_return_facts.proofs.Forms.Parts.{ElseReturns, block_returns, more_stmts_return}
 use Rattle.sw_lower_return_facts.proofs.Forms.Parts.{no_stmts_return}
 use Rattle.sw_lower_return_facts.proofs.Forms.Stating.{bind_ways, plain_left_ways, value_ways}
 use Rattle.sw_lower_return_facts.proofs.Statements.Branches.{else_ways, more_arms_flow, no_arms_flow}
-use Rattle.sw_lower_return_facts.proofs.Statements.Declaring.{assign_flow, declare_flow}
 use Rattle.sw_lower_return_facts.proofs.Statements.Leaving.{break_ways, continue_ways, return_ways}
 use Rattle.sw_lower_return_facts.proofs.Statements.Loops.{while_ways}
 use Rattle.sw_typing_rules.proofs.Steps.{and_left, and_right}
@@ -324,7 +324,7 @@ module _ (tables : Tables) (number : Numbers) (functions : List Function)
               bind_ways state mutable name (written tables.world ty) judged code
               (plain_ways code (λ targets. flows_then (expr_code tables inside.owner value).read
               (declare_var tables name.at) (expr_flows tables inside.owner value).read
-              (declare_flow tables name.at)));
+              (has_declare flowing variables_flow tables name.at)));
           back = bind_back state mutable name (written tables.world ty) judged;
           only_flows = λ read is. cc;
           inside = expr_returns (setting_of inside state) _ value judged of_value vars
@@ -338,9 +338,10 @@ module _ (tables : Tables) (number : Numbers) (functions : List Function)
         (λ form. record {
           ways = λ gives none. plain_ways (λ targets. andthen
               (expr_code tables inside.owner value).read
-              (assign op at (expr_code tables inside.owner place))) (λ targets. assign_flow op at
-              (expr_code tables inside.owner place) (expr_code tables inside.owner value)
-              (expr_flows tables inside.owner place) (expr_flows tables inside.owner value));
+              (assign op at (expr_code tables inside.owner place))) (λ targets.
+              flows_then _ _ (expr_flows tables inside.owner value).read (λ given.
+              has_assign flowing op at (expr_code tables inside.owner place) given
+              (expr_flows tables inside.owner place)));
           back = λ gives. gives;
           only_flows = λ read is. cc;
           inside = both (expr_code tables inside.owner place).inside _

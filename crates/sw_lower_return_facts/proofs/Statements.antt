@@ -1,6 +1,5 @@
 pub mod Arms
 pub mod Branches
-pub mod Declaring
 pub mod Leaving
 pub mod Loops
 pub mod Passing

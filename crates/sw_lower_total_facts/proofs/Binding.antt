@@ -1,4 +1,3 @@
 -- The code of expressions and blocks declares no variable that is seen after it.
 pub mod Codes
-pub mod Uses
 pub mod Expressions

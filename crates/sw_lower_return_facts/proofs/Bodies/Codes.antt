@@ -7,7 +7,6 @@ use Rattle.std.specs.List.{AllByRecursion}
 use Rattle.sw_types.specs.declared.shape.Part.{Part}
 use Rattle.sw_types.specs.declared.shape.Shape.{Shape}
 use Rattle.sw_types.specs.declared.ty.Ty.{Ty}
-use Rattle.sw_types.specs.declared.ty.Ty.TheVariants as types
 use Rattle.sw_graph.specs.declared.instr.Last.TheVariants.{Return}
 use Rattle.sw_graph.specs.declared.instr.Operand.{Operand}
 use Rattle.sw_typing_rules.specs.Statements.{Left, State as Typing, body_result}
@@ -18,14 +17,13 @@ use Rattle.sw_lower_rules.specs.Bodies.{give_value, init_code, value_of}
 use Rattle.sw_lower_rules.specs.Carriers.{BlockCode, Given, no_targets}
 use Rattle.sw_lower_rules.specs.Uses.{no_operand}
 use Rattle.sw_lower_rules.specs.Expressions.{body_code, with_result}
+use Rattle.sw_lower_code_facts.proofs.Uses.{has_each, has_each_of}
 use Rattle.sw_lower_return_facts.specs.Flows.{CodeFlows, Flows, IsReached, FlowsHere, FlowState}
 use Rattle.sw_lower_return_facts.specs.Flows.{TargetsFlow, WaysFlow}
 use Rattle.sw_lower_return_facts.specs.Forms.{BlockReturns}
-use Rattle.sw_lower_return_facts.proofs.Expressions.Induction.{GivenFlows}
-use Rattle.sw_lower_return_facts.proofs.Expressions.Uses.{flows_give}
-use Rattle.sw_lower_return_facts.proofs.Flow.Going.{flows_each, flows_each_of}
+use Rattle.sw_lower_return_facts.proofs.Expressions.Induction.{GivenFlows, flowing}
 use Rattle.sw_lower_return_facts.proofs.Flow.Marks.{reached_later}
-use Rattle.sw_lower_return_facts.proofs.Flow.Quiet.{flows_done, flows_known}
+use Rattle.sw_lower_return_facts.proofs.Flow.Quiet.{flows_done, flows_emit, flows_known, flows_reg}
 use Rattle.sw_lower_return_facts.proofs.Flow.Steps.{Closed, flow_close, last_by, return_live}
 use Rattle.sw_lower_return_facts.proofs.Flow.Then.{flow_then, flow_weaker, flows_then}
 use Rattle.sw_lower_return_facts.proofs.Functions.Bodies.{CodeCloses}
@@ -103,9 +101,10 @@ pub init_closes : (key number : ℕ) (shape : Shape) (givens : List Given)
     → AllByRecursion GivenFlows givens → CodeCloses (init_code key number shape givens)
 unfolding init_code
 init_closes key number shape givens all =
-    closes_then (each give_value givens) _ (flows_each give_value givens (given_flows givens all))
+    closes_then (each give_value givens) _ (has_each flowing give_value givens (given_flows givens all))
     (λ values.
     closes_then (each (λ (part : Part). known no_operand (value_of values part.name)) shape.parts) _
-    (flows_each_of (λ (part : Part). known no_operand (value_of values part.name)) shape.parts
+    (has_each_of flowing (λ (part : Part). known no_operand (value_of values part.name)) shape.parts
     (λ part. flows_known no_operand (value_of values part.name)))
-    (λ operands. value_closes _ (flows_give key (types.Named number) _)))
+    (λ operands. value_closes _ (flows_then _ _ (flows_reg _) (λ r.
+    flows_then _ _ (flows_emit _) (λ made. flows_done _)))))

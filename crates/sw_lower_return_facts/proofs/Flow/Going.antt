@@ -1,15 +1,13 @@
--- Code that goes on in another block, and code for each item.
-use Rattle.std.proofs.Common.{◌≡◌, ℕ, inl, inr, Bool, true, List, [], ◌∷◌, subst, sym}
-use Rattle.std.specs.List.{AllByRecursion}
+-- Code that goes on in another block.
+use Rattle.std.proofs.Common.{◌≡◌, ℕ, inl, inr, Bool, true, List, ◌∷◌, subst, sym}
 use Rattle.sw_graph.specs.declared.instr.Last.{Last}
 use Rattle.sw_lower_plans.specs.Plan.{Entry}
-use Rattle.sw_lower_code.specs.Code.{Code, andthen, block_for, close, each, resume, ◌>>◌}
-use Rattle.sw_lower_return_facts.specs.Flows.{CodeFlows, Extend, FlowAt, Flows, IsLiveLast, IsMark, Mark}
+use Rattle.sw_lower_code.specs.Code.{Code, andthen, block_for, close, resume, ◌>>◌}
+use Rattle.sw_lower_return_facts.specs.Flows.{Extend, FlowAt, Flows, IsLiveLast, IsMark, Mark}
 use Rattle.sw_lower_return_facts.specs.Flows.{OneOf, FlowsHere, FlowState, mark_of}
-use Rattle.sw_lower_return_facts.proofs.Flow.Quiet.{flows_done}
 use Rattle.sw_lower_return_facts.proofs.Flow.Steps.{Closed, MadeBlock, flow_block, flow_close}
 use Rattle.sw_lower_return_facts.proofs.Flow.Steps.{flow_resumed, flows_pending, last_by}
-use Rattle.sw_lower_return_facts.proofs.Flow.Then.{flow_then, flows_then}
+use Rattle.sw_lower_return_facts.proofs.Flow.Then.{flow_then}
 
 -- the blocks that are pending, in another order
 abbrev pub AreAmong : List ℕ → List ℕ → Type 0
@@ -80,20 +78,3 @@ flow_on_then s live to_live last to pending rest next Post stands among leads is
     (λ _ t extend closed. flow_then t (resume to) (λ _. next) (λ _ u. FlowsHere u to_live rest) Post
     (flow_resumed t to to_live rest closed.flows (extend to (mark_of to_live) is))
     (λ _ u more now. then u (λ number mark here. more number mark (extend number mark here)) now))
-
--- code for each item
-pub flows_each : {A B : Type 0} (code : A → Code B) (xs : List A)
-    → AllByRecursion (λ x. CodeFlows (code x)) xs → CodeFlows (each code xs)
-unfolding each
-flows_each code [] all = flows_done []
-flows_each code (x ∷ xs) all =
-    flows_then (code x) _ all.0 (λ y.
-    flows_then (each code xs) _ (flows_each code xs all.1) (λ ys. flows_done (y ∷ ys)))
-
-pub flows_each_of : {A B : Type 0} (code : A → Code B) (xs : List A)
-    → ((x : A) → CodeFlows (code x)) → CodeFlows (each code xs)
-unfolding each
-flows_each_of code [] all = flows_done []
-flows_each_of code (x ∷ xs) all =
-    flows_then (code x) _ (all x) (λ y.
-    flows_then (each code xs) _ (flows_each_of code xs all) (λ ys. flows_done (y ∷ ys)))

@@ -20,10 +20,11 @@ use Rattle.sw_lower_rules.specs.Bodies.{shape_getters, stored_read}
 use Rattle.sw_lower_rules.specs.Tables.{Tables}
 use Rattle.sw_lower_formed_facts.specs.Trees.{IsHere}
 use Rattle.sw_typing_facts.proofs.Lists.Joined.{Gives, both_give, none_gives}
+use Rattle.sw_lower_code_facts.proofs.Uses.{has_give}
 use Rattle.sw_lower_return_facts.specs.Flows.{CodeFlows}
 use Rattle.sw_lower_return_facts.specs.Forms.{BodyReturns}
 use Rattle.sw_lower_return_facts.proofs.Bodies.Codes.{value_closes}
-use Rattle.sw_lower_return_facts.proofs.Expressions.Uses.{flows_give}
+use Rattle.sw_lower_return_facts.proofs.Expressions.Induction.{flowing}
 use Rattle.sw_lower_return_facts.proofs.Functions.Bodies.{body_returns}
 
 module _ (tables : Tables) (number : Numbers) (functions : List Function) where
@@ -53,7 +54,7 @@ module _ (tables : Tables) (number : Numbers) (functions : List Function) where
         for_part (Some part) =
             one_given (part_getter tables prop.word.at n i shape part)
             (getter_returns prop.word.at _ part.ty (part_read prop.word.at i part.ty)
-            (flows_give prop.word.at part.ty _))
+            (has_give flowing prop.word.at part.ty _ (λ r. tt)))
 
         by : (so : Bool) → Given (if so then for_some (slice_get shape.parts i) (λ part.
             part_getter tables prop.word.at n i shape part ∷ []) else [])
@@ -82,7 +83,7 @@ module _ (tables : Tables) (number : Numbers) (functions : List Function) where
     one global true =
         one_given (getter tables key [] global.ty (stored_read key g global.ty))
         (getter_returns key [] global.ty (stored_read key g global.ty)
-        (flows_give key global.ty _))
+        (has_give flowing key global.ty _ (λ r. tt)))
     one global false = none
 
     of_actor : (global : GlobalVar) (actor : Option ℕ)

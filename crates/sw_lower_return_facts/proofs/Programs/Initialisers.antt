@@ -33,10 +33,11 @@ use Rattle.sw_lower_formed_facts.proofs.Bodies.Given.{IsProgram}
 use Rattle.sw_lower_formed_facts.proofs.Bodies.InitBodies.{init_inside}
 use Rattle.sw_typing_facts.proofs.Lists.Joined.{Gives, both_give, none_gives}
 use Rattle.sw_typing_facts.proofs.Programs.ObjectDecls.{ObjectOk}
+use Rattle.sw_lower_code_facts.proofs.Inside.{gives_both}
 use Rattle.sw_lower_return_facts.specs.Forms.{BodyReturns}
 use Rattle.sw_lower_return_facts.proofs.Bodies.Codes.{init_closes}
 use Rattle.sw_lower_return_facts.proofs.Expressions.Induction.{GivenFlows, block_gives, expr_flows}
-use Rattle.sw_lower_return_facts.proofs.Expressions.Induction.{both_give as both_flow}
+use Rattle.sw_lower_return_facts.proofs.Expressions.Induction.{flowing}
 use Rattle.sw_lower_return_facts.proofs.Functions.Bodies.{body_returns}
 
 module _ (world : World) (isolation : Isolation) (decls : List Decl) (rule : AsyncDefault)
@@ -53,7 +54,7 @@ module _ (world : World) (isolation : Isolation) (decls : List Decl) (rule : Asy
       → AllByRecursion GivenFlows (first_values tables n props)
   first_flow n [] = tt
   first_flow n (prop ∷ props) =
-      both_flow (prop_given tables n prop prop.value) (first_values tables n props) (by prop.value)
+      gives_both flowing (prop_given tables n prop prop.value) (first_values tables n props) (by prop.value)
       (first_flow n props) where
         by : (found : Option Expr) → AllByRecursion GivenFlows (prop_given tables n prop found)
         by None = tt
@@ -75,7 +76,7 @@ module _ (world : World) (isolation : Isolation) (decls : List Decl) (rule : Asy
         (body_returns number (signed tables func (map (param_taken tables) params)
         (init_code func.key.at n shape (first_values tables n props ++ givens)))
         (λ value. init_closes func.key.at n shape (first_values tables n props ++ givens)
-        (both_flow (first_values tables n props) givens (first_flow n props) flow)))
+        (gives_both flowing (first_values tables n props) givens (first_flow n props) flow)))
         (All-nil (BodyReturns number))
 
   -- the initialiser of a type that writes none

@@ -18,6 +18,8 @@ use Rattle.sw_lower_rules.specs.Statements.{patterns_code, switch_code, switch_t
 use Rattle.sw_lower_rules.specs.Tables.{Tables}
 use Rattle.sw_lower_rules.specs.Uses.{no_shape, shape_at, shape_of}
 use Rattle.sw_lower_rules.specs.declared.targets.Targets.{Targets}
+use Rattle.sw_lower_code_facts.proofs.Declaring.{has_patterns}
+use Rattle.sw_lower_return_facts.proofs.Expressions.Induction.{flowing, variables_flow}
 use Rattle.sw_lower_return_facts.specs.Flows.{CodeFlows, Extend, FlowAt, Flows, IsMark, IsReached}
 use Rattle.sw_lower_return_facts.specs.Flows.{FlowsHere, Mark, FlowState, WaysFlow, mark_of, passes}
 use Rattle.sw_lower_return_facts.proofs.Flow.Going.{block_then}
@@ -31,7 +33,6 @@ use Rattle.sw_lower_return_facts.proofs.Statements.Arms.{DefaultMade, IsDefault,
 use Rattle.sw_lower_return_facts.proofs.Statements.Arms.{arms_made, default_last, default_later}
 use Rattle.sw_lower_return_facts.proofs.Statements.Arms.{default_made, made_later, name_in, named}
 use Rattle.sw_lower_return_facts.proofs.Statements.Arms.{switch_live, with_arms, with_default}
-use Rattle.sw_lower_return_facts.proofs.Statements.Declaring.{flows_patterns}
 use Rattle.sw_lower_return_facts.proofs.Statements.Passing.{passes_broken, passes_part}
 
 -- the type that an expression with a key has in the tables
@@ -95,7 +96,7 @@ module _ (tables : Tables) (ends breaks live : Bool) (targets : Targets) (merge 
       (flow_then t (patterns_code tables subject 0 one.arm.patterns) _
       (λ _ u. FlowsHere u live rest)
       (λ _ u. FlowsHere u (passes part.own_ends live) rest)
-      (flows_patterns tables subject 0 one.arm.patterns t live rest in_t)
+      (has_patterns flowing variables_flow tables subject 0 one.arm.patterns t live rest in_t)
       (λ _ u to_u in_u.
       part_in one.arm.body.code part u rest in_u
       (around_later t.marks u.marks to_u (around_later s.marks t.marks to_t around)))))

@@ -1,5 +1,5 @@
 -- Pieces of code that declare no variable.
-use Rattle.std.proofs.Common.{ℕ, Bool, true, false, List, [], ◌∷◌, ◌++◌, Option, ap, ◌∙◌, map, refl}
+use Rattle.std.proofs.Common.{ℕ, Bool, true, false, List, [], ◌∷◌, ◌++◌, Option, ap, ◌∙◌, refl}
 use Rattle.std.specs.List.{AllByRecursion}
 use Rattle.std.specs.Prelude.{if◌then◌else◌}
 use Rattle.sw_graph.specs.declared.function.RegKind.{RegKind}
@@ -74,12 +74,6 @@ nothing_each code (x ∷ xs) one =
 pub each_of : {A : Type 0} (P : A → Type 0) (xs : List A) → ((x : A) → P x) → AllByRecursion P xs
 each_of P [] one = tt
 each_of P (x ∷ xs) one = (one x, each_of P xs one)
-
--- and what is so of each item after a function is so of the list after it
-pub each_mapped : {A B : Type 0} (P : B → Type 0) (f : A → B) (xs : List A)
-    → AllByRecursion (λ x. P (f x)) xs → AllByRecursion P (map f xs)
-each_mapped P f [] one = tt
-each_mapped P f (x ∷ xs) one = (one.0, each_mapped P f xs one.1)
 
 pub nothing_all : {A : Type 0} (code : A → Code (Unit {0})) (xs : List A)
     → AllByRecursion (λ x. BindsNothing (code x)) xs → BindsNothing (all code xs)

@@ -1,11 +1,10 @@
 -- Where code writes that is made of other code.
-use Rattle.std.proofs.Common.{◌≡◌, ℕ, ◌≤◌, ◌⊎◌, List, [], ◌∷◌, length, ◌∙◌, subst, refl, arith}
+use Rattle.std.proofs.Common.{◌≡◌, ℕ, ◌≤◌, ◌⊎◌, length, ◌∙◌, subst, refl, arith}
 use Rattle.std.proofs.Common.{take}
-use Rattle.std.specs.List.{AllByRecursion}
 use Rattle.std.specs.Prelude.{Result, Ok, Err}
 use Rattle.sw_lower_plans.specs.Run.{IsGoing, Making, Meets, place_of, run_after, with_vars}
 use Rattle.sw_lower_plans.specs.declared.fault.CodeFault.{CodeFault}
-use Rattle.sw_lower_code.specs.Code.{Code, all, andthen, done, each, scope}
+use Rattle.sw_lower_code.specs.Code.{Code, andthen, done, scope}
 use Rattle.sw_lower_formed_facts.proofs.Positions.Steps.{ended}
 use Rattle.sw_lower_total_facts.specs.Frames.{CodeStays, Stays}
 
@@ -73,11 +72,6 @@ keeps_then count own first next one two =
     keeps_with (λ value. Unit {0}) count own first next one
     (λ s t value made going ran. tt) (λ value so. two value)
 
-pub stays_then : {A B : Type 0} (first : Code A) (next : A → Code B) → CodeStays first
-    → ((value : A) → CodeStays (next value)) → CodeStays (andthen first next)
-stays_then first next one two count own =
-    keeps_then count own first next (one count own) (λ value. two value count own)
-
 -- code whose variables are seen in it alone
 pub keeps_scope : {A : Type 0} (count own : ℕ) (code : Code A) → Keeps count own code
     → Keeps count own (scope code)
@@ -100,37 +94,6 @@ stays_done value count own s t given going made apart ran =
     subst (Stays count own s) (ended value s given t ran).1
     (record { others = λ number below other. refl; there = apart })
 
--- code for each item
-pub stays_each : {A B : Type 0} (code : A → Code B) (xs : List A)
-    → AllByRecursion (λ x. CodeStays (code x)) xs → CodeStays (each code xs)
-unfolding each
-stays_each code [] stay = stays_done []
-stays_each code (x ∷ xs) stay =
-    stays_then (code x) _ stay.0 (λ y.
-    stays_then (each code xs) _ (stays_each code xs stay.1) (λ ys. stays_done (y ∷ ys)))
-
-pub stays_each_of : {A B : Type 0} (code : A → Code B) (xs : List A)
-    → ((x : A) → CodeStays (code x)) → CodeStays (each code xs)
-unfolding each
-stays_each_of code [] stay = stays_done []
-stays_each_of code (x ∷ xs) stay =
-    stays_then (code x) _ (stay x) (λ y.
-    stays_then (each code xs) _ (stays_each_of code xs stay) (λ ys. stays_done (y ∷ ys)))
-
-pub keeps_all : {A : Type 0} (count own : ℕ) (code : A → Code (Unit {0})) (xs : List A)
-    → AllByRecursion (λ x. Keeps count own (code x)) xs → Keeps count own (all code xs)
-unfolding all
-keeps_all count own code [] keep = stays_done tt count own
-keeps_all count own code (x ∷ xs) keep =
-    keeps_then count own (code x) _ keep.0 (λ y. keeps_all count own code xs keep.1)
-
-pub stays_all : {A : Type 0} (code : A → Code (Unit {0})) (xs : List A)
-    → AllByRecursion (λ x. CodeStays (code x)) xs → CodeStays (all code xs)
-unfolding all
-stays_all code [] stay = stays_done tt
-stays_all code (x ∷ xs) stay =
-    stays_then (code x) _ stay.0 (λ y. stays_all code xs stay.1)
-
 -- what is so of the value that code gives
 pub yields_any : {A : Type 0} (count : ℕ) (code : Code A) → Yields count (λ value. Unit {0}) code
 yields_any count code s t value made going ran = tt
@@ -149,15 +112,3 @@ yields_then count P Q first next one two s t value made going ran =
     let grown = code_grows first s both.1 both.0 going both.2 in
     two both.0 (one s both.1 both.0 made going both.2) both.1 t value
     (omega (arith, made, grown.1)) grown.0 both.3
-
--- what is so of each value that code gives for items
-pub yields_each : {A B : Type 0} (count : ℕ) (P : B → Type 0) (code : A → Code B) (xs : List A)
-    → AllByRecursion (λ x. Yields count P (code x)) xs
-    → Yields count (AllByRecursion P) (each code xs)
-unfolding each
-yields_each count P code [] yields = yields_done count (AllByRecursion P) [] tt
-yields_each count P code (x ∷ xs) yields =
-    yields_then count P (AllByRecursion P) (code x) _ yields.0 (λ y first.
-    yields_then count (AllByRecursion P) (AllByRecursion P) (each code xs) _
-    (yields_each count P code xs yields.1) (λ ys rest.
-    yields_done count (AllByRecursion P) (y ∷ ys) (first, rest)))

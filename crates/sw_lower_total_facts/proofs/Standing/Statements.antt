@@ -26,7 +26,7 @@ use Rattle.sw_isolation_rules.specs.declared.note.Note.{Note}
 use Rattle.sw_isolation_rules.specs.declared.uses.Context.{Context}
 use Rattle.sw_lower_total_facts.proofs.Standing.Covering.{Covers, block_covers, case_arm_covers}
 use Rattle.sw_lower_total_facts.proofs.Standing.Covering.{expr_covers, if_arm_covers, place_covers}
-use Rattle.sw_lower_total_facts.proofs.Standing.Covering.{seen_covers, stmt_covers, var_covers}
+use Rattle.sw_lower_total_facts.proofs.Standing.Covering.{stmt_covers, stores_bare, var_covers}
 use Rattle.sw_lower_total_facts.proofs.Standing.Expressions.{one_key}
 use Rattle.sw_lower_total_facts.proofs.Standing.NoteForms as noted
 use Rattle.sw_lower_total_facts.proofs.Standing.NoteForms.{case_arms_notes, expr_notes, if_arms_notes}
@@ -129,8 +129,7 @@ module _ (world : World) (answers : Answers) (context : Context) (listed : List 
       (record {
         share = share_then _ _ _ _ _ _ (share_next at _ (expr_keys place ++ expr_keys value))
             (share_right _ _ (expr_keys place) (expr_keys value)
-            (place_covers world answers op (see world answers place) (expr_keys place)
-            (seen_covers world answers place) context listed));
+            (place_covers world answers op place context listed));
         within = within_part _ (at ∷ expr_order value) _
             (within_right (expr_order place) (at ∷ expr_order value))
             (within_next at (expr_order value));
@@ -167,7 +166,7 @@ module _ (world : World) (answers : Answers) (context : Context) (listed : List 
       part_then _ _ _ _ _ _ _ _ _ (assign_place at assigns.Set place value)
       (record {
         share = share_before (before_place place) _ (expr_keys place)
-            ((seen_covers world answers place).stores context (see world answers place).key);
+            (stores_bare world answers place context (see world answers place).key);
         within = within_same (expr_order place);
       })
 
@@ -195,7 +194,7 @@ module _ (world : World) (answers : Answers) (context : Context) (listed : List 
       (expr_keys place) (expr_order place)
   read_place place = record {
     share = share_before (its_notes place) _ (expr_keys place)
-        ((seen_covers world answers place).stores context (see world answers place).key);
+        (stores_bare world answers place context (see world answers place).key);
     within = within_same (expr_order place);
   }
 

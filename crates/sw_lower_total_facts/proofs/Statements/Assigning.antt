@@ -25,6 +25,8 @@ use Rattle.sw_lower_rules.specs.Statements.{assign, assign_by}
 use Rattle.sw_lower_rules.specs.Tables.{Tables}
 use Rattle.sw_lower_rules.specs.Uses.{give}
 use Rattle.sw_lower_rules.specs.declared.targets.Targets.{Targets}
+use Rattle.sw_lower_code_facts.proofs.Declaring.{has_assign}
+use Rattle.sw_lower_code_facts.proofs.Uses.{has_give}
 use Rattle.sw_typing_facts.specs.Rows.{RowsHold}
 use Rattle.sw_lower_formed_facts.proofs.Statements.Assigning.{assign_code, settles}
 use Rattle.sw_lower_total_facts.specs.Binding.{BindsNothing, ExprBindsNothing}
@@ -32,34 +34,18 @@ use Rattle.sw_lower_total_facts.specs.Bound.{seen_in}
 use Rattle.sw_lower_total_facts.specs.Forms.{ExprProceeds, PlaceProceeds, Reads, StmtProceeds}
 use Rattle.sw_lower_total_facts.specs.Proceeding.{BodyProceeds, Proceeds}
 use Rattle.sw_lower_total_facts.proofs.Binding.Codes.{nothing_then}
-use Rattle.sw_lower_total_facts.proofs.Binding.Uses.{nothing_give}
+use Rattle.sw_lower_total_facts.proofs.Binding.Expressions.{nothing_bound}
 use Rattle.sw_lower_total_facts.proofs.Proceeding.Give.{proceeds_give}
 use Rattle.sw_lower_total_facts.proofs.Proceeding.Ready.{ready_less}
 use Rattle.sw_lower_total_facts.proofs.Statements.Beginning.{Begins, begins_right, proceeds_by}
 use Rattle.sw_lower_total_facts.proofs.Statements.Beginning.{then_begins}
 use Rattle.sw_lower_total_facts.proofs.Statements.Stating.{binds_still, no_only}
 
-nothing_assign_by : (at : ℕ) (op : BinOp) (place : ExprCode) (given : Operand)
-    → ExprBindsNothing place → BindsNothing (assign_by at op place given)
-nothing_assign_by at op place given nothing =
-    nothing_then place.read
-    (λ old. give at types.Int (λ r. Bin at r op old given) >>= place.write) nothing.read
-    (λ old. nothing_then (give at types.Int (λ r. Bin at r op old given)) place.write
-    (nothing_give at types.Int (λ r. Bin at r op old given)) nothing.write)
-
 nothing_assign : (op : AssignOp) (at : ℕ) (place : ExprCode) (given : Operand)
     → ExprBindsNothing place → BindsNothing (assign op at place given)
-nothing_assign assigns.Set at place given nothing = nothing.write given
-nothing_assign assigns.Add at place given nothing =
-    nothing_assign_by at bin.Add place given nothing
-nothing_assign assigns.Subtract at place given nothing =
-    nothing_assign_by at bin.Sub place given nothing
-nothing_assign assigns.Multiply at place given nothing =
-    nothing_assign_by at bin.Mul place given nothing
-nothing_assign assigns.Divide at place given nothing =
-    nothing_assign_by at bin.Div place given nothing
-nothing_assign assigns.Remainder at place given nothing =
-    nothing_assign_by at bin.Rem place given nothing
+nothing_assign op at place given nothing =
+    has_assign nothing_bound op at place given
+    (record { read = nothing.read; write = nothing.write })
 
 module _ (tables : Tables) (number : Numbers) (context : Context) (listed : List ℕ) where
   -- A place that is assigned by an operator is read.
@@ -90,7 +76,7 @@ module _ (tables : Tables) (number : Numbers) (context : Context) (listed : List
         (λ old t begins_t more is ran.
         then_begins tables number context listed inside vars notes targets
         (give at types.Int (λ r. Bin at r op old given)) place.write t
-        (nothing_give at types.Int (λ r. Bin at r op old given)) begins_t
+        (has_give nothing_bound at types.Int (λ r. Bin at r op old given) (λ r. tt)) begins_t
         (proceeds_give at types.Int (λ r. Bin at r op old given) t begins_t.ready.going)
         (λ new u begins_u further made known. write new u begins_u.ready))
 

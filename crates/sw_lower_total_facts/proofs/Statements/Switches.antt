@@ -38,6 +38,7 @@ use Rattle.sw_typing_facts.proofs.Lists.Listed.{in_map}
 use Rattle.sw_lower_formed_facts.proofs.Statements.Cases.{SwitchFits, enum_cases, HeadFits, switch_well}
 use Rattle.sw_lower_formed_facts.proofs.Statements.Switches.{cases_inside, head_in, heads_of}
 use Rattle.sw_typing_facts.proofs.Types.Forms.{is_Named}
+use Rattle.sw_lower_code_facts.proofs.Uses.{has_shape_at, has_shape_of}
 use Rattle.sw_lower_total_facts.specs.Binding.{BindsNothing, ExprBindsNothing}
 use Rattle.sw_lower_total_facts.specs.Bound.{seen_in}
 use Rattle.sw_lower_total_facts.specs.Forms.{ExprProceeds, StmtProceeds}
@@ -46,10 +47,9 @@ use Rattle.sw_lower_total_facts.specs.Proceeding.{BodyProceeds, Proceeds}
 use Rattle.sw_lower_total_facts.proofs.Binding.Codes.{each_of, nothing_all, nothing_block, nothing_close}
 use Rattle.sw_lower_total_facts.proofs.Binding.Codes.{nothing_done, nothing_each, nothing_known}
 use Rattle.sw_lower_total_facts.proofs.Binding.Codes.{nothing_resume, nothing_scope, nothing_then}
-use Rattle.sw_lower_total_facts.proofs.Binding.Uses.{nothing_shape_at, nothing_shape_of}
-use Rattle.sw_lower_total_facts.proofs.Frames.Expressions.{stays_jump}
+use Rattle.sw_lower_total_facts.proofs.Binding.Expressions.{nothing_bound}
 use Rattle.sw_lower_total_facts.proofs.Frames.Joining.{keeps_scope, keeps_then, ran_both}
-use Rattle.sw_lower_total_facts.proofs.Frames.Statements.{stays_patterns}
+use Rattle.sw_lower_total_facts.proofs.Frames.Induction.{stays_jump, stays_patterns}
 use Rattle.sw_lower_total_facts.proofs.Proceeding.Each.{goes_each}
 use Rattle.sw_lower_total_facts.proofs.Proceeding.Steps.{gives_known, proceeds_block, proceeds_close}
 use Rattle.sw_lower_total_facts.proofs.Proceeding.Steps.{proceeds_done, proceeds_known, proceeds_resume}
@@ -553,14 +553,14 @@ module _ (tables : Tables) (number : Numbers) (context : Context) (listed : List
       among_subject begins).ready)
       (λ given a begins_a more_a a_is a_ran.
       then_begins tables number context listed inside state.vars all_notes targets
-      (shape_of tables subject.key) (shaped targets given) a (nothing_shape_of tables subject.key)
+      (shape_of tables subject.key) (shaped targets given) a (has_shape_of nothing_bound tables subject.key)
       begins_a
       (shape_of_proceeds subject.key named.place a (ap named_shape typed ∙ named.named))
       (λ k b begins_b more_b b_is b_ran.
       let k_is = gives_shape_of subject.key k a b b_is in
       then_begins tables number context listed inside state.vars all_notes targets
       (shape_at tables k) (switched arms otherwise targets given k) b
-      (nothing_shape_at tables k) begins_b
+      (has_shape_at nothing_bound tables k) begins_b
       (shape_at_proceeds k named.shape b (found_at k k_is))
       (λ shape c begins_c more_c c_is c_ran.
       switched_proceeds inside state.vars all_notes notes more among among_more cases arms armed
@@ -568,9 +568,9 @@ module _ (tables : Tables) (number : Numbers) (context : Context) (listed : List
       (cases_are k shape k_is (gives_shape_at k shape b c c_is)) c begins_c)))))
       (λ targets. nothing_then subject.read (numbered targets) nothing.read
       (λ given. nothing_then (shape_of tables subject.key) (shaped targets given)
-      (nothing_shape_of tables subject.key)
+      (has_shape_of nothing_bound tables subject.key)
       (λ k. nothing_then (shape_at tables k) (switched arms otherwise targets given k)
-      (nothing_shape_at tables k) (λ shape. nothing_switched arms otherwise targets
+      (has_shape_at nothing_bound tables k) (λ shape. nothing_switched arms otherwise targets
       given k shape (in_switch inside) state.vars
       more otherwise_ok))))
       (All-append (BodyProceeds number) (subject.inside ++ cases_inside arms)

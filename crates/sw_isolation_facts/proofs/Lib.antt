@@ -1,0 +1,2 @@
+pub mod EachNoted
+pub mod NotedTrees

@@ -1,0 +1,9 @@
+pub mod Calls
+pub mod Declaring
+pub mod Expressions
+pub mod Induction
+pub mod Inside
+pub mod Logic
+pub mod Silent
+pub mod Statements
+pub mod Uses
