@@ -1,6 +1,6 @@
 -- What each instruction comes to for the elements of its frame, row by row of the table of region
 -- operations (SE-0414, SE-0430).
-use Rattle.std.specs.Prelude.{◌≡◌, ℕ, Bool, true, false, Option, Some, None, List, [], ◌∷◌}
+use Rattle.std.specs.Prelude.{◌≡◌, ◌++◌, ℕ, Bool, true, false, Option, Some, None, List, [], ◌∷◌}
 use Rattle.std.specs.Prelude.{Contains, slice_get}
 use Rattle.sw_types.specs.declared.isolation.CallKind.TheVariants.{Plain as PlainCall}
 use Rattle.sw_graph.specs.declared.instr.Instr.{Instr}
@@ -47,7 +47,7 @@ StoresPart elements None cell src a c =
 
 -- an isolated closure is made of `Here` too
 abbrev pub captured : Bool → List Element → List Element
-captured true xs = Here ∷ xs
+captured true xs = xs ++ Here ∷ []
 captured false xs = xs
 
 -- A task on the actor of its body keeps its captures there; any other is given them.
