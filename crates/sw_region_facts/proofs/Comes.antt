@@ -69,6 +69,16 @@ module _ (elements : List (Option ℕ)) where
   sets_weaker r a c weaker =
       sets_nothing r a c (λ x y one two t. weaker.together x y t) (λ x differ l. weaker.live x l)
 
+  -- also up to a weaker state
+  pub sets_to : (r : ℕ) (sources : List Element) (a b c : Regions) → Sets elements r sources a b
+      → IsWeaker elements b c → Sets elements r sources a c
+  sets_to r sources a b c sets weaker = record {
+    together = λ x y from_x from_y has there t.
+        weaker.together x y (sets.together x y from_x from_y has there t);
+    live = λ x differ l. sets.live x differ (weaker.live x l);
+    used = sets.used;
+  }
+
   -- what comes from one source comes from all that are together with it
   pub sets_from_all : (r : ℕ) (y : Element) (sources : List Element) (a c : Regions)
       → Sets elements r (y ∷ []) a c

@@ -6,7 +6,6 @@ pub mod Doing
 pub mod Joining
 pub mod Giving
 pub mod Marked
-pub mod Behind
 pub mod Comes
 pub mod Setting
 pub mod Gathering
@@ -14,3 +13,10 @@ pub mod Making
 pub mod Sending
 pub mod Calling
 pub mod Rows
+pub mod Points
+pub mod Entry
+pub mod Follows
+pub mod LeastMade
+pub mod Between
+pub mod Lasts
+pub mod Annotated

@@ -9,31 +9,26 @@ use Rattle.sw_graph.specs.declared.instr.Instr.TheVariants.{NewBox, NewActor, Lo
 use Rattle.sw_graph.specs.declared.instr.Instr.TheVariants.{LoadProp, StoreProp, LoadGlobal}
 use Rattle.sw_graph.specs.declared.instr.Instr.TheVariants.{StoreGlobal, NewClosure, Call}
 use Rattle.sw_graph.specs.declared.instr.Instr.TheVariants.{CallClosure, NewTask, Await, Yield}
-use Rattle.sw_graph.specs.declared.instr.Last.{Last}
-use Rattle.sw_graph.specs.declared.instr.Last.TheVariants.{Jump, Branch, Switch, Return}
 use Rattle.sw_graph.specs.declared.instr.Operand.{Operand}
 use Rattle.sw_owner_facts.specs.View.{Element, Here, Register}
 use Rattle.sw_partition.specs.Regions.{Regions}
 use Rattle.sw_region_ops.specs.Calls.{is_isolated, free_code}
 use Rattle.sw_region_ops.specs.Elements.{element_at}
-use Rattle.sw_region_ops.specs.Groups.{take_from, need_each, put_first, free_each, meet}
+use Rattle.sw_region_ops.specs.Groups.{take_from, need_each, put_first, meet}
 use Rattle.sw_region_ops.specs.Groups.{keep, make_of}
 use Rattle.sw_region_ops.specs.Marks.{marks_of}
 use Rattle.sw_region_ops.specs.Setting.{FunctionSetting}
-use Rattle.sw_region_ops.specs.Table.{instr_ops, last_ops, load_ops, store_ops, task_ops, return_ops}
+use Rattle.sw_region_ops.specs.Table.{instr_ops, load_ops, store_ops, task_ops}
 use Rattle.sw_region_ops.specs.Table.{iso_is, shares_actor}
-use Rattle.sw_region_ops.specs.declared.op.TheConstants.{NOT_DISCONNECTED}
 use Rattle.sw_region_facts.specs.FrameRegions.{HaveOwnNumbers, IsStateOf, IsWeaker, TogetherIn, region_in}
 use Rattle.sw_region_facts.specs.Moves.{if_tracked, tracked, Sets, Uses, Gathers, Makes}
 use Rattle.sw_region_facts.specs.Rows.{CopiesFrom, LoadsPart, StoresPart, StartsTask, InstrMoves}
-use Rattle.sw_region_facts.specs.Rows.{Returns, LastMoves}
 use Rattle.sw_region_facts.proofs.Calling.{calls, calls_function}
-use Rattle.sw_region_facts.proofs.Doing.{Done, parts, freed}
+use Rattle.sw_region_facts.proofs.Doing.{Done, parts}
 use Rattle.sw_region_facts.proofs.Gathering.{uses_needed, met, kept}
 use Rattle.sw_region_facts.proofs.Lists.{one_in, none_in}
 use Rattle.sw_region_facts.proofs.Making.{made_of, closed_over}
-use Rattle.sw_region_facts.proofs.Marked.{tracked_marked, mark_of_element}
-use Rattle.sw_region_facts.proofs.Numbers.{together_tells}
+use Rattle.sw_region_facts.proofs.Marked.{tracked_marked}
 use Rattle.sw_region_facts.proofs.Sending.{sends_parted}
 use Rattle.sw_region_facts.proofs.Setting.{sets_here, sets_first}
 use Rattle.sw_region_facts.proofs.Weaker.{weaker_itself}
@@ -112,34 +107,6 @@ module _ (setting : FunctionSetting) (own : HaveOwnNumbers setting.elements) (a 
       sends_parted elements own a sized (tracked elements captures) (marks_of elements captures)
       (tracked_marked elements captures) b code site done
 
-  returns : (sends : Bool) (value : Operand)
-      → Done (return_ops sends (marks_of elements (value ∷ []))) a b
-      → Returns elements sends (tracked elements (value ∷ [])) a b
-  returns false value done = record {
-    uses = uses (value ∷ []) (subst (λ l. Done l a b)
-        (append-nil (need_each (marks_of elements (value ∷ [])))) done);
-    free = λ x clash. absurd cc;
-  }
-  returns true value done =
-      let xs = tracked elements (value ∷ []) in
-      let marks = marks_of elements (value ∷ []) in
-      let halves = parts (need_each marks) (free_each NOT_DISCONNECTED marks) a b done in
-      let used = uses_needed elements own a sized xs marks (tracked_marked elements (value ∷ []))
-          halves.between halves.before in
-      let free = freed NOT_DISCONNECTED marks a b
-          (subst (λ m. Done (free_each NOT_DISCONNECTED marks) m b) used.0 halves.after) in
-      record {
-        uses = record {
-          weaker = subst (IsWeaker elements a) (sym free.0) (weaker_itself elements a);
-          used = used.1.used;
-        };
-        free = λ x is has t.
-            let mark = mark_of_element elements xs marks (tracked_marked elements (value ∷ [])) x has
-            in
-            (free.1 mark.0 mark.1).1
-            (together_tells elements own a sized x Here mark.0.x 0 mark.2 refl t);
-      }
-
   pub instr_moves : (instr : Instr) → Done (instr_ops setting instr) a b
       → InstrMoves setting instr a b
   instr_moves (Const at dst value) done = unchanged done
@@ -175,9 +142,3 @@ module _ (setting : FunctionSetting) (own : HaveOwnNumbers setting.elements) (a 
   instr_moves (Await at dst task) done = unchanged done
   instr_moves (Yield at dst) done = unchanged done
 
-  pub last_moves : (last : Last) → Done (last_ops setting last) a b → LastMoves setting last a b
-  last_moves (Jump to) done = unchanged done
-  last_moves (Branch condition holds fails) done = unchanged done
-  last_moves (Switch subject to) done = uses (subject ∷ []) done
-  last_moves (Return None) done = unchanged done
-  last_moves (Return (Some value)) done = returns setting.body.sends value done

@@ -19,7 +19,7 @@ use Rattle.sw_region_ops.specs.Calls.{is_isolated}
 use Rattle.sw_region_ops.specs.Elements.{element_at}
 use Rattle.sw_region_ops.specs.Setting.{FunctionSetting}
 use Rattle.sw_region_ops.specs.Table.{iso_is, shares_actor}
-use Rattle.sw_region_facts.specs.FrameRegions.{TogetherIn, IsWeaker}
+use Rattle.sw_region_facts.specs.FrameRegions.{TogetherIn, LiveIn, IsWeaker}
 use Rattle.sw_region_facts.specs.Moves.{if_tracked, tracked, copied_from, Sets, Uses, Gathers}
 use Rattle.sw_region_facts.specs.Moves.{Makes, Sends}
 use Rattle.sw_region_facts.specs.Calling.{Calls, CallsFunction}
@@ -55,7 +55,7 @@ abbrev pub StartsTask : Bool → List (Option ℕ) → List Element → Regions 
 StartsTask true elements xs a c = Gathers elements (Here ∷ xs) a c
 StartsTask false elements xs a c = Sends elements xs a c
 
--- between the state before an instruction and what its operations make of it
+-- The row of an instruction, between the state before it and the state that its operations make.
 abbrev pub InstrMoves : FunctionSetting → Instr → Regions → Regions → Type 0
 InstrMoves setting (Const at dst value) a c = IsWeaker setting.elements a c
 InstrMoves setting (Un at dst op src) a c = IsWeaker setting.elements a c
@@ -97,18 +97,22 @@ InstrMoves setting (NewTask at dst function captures) a c =
 InstrMoves setting (Await at dst task) a c = IsWeaker setting.elements a c
 InstrMoves setting (Yield at dst) a c = IsWeaker setting.elements a c
 
--- A `sending` result isn't with `Here`.
-pub record Returns (elements : List (Option ℕ)) (sends : Bool) (xs : List Element)
-    (a c : Regions) : Type 0 where
-  pub uses : Uses elements xs a c
-  pub free : (x : Element) → sends ≡ true → Contains xs x → TogetherIn elements a x Here → ⊥
+-- all of these elements are live
+abbrev pub AreLive : List (Option ℕ) → List Element → Regions → Type 0
+AreLive elements xs a = (x : Element) → Contains xs x → LiveIn elements a x
 
--- the same for what ends a block
-abbrev pub LastMoves : FunctionSetting → Last → Regions → Regions → Type 0
-LastMoves setting (Jump to) a c = IsWeaker setting.elements a c
-LastMoves setting (Branch condition holds fails) a c = IsWeaker setting.elements a c
-LastMoves setting (Switch subject to) a c =
-    Uses setting.elements (tracked setting.elements (subject ∷ [])) a c
-LastMoves setting (Return None) a c = IsWeaker setting.elements a c
-LastMoves setting (Return (Some value)) a c =
-    Returns setting.elements setting.body.sends (tracked setting.elements (value ∷ [])) a c
+-- What is returned is live, and not with `Here` if the result is `sending`.
+pub record MayReturn (elements : List (Option ℕ)) (sends : Bool) (xs : List Element)
+    (a : Regions) : Type 0 where
+  pub live : AreLive elements xs a
+  pub free : sends ≡ true → (x : Element) → Contains xs x → TogetherIn elements a x Here → ⊥
+
+-- What the last instruction of a block asks of the state before it, which it leaves as it is.
+abbrev pub LastAsks : FunctionSetting → Last → Regions → Type 0
+LastAsks setting (Jump to) a = Unit {0}
+LastAsks setting (Branch condition holds fails) a = Unit {0}
+LastAsks setting (Switch subject to) a =
+    AreLive setting.elements (tracked setting.elements (subject ∷ [])) a
+LastAsks setting (Return None) a = Unit {0}
+LastAsks setting (Return (Some value)) a =
+    MayReturn setting.elements setting.body.sends (tracked setting.elements (value ∷ [])) a
