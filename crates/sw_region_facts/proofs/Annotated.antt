@@ -125,11 +125,11 @@ module _ (graph : Graph) (body : Function) (states : List (Option Regions))
   -- ---- an instruction
   module _ (p : ℕ) (instr : Instr) (here : point_in body p ≡ Some (Middle instr)) (a : Regions)
       (at : value_at states p ≡ Some a) where
-    next_state : StandsAt states (p + 1) (λ c. (made : Regions)
+    pub next_state : StandsAt states (p + 1) (λ c. (made : Regions)
         → Walks (point_ops_at setting p) a made → IsSameState made c)
     next_state =
         let there = leads_on setting states annotates.least p (p + 1) a at
-            (follows_on setting states annotates.least p instr here) in
+        (follows_on setting states annotates.least p instr here) in
         record {
           state = there.state;
           stands = there.stands;
@@ -144,7 +144,7 @@ module _ (graph : Graph) (body : Function) (states : List (Option Regions))
         let passes = passes_at p a at (Middle instr) here in
         let same = next.is passes.made passes.walks in
         let made_sized = done_sized elements (instr_ops setting instr) passes.copied passes.made
-            passes.done passes.sized in
+        passes.done passes.sized in
         record {
           state = next.state;
           stands = next.stands;
@@ -171,9 +171,9 @@ module _ (graph : Graph) (body : Function) (states : List (Option Regions))
     goes_on k block q is starts =
         let passes = passes_at p a at (End last) here in
         let stays = (last_asks setting own passes.copied passes.sized passes.made last passes.done).0
-            in
+        in
         let there = leads_on setting states annotates.least p q a at
-            (follows_to setting states annotates.least p last k block q here is starts) in
+        (follows_to setting states annotates.least p last k block q here is starts) in
         record {
           state = there.state;
           stands = there.stands;

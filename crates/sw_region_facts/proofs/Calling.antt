@@ -90,15 +90,15 @@ module _ (elements : List (Option ℕ)) (own : HaveOwnNumbers elements) where
   calls kind code site sends r sent lent sent_marks lent_marks sent_marked lent_marked a b sized
       done =
       let last = parts (send_each code site sent_marks ++ kind_ops kind code site lent_marks)
-          (result_ops sends kind (element_at elements r) lent_marks) a b done in
+      (result_ops sends kind (element_at elements r) lent_marks) a b done in
       let first = parts (send_each code site sent_marks) (kind_ops kind code site lent_marks) a
-          last.between last.before in
+      last.between last.before in
       let given_sized = done_sized elements (send_each code site sent_marks) a first.between
-          first.before sized in
+      first.before sized in
       let taken_sized = done_sized elements (kind_ops kind code site lent_marks) first.between
-          last.between first.after given_sized in
+      last.between first.after given_sized in
       let lent_on = lends kind code site lent lent_marks lent_marked first.between last.between
-          given_sized first.after in
+      given_sized first.after in
       record {
         given = first.between;
         gives = sends_each elements own a sized sent sent_marks sent_marked first.between code site

@@ -16,13 +16,15 @@ pub comes_from : (r : ℕ) (sources : List Element) (x from_x : Element)
 comes_from r sources Here from_x has =
     inr (λ is. let clash : ⊥ = cc in clash, one_in Here from_x has)
 comes_from r sources (Register s) from_x has = elim (cases_eq s r) [
-  | inl same ↦ inl (ap Register same,
-      subst (λ b. Contains (cond b sources (Register s ∷ [])) from_x) (eq-eqb s r same) has)
+  | inl same ↦ inl (
+    ap Register same,
+    subst (λ b. Contains (cond b sources (Register s ∷ [])) from_x) (eq-eqb s r same) has,
+  )
   | inr differ ↦ inr (
-      λ is. differ (let same : s ≡ r = cc in same),
-      one_in (Register s) from_x
-          (subst (λ b. Contains (cond b sources (Register s ∷ [])) from_x) (ne_eqb s r differ) has),
-    )
+    λ is. differ (let same : s ≡ r = cc in same),
+    one_in (Register s) from_x
+        (subst (λ b. Contains (cond b sources (Register s ∷ [])) from_x) (ne_eqb s r differ) has),
+  )
 ]
 
 module _ (elements : List (Option ℕ)) where

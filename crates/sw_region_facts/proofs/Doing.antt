@@ -57,12 +57,14 @@ tested test P same tells [] a b done = (done.runs, λ mark has. absurd (none_in 
 tested test P same tells (first ∷ marks) a b done =
     let stays : done.runs.0 ≡ a = same first a done.runs.0 done.runs.1 in
     let rest = tested test P same tells marks a b
-        (subst (λ m. Done (map test marks) m b) stays
-        (done_rest (test first) (map test marks) a b done)) in
-    (rest.0, λ mark has. elim (first_or_later first marks mark has) [
-      | inl is ↦ subst (P a) is (tells first a done.passes.0)
-      | inr there ↦ rest.1 mark there
-    ])
+    (subst (λ m. Done (map test marks) m b) stays
+    (done_rest (test first) (map test marks) a b done)) in (
+      rest.0,
+      λ mark has. elim (first_or_later first marks mark has) [
+        | inl is ↦ subst (P a) is (tells first a done.passes.0)
+        | inr there ↦ rest.1 mark there
+      ],
+    )
 
 pub needed : (marks : List Mark) (a b : Regions) → Done (need_each marks) a b
     → (b ≡ a) × ((mark : Mark) → Contains marks mark → IsNotGivenAway a mark.x)

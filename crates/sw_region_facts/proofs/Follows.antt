@@ -36,7 +36,7 @@ end_of_block block k last inside at = elim (cases_lt k (length block.instrs)) [
   | inr past ↦
       let length_is = length-points_of_block block in
       let same : Some (End block.last) ≡ Some (End last) =
-          sym (places.last_at block k (omega (arith, past, inside, length_is))) ∙ at in
+      sym (places.last_at block k (omega (arith, past, inside, length_is))) ∙ at in
       (let is : block.last ≡ last = cc in is)
 ]
 
@@ -45,9 +45,9 @@ pub are_there : (graph : Graph) (number : ℕ) (body : Function)
 are_there graph number body is p last here b has =
     let place = places.place_of body.blocks p (End last) here in
     let fits = at_index (FunctionFits graph.shapes graph.globals graph.functions) graph.functions
-        number body graph.well_formed.each is in
+    number body graph.well_formed.each is in
     let block_fits = at_index (BlockFits graph.shapes graph.globals graph.functions body)
-        body.blocks place.0 place.2 fits.blocks place.3 in
+    body.blocks place.0 place.2 fits.blocks place.3 in
     All-contains (λ n. n < length body.blocks) (blocks_of last) b
     (subst (λ l. All (λ n. n < length body.blocks) (blocks_of l))
     (end_of_block place.2 place.1 last place.4 place.6) block_fits.last.blocks_in) has
@@ -63,11 +63,11 @@ module _ (body : Function) (there : AreThere body) (p : ℕ) (instr : Instr)
       let length_is = length-points_of_block found.0 in
       let next = places.first_next body.blocks b in
       let place : first_point body.blocks b + length found.0.instrs ≡ p =
-          omega (arith, is, count, length_is, next) in
+      omega (arith, is, count, length_is, next) in
       let end = places.point_is body.blocks b (length found.0.instrs) found.0 found.1
-          (omega (arith, length_is)) ∙ places.last_at found.0 (length found.0.instrs) refl in
+      (omega (arith, length_is)) ∙ places.last_at found.0 (length found.0.instrs) refl in
       let clash : Some (Middle instr) ≡ Some (End found.0.last) =
-          sym here ∙ ap (slice_get (points_of body.blocks)) (sym place) ∙ end in
+      sym here ∙ ap (slice_get (points_of body.blocks)) (sym place) ∙ end in
       cc
 
   pub only_before : (q : ℕ) → Contains (followers body.blocks q) (p + 1) → q ≡ p
@@ -91,7 +91,7 @@ module _ (body : Function) (there : AreThere body) (p : ℕ) (instr : Instr)
         (ap (λ o. option_map_or (following body.blocks q) o []) at) has))
     by (Some (Middle other)) at =
         let one = one_in (q + 1) (p + 1) (subst (λ l. Contains l (p + 1))
-            (places.followers_of body.blocks q (Middle other) at) has) in
+        (places.followers_of body.blocks q (Middle other) at) has) in
         omega (arith, one)
     by (Some (End last)) at = last_case last at
         (subst (λ l. Contains l (p + 1)) (places.followers_of body.blocks q (End last) at) has)

@@ -33,11 +33,13 @@ module _ (elements : List (Option ℕ)) (own : HaveOwnNumbers elements) (a : Reg
   pub uses_needed : (xs : List Element) (marks : List Mark) → AreMarked elements xs marks
       → (b : Regions) → Done (need_each marks) a b → (b ≡ a) × Uses elements xs a b
   uses_needed xs marks marked b done =
-      let needs = needed marks a b done in
-      (needs.0, record {
-        weaker = subst (IsWeaker elements a) (sym needs.0) (weaker_itself elements a);
-        used = live_marks xs marks marked needs.1;
-      })
+      let needs = needed marks a b done in (
+        needs.0,
+        record {
+          weaker = subst (IsWeaker elements a) (sym needs.0) (weaker_itself elements a);
+          used = live_marks xs marks marked needs.1;
+        },
+      )
 
   -- elements that are live, and whose marks are joined
   pub gathers_joined : (xs : List Element) (marks : List Mark) → AreMarked elements xs marks
@@ -94,8 +96,8 @@ module _ (elements : List (Option ℕ)) (own : HaveOwnNumbers elements) (a : Reg
       let halves = parts (free_each code marks) (join_all marks) a b done in
       let free = freed code marks a halves.between halves.before in
       let joined = joined_all marks a b
-          (subst (λ m. Done (join_all marks) m b) free.0 halves.after)
-          (marks_inside elements own xs marks marked a sized) in
+      (subst (λ m. Done (join_all marks) m b) free.0 halves.after)
+      (marks_inside elements own xs marks marked a sized) in
       record {
         gathers = gathers_joined xs marks marked
             (live_marks xs marks marked (λ mark has. (free.1 mark has).0)) b joined;

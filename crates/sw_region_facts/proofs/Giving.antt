@@ -34,8 +34,11 @@ given_more : (first : Mark) (marks : List Mark) (site : ℕ) (a m b : Regions)
 given_more first marks site a m b step rest = record {
   grown = grown_on a m b (given_grows first.x site a m step) rest.grown;
   gone = λ mark has p nonzero t. elim (first_or_later first marks mark has) [
-    | inl is ↦ (site, rest.grown.within.pairs p site ((step.pairs p site).1
-        (inr (refl, nonzero, subst (λ n. Together a p n.x) (sym is) t))))
+    | inl is ↦ (
+      site,
+      rest.grown.within.pairs p site ((step.pairs p site).1
+          (inr (refl, nonzero, subst (λ n. Together a p n.x) (sym is) t))),
+    )
     | inr there ↦ rest.gone mark there p nonzero ((step.together p mark.x).1 t)
   ];
 }
@@ -92,12 +95,12 @@ parted_each code site [] a b done = subst (PartedEach [] a) (sym done.runs) (rec
 })
 parted_each code site (first ∷ marks) a b done =
     let test = done_rest (Free first.x first.at code) (Give first.x site ∷ send_each code site marks) a
-        b done in
+    b done in
     let again : Done (Give first.x site ∷ send_each code site marks) a b =
-        subst (λ m. Done (Give first.x site ∷ send_each code site marks) m b) done.runs.1 test in
+    subst (λ m. Done (Give first.x site ∷ send_each code site marks) m b) done.runs.1 test in
     let m = again.runs.0 in
     let rest = parted_each code site marks m b
-        (done_rest (Give first.x site) (send_each code site marks) a b again) in
+    (done_rest (Give first.x site) (send_each code site marks) a b again) in
     step m again.runs.1 rest done.passes.0
   where
     step : (m : Regions) → IsGiven first.x site a m → PartedEach marks m b → IsFree a first.x
@@ -119,8 +122,11 @@ parted_each code site (first ∷ marks) a b done =
         clash other has t =
             let other_free = rest.parted.free other has in
             let earlier = free_before other.x a m (given_grows first.x site a m given) other_free in
-            other_free.0 (site, (given.pairs other.x site).1
-            (inr (refl, not_here other.x first.x a earlier t, t)))
+            other_free.0 (
+              site,
+              (given.pairs other.x site).1
+                  (inr (refl, not_here other.x first.x a earlier t, t)),
+            )
 
         differs : (i j : ℕ) (one other : Mark) → slice_get (first ∷ marks) i ≡ Some one
             → slice_get (first ∷ marks) j ≡ Some other → i ≢ j → Together a one.x other.x → ⊥

@@ -1,6 +1,6 @@
 -- Elements that are joined: what comes together, and what stays apart.
-use Rattle.std.proofs.Common.{◌≡◌, ℕ, ◌<◌, List, [], ◌∷◌, map, length, Contains, refl, sym, subst, ap}
-use Rattle.std.proofs.Common.{◌∙◌, ◌⊎◌, inl, inr, slice_index}
+use Rattle.std.proofs.Common.{◌≡◌, ℕ, ◌<◌, List, [], ◌∷◌, map, length, Contains, refl, sym, subst}
+use Rattle.std.proofs.Common.{◌∙◌, inl, inr}
 use Rattle.sw_partition.specs.Effects.{IsJoined}
 use Rattle.sw_partition.specs.Laws.{within_refl, within_trans}
 use Rattle.sw_partition.specs.Regions.{Regions, Together, HasPair, IsWithin}
@@ -10,7 +10,7 @@ use Rattle.sw_region_ops.specs.declared.marks.Mark.{Mark}
 use Rattle.sw_region_ops.specs.declared.op.Op.{Op}
 use Rattle.sw_region_ops.specs.declared.op.Op.TheVariants.{Join}
 use Rattle.sw_region_facts.proofs.Doing.{Done, done_rest}
-use Rattle.sw_region_facts.proofs.Lists.{none_in, first_in, later_in, first_or_later}
+use Rattle.sw_region_facts.proofs.Lists.{none_in, one_in, first_in, later_in, without_second, second_or_other}
 
 -- a state of the same size that unites more and gives more away
 pub record Grown (a b : Regions) : Type 0 where
@@ -71,100 +71,83 @@ pub record Joined (marks : List Mark) (a b : Regions) : Type 0 where
   pub apart : (z : ℕ) → ((mark : Mark) → Contains marks mark → Together a mark.x z → ⊥) → (p : ℕ)
       → (Together a p z → ⊥) → Together b p z → ⊥
 
+joined_alone : (first : Mark) (a : Regions) → first.x < length a.labels → Joined (first ∷ []) a a
+joined_alone first a inside = record {
+  grown = grown_itself a;
+  pairs = λ p site has. has;
+  together = λ one other has there.
+      subst (λ n. Together a n.x other.x) (one_in first one has)
+      (subst (λ n. Together a first.x n.x) (one_in first other there)
+      (record { left = inside; right = inside; same = refl }));
+  apart = λ z none p differ t. differ t;
+}
+
+-- what is apart from an element stays so, if what is joined is apart from it
+apart_stays : (x y : ℕ) (a b : Regions) → IsJoined x y a b → (z : ℕ) → (Together a x z → ⊥)
+    → (Together a y z → ⊥) → (p : ℕ) → (Together a p z → ⊥) → Together b p z → ⊥
+apart_stays x y a b joined z no_x no_y p differ t = elim ((joined.together p z).0 t) [
+  | inl old ↦ differ old
+  | inr (inl new) ↦ no_y new.1
+  | inr (inr new) ↦ no_x new.1
+]
+
+-- one more that joins the first
+module _ (first next : Mark) (others : List Mark) (b : Regions) where
+  united_more : ((one other : Mark) → Contains (first ∷ others) one
+      → Contains (first ∷ others) other → Together b one.x other.x)
+      → Together b first.x next.x → (one other : Mark)
+      → Contains (first ∷ next ∷ others) one → Contains (first ∷ next ∷ others) other
+      → Together b one.x other.x
+  united_more all joined one other has there =
+      together_trans b one.x first.x other.x (together_sym b first.x one.x (with_first one has))
+      (with_first other there)
+    where
+      with_first : (mark : Mark) → Contains (first ∷ next ∷ others) mark
+          → Together b first.x mark.x
+      with_first mark has = elim (second_or_other first next others mark has) [
+        | inl is ↦ subst (λ n. Together b first.x n.x) is joined
+        | inr among ↦ all first mark (first_in first others) among
+      ]
+
+  joined_more : (a m : Regions) → first.x < length a.labels → next.x < length a.labels
+      → IsJoined first.x next.x a m → Joined (first ∷ others) m b
+      → Joined (first ∷ next ∷ others) a b
+  joined_more a m one two step rest = record {
+    grown = grown_on a m b (joined_grows first.x next.x a m step) rest.grown;
+    pairs = λ p site has. (step.pairs p site).0 (rest.pairs p site has);
+    together = united_more rest.together (rest.grown.within.together first.x next.x
+        ((step.together first.x next.x).1 (inr (inl (
+          record { left = one; right = one; same = refl },
+          record { left = two; right = two; same = refl },
+        )))));
+    apart = λ z none p differ. rest.apart z (λ mark has. stays z none mark.x
+        (none mark (without_second first next others mark has))) p (stays z none p differ);
+  }
+    where
+      stays : (z : ℕ)
+          → ((mark : Mark) → Contains (first ∷ next ∷ others) mark → Together a mark.x z → ⊥)
+          → (p : ℕ) → (Together a p z → ⊥) → Together m p z → ⊥
+      stays z none = apart_stays first.x next.x a m step z
+          (none first (first_in first (next ∷ others)))
+          (none next (later_in first (next ∷ others) next (first_in next others)))
+
 -- each of the others joins the first
 joined_each : (first : Mark) (join : Mark → Op)
     → ((mark : Mark) (a b : Regions) → Applies (join mark) a b → IsJoined first.x mark.x a b)
     → (others : List Mark) (a b : Regions) → Done (map join others) a b
     → ((mark : Mark) → Contains (first ∷ others) mark → mark.x < length a.labels)
     → Joined (first ∷ others) a b
-joined_each first join joins [] a b done inside = subst (Joined (first ∷ []) a) (sym done.runs) (record {
-  grown = grown_itself a;
-  pairs = λ p site has. has;
-  together = λ one other has there.
-      alone one other (first_or_later first [] one has) (first_or_later first [] other there);
-  apart = λ z none p differ t. differ t;
-})
-  where
-    alone : (one other : Mark) → (first ≡ one) ⊎ Contains [] one → (first ≡ other) ⊎ Contains [] other
-        → Together a one.x other.x
-    alone one other (inr has) there = absurd (none_in one has)
-    alone one other (inl is) (inr there) = absurd (none_in other there)
-    alone one other (inl is) (inl same) = record {
-      left = subst (λ m. m.x < length a.labels) is (inside first (first_in first []));
-      right = subst (λ m. m.x < length a.labels) same (inside first (first_in first []));
-      same = ap (λ m. slice_index a.labels m.x) (sym is ∙ same);
-    }
+joined_each first join joins [] a b done inside =
+    subst (Joined (first ∷ []) a) (sym done.runs)
+    (joined_alone first a (inside first (first_in first [])))
 joined_each first join joins (next ∷ others) a b done inside =
-    let m = done.runs.0 in
-    let step = joins next a m done.runs.1 in
-    let grows = joined_grows first.x next.x a m step in
-    let rest = joined_each first join joins others m b
-        (done_rest (join next) (map join others) a b done)
-        (λ mark has. subst (λ n. mark.x < n) (sym grows.sized) (inside mark (skip mark has))) in
-    let next_joined = rest.grown.within.together first.x next.x (united m step) in
-    record {
-      grown = grown_on a m b grows rest.grown;
-      pairs = λ p site has. (step.pairs p site).0 (rest.pairs p site has);
-      together = λ one other has there. pairwise rest.together next_joined one other
-          (pick one has) (pick other there);
-      apart = λ z none p differ. rest.apart z
-          (λ mark has. stays m step z none mark.x (none mark (skip mark has))) p
-          (stays m step z none p differ);
-    }
-  where
-    skip : (mark : Mark) → Contains (first ∷ others) mark → Contains (first ∷ next ∷ others) mark
-    skip mark has = elim (first_or_later first others mark has) [
-      | inl is ↦ subst (Contains (first ∷ next ∷ others)) is (first_in first (next ∷ others))
-      | inr there ↦ later_in first (next ∷ others) mark (later_in next others mark there)
-    ]
-
-    pick : (mark : Mark) → Contains (first ∷ next ∷ others) mark
-        → (next ≡ mark) ⊎ Contains (first ∷ others) mark
-    pick mark has = elim (first_or_later first (next ∷ others) mark has) [
-      | inl is ↦ inr (subst (Contains (first ∷ others)) is (first_in first others))
-      | inr there ↦ elim (first_or_later next others mark there) [
-        | inl same ↦ inl same
-        | inr later ↦ inr (later_in first others mark later)
-      ]
-    ]
-
-    united : (m : Regions) → IsJoined first.x next.x a m → Together m first.x next.x
-    united m step =
-        let one = inside first (first_in first (next ∷ others)) in
-        let two = inside next (later_in first (next ∷ others) next (first_in next others)) in
-        (step.together first.x next.x).1 (inr (inl (
-          record { left = one; right = one; same = refl },
-          record { left = two; right = two; same = refl },
-        )))
-
-    stays : (m : Regions) → IsJoined first.x next.x a m → (z : ℕ)
-        → ((mark : Mark) → Contains (first ∷ next ∷ others) mark → Together a mark.x z → ⊥)
-        → (p : ℕ) → (Together a p z → ⊥) → Together m p z → ⊥
-    stays m step z none p differ t = elim ((step.together p z).0 t) [
-      | inl old ↦ differ old
-      | inr (inl new) ↦
-          none next (later_in first (next ∷ others) next (first_in next others)) new.1
-      | inr (inr new) ↦ none first (first_in first (next ∷ others)) new.1
-    ]
-
-    pairwise : ((one other : Mark) → Contains (first ∷ others) one
-        → Contains (first ∷ others) other → Together b one.x other.x)
-        → Together b first.x next.x → (one other : Mark)
-        → (next ≡ one) ⊎ Contains (first ∷ others) one
-        → (next ≡ other) ⊎ Contains (first ∷ others) other → Together b one.x other.x
-    pairwise all with_next one other (inr has) (inr there) = all one other has there
-    pairwise all with_next one other (inl is) (inr there) =
-        subst (λ n. Together b n.x other.x) is
-        (together_trans b next.x first.x other.x (together_sym b first.x next.x with_next)
-        (all first other (first_in first others) there))
-    pairwise all with_next one other (inr has) (inl same) =
-        subst (λ n. Together b one.x n.x) same
-        (together_trans b one.x first.x next.x (all one first has (first_in first others))
-        with_next)
-    pairwise all with_next one other (inl is) (inl same) =
-        subst (λ n. Together b one.x n.x) same
-        (subst (λ n. Together b n.x next.x) is
-        (record { left = with_next.right; right = with_next.right; same = refl }))
+    let step = joins next a done.runs.0 done.runs.1 in
+    joined_more first next others b a done.runs.0 (inside first (first_in first (next ∷ others)))
+    (inside next (later_in first (next ∷ others) next (first_in next others))) step
+    (joined_each first join joins others done.runs.0 b
+    (done_rest (join next) (map join others) a b done)
+    (λ mark has. subst (λ n. mark.x < n) (sym step.elements_same)
+    (inside mark (without_second first next others mark has))))
 
 -- a mark of `Here`
 abbrev pub here_mark : Mark

@@ -29,7 +29,7 @@ module _ (setting : FunctionSetting) (own : HaveOwnNumbers setting.elements) (a 
       → (m ≡ a) × AreLive elements (tracked elements operands) a
   used operands m done =
       let uses = uses_needed elements own a sized (tracked elements operands)
-          (marks_of elements operands) (tracked_marked elements operands) m done in
+      (marks_of elements operands) (tracked_marked elements operands) m done in
       (uses.0, uses.1.used)
 
   returns : (sends : Bool) (value : Operand)
@@ -37,7 +37,7 @@ module _ (setting : FunctionSetting) (own : HaveOwnNumbers setting.elements) (a 
       → (b ≡ a) × MayReturn elements sends (tracked elements (value ∷ [])) a
   returns false value done =
       let uses = used (value ∷ []) b (subst (λ l. Done l a b)
-          (append-nil (need_each (marks_of elements (value ∷ [])))) done) in
+      (append-nil (need_each (marks_of elements (value ∷ [])))) done) in
       (uses.0, record { live = uses.1; free = λ is. absurd (let clash : ⊥ = cc in clash) })
   returns true value done =
       let xs = tracked elements (value ∷ []) in
@@ -45,15 +45,17 @@ module _ (setting : FunctionSetting) (own : HaveOwnNumbers setting.elements) (a 
       let halves = parts (need_each marks) (free_each NOT_DISCONNECTED marks) a b done in
       let uses = used (value ∷ []) halves.between halves.before in
       let free = freed NOT_DISCONNECTED marks a b
-          (subst (λ m. Done (free_each NOT_DISCONNECTED marks) m b) uses.0 halves.after) in
-      (free.0, record {
-        live = uses.1;
-        free = λ is x has t.
-            let mark = mark_of_element elements xs marks (tracked_marked elements (value ∷ [])) x has
-                in
-            (free.1 mark.0 mark.1).1
-            (together_tells elements own a sized x Here mark.0.x 0 mark.2 refl t);
-      })
+      (subst (λ m. Done (free_each NOT_DISCONNECTED marks) m b) uses.0 halves.after) in (
+        free.0,
+        record {
+          live = uses.1;
+          free = λ is x has t.
+              let mark = mark_of_element elements xs marks (tracked_marked elements (value ∷ [])) x has
+              in
+              (free.1 mark.0 mark.1).1
+              (together_tells elements own a sized x Here mark.0.x 0 mark.2 refl t);
+        },
+      )
 
   pub last_asks : (last : Last) → Done (last_ops setting last) a b
       → (b ≡ a) × LastAsks setting last a

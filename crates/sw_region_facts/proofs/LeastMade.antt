@@ -79,12 +79,14 @@ module _ (setting : FunctionSetting) (states : List (Option Regions)) (least : I
 
   next_run : (m : Regions) × Walks (point_ops_at setting (p + 1)) step.made m
   next_run =
-      let run = some_run (point_ops_at setting (p + 1)) step.made next_fits in
-      (run.0, record {
-        copied = step.made;
-        is_copy = record { same = same_refl step.made; sized = refl };
-        runs = run.1;
-      })
+      let run = some_run (point_ops_at setting (p + 1)) step.made next_fits in (
+        run.0,
+        record {
+          copied = step.made;
+          is_copy = record { same = same_refl step.made; sized = refl };
+          runs = run.1;
+        },
+      )
 
   next_within : IsWithin next_run.0 (least.closed.stepped (p + 1) c next).made
   next_within =
@@ -101,7 +103,7 @@ module _ (setting : FunctionSetting) (states : List (Option Regions)) (least : I
         leads_to = next_run.1;
         below = λ t has.
             let apart : t ≢ p + 1 = λ same. loops (only_before setting.body there p instr here (p + 1)
-                (subst (Contains (followers blocks (p + 1))) same has)) in
+            (subst (Contains (followers blocks (p + 1))) same has)) in
             subst (IsBelow IsWithin next_run.0) (sym (other_there t apart))
             (below_more next_run.0 old.made (value_at states t) next_within (old.below t has));
       }
@@ -128,7 +130,7 @@ module _ (setting : FunctionSetting) (states : List (Option Regions)) (least : I
     leads_to = old.leads_to;
     below = λ t has.
         let apart : t ≢ p + 1 = λ is. away (only_before setting.body there p instr here r
-            (subst (Contains (followers blocks r)) is has)) in
+        (subst (Contains (followers blocks r)) is has)) in
         subst (IsBelow IsWithin old.made) (sym (other_there t apart)) (old.below t has);
   }
 
@@ -136,7 +138,7 @@ module _ (setting : FunctionSetting) (states : List (Option Regions)) (least : I
   other_passed r x e = elim (cases_eq r (p + 1)) [
     | inl same ↦
         let is : step.made ≡ x =
-            some_injective (sym other_here ∙ ap (value_at other) (sym same) ∙ e) in
+        some_injective (sym other_here ∙ ap (value_at other) (sym same) ∙ e) in
         subst (λ q. Passed other q x) (sym same) (subst (Passed other (p + 1)) is next_passed)
     | inr differ ↦
         let old : value_at states r ≡ Some x = sym (other_there r differ) ∙ e in

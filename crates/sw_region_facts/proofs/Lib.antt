@@ -20,3 +20,4 @@ pub mod LeastMade
 pub mod Between
 pub mod Lasts
 pub mod Annotated
+pub mod Passed

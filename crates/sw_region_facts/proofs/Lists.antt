@@ -1,6 +1,6 @@
 -- Facts on lists.
 use Rattle.std.proofs.Common.{◌≡◌, ℕ, zero, suc, ◌⊎◌, inl, inr, List, [], ◌∷◌, Some}
-use Rattle.std.proofs.Common.{Contains, refl, ap, ◌∙◌, arith}
+use Rattle.std.proofs.Common.{Contains, refl, subst, ap, ◌∙◌, arith}
 use Rattle.std.specs.List.{slice_get}
 use Rattle.std.proofs.lemmas.Option.{slice_get-get_or, slice_get_within, get_or_from_slice_get}
 use Rattle.std.proofs.lemmas.List.Elements.{Contains-append_cases}
@@ -26,6 +26,24 @@ pub first_or_later : {X : Type 0} (x : X) (xs : List X) (y : X) → Contains (x 
 first_or_later x xs y has = elim (Contains-append_cases (x ∷ []) xs y has) [
   | inl here ↦ inl (one_in x y here)
   | inr there ↦ inr there
+]
+
+-- a list without its second member, and the other way round
+pub without_second : {X : Type 0} (x y : X) (xs : List X) (z : X) → Contains (x ∷ xs) z
+    → Contains (x ∷ y ∷ xs) z
+without_second x y xs z has = elim (first_or_later x xs z has) [
+  | inl is ↦ subst (Contains (x ∷ y ∷ xs)) is (first_in x (y ∷ xs))
+  | inr there ↦ later_in x (y ∷ xs) z (later_in y xs z there)
+]
+
+pub second_or_other : {X : Type 0} (x y : X) (xs : List X) (z : X) → Contains (x ∷ y ∷ xs) z
+    → (y ≡ z) ⊎ Contains (x ∷ xs) z
+second_or_other x y xs z has = elim (first_or_later x (y ∷ xs) z has) [
+  | inl is ↦ inr (subst (Contains (x ∷ xs)) is (first_in x xs))
+  | inr there ↦ elim (first_or_later y xs z there) [
+    | inl same ↦ inl same
+    | inr later ↦ inr (later_in x xs z later)
+  ]
 ]
 
 -- a member of a list stands at an index

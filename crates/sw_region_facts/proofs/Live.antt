@@ -37,11 +37,14 @@ without_pair_live a x inside none =
       | inr is ↦ ap not is
       | inl is ↦
           let w = any_at (length a.sites) (λ k. mark_of a x k == 1) is in
-          absurd (none (slice_index a.sites w.0, record {
-            element = inside;
-            column = w.0;
-            in_range = w.1;
-            is_site = refl;
-            marked = eqb-true (mark_of a x w.0) 1 w.2;
-          }))
+          absurd (none (
+            slice_index a.sites w.0,
+            record {
+              element = inside;
+              column = w.0;
+              in_range = w.1;
+              is_site = refl;
+              marked = eqb-true (mark_of a x w.0) 1 w.2;
+            },
+          ))
     ]

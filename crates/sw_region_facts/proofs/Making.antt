@@ -92,8 +92,8 @@ module _ (elements : List (Option ℕ)) (own : HaveOwnNumbers elements) (a : Reg
       let first = parts (need_each needs) (Fresh number ∷ []) a last.between last.before in
       let tests = needed needs a first.between first.before in
       let fresh : IsFreshened number a last.between =
-          subst (λ n. IsFreshened number n last.between) tests.0
-          (subst (IsFreshened number first.between) (sym first.after.runs.2) first.after.runs.1) in
+      subst (λ n. IsFreshened number n last.between) tests.0
+      (subst (IsFreshened number first.between) (sym first.after.runs.2) first.after.runs.1) in
       makes_tracked number is xs marks marked (live tests.1) last.between fresh last.after
 
   alone_made : element_at elements r ≡ None → (xs : List Element) (marks : List Mark)
@@ -133,8 +133,8 @@ module _ (elements : List (Option ℕ)) (own : HaveOwnNumbers elements) (a : Reg
         → Makes elements r (xs ++ Here ∷ []) a b
     by None is done =
         let needs = needed marks a b (subst (λ l. Done l a b)
-            (append-nil ((need_each marks ++ []) ++ []) ∙ append-nil (need_each marks ++ [])
-            ∙ append-nil (need_each marks)) done) in
+        (append-nil ((need_each marks ++ []) ++ []) ∙ append-nil (need_each marks ++ [])
+        ∙ append-nil (need_each marks)) done) in
         makes_untracked is (xs ++ Here ∷ [])
         (with_here (live_marks elements own a sized xs marks marked needs.1)) needs.0
     by (Some number) is done = makes_by number is (xs ++ Here ∷ []) marks (marks ++ here_mark ∷ [])

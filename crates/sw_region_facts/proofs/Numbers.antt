@@ -35,7 +35,7 @@ alone_is elements a r f none together = elim (cases_in elements f) [
       ∙ together ∙ region_is elements a f y is))
   | inr (s, is, untracked) ↦
       let same = sym (region_here r none) ∙ together
-          ∙ ap (region_in elements a) is ∙ region_here s untracked in
+      ∙ ap (region_in elements a) is ∙ region_here s untracked in
       is ∙ ap Register (omega (arith, same))
 ]
   where
@@ -112,12 +112,12 @@ module _ (elements : List (Option ℕ)) (own : HaveOwnNumbers elements) where
   together_by a b sized e f more together = elim (cases_in elements e) [
     | inr (r, is, none) ↦
         let same : f ≡ Register r = alone_is elements a r f none
-            (ap (region_in elements a) (sym is) ∙ together) in
+        (ap (region_in elements a) (sym is) ∙ together) in
         ap (region_in elements b) (is ∙ sym same)
     | inl (x, is) ↦ elim (cases_in elements f) [
       | inr (s, there, none) ↦
           let same : e ≡ Register s = alone_is elements a s e none
-              (ap (region_in elements a) (sym there) ∙ sym together) in
+          (ap (region_in elements a) (sym there) ∙ sym together) in
           ap (region_in elements b) (same ∙ sym there)
       | inl (y, other) ↦ together_from elements b e f x y is other
           (more x y is other (together_tells a sized e f x y is other together))

@@ -70,66 +70,66 @@ stands_below states p a below = by (value_at states p) refl below where
   by (Some c) at below = record { state = c; stands = at; is = below }
 
 module _ (setting : FunctionSetting) (states : List (Option Regions)) (least : IsLeast setting states)
-    where
-  pub size_at : (p : ℕ) (a : Regions) → value_at states p ≡ Some a
-      → size_of a ≡ element_count setting.elements ∷ least.sites
-  size_at p a at = subst (λ o. IfSome o (λ x. size_of x ≡ element_count setting.elements
-      ∷ least.sites)) at (least.closed.sized p)
+  where
+    pub size_at : (p : ℕ) (a : Regions) → value_at states p ≡ Some a
+        → size_of a ≡ element_count setting.elements ∷ least.sites
+    size_at p a at = subst (λ o. IfSome o (λ x. size_of x ≡ element_count setting.elements
+        ∷ least.sites)) at (least.closed.sized p)
 
-  pub state_sized : (p : ℕ) (a : Regions) → value_at states p ≡ Some a
-      → IsStateOf setting.elements a
-  state_sized p a at = heads (size_at p a at) where
-    heads : size_of a ≡ element_count setting.elements ∷ least.sites
+    pub state_sized : (p : ℕ) (a : Regions) → value_at states p ≡ Some a
         → IsStateOf setting.elements a
-    heads same = cc
+    state_sized p a at = heads (size_at p a at) where
+      heads : size_of a ≡ element_count setting.elements ∷ least.sites
+          → IsStateOf setting.elements a
+      heads same = cc
 
-  -- the operations at a point with a state, and what they make
-  pub stepped : (p : ℕ) (a : Regions) → value_at states p ≡ Some a
-      → IsPassedOn IsWithin (λ q. Walks (point_ops_at setting q)) (followers setting.body.blocks)
-      states p a
-  stepped p a at = least.closed.stepped p a at
+    -- the operations at a point with a state, and what they make
+    pub stepped : (p : ℕ) (a : Regions) → value_at states p ≡ Some a
+        → IsPassedOn IsWithin (λ q. Walks (point_ops_at setting q)) (followers setting.body.blocks)
+        states p a
+    stepped p a at = least.closed.stepped p a at
 
-  pub leads_on : (p q : ℕ) (a : Regions) (at : value_at states p ≡ Some a)
-      → Contains (followers setting.body.blocks p) q
-      → StandsAt states q (IsWithin (stepped p a at).made)
-  leads_on p q a at follows =
-      stands_below states q (stepped p a at).made ((stepped p a at).below q follows)
+    pub leads_on : (p q : ℕ) (a : Regions) (at : value_at states p ≡ Some a)
+        → Contains (followers setting.body.blocks p) q
+        → StandsAt states q (IsWithin (stepped p a at).made)
+    leads_on p q a at follows =
+        stands_below states q (stepped p a at).made ((stepped p a at).below q follows)
 
-  -- ---- each point that a way leads to has a state
-  pub follows_on : (p : ℕ) (instr : Instr) → point_in setting.body p ≡ Some (Middle instr)
-      → Contains (followers setting.body.blocks p) (p + 1)
-  unfolding followers
-  follows_on p instr here =
-      subst (λ o. Contains (option_map_or (following setting.body.blocks p) o []) (p + 1))
-      (sym here) (first_in (p + 1) [])
+    -- ---- each point that a way leads to has a state
+    pub follows_on : (p : ℕ) (instr : Instr) → point_in setting.body p ≡ Some (Middle instr)
+        → Contains (followers setting.body.blocks p) (p + 1)
+    unfolding followers
+    follows_on p instr here =
+        subst (λ o. Contains (option_map_or (following setting.body.blocks p) o []) (p + 1))
+        (sym here) (first_in (p + 1) [])
 
-  pub follows_to : (p : ℕ) (last : Last) (k block q : ℕ)
-      → point_in setting.body p ≡ Some (End last) → slice_get (blocks_of last) k ≡ Some block
-      → block_start setting.body block ≡ Some q → Contains (followers setting.body.blocks p) q
-  unfolding followers first_point
-  follows_to p last k block q here at starts =
-      subst (λ o. Contains (option_map_or (following setting.body.blocks p) o []) q) (sym here)
-      (member_at (map (first_point setting.body.blocks) (blocks_of last)) k q
-      (slice_get-map (first_point setting.body.blocks) (blocks_of last) k
-      ∙ ap (option_map (first_point setting.body.blocks)) at
-      ∙ ap Some (started (slice_get setting.body.blocks block) starts)))
-    where
-      started : (o : Option Block)
-          → option_map (λ _. length (points_of (take block setting.body.blocks))) o ≡ Some q
-          → length (points_of (take block setting.body.blocks)) ≡ q
-      started None same = cc
-      started (Some b) same = some_injective same
+    pub follows_to : (p : ℕ) (last : Last) (k block q : ℕ)
+        → point_in setting.body p ≡ Some (End last) → slice_get (blocks_of last) k ≡ Some block
+        → block_start setting.body block ≡ Some q → Contains (followers setting.body.blocks p) q
+    unfolding followers first_point
+    follows_to p last k block q here at starts =
+        subst (λ o. Contains (option_map_or (following setting.body.blocks p) o []) q) (sym here)
+        (member_at (map (first_point setting.body.blocks) (blocks_of last)) k q
+        (slice_get-map (first_point setting.body.blocks) (blocks_of last) k
+        ∙ ap (option_map (first_point setting.body.blocks)) at
+        ∙ ap Some (started (slice_get setting.body.blocks block) starts)))
+      where
+        started : (o : Option Block)
+            → option_map (λ _. length (points_of (take block setting.body.blocks))) o ≡ Some q
+            → length (points_of (take block setting.body.blocks)) ≡ q
+        started None same = cc
+        started (Some b) same = some_injective same
 
-  follows : (p q : ℕ) → SureLeads setting.body p q → Contains (followers setting.body.blocks p) q
-  follows p q (on a instr here) = follows_on a instr here
-  follows p q (to a last k block c here at starts may) = follows_to a last k block c here at starts
+    follows : (p q : ℕ) → SureLeads setting.body p q → Contains (followers setting.body.blocks p) q
+    follows p q (on a instr here) = follows_on a instr here
+    follows p q (to a last k block c here at starts may) = follows_to a last k block c here at starts
 
-  pub way_has_state : (q : ℕ) (passed : List ℕ)
-      → SureWay setting.body q passed → (a : Regions) × (value_at states q ≡ Some a)
-  way_has_state q passed begin =
-      let there = stands_below states 0 least.closed.entry least.closed.entered in
-      (there.state, there.stands)
-  way_has_state q passed (further p r before way leads) =
-      let at = way_has_state p before way in
-      let there = leads_on p r at.0 at.1 (follows p r leads) in
-      (there.state, there.stands)
+    pub way_has_state : (q : ℕ) (passed : List ℕ)
+        → SureWay setting.body q passed → (a : Regions) × (value_at states q ≡ Some a)
+    way_has_state q passed begin =
+        let there = stands_below states 0 least.closed.entry least.closed.entered in
+        (there.state, there.stands)
+    way_has_state q passed (further p r before way leads) =
+        let at = way_has_state p before way in
+        let there = leads_on p r at.0 at.1 (follows p r leads) in
+        (there.state, there.stands)

@@ -49,13 +49,13 @@ module _ (setting : FunctionSetting) (own : HaveOwnNumbers setting.elements) (a 
       let marks = marks_of elements (operand ∷ []) in
       let halves = parts (need_each marks) (put_first (element_at elements r) marks) a b done in
       let uses = uses_needed elements own a sized (tracked elements (operand ∷ [])) marks
-          (tracked_marked elements (operand ∷ [])) halves.between halves.before in
+      (tracked_marked elements (operand ∷ [])) halves.between halves.before in
       let sets : Sets elements r
-          (if_tracked (element_at elements r) (tracked elements (operand ∷ []))) a b =
-          sets_first elements own a b sized r (tracked elements (operand ∷ [])) marks
-          (tracked_marked elements (operand ∷ [])) uses.1.used
-          (λ s y has there. alone (element_at elements operand.reg) s y has there)
-          (subst (λ m. Done (put_first (element_at elements r) marks) m b) uses.0 halves.after) in
+      (if_tracked (element_at elements r) (tracked elements (operand ∷ []))) a b =
+      sets_first elements own a b sized r (tracked elements (operand ∷ [])) marks
+      (tracked_marked elements (operand ∷ [])) uses.1.used
+      (λ s y has there. alone (element_at elements operand.reg) s y has there)
+      (subst (λ m. Done (put_first (element_at elements r) marks) m b) uses.0 halves.after) in
       subst (λ l. Sets elements r (if_tracked (element_at elements r) l) a b)
       (append-nil (if_tracked (element_at elements operand.reg) (Register operand.reg ∷ []))) sets
     where
@@ -141,4 +141,3 @@ module _ (setting : FunctionSetting) (own : HaveOwnNumbers setting.elements) (a 
       (free_code setting.body.iso) at captures done
   instr_moves (Await at dst task) done = unchanged done
   instr_moves (Yield at dst) done = unchanged done
-

@@ -40,7 +40,7 @@ module _ (elements : List (Option ℕ)) (own : HaveOwnNumbers elements) (a : Reg
           with_it r t l None none =
               let same : x ≡ Register r = alone_is elements a r x none (sym t) in
               let clash : Some mark.x ≡ None =
-                  sym is ∙ ap (element_in elements) same ∙ none in
+              sym is ∙ ap (element_in elements) same ∙ none in
               cc
           with_it r t l (Some y) at = live_tells elements own b r y at l
               (gone.given.gone mark has y (nonzero elements own r y at)

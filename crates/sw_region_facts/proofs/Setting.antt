@@ -45,7 +45,7 @@ module _ (elements : List (Option ℕ)) (own : HaveOwnNumbers elements) (a b : R
         (sets_weaker elements r a a (weaker_itself elements a))
     by (Some x) is done =
         let made : IsFreshened x a b =
-            subst (IsFreshened x a) (sym done.runs.2) done.runs.1 in
+        subst (IsFreshened x a) (sym done.runs.2) done.runs.1 in
         sets_nothing elements r a b (fresh_together x is made) (fresh_live x is made)
 
   -- ---- a register that is put with element y
@@ -74,9 +74,9 @@ module _ (elements : List (Option ℕ)) (own : HaveOwnNumbers elements) (a b : R
     put_with_source e differ t = elim (cases_in elements e) [
       | inr (s, same, none) ↦
           let y_is : y ≡ Register s = alone_is elements a s y none
-              (ap (region_in elements a) (sym same) ∙ sym t) in
+          (ap (region_in elements a) (sym same) ∙ sym t) in
           let clash : Some z ≡ None =
-              sym there ∙ ap (element_in elements) y_is ∙ none in
+          sym there ∙ ap (element_in elements) y_is ∙ none in
           absurd (let nothing : ⊥ = cc in nothing)
       | inl (w, at) ↦ together_from elements b (Register r) e x w is at ((put.together x w).1
           (subst (λ n. Together a n (stand_in x z w)) (sym (ap (λ t. cond t z x) (eq-eqb x x refl)))

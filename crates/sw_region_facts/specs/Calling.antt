@@ -1,6 +1,6 @@
 -- What the operations of a call come to for the elements of the caller's frame, by the kind of the
 -- call (SE-0414, SE-0430).
-use Rattle.std.specs.Prelude.{ℕ, ◌+◌, Bool, true, false, if◌then◌else◌, Option, Some, None, List, []}
+use Rattle.std.specs.Prelude.{slice_get, slice_index_or, ◌≡◌, ℕ, ◌+◌, Bool, true, false, if◌then◌else◌, Option, Some, None, List, []}
 use Rattle.std.specs.Prelude.{◌∷◌, ◌++◌}
 use Rattle.sw_types.specs.declared.isolation.CallKind.{CallKind}
 use Rattle.sw_types.specs.declared.isolation.CallKind.TheVariants.{Plain, Same, Weak, Strong, Make}
@@ -28,6 +28,16 @@ sent_of elements sending operands = passed_from elements sending true 0 operands
 
 abbrev pub lent_of : List (Option ℕ) → List Bool → List Operand → List Element
 lent_of elements sending operands = passed_from elements sending false 0 operands
+
+-- The argument for parameter k is tracked, and its parameter is wanted.
+pub record IsArgument (elements : List (Option ℕ)) (sending : List Bool) (wanted : Bool)
+    (operands : List Operand) (k : ℕ) (x : Element) : Type 0 where
+  pub operand : Operand
+  pub at : slice_get operands k ≡ Some operand
+  pub is_wanted : slice_index_or sending k false ≡ wanted
+  pub number : ℕ
+  pub tracked : element_at elements operand.reg ≡ Some number
+  pub is : x ≡ Register operand.reg
 
 -- What becomes of the arguments that are lent. A plain callee may bring them together, one of the
 -- caller's isolation with `Here` too. A weak call leaves the actor, so that they may not be with
