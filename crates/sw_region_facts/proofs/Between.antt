@@ -21,7 +21,7 @@ use Rattle.sw_region_facts.specs.FrameRegions.{IsWeaker}
 use Rattle.sw_region_facts.specs.Moves.{tracked, Sets, Uses, Gathers, Makes, IsSent}
 use Rattle.sw_region_facts.specs.Moves.{Sends, SendsEach}
 use Rattle.sw_region_facts.specs.Calling.{Calls, CallsFunction}
-use Rattle.sw_region_facts.specs.Rows.{LoadsPart, StoresPart, StartsTask, InstrMoves}
+use Rattle.sw_region_facts.specs.Rows.{CopiesFrom, LoadsPart, StoresPart, StartsTask, InstrMoves}
 use Rattle.sw_region_facts.proofs.Comes.{sets_to}
 use Rattle.sw_region_facts.proofs.Weaker.{weaker_on}
 
@@ -55,6 +55,13 @@ module _ (elements : List (Option ℕ)) (a b : Regions) (before : IsWeaker eleme
           (sets.together x y from_x from_y has there (before.together from_x from_y t));
       live = λ x differ l. before.live x (sets.live x differ (after.live x l));
       used = λ x has. before.live x (sets.used x has);
+    }
+
+    copies_between : (r : ℕ) (operand : Operand) → CopiesFrom elements r operand b c
+        → CopiesFrom elements r operand a d
+    copies_between r operand copies = record {
+      live = before.live (Register operand.reg) copies.live;
+      sets = sets_between r _ copies.sets;
     }
 
     weaker_between : IsWeaker elements b c → IsWeaker elements a d
@@ -120,7 +127,7 @@ module _ (elements : List (Option ℕ)) (a b : Regions) (before : IsWeaker eleme
 
       loads_between : (o : Option ℕ) (r : ℕ) (cell : Operand) → LoadsPart elements o r cell b c
           → LoadsPart elements o r cell a d
-      loads_between (Some number) r cell sets = sets_between r _ sets
+      loads_between (Some number) r cell copies = copies_between r cell copies
       loads_between None r cell sets = sets_between r _ sets
 
       stores_between : (o : Option ℕ) (cell src : Operand) → StoresPart elements o cell src b c
@@ -144,6 +151,10 @@ module _ (setting : FunctionSetting) (a b : Regions) (before : IsWeaker setting.
       → Sets elements r sources a d
   sets r sources = sets_between elements a b before c d after r sources
 
+  abbrev copies : (r : ℕ) (operand : Operand) → CopiesFrom elements r operand b c
+      → CopiesFrom elements r operand a d
+  copies r operand = copies_between elements a b before c d after r operand
+
   abbrev gathers : (xs : List Element) → Gathers elements xs b c → Gathers elements xs a d
   gathers xs = gathers_between elements a b before c d after back xs
 
@@ -158,15 +169,15 @@ module _ (setting : FunctionSetting) (a b : Regions) (before : IsWeaker setting.
   moves_between (Un at dst op src) moves = weaker moves
   moves_between (Bin at dst op left right) moves = weaker moves
   moves_between (Print at dst args) moves = weaker moves
-  moves_between (Copy at dst src) moves = sets dst _ moves
-  moves_between (Field at dst src part) moves = sets dst _ moves
-  moves_between (Payload at dst src index) moves = sets dst _ moves
+  moves_between (Copy at dst src) moves = copies dst src moves
+  moves_between (Field at dst src part) moves = copies dst src moves
+  moves_between (Payload at dst src index) moves = copies dst src moves
   moves_between (SetField at target part src) moves = gathers _ moves
   moves_between (Make at dst shape tag args) moves = makes dst _ moves
   moves_between (NewObject at dst shape args) moves = makes dst _ moves
   moves_between (NewBox at dst src) moves = makes dst _ moves
   moves_between (NewActor at dst shape args) moves = uses_between elements a b before c d after _ moves
-  moves_between (LoadBox at dst cell) moves = sets dst _ moves
+  moves_between (LoadBox at dst cell) moves = copies dst cell moves
   moves_between (StoreBox at cell src) moves = gathers _ moves
   moves_between (LoadProp at dst cell part) moves =
       loads_between elements a b before c d after back (element_at elements cell.reg) dst cell moves

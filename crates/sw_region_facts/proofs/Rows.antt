@@ -1,5 +1,5 @@
 -- The table of region operations, row by row.
-use Rattle.std.proofs.Common.{ℕ, ◌++◌, Bool, true, false, List, [], ◌∷◌, Option, Some, None, Contains}
+use Rattle.std.proofs.Common.{◌≡◌, ℕ, ◌++◌, Bool, true, false, List, [], ◌∷◌, Option, Some, None, Contains}
 use Rattle.std.proofs.Common.{refl, ◌∙◌, ap, sym, subst, append-nil, slice_get}
 use Rattle.sw_types.specs.declared.isolation.CallKind.TheVariants.{Plain as PlainCall}
 use Rattle.sw_graph.specs.declared.instr.Instr.{Instr}
@@ -20,15 +20,16 @@ use Rattle.sw_region_ops.specs.Marks.{marks_of}
 use Rattle.sw_region_ops.specs.Setting.{FunctionSetting}
 use Rattle.sw_region_ops.specs.Table.{instr_ops, load_ops, store_ops, task_ops}
 use Rattle.sw_region_ops.specs.Table.{iso_is, shares_actor}
-use Rattle.sw_region_facts.specs.FrameRegions.{HaveOwnNumbers, IsStateOf, IsWeaker, TogetherIn, region_in}
+use Rattle.sw_region_facts.specs.FrameRegions.{LiveIn, HaveOwnNumbers, IsStateOf, IsWeaker, TogetherIn, region_in}
 use Rattle.sw_region_facts.specs.Moves.{if_tracked, tracked, Sets, Uses, Gathers, Makes}
 use Rattle.sw_region_facts.specs.Rows.{CopiesFrom, LoadsPart, StoresPart, StartsTask, InstrMoves}
 use Rattle.sw_region_facts.proofs.Calling.{calls, calls_function}
 use Rattle.sw_region_facts.proofs.Doing.{Done, parts}
 use Rattle.sw_region_facts.proofs.Gathering.{uses_needed, met, kept}
-use Rattle.sw_region_facts.proofs.Lists.{one_in, none_in}
+use Rattle.sw_region_facts.proofs.Lists.{one_in, none_in, first_in}
 use Rattle.sw_region_facts.proofs.Making.{made_of, closed_over}
 use Rattle.sw_region_facts.proofs.Marked.{tracked_marked}
+use Rattle.sw_region_facts.proofs.Numbers.{untracked_live}
 use Rattle.sw_region_facts.proofs.Sending.{sends_parted}
 use Rattle.sw_region_facts.proofs.Setting.{sets_here, sets_first}
 use Rattle.sw_region_facts.proofs.Weaker.{weaker_itself}
@@ -56,9 +57,19 @@ module _ (setting : FunctionSetting) (own : HaveOwnNumbers setting.elements) (a 
       (tracked_marked elements (operand ∷ [])) uses.1.used
       (λ s y has there. alone (element_at elements operand.reg) s y has there)
       (subst (λ m. Done (put_first (element_at elements r) marks) m b) uses.0 halves.after) in
-      subst (λ l. Sets elements r (if_tracked (element_at elements r) l) a b)
-      (append-nil (if_tracked (element_at elements operand.reg) (Register operand.reg ∷ []))) sets
+      record {
+        live = is_live (element_at elements operand.reg) refl uses.1.used;
+        sets = subst (λ l. Sets elements r (if_tracked (element_at elements r) l) a b)
+            (append-nil (if_tracked (element_at elements operand.reg) (Register operand.reg ∷ [])))
+            sets;
+      }
     where
+      is_live : (o : Option ℕ) → element_at elements operand.reg ≡ o
+          → ((x : Element) → Contains (if_tracked o (Register operand.reg ∷ []) ++ []) x
+          → LiveIn elements a x) → LiveIn elements a (Register operand.reg)
+      is_live None is live = untracked_live elements a operand.reg is
+      is_live (Some x) is live = live (Register operand.reg) (first_in (Register operand.reg) [])
+
       alone : (o : Option ℕ) (s y : Element)
           → Contains (if_tracked o (Register operand.reg ∷ []) ++ []) s
           → Contains (if_tracked o (Register operand.reg ∷ []) ++ []) y

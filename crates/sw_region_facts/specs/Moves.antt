@@ -56,7 +56,7 @@ pub record Gathers (elements : List (Option ℕ)) (xs : List Element) (a c : Reg
 pub record GathersApart (elements : List (Option ℕ)) (xs : List Element)
     (a c : Regions) : Type 0 where
   pub gathers : Gathers elements xs a c
-  pub apart : (x : Element) → Contains xs x → TogetherIn elements c x Here → ⊥
+  pub apart : (x : Element) → Contains xs x → ¬ (TogetherIn elements c x Here)
 
 -- Register r gets something new that holds the elements xs: it leaves what it was with, and if it is
 -- tracked, it is together with each of them.
@@ -74,9 +74,9 @@ pub record Makes (elements : List (Option ℕ)) (r : ℕ) (xs : List Element)
 -- Element x is given away (SE-0430): it was live and not with `Here`, and no register with it is
 -- live afterwards.
 pub record IsSent (elements : List (Option ℕ)) (a c : Regions) (x : Element) : Type 0 where
-  pub free : TogetherIn elements a x Here → ⊥
+  pub free : ¬ (TogetherIn elements a x Here)
   pub used : LiveIn elements a x
-  pub gone : (r : ℕ) → TogetherIn elements a x (Register r) → LiveIn elements c (Register r) → ⊥
+  pub gone : (r : ℕ) → TogetherIn elements a x (Register r) → ¬ (LiveIn elements c (Register r))
 
 -- The elements xs are given away.
 pub record Sends (elements : List (Option ℕ)) (xs : List Element) (a c : Regions) : Type 0 where
@@ -88,4 +88,4 @@ pub record SendsEach (elements : List (Option ℕ)) (xs : List Element) (a c : R
   where
     pub sends : Sends elements xs a c
     pub apart : (i j : ℕ) (x y : Element) → slice_get xs i ≡ Some x → slice_get xs j ≡ Some y
-        → i ≢ j → TogetherIn elements a x y → ⊥
+        → i ≢ j → ¬ (TogetherIn elements a x y)

@@ -13,7 +13,7 @@ use Rattle.sw_graph.specs.declared.instr.Instr.TheVariants.{CallClosure, NewTask
 use Rattle.sw_graph.specs.declared.instr.Last.{Last}
 use Rattle.sw_graph.specs.declared.instr.Last.TheVariants.{Jump, Branch, Switch, Return}
 use Rattle.sw_graph.specs.declared.instr.Operand.{Operand}
-use Rattle.sw_owner_facts.specs.View.{Element, Here}
+use Rattle.sw_owner_facts.specs.View.{Element, Here, Register}
 use Rattle.sw_partition.specs.Regions.{Regions}
 use Rattle.sw_region_ops.specs.Calls.{is_isolated}
 use Rattle.sw_region_ops.specs.Elements.{element_at}
@@ -24,11 +24,12 @@ use Rattle.sw_region_facts.specs.Moves.{if_tracked, tracked, copied_from, Sets, 
 use Rattle.sw_region_facts.specs.Moves.{Makes, Sends}
 use Rattle.sw_region_facts.specs.Calling.{Calls, CallsFunction}
 
--- register r gets a copy of an operand, or of a part of it
-abbrev pub CopiesFrom : List (Option ℕ) → ℕ → Operand → Regions → Regions → Type 0
-CopiesFrom elements r operand a c =
-    Sets elements r
-    (copied_from (element_at elements r) (element_at elements operand.reg) operand.reg) a c
+-- Register r gets a copy of an operand, or of a part of it. The operand is live.
+pub record CopiesFrom (elements : List (Option ℕ)) (r : ℕ) (operand : Operand)
+    (a c : Regions) : Type 0 where
+  pub live : LiveIn elements a (Register operand.reg)
+  pub sets : Sets elements r
+      (copied_from (element_at elements r) (element_at elements operand.reg) operand.reg) a c
 
 -- register r gets something from the region of the code itself
 abbrev pub SetsFromHere : List (Option ℕ) → ℕ → Regions → Regions → Type 0
