@@ -1,6 +1,5 @@
 -- What the least annotation of a function of a graph says, point by point.
-use Rattle.std.proofs.Common.{◌≡◌, ℕ, ◌+◌, Option, Some, List, length, subst, ap, ◌∙◌}
-use Rattle.std.proofs.Common.{false, []}
+use Rattle.std.proofs.Common.{◌≡◌, ℕ, ◌+◌, Option, Some, List, length, subst, ap, ◌∙◌, false, []}
 use Rattle.std.specs.Option.{option_map_or}
 use Rattle.std.specs.List.{slice_get}
 use Rattle.sw_list.proofs.ListLemmas.{at_index}

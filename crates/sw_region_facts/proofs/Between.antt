@@ -176,7 +176,8 @@ module _ (setting : FunctionSetting) (a b : Regions) (before : IsWeaker setting.
   moves_between (Make at dst shape tag args) moves = makes dst _ moves
   moves_between (NewObject at dst shape args) moves = makes dst _ moves
   moves_between (NewBox at dst src) moves = makes dst _ moves
-  moves_between (NewActor at dst shape args) moves = uses_between elements a b before c d after _ moves
+  moves_between (NewActor at dst shape args) moves =
+      uses_between elements a b before c d after _ moves
   moves_between (LoadBox at dst cell) moves = copies dst cell moves
   moves_between (StoreBox at cell src) moves = gathers _ moves
   moves_between (LoadProp at dst cell part) moves =
@@ -186,11 +187,14 @@ module _ (setting : FunctionSetting) (a b : Regions) (before : IsWeaker setting.
   moves_between (LoadGlobal at dst global) moves = sets dst _ moves
   moves_between (StoreGlobal at global src) moves = gathers _ moves
   moves_between (NewClosure at dst function captures) moves = makes dst _ moves
-  moves_between (Call at dst kind function args) moves = calls_function_between elements a b before c d after kind
-      dst args (slice_get setting.functions function) moves
+  moves_between (Call at dst kind function args) moves =
+      calls_function_between elements a b before c d after kind dst args
+      (slice_get setting.functions function) moves
   moves_between (CallClosure at dst closure args) moves =
-      calls_between elements a b before c d after Plain false dst [] (tracked elements (closure ∷ args)) moves
-  moves_between (NewTask at dst function captures) moves = starts_between elements a b before c d after back
+      calls_between elements a b before c d after Plain false dst []
+      (tracked elements (closure ∷ args)) moves
+  moves_between (NewTask at dst function captures) moves =
+      starts_between elements a b before c d after back
       (iso_is setting (λ iso. shares_actor iso setting.body.iso) function)
       (tracked elements captures) moves
   moves_between (Await at dst task) moves = weaker moves

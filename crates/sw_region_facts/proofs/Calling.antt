@@ -1,6 +1,6 @@
 -- What a call of each kind comes to.
-use Rattle.std.proofs.Common.{◌≡◌, ℕ, ◌++◌, Bool, true, false, cond, List, [], ◌∷◌, Option, Some, None}
-use Rattle.std.proofs.Common.{◌∙◌, length, sym, subst}
+use Rattle.std.proofs.Common.{◌≡◌, ℕ, ◌++◌, Bool, true, false, cond, List, [], ◌∷◌, Option, Some}
+use Rattle.std.proofs.Common.{None, ◌∙◌, length, sym, subst}
 use Rattle.sw_types.specs.declared.isolation.CallKind.{CallKind}
 use Rattle.sw_types.specs.declared.isolation.CallKind.TheVariants.{Plain, Same, Weak, Strong, Make}
 use Rattle.sw_graph.specs.declared.function.Function.{Function}

@@ -1,6 +1,5 @@
 -- Operations that are done and pass, part by part.
-use Rattle.std.proofs.Common.{◌≡◌, ℕ, List, [], ◌∷◌, ◌++◌, map, refl, subst, Contains}
-use Rattle.std.proofs.Common.{inl, inr}
+use Rattle.std.proofs.Common.{◌≡◌, ℕ, List, [], ◌∷◌, ◌++◌, map, refl, subst, Contains, inl, inr}
 use Rattle.sw_partition.specs.Effects.{IsFree}
 use Rattle.sw_partition.specs.Regions.{Regions}
 use Rattle.sw_region_flow.specs.Passing.{IsNotGivenAway, Passes, AllPass}

@@ -1,6 +1,6 @@
 -- Operands that are used, and operands that come together.
-use Rattle.std.proofs.Common.{◌++◌, ◌≡◌, ℕ, ◌∷◌, List, Option, Some, Contains, refl, ap, ◌∙◌}
-use Rattle.std.proofs.Common.{sym, subst, inl, inr}
+use Rattle.std.proofs.Common.{◌++◌, ◌≡◌, ℕ, ◌∷◌, List, Option, Some, Contains, refl, ap, ◌∙◌, sym}
+use Rattle.std.proofs.Common.{subst, inl, inr}
 use Rattle.sw_owner_facts.specs.View.{Element, Here}
 use Rattle.sw_partition.specs.Regions.{Regions}
 use Rattle.sw_region_flow.specs.Passing.{IsNotGivenAway}

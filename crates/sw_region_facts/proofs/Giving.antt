@@ -1,6 +1,6 @@
 -- Elements that are given away: what has a pair afterwards.
-use Rattle.std.proofs.Common.{◌≡◌, ◌≢◌, ℕ, zero, suc, ◌<◌, List, [], ◌∷◌, length, Contains, refl, sym, subst}
-use Rattle.std.proofs.Common.{inl, inr, ap, Some, slice_get, slice_index}
+use Rattle.std.proofs.Common.{◌≡◌, ◌≢◌, ℕ, zero, suc, ◌<◌, List, [], ◌∷◌, length, Contains, refl}
+use Rattle.std.proofs.Common.{sym, subst, inl, inr, ap, Some, slice_get, slice_index}
 use Rattle.sw_partition.specs.Effects.{IsGiven, IsFree}
 use Rattle.sw_partition.specs.Regions.{Regions, Together, HasPair}
 use Rattle.sw_region_ops.specs.Groups.{give_each, send_each, part_with, free_each}

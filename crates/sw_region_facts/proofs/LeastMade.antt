@@ -1,6 +1,7 @@
 -- The least annotation has, after an instruction, exactly what its operations make.
 use Rattle.std.proofs.Common.{◌≡◌, ◌≢◌, ℕ, ◌+◌, ◌<◌, Option, Some, None, List, ◌∷◌, length}
-use Rattle.std.proofs.Common.{Contains, refl, sym, subst, ap, ◌∙◌, arith, All, inl, inr, IfSome, set}
+use Rattle.std.proofs.Common.{Contains, refl, sym, subst, ap, ◌∙◌, arith, All, inl, inr, IfSome}
+use Rattle.std.proofs.Common.{set}
 use Rattle.std.proofs.lemmas.Bool.{cases_eq, cases_lt}
 use Rattle.std.proofs.lemmas.List.{get_or-set_same, get_or-set_other, get_or_past}
 use Rattle.sw_graph.specs.declared.instr.Block.{Block}

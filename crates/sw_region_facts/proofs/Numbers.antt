@@ -1,6 +1,6 @@
 -- Elements of a frame and their numbers: what a region state says of the ones by the others.
-use Rattle.std.proofs.Common.{◌≡◌, ◌≢◌, ℕ, ◌+◌, ◌*◌, ◌<◌, ◌⊎◌, Option, Some, None, List}
-use Rattle.std.proofs.Common.{length, slice_index, refl, sym, subst, ap, ◌∙◌, arith, inl, inr}
+use Rattle.std.proofs.Common.{◌≡◌, ◌≢◌, ℕ, ◌+◌, ◌*◌, ◌<◌, ◌⊎◌, Option, Some, None, List, length}
+use Rattle.std.proofs.Common.{slice_index, refl, sym, subst, ap, ◌∙◌, arith, inl, inr}
 use Rattle.sw_owner_facts.specs.View.{Element, Here, Register}
 use Rattle.sw_partition.specs.Regions.{Regions, Together, HasPair}
 use Rattle.sw_region_flow.specs.Passing.{IsNotGivenAway}

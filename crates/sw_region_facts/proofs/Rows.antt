@@ -1,6 +1,6 @@
 -- The table of region operations, row by row.
-use Rattle.std.proofs.Common.{◌≡◌, ℕ, ◌++◌, Bool, true, false, List, [], ◌∷◌, Option, Some, None, Contains}
-use Rattle.std.proofs.Common.{refl, ◌∙◌, ap, sym, subst, append-nil, slice_get}
+use Rattle.std.proofs.Common.{◌≡◌, ℕ, ◌++◌, Bool, true, false, List, [], ◌∷◌, Option, Some, None}
+use Rattle.std.proofs.Common.{Contains, refl, ◌∙◌, ap, sym, subst, append-nil, slice_get}
 use Rattle.sw_types.specs.declared.isolation.CallKind.TheVariants.{Plain as PlainCall}
 use Rattle.sw_graph.specs.declared.instr.Instr.{Instr}
 use Rattle.sw_graph.specs.declared.instr.Instr.TheVariants.{Const, Un, Bin, Print, Copy, Field}

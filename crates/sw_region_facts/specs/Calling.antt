@@ -1,7 +1,7 @@
 -- What the operations of a call come to for the elements of the caller's frame, by the kind of the
 -- call (SE-0414, SE-0430).
-use Rattle.std.specs.Prelude.{slice_get, slice_index_or, ◌≡◌, ℕ, ◌+◌, Bool, true, false, if◌then◌else◌, Option, Some, None, List, []}
-use Rattle.std.specs.Prelude.{◌∷◌, ◌++◌}
+use Rattle.std.specs.Prelude.{slice_get, slice_index_or, ◌≡◌, ℕ, ◌+◌, Bool, true, false}
+use Rattle.std.specs.Prelude.{if◌then◌else◌, Option, Some, None, List, [], ◌∷◌, ◌++◌}
 use Rattle.sw_types.specs.declared.isolation.CallKind.{CallKind}
 use Rattle.sw_types.specs.declared.isolation.CallKind.TheVariants.{Plain, Same, Weak, Strong, Make}
 use Rattle.sw_graph.specs.declared.function.Function.{Function}

@@ -106,7 +106,8 @@ AreLive elements xs a = (x : Element) → Contains xs x → LiveIn elements a x
 pub record MayReturn (elements : List (Option ℕ)) (sends : Bool) (xs : List Element)
     (a : Regions) : Type 0 where
   pub live : AreLive elements xs a
-  pub free : sends ≡ true → (x : Element) → Contains xs x → TogetherIn elements a x Here → ⊥
+  pub free : sends ≡ true → (x : Element) → Contains xs x
+      → ¬ (TogetherIn elements a x Here)
 
 -- What the last instruction of a block asks of the state before it, which it leaves as it is.
 abbrev pub LastAsks : FunctionSetting → Last → Regions → Type 0
