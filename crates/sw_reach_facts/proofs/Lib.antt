@@ -1,0 +1,13 @@
+pub mod CellLemmas
+pub mod ChangeLemmas
+pub mod ClosureLemmas
+pub mod CrossingLemmas
+pub mod FitLemmas
+pub mod ListLemmas
+pub mod NamedLemmas
+pub mod PartLemmas
+pub mod ReferenceLemmas
+pub mod ReferentLemmas
+pub mod RenamedLemmas
+pub mod SendableLemmas
+pub mod ShapeLemmas

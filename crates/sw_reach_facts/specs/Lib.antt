@@ -1,0 +1,3 @@
+pub mod Coloured
+pub mod Named
+pub mod Reached

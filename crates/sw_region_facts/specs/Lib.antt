@@ -1,0 +1,5 @@
+pub mod FrameRegions
+pub mod Moves
+pub mod Calling
+pub mod Rows
+pub mod Annotated

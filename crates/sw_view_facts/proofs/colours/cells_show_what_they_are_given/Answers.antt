@@ -1,0 +1,5 @@
+use Rattle.sw_view_facts.proofs.NewLemmas.{new_shows}
+use Rattle.sw_view_facts.proofs.colours.cells_show_what_they_are_given.Goals as goal
+
+pub returns : goal.returns
+returns c = new_shows

@@ -1,0 +1,13 @@
+pub mod Calling
+pub mod Changes
+pub mod Dispatching
+pub mod Effects
+pub mod Entering
+pub mod Executing
+pub mod Memory
+pub mod Renaming
+pub mod Returning
+pub mod Shifts
+pub mod Standing
+pub mod Steps
+pub mod Views
