@@ -35,7 +35,7 @@ use Rattle.sw_value.proofs.ListLemmas.{some_injective}
 use Rattle.sw_owner_facts.specs.View.{IsLive}
 use Rattle.sw_region_facts.specs.FrameRegions.{region_in}
 use Rattle.sw_view_facts.proofs.ChangeLemmas.{comes_here}
-use Rattle.sw_view_facts.proofs.EnterLemmas.{now_above, not_waiting, region_now, region_then}
+use Rattle.sw_view_facts.proofs.EnterLemmas.{now, now_above, not_waiting, region_now, region_then}
 use Rattle.sw_view_facts.specs.Views.{frame_at, tracked_in}
 use Rattle.std.proofs.Common.{option_map, option_and_then, Contains, sym, refl, ap, subst, ◌∙◌}
 use Rattle.sw_owner_facts.specs.Calls.{ResultWith}
@@ -190,3 +190,24 @@ module _ (graph : Graph) (states : ℕ → List (Option Regions)) (state : State
       (subst (λ e. TogetherIn e made y s) elements_same (sym (then y) ∙ same ∙ then s)))
       ∙ sym (now (Register t.result))
       ∙ ap (λ k. new.region p (Register k)) (sym (result_is r is there))
+
+  -- the frame that is pushed, above its caller's function
+  pub enters_shape : new.shape (above p)
+      ≡ shape_with graph (Some function) t (slice_get graph.functions t.function)
+  unfolding go_on
+  enters_shape =
+      let split = ends_with x.job.frames p.depth f x.stands.top.top x.stands.top.height in
+      let there : frame_at next (above p) ≡ Some t =
+      ap (λ w. frame_at w (above p)) stepped
+      ∙ now_above graph states regions state colours after p x.job split.0 f t made made
+      x.stands.top.there split.1 split.2 x.stands.running keeps x.cells x.heres x.before
+      x.elsewhere in
+      let under : frame_at next p ≡ Some (go_on (f.point + 1) f) =
+      ap (λ w. frame_at w p) stepped
+      ∙ now graph states regions state colours after p x.job split.0 f t made made
+      x.stands.top.there split.1 split.2 x.stands.running keeps x.cells x.heres x.before
+      x.elsewhere in
+      ap (shape_by graph (function_of graph (frame_at next p))) there
+      ∙ ap (λ o. shape_with graph (function_of graph o) t (slice_get graph.functions t.function))
+      under
+      ∙ ap (λ o. shape_with graph o t (slice_get graph.functions t.function)) x.stands.is

@@ -115,7 +115,7 @@ module _ (graph : Graph) (states : ℕ → List (Option Regions)) (regions : Spo
   was_above = frame_before (above p) refl
       ∙ slice_get_past (rest ++ f ∷ []) (suc p.depth) (let e = lengths_before in omega (arith, e))
 
-  now : frame_at next p ≡ Some g
+  pub now : frame_at next p ≡ Some g
   now = frame_after p refl
       ∙ slice_get_first (rest ++ g ∷ []) (t ∷ []) p.depth (let e = lengths in omega (arith, e))
       ∙ ap (slice_get (rest ++ g ∷ [])) (sym depth) ∙ slice_get_end rest g

@@ -16,6 +16,10 @@ use Rattle.sw_reach_facts.proofs.CellLemmas.{colours_of_cell, shows_own}
 use Rattle.sw_reach_facts.proofs.NamedLemmas.{registers_named}
 use Rattle.sw_view_facts.specs.Memory.{RegistersName}
 use Rattle.std.proofs.Math.Seq.{get_or-append_seam}
+use Rattle.sw_value.proofs.ListLemmas.{slice_get_end}
+use Rattle.sw_reach_facts.specs.Reached.{shown, shown_below}
+use Rattle.sw_value.specs.declared.cell.HeapCell.TheVariants.{Object, Actor, BoxOf, Closure, TaskOf}
+use Rattle.sw_value.specs.declared.value.Value.{Value}
 
 index_end : (xs : List (Option Colour)) (n : ℕ) (colour : Option Colour) → length xs ≡ n
     → slice_index_or (xs ++ colour ∷ []) n None ≡ colour
@@ -35,6 +39,32 @@ new_shows cells colours cell own count =
   where
     inside : length cells < length (cells ++ cell ∷ [])
     inside = let e = length-append cells (cell ∷ []) in omega (arith, e)
+
+-- and to one without a colour nothing, unless it is a closure
+pub bare_shows : (cells : List HeapCell) (colours : List (Option Colour)) (cell : HeapCell)
+    → length colours ≡ length cells
+    → ((f : ℕ) (captures : List Value) → cell ≡ Closure f captures → ⊥)
+    → colours_of (cells ++ cell ∷ []) (colours ++ None ∷ []) (value.Cell (length cells)) ≡ []
+bare_shows cells colours cell count bare =
+    colours_of_cell (cells ++ cell ∷ []) (colours ++ None ∷ []) (value.Cell (length cells))
+    (length cells) (value.outs-Cell (length cells)) inside
+    ∙ ap (λ o. shown below o (slice_get (cells ++ cell ∷ []) (length cells)))
+    (index_end colours (length cells) None count)
+    ∙ ap (shown below None) (slice_get_end cells cell) ∙ by cell bare
+  where
+    inside : length cells < length (cells ++ cell ∷ [])
+    inside = let e = length-append cells (cell ∷ []) in omega (arith, e)
+
+    below : ℕ → List Colour
+    below = shown_below (cells ++ cell ∷ []) (colours ++ None ∷ []) (length cells)
+
+    by : (c : HeapCell) → ((f : ℕ) (captures : List Value) → c ≡ Closure f captures → ⊥)
+        → shown below None (Some c) ≡ []
+    by (Object k vs) bare = refl
+    by (Actor k vs) bare = refl
+    by (BoxOf v) bare = refl
+    by (Closure f vs) bare = absurd (bare f vs refl)
+    by (TaskOf j) bare = refl
 
 -- the registers of a kinded state refer to cells that are there
 pub registers_name : (graph : Graph) (state : State) → Kinded graph state → RegistersName state

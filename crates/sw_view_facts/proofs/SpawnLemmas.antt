@@ -26,6 +26,8 @@ use Rattle.sw_view_facts.specs.Views.{Colours, here_at, view_of}
 use Rattle.sw_view_facts.proofs.KeptLemmas.{kept_as_is}
 use Rattle.std.proofs.lemmas.Bool.{cases_eq}
 use Rattle.std.proofs.Common.{true}
+use Rattle.sw_view_facts.specs.Views.{shape_by, shape_with}
+use Rattle.sw_view_facts.specs.Steps.{TopAt}
 
 module _ (graph : Graph) (regions later : Spot → Option Regions) (state : State) (frame : Frame)
     (colours after : Colours) (cells : after.cells ≡ colours.cells)
@@ -124,3 +126,25 @@ module _ (graph : Graph) (regions later : Spot → Option Regions) (state : Stat
     held = λ {x} {c}. held x c;
     stands = stands;
   }
+
+-- the frame of the job, below which there is none
+pub shape_after : (graph : Graph) (later : Spot → Option Regions) (state : State) (frame : Frame)
+    (after : Colours)
+    → (view_of graph later (add_job (new_job (frame ∷ [])) state) after).shape
+    (bottom (length state.jobs))
+    ≡ shape_with graph None frame (slice_get graph.functions frame.function)
+unfolding add_job new_job
+shape_after graph later state frame after = ap (shape_by graph None)
+    (ap (option_and_then (λ (j : Job). slice_get j.frames zero))
+    (slice_get_end state.jobs (new_job (frame ∷ []))))
+
+-- the frame that makes the job is still the top one of its own
+pub top_after : (state : State) (frame : Frame) (q : Spot) (job : Job) (f : Frame)
+    → TopAt state q job f → TopAt (add_job (new_job (frame ∷ [])) state) q job f
+unfolding add_job
+top_after state frame q job f at = record {
+  there = slice_get_first state.jobs (new_job (frame ∷ []) ∷ []) q.job
+      (slice_get_within state.jobs q.job job at.there) ∙ at.there;
+  top = at.top;
+  height = at.height;
+}

@@ -34,6 +34,10 @@ use Rattle.sw_view_facts.proofs.ShapeLemmas.{isolation_kept, shape_kept}
 use Rattle.sw_region_facts.proofs.Comes.{sets_weaker}
 use Rattle.sw_view_facts.proofs.TopLemmas.{frame_was, turned, turns_wake}
 use Rattle.sw_view_facts.specs.Views.{state_with}
+use Rattle.sw_value.specs.declared.effect.Act.TheVariants.{Wake}
+use Rattle.sw_value.specs.Act.{act_of}
+use Rattle.sw_value.specs.Reach.{step_of}
+use Rattle.sw_value.proofs.ReachLemmas.{after_acts, step_by_act}
 
 -- The result reaches no colour.
 pub wake_keeps : (graph : Graph) (states : ℕ → List (Option Regions)) (state next : State) (q : Spot)
@@ -95,3 +99,10 @@ wake_keeps graph states state next q job f function r v colours a top is steps s
     shows colour (Some w) e has = bare colour
         (subst (λ u. Contains (colours_of state.cells colours.cells u) colour)
         (set_has f.regs r v w e) has)
+
+-- what a wake asks
+pub wake_is : (graph : Graph) (state : State) (j ended r : ℕ) (v : Value)
+    → act_of graph state j ≡ Some (Wake ended r v)
+    → step_of graph state j ≡ in_job (wake r v) j state
+wake_is graph state j ended r v acts =
+    step_by_act graph state j ∙ ap (λ o. after_acts j o state) acts

@@ -1,8 +1,9 @@
 //! Laws on the colours of a view: what registers reach, and colours that become one.
-ghost use Rattle.std.specs.Prelude.{◌≡◌, ◌⊎◌, ℕ, Option, Some, List, [], ◌∷◌, ◌++◌, length};
+ghost use Rattle.std.specs.Prelude.{◌≡◌, ◌⊎◌, ℕ, Option, Some, None, List, [], ◌∷◌, ◌++◌, length};
 ghost use Rattle.std.specs.List.{Contains};
 ghost use Rattle.sw_graph.specs.declared.graph.Graph.{Graph};
 ghost use Rattle.sw_value.specs.declared.cell.HeapCell.{HeapCell};
+ghost use Rattle.sw_value.specs.declared.cell.HeapCell.TheVariants.{Closure};
 ghost use Rattle.sw_value.specs.declared.cell.Slot.{Slot};
 ghost use Rattle.sw_value.specs.declared.effect.Effect.{Effect};
 ghost use Rattle.sw_value.specs.declared.effect.Effect.TheVariants.{New, Write};
@@ -59,9 +60,14 @@ pub fn registers_show_their_values()
         → Contains (colours_of state.cells colours.cells value.Unit) c → ⊥ }
 {}
 
-/// The reference to a cell that is made with a colour reaches that colour alone.
+/// The reference to a cell that is made with a colour reaches that colour alone, and to one without
+/// a colour nothing, unless it is a closure.
 pub fn cells_show_what_they_are_given()
-    ensures { (cells : List HeapCell) (colours : List (Option Colour)) (cell : HeapCell)
+    ensures bare { (cells : List HeapCell) (colours : List (Option Colour)) (cell : HeapCell)
+        → length colours ≡ length cells
+        → ((f : ℕ) (captures : List Value) → cell ≡ Closure f captures → ⊥)
+        → colours_of (cells ++ cell ∷ []) (colours ++ None ∷ []) (value.Cell (length cells)) ≡ [] }
+    ensures own { (cells : List HeapCell) (colours : List (Option Colour)) (cell : HeapCell)
         (own : Colour) → length colours ≡ length cells
         → colours_of (cells ++ cell ∷ []) (colours ++ Some own ∷ []) (value.Cell (length cells))
         ≡ own ∷ [] }

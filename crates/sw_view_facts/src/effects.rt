@@ -6,7 +6,7 @@ ghost use Rattle.sw_graph.specs.declared.function.Function.{Function};
 ghost use Rattle.sw_graph.specs.declared.function.RegKind.{RegKind};
 ghost use Rattle.sw_graph.specs.declared.graph.Graph.{Graph};
 ghost use Rattle.sw_graph.specs.Bodies.{has_self};
-ghost use Rattle.sw_graph.specs.Points.{Point, point_in};
+ghost use Rattle.sw_graph.specs.Points.{Point, block_start, point_in};
 ghost use Rattle.sw_value.specs.declared.effect.Act.TheVariants.{Execute};
 ghost use Rattle.sw_value.specs.declared.effect.Effect.{Effect};
 ghost use Rattle.sw_value.specs.declared.effect.Effect.TheVariants.{Set};
@@ -69,6 +69,8 @@ pub fn frames_keep_their_shapes()
         → closes_at graph function (p + 1) ≡ false }
     ensures stays_open { (graph : Graph) (function : Function) (p : ℕ)
         → is_return (point_in function p) ≡ false → closes_at graph function p ≡ false }
+    ensures block_opens { (graph : Graph) (function : Function) (n p : ℕ)
+        → block_start function n ≡ Some p → closes_at graph function p ≡ false }
     ensures closes { (graph : Graph) (function : Function) (p : ℕ) (point : Point)
         → point_in function p ≡ Some point → makes_itself graph function point ≡ true
         → is_return (point_in function (p + 1)) ≡ true

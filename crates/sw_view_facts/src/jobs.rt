@@ -1,11 +1,13 @@
 //! Laws on calls, returns and jobs: what each does to the view of a state.
-ghost use Rattle.std.specs.Prelude.{◌≡◌, ◌≢◌, ◌⊎◌, ◌<◌, ℕ, false, IsTrue, Option, Some, List, []};
+ghost use Rattle.std.specs.Prelude.{◌≡◌, ◌≢◌, ◌⊎◌, ◌<◌, ℕ, false, IsTrue, Option, Some, None, List, []};
 ghost use Rattle.std.specs.Prelude.{◌∷◌, length, slice_get};
 ghost use Rattle.std.specs.List.{Contains};
 ghost use Rattle.sw_graph.specs.declared.function.Function.{Function};
 ghost use Rattle.sw_graph.specs.declared.graph.Graph.{Graph};
 ghost use Rattle.sw_graph.specs.Bodies.{has_self};
-ghost use Rattle.sw_value.specs.declared.effect.Act.TheVariants.{Dispatch};
+ghost use Rattle.sw_value.specs.declared.effect.Act.TheVariants.{Dispatch, Wake};
+ghost use Rattle.sw_value.specs.declared.cell.HeapCell.TheVariants.{TaskOf};
+ghost use Rattle.sw_value.specs.declared.effect.Effect.TheVariants.{New, Spawn};
 ghost use Rattle.sw_value.specs.declared.frame.Frame.{Frame};
 ghost use Rattle.sw_value.specs.declared.job.Job.{Job};
 ghost use Rattle.sw_value.specs.declared.state.State.{State};
@@ -13,7 +15,7 @@ ghost use Rattle.sw_value.specs.declared.state.TrapKind.{TrapKind};
 ghost use Rattle.sw_value.specs.declared.value.Value.{Value};
 ghost use Rattle.sw_value.specs.Act.{act_of};
 ghost use Rattle.sw_value.specs.Job.{leave, new_job, wake};
-ghost use Rattle.sw_value.specs.Reach.{step_of};
+ghost use Rattle.sw_value.specs.Reach.{after_effect, step_of};
 ghost use Rattle.sw_value.specs.State.{add_job, halt, in_job};
 ghost use Rattle.sw_owner_facts.specs.Calls.{Called, Handed, IsOnActor, IsOnNone, JobEnded};
 ghost use Rattle.sw_owner_facts.specs.Calls.{ResultWith, Returned, Spawned};
@@ -32,12 +34,21 @@ ghost use Rattle.sw_view_facts.specs.Dispatching.{Dispatches};
 ghost use Rattle.sw_view_facts.specs.Entering.{IsFirstFrame, TakesLent};
 ghost use Rattle.sw_view_facts.specs.Returning.{Leaves};
 ghost use Rattle.sw_view_facts.specs.Steps.{TopAt};
-ghost use Rattle.sw_view_facts.specs.Views.{Colours, annotated, frame_at, here_at, view_of};
+ghost use Rattle.sw_view_facts.specs.Views.{Colours, annotated, frame_at, here_at, shape_with};
+ghost use Rattle.sw_view_facts.specs.Views.{view_of};
 
 /// A call of any kind puts a frame on top, if the callee's elements that share a colour are in one
 /// region, and what it holds has the colour of its `Here` or was sent to it. The register that waits
-/// is with each element that the result may come from.
+/// is with each element that the result may come from. The shape of the new frame is read off the
+/// frame that the machine pushes.
 pub fn calls_push_frames()
+    ensures shape { (graph : Graph) (states : ℕ → List (Option Regions)) (state : State) (p : Spot)
+        (f t : Frame) (function : Function) (regions : Spot → Option Regions)
+        (colours after : Colours) (made : Regions)
+        → Enters graph states state p f t function regions colours after made
+        → (view_of graph (annotated states (step_of graph state p.job)) (step_of graph state p.job)
+        after).shape (above p)
+        ≡ shape_with graph (Some function) t (slice_get graph.functions t.function) }
     ensures called { (graph : Graph) (states : ℕ → List (Option Regions)) (state : State) (p : Spot)
         (f t : Frame) (function : Function) (regions : Spot → Option Regions)
         (colours after : Colours) (made : Regions)
@@ -110,9 +121,19 @@ pub fn returns_pop_frames()
 {}
 
 /// A job more, of one frame, if what it holds has the colour of its `Here` or was sent to it, and it
-/// stands on its actor or on none.
+/// stands on its actor or on none. The task's cell is then made in the state with that job.
 pub fn tasks_add_jobs()
-    ensures { (graph : Graph) (regions later : Spot → Option Regions) (state : State)
+    ensures then { (state : State) (j r job cell next : ℕ) (frame : Frame)
+        → after_effect j (Spawn r frame job cell next) state
+        ≡ after_effect j (New r (TaskOf job) cell next) (add_job (new_job (frame ∷ [])) state) }
+    ensures top { (state : State) (frame : Frame) (q : Spot) (job : Job) (f : Frame)
+        → TopAt state q job f → TopAt (add_job (new_job (frame ∷ [])) state) q job f }
+    ensures shape { (graph : Graph) (later : Spot → Option Regions) (state : State) (frame : Frame)
+        (after : Colours)
+        → (view_of graph later (add_job (new_job (frame ∷ [])) state) after).shape
+        (bottom (length state.jobs))
+        ≡ shape_with graph None frame (slice_get graph.functions frame.function) }
+    ensures spawned { (graph : Graph) (regions later : Spot → Option Regions) (state : State)
         (frame : Frame) (colours after : Colours) → after.cells ≡ colours.cells
         → ((p : Spot) → p.job < length state.jobs → here_at after p ≡ here_at colours p)
         → ((p : Spot) → p.job < length state.jobs → later p ≡ regions p)
@@ -149,7 +170,10 @@ pub fn dispatches_give_executors()
 
 /// A job goes on with the result of another, which reaches no colour.
 pub fn waking_keeps_soundness()
-    ensures { (graph : Graph) (states : ℕ → List (Option Regions)) (state next : State) (q : Spot)
+    ensures asks { (graph : Graph) (state : State) (j ended r : ℕ) (v : Value)
+        → act_of graph state j ≡ Some (Wake ended r v)
+        → step_of graph state j ≡ in_job (wake r v) j state }
+    ensures woken { (graph : Graph) (states : ℕ → List (Option Regions)) (state next : State) (q : Spot)
         (job : Job) (f : Frame) (function : Function) (r : ℕ) (v : Value) (colours : Colours)
         (a : Regions) → TopAt state q job f
         → slice_get graph.functions f.function ≡ Some function
