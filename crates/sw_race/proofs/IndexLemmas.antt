@@ -14,11 +14,17 @@ use Rattle.sw_value.proofs.BusyLemmas.{count_at}
 use Rattle.sw_value.proofs.ListLemmas.{set_there, take_prefix}
 use Rattle.sw_race.specs.declared.target.Target.{Target}
 use Rattle.sw_race.specs.declared.uses.Uses.{Uses}
-use Rattle.sw_race.specs.Index.{are_clashing, IsClear, IsIndexed, HasNoRival}
+use Rattle.sw_race.specs.Index.{are_clashing, IsClear, IsIndexed}
 use Rattle.sw_race.specs.Uses.{uses_in, uses_of, reads, writes, is_shared, is_alone, with_use}
 use Rattle.sw_race.specs.With.{is_same_place}
 use Rattle.sw_race.proofs.UsesLemmas.{one, uses_push, replaced_counts}
 use Rattle.sw_race.proofs.WithLemmas.{and_left, and_right, place_is, place_same, or_swap}
+
+-- Each job with that target, if it is one, clashes with no other job.
+abbrev HasNoRival : List (Option Target) → Option Target → Type 0
+HasNoRival targets next = (j k : ℕ) (a b : Target) → next ≡ Some a
+    → slice_get targets j ≡ Some (Some a) → slice_get targets k ≡ Some (Some b)
+    → IsTrue (are_clashing a b) → j ≡ k
 
 -- two items that pass a test are counted
 two_counted : {A : Type 0} (P : A → Bool) (xs : List A) (j k : ℕ) (x y : A)

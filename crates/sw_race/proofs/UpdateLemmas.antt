@@ -1,5 +1,5 @@
 -- What a step changes of the targets of jobs, and that what it brings in is found.
-use Rattle.std.proofs.Common.{◌≡◌, ℕ, zero, suc, ◌<◌, ◌≤◌, inl, inr, true, cond}
+use Rattle.std.proofs.Common.{◌≡◌, ℕ, zero, suc, ◌<◌, ◌≤◌, true, cond}
 use Rattle.std.proofs.Common.{Option, Some, None, List, [], ◌∷◌, ◌++◌, length, map, refl, ap, sym}
 use Rattle.std.proofs.Common.{subst, ◌∙◌, arith, length-append}
 use Rattle.std.specs.Prelude.{option_and_then, ◌&&◌, ◌||◌}
@@ -31,11 +31,10 @@ use Rattle.sw_value.proofs.ListLemmas.{changed_at_there, changed_at_none, set_th
 use Rattle.sw_value.proofs.ListLemmas.{length-changed_at}
 use Rattle.sw_value.proofs.ReachLemmas.{after_acts, step_by_act}
 use Rattle.sw_race.specs.declared.target.Target.{Target}
-use Rattle.sw_race.specs.Index.{are_clashing, IsClear, IsIndexOf, StandsBefore, HasNoRival}
+use Rattle.sw_race.specs.Index.{are_clashing, IsClear, IsIndexOf, StandsBefore}
 use Rattle.sw_race.specs.Index.{grown, kept_up}
-use Rattle.sw_race.proofs.IndexLemmas.{clashing_swap}
 use Rattle.sw_race.specs.Target.{job_target, target_at}
-use Rattle.sw_race.specs.With.{is_same_place, IsFound}
+use Rattle.sw_race.specs.With.{is_same_place}
 use Rattle.sw_race.proofs.TargetLemmas.{access_target}
 use Rattle.sw_race.proofs.WithLemmas.{place_same}
 
@@ -213,31 +212,6 @@ clash : (a b : Access) → IsConflict a b
 clash a b c =
     ap (λ s. s && (a.writes || b.writes))
     (ap (is_same_place a.place) (sym c.same) ∙ place_same a.place) ∙ c.writes
-
--- who has no rival is in no race
-pub no_rival_no_race : (graph : Graph) (state : State) (targets : List (Option Target)) (j : ℕ)
-    → IsIndexOf graph state targets → HasNoRival targets (target_at graph state j)
-    → IsFound graph state j None
-no_rival_no_race graph state targets j stands alone race r =
-    let one = r.is_race in
-    let first = indexed graph state targets stands race.first.job race.first one.first_next in
-    let second = indexed graph state targets stands race.second.job race.second one.second_next in
-    let clashes = clash race.first race.second one.conflict in
-    elim r.takes_part [
-      | inl e ↦
-          let same = alone race.first.job race.second.job _ _
-          (ap (target_at graph state) (sym e)
-          ∙ access_target graph state race.first.job race.first one.first_next) first second
-          clashes in
-          omega (arith, same, one.order)
-      | inr e ↦
-          let same = alone race.second.job race.first.job _ _
-          (ap (target_at graph state) (sym e)
-          ∙ access_target graph state race.second.job race.second one.second_next) second first
-          (clashing_swap (record { place = race.first.place; writes = race.first.writes })
-          (record { place = race.second.place; writes = race.second.writes }) clashes) in
-          omega (arith, same, one.order)
-    ]
 
 -- where no two targets clash there is no race
 pub clear_no_race : (graph : Graph) (state : State) (targets : List (Option Target))

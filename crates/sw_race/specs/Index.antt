@@ -31,12 +31,6 @@ pub record IsIndexed {S : Type 0} (table : IndexMap Place Uses S) (clear : Bool)
   pub counts : (p : Place) → uses_in table p ≡ uses_of p targets
   pub is_clear : clear ≡ true → IsClear targets
 
--- Each job with that target, if it is one, clashes with no other job.
-abbrev pub HasNoRival : List (Option Target) → Option Target → Type 0
-HasNoRival targets next = (j k : ℕ) (a b : Target) → next ≡ Some a
-    → slice_get targets j ≡ Some (Some a) → slice_get targets k ≡ Some (Some b)
-    → IsTrue (are_clashing a b) → j ≡ k
-
 -- the targets, with one more job without target at the end if there are more jobs than targets
 abbrev pub grown : ℕ → List (Option Target) → List (Option Target)
 grown jobs targets = if nat_lt (length targets) jobs then targets ++ None ∷ [] else targets

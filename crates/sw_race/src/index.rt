@@ -1,6 +1,6 @@
 use crate::target::{Target, job_target, target_at};
 use crate::uses::{UsesByPlace, is_alone, take_in, take_out};
-use crate::with::{least_race, race_with};
+use crate::with::least_race;
 use indexmap::IndexMap;
 use std::alloc::{AllocError, Global};
 use std::marker::Model;
@@ -8,9 +8,9 @@ use sw_graph::Graph;
 use sw_list::ListOf;
 use sw_value::{Race, State};
 
-/// An index of the targets of jobs. It stands for one state after another: after each item `update`
-/// tells the race of the job that the item names, and looks at no other job unless the target of
-/// that job clashes with another. Contracts see the target of each job.
+/// An index of the targets of jobs. It stands for one state after another: `update` follows each
+/// item, and `least_race` looks at no job unless the targets of two jobs clashed. Contracts see the
+/// target of each job.
 #[derive(Drop)]
 pub struct RaceIndex {
     targets: ListOf<Option<Target>>,
@@ -39,9 +39,8 @@ impl RaceIndex {
     ghost use Rattle.std.specs.Prelude.{◌≡◌, ◌+◌, ◌<◌, ◌≤◌, ◌^◌, ℕ, Option, List, [], ◌∷◌, ◌++◌};
     ghost use Rattle.std.specs.Prelude.{None, Some, true, length, slice_set, IfOk, OnOk, OnErr};
     ghost use Rattle.sw_race.specs.declared.target.Target.{Target};
-    ghost use Rattle.sw_race.specs.Index.{IsIndexOf, StandsBefore, IsFoundOfAll, HasNoRival};
+    ghost use Rattle.sw_race.specs.Index.{IsIndexOf, StandsBefore, IsFoundOfAll};
     ghost use Rattle.sw_race.specs.Index.{kept_up};
-    ghost use Rattle.sw_race.specs.With.{IsFound};
 
     /// The index that stands for a state. It answers an error only for want of memory.
     pub fn new(alloc: Global, graph: &Graph, state: &State) -> Result<RaceIndex, AllocError>
@@ -56,26 +55,15 @@ impl RaceIndex {
     }
 
     /// Follows an item of a job from the state for which the index stands to the given state. It
-    /// gives the race of that job with the least other job, or none where the job is in no race. It
-    /// answers an error only for want of memory, and then the index stays as it was.
-    pub fn update(
-        &mut self,
-        graph: &Graph,
-        state: &State,
-        job: u32,
-    ) -> Result<Option<Race>, AllocError>
+    /// looks at no other job. It answers an error only if memory runs out, and then the index stays
+    /// as it was.
+    pub fn update(&mut self, graph: &Graph, state: &State, job: u32) -> Result<(), AllocError>
         requires before { StandsBefore graph.now self.old state.now job }
         requires jobs { length state.now.jobs < 2 ^ 32 }
-        ensures race { IfOk result (IsFound graph.now state.now job) }
         ensures stands { OnOk result (IsIndexOf graph.now state.now self.new) }
         ensures err { OnErr result (self.new ≡ self.old) }
     {
-        let next = target_at(graph, state, job);
-        self.keep_up(state.jobs.len(), job, next)?;
-        if self.surely_has_no_rival(next) {
-            return Ok(None);
-        }
-        Ok(race_with(graph, state, job))
+        self.keep_up(state.jobs.len(), job, target_at(graph, state, job))
     }
 
     /// The least race of the state for which the index stands, or none where that is not racing. It
@@ -183,13 +171,5 @@ impl RaceIndex {
         self.targets.set(job, next);
         self.clear = self.clear && is_alone(&self.uses, next);
         Ok(())
-    }
-
-    /// Whether it is seen from the counts alone that the target of a job clashes with that of no
-    /// other job. `true` says that it clashes with none, `false` says nothing.
-    fn surely_has_no_rival(&self, target: Option<Target>) -> bool
-        ensures { result ≡ true → HasNoRival self.now target }
-    {
-        is_alone(&self.uses, target)
     }
 }

@@ -122,9 +122,7 @@ fn play_item(
         → IsStopped graph.now (items ++ job ∷ []) progress.new race)) }
 {
     let event = step(alloc, graph, &mut progress.state, job)?;
-    // The race of this job alone isn't enough: `replay` takes any graph, and jobs may have been
-    // stuck.
-    let _race = progress.index.update(graph, &progress.state, job)?;
+    progress.index.update(graph, &progress.state, job)?;
     add_line(&mut progress.lines, event)?;
     Ok(progress.index.least_race(graph, &progress.state))
 }

@@ -4,23 +4,18 @@ ghost use Rattle.sw_value.specs.Effect.{needs, cell_at, enter_of, spawn_of};
 ghost use Rattle.sw_value.specs.Frame.{first_frame};
 ghost use Rattle.sw_value.specs.Value.{values_at};
 
+use crate::context::Context;
 use crate::operands::values_at;
 use crate::reading::cell_at;
 use std::alloc::{AllocError, Global};
-use sw_graph::{Graph, Operand, OperandList};
+use sw_graph::{Operand, OperandList};
 use sw_list::ListOf;
 use sw_types::CallKind;
-use sw_value::{
-    Effect, Frame, HeapCell, MAX_FRAMES, MAX_JOBS, State, TrapKind, ValueList, first_frame,
-};
+use sw_value::{Effect, Frame, HeapCell, MAX_FRAMES, MAX_JOBS, TrapKind, ValueList, first_frame};
 
 /// A function is called with some operands.
 pub fn call_effect(
-    alloc: Global,
-    graph: &Graph,
-    depth: usize,
-    frame: &Frame,
-    next: u32,
+    context: &Context<'_>,
     at: u32,
     reg: u32,
     kind: CallKind,
@@ -28,95 +23,96 @@ pub fn call_effect(
     operands: &OperandList,
 ) -> Result<Effect, AllocError>
     ensures { IfOk result (λ effect. effect
-        ≡ needs (values_at frame.now.regs operands.now)
-        (λ values. needs (called_frame graph.now frame.now function kind reg values)
-        (enter_of depth next at))) }
+        ≡ needs (values_at context.now.frame.now.regs operands.now)
+        (λ values. needs
+        (called_frame context.now.graph.now context.now.frame.now function kind reg values)
+        (enter_of context.now.depth context.now.next at))) }
 {
-    match values_at(alloc, frame, operands)? {
+    let alloc = context.alloc;
+    let Some(values) = values_at(alloc, context.frame, operands)? else {
+        return Ok(Effect::Stuck);
+    };
+    match context
+        .frame
+        .called(alloc, context.graph, function, kind, reg, values)?
+    {
         None => Ok(Effect::Stuck),
-        Some(values) => match frame.called(alloc, graph, function, kind, reg, values)? {
-            None => Ok(Effect::Stuck),
-            Some(callee) => Ok(enter_of(depth, next, at, callee)),
-        },
+        Some(callee) => Ok(enter_of(context, at, callee)),
     }
 }
 
 /// A closure is called with some operands.
 pub fn closure_call_effect(
-    alloc: Global,
-    graph: &Graph,
-    state: &State,
-    depth: usize,
-    frame: &Frame,
-    next: u32,
+    context: &Context<'_>,
     at: u32,
     reg: u32,
     closure: &Operand,
     operands: &OperandList,
 ) -> Result<Effect, AllocError>
     ensures { IfOk result (λ effect. effect
-        ≡ needs (values_at frame.now.regs operands.now)
+        ≡ needs (values_at context.now.frame.now.regs operands.now)
         (λ values. needs
-        (option_and_then (closure_frame graph.now frame.now reg values)
-        (cell_at state.now frame.now closure.now)) (enter_of depth next at))) }
+        (option_and_then (closure_frame context.now.graph.now context.now.frame.now reg values)
+        (cell_at context.now.state.now context.now.frame.now closure.now))
+        (enter_of context.now.depth context.now.next at))) }
 {
-    let Some(values) = values_at(alloc, frame, operands)? else {
+    let Some(values) = values_at(context.alloc, context.frame, operands)? else {
         return Ok(Effect::Stuck);
     };
-    let Some(cell) = cell_at(state, frame, closure) else {
+    let Some(cell) = cell_at(context, closure) else {
         return Ok(Effect::Stuck);
     };
-    match closure_frame(alloc, graph, frame, reg, values, cell)? {
+    match closure_frame(context, reg, values, cell)? {
         None => Ok(Effect::Stuck),
-        Some(callee) => Ok(enter_of(depth, next, at, callee)),
+        Some(callee) => Ok(enter_of(context, at, callee)),
     }
 }
 
 /// A task is made, which captures some operands.
 pub fn task_effect(
-    alloc: Global,
-    graph: &Graph,
-    state: &State,
-    frame: &Frame,
-    next: u32,
+    context: &Context<'_>,
     at: u32,
     reg: u32,
     function: u32,
     operands: &OperandList,
 ) -> Result<Effect, AllocError>
-    requires cells { length state.now.cells < 4294967295 }
+    requires cells { length context.now.state.now.cells < 4294967295 }
     ensures { IfOk result (λ effect. effect
-        ≡ needs (values_at frame.now.regs operands.now)
-        (λ captures. needs (first_frame graph.now function captures)
-        (spawn_of state.now next at reg))) }
+        ≡ needs (values_at context.now.frame.now.regs operands.now)
+        (λ captures. needs (first_frame context.now.graph.now function captures)
+        (spawn_of context.now.state.now context.now.next at reg))) }
 {
-    match values_at(alloc, frame, operands)? {
+    let Some(captures) = values_at(context.alloc, context.frame, operands)? else {
+        return Ok(Effect::Stuck);
+    };
+    match first_frame(context.alloc, context.graph, function, captures)? {
         None => Ok(Effect::Stuck),
-        Some(captures) => match first_frame(alloc, graph, function, captures)? {
-            None => Ok(Effect::Stuck),
-            Some(first) => Ok(spawn_of(state, next, at, reg, first)),
-        },
+        Some(first) => Ok(spawn_of(context, at, reg, first)),
     }
 }
 
 /// A frame is pushed, unless the job has all the frames that it may have.
-fn enter_of(depth: usize, next: u32, at: u32, frame: Frame) -> Effect
-    ensures { result ≡ enter_of depth next at frame }
+fn enter_of(context: &Context<'_>, at: u32, frame: Frame) -> Effect
+    ensures { result ≡ enter_of context.now.depth context.now.next at frame }
 {
-    if depth >= MAX_FRAMES {
+    if context.depth >= MAX_FRAMES {
         return Effect::Halt {
             kind: TrapKind::Frames,
             at,
         };
     }
-    Effect::Enter { frame, next }
+    Effect::Enter {
+        frame,
+        next: context.next,
+    }
 }
 
 /// A task is made, unless there are all the jobs that there may be.
-fn spawn_of(state: &State, next: u32, at: u32, reg: u32, frame: Frame) -> Effect
-    requires cells { length state.now.cells < 4294967295 }
-    ensures { result ≡ spawn_of state.now next at reg frame }
+fn spawn_of(context: &Context<'_>, at: u32, reg: u32, frame: Frame) -> Effect
+    requires cells { length context.now.state.now.cells < 4294967295 }
+    ensures { result ≡ spawn_of context.now.state.now context.now.next at reg frame }
 {
+    let state = context.state;
     let jobs = state.jobs.len();
     if jobs >= MAX_JOBS {
         return Effect::Halt {
@@ -129,26 +125,27 @@ fn spawn_of(state: &State, next: u32, at: u32, reg: u32, frame: Frame) -> Effect
         frame,
         job: jobs as u32,
         cell: state.cells.len() as u32,
-        next,
+        next: context.next,
     }
 }
 
 /// The frame of a call of a closure, or `None` where the cell is no closure or names no function.
 fn closure_frame(
-    alloc: Global,
-    graph: &Graph,
-    frame: &Frame,
+    context: &Context<'_>,
     reg: u32,
     values: ValueList,
     cell: &HeapCell,
 ) -> Result<Option<Frame>, AllocError>
-    ensures { IfOk result (λ callee.
-        callee ≡ closure_frame graph.now frame.now reg values cell.now) }
+    ensures { IfOk result (λ callee. callee
+        ≡ closure_frame context.now.graph.now context.now.frame.now reg values cell.now) }
 {
+    let alloc = context.alloc;
     match cell {
         HeapCell::Closure { function, captures } => {
             let all = joined(alloc, captures, values)?;
-            frame.called(alloc, graph, *function, CallKind::Plain, reg, all)
+            context
+                .frame
+                .called(alloc, context.graph, *function, CallKind::Plain, reg, all)
         }
         HeapCell::Object { .. }
         | HeapCell::Actor { .. }

@@ -4,6 +4,7 @@ ghost use Rattle.sw_value.specs.Effect.{instr_effect, last_effect, goto_of, effe
 
 use crate::calling::{call_effect, closure_call_effect, task_effect};
 use crate::computing::{binary_effect, make_effect, print_effect, unary_effect};
+use crate::context::Context;
 use crate::memory::{
     actor_effect, box_effect, closure_effect, field_write, global_write, object_effect, set_of,
     slot_write,
@@ -27,142 +28,125 @@ pub fn effect_of(
 {
     match frame.point_at(graph) {
         None => Ok(Effect::Stuck),
-        Some(Point::Middle(instr)) => instr_effect(
-            alloc,
-            graph,
-            state,
-            depth,
-            frame,
-            frame.point + 1,
-            instr,
-        ),
+        Some(Point::Middle(instr)) => {
+            let context = Context {
+                alloc,
+                graph,
+                state,
+                frame,
+                depth,
+                next: frame.point + 1,
+            };
+            instr_effect(&context, instr)
+        }
         Some(Point::End(last)) => last_effect(alloc, graph, frame, last),
     }
 }
 
-/// The effect of an instruction after which the frame goes on at `next`.
-fn instr_effect(
-    alloc: Global,
-    graph: &Graph,
-    state: &State,
-    depth: usize,
-    frame: &Frame,
-    next: u32,
-    instr: &Instr,
-) -> Result<Effect, AllocError>
-    requires cells { length state.now.cells < 4294967295 }
-    ensures { IfOk result (λ effect.
-        effect ≡ instr_effect graph.now state.now depth frame.now next instr.now) }
+/// The effect of an instruction that isn't the last of its block.
+fn instr_effect(context: &Context<'_>, instr: &Instr) -> Result<Effect, AllocError>
+    requires cells { length context.now.state.now.cells < 4294967295 }
+    ensures { IfOk result (λ effect. effect
+        ≡ instr_effect context.now.graph.now context.now.state.now context.now.depth
+        context.now.frame.now context.now.next instr.now) }
 {
+    let frame = context.frame;
+    let state = context.state;
     match instr {
         Instr::Const { dst, value, .. } => Ok(Effect::Set {
             reg: *dst,
             value: Value::from(*value),
-            next,
+            next: context.next,
         }),
-        Instr::Un { at, dst, op, src } => Ok(unary_effect(frame, next, *at, *dst, *op, src)),
+        Instr::Un { at, dst, op, src } => Ok(unary_effect(context, *at, *dst, *op, src)),
         Instr::Bin {
             at,
             dst,
             op,
             left,
             right,
-        } => Ok(binary_effect(frame, next, *at, *dst, *op, left, right)),
-        Instr::Print { dst, args, .. } => print_effect(alloc, frame, next, *dst, args),
-        Instr::Copy { dst, src, .. } => set_of(alloc, next, *dst, frame.value_at(src.reg)),
+        } => Ok(binary_effect(context, *at, *dst, *op, left, right)),
+        Instr::Print { dst, args, .. } => print_effect(context, *dst, args),
+        Instr::Copy { dst, src, .. } => set_of(context, *dst, frame.value_at(src.reg)),
         Instr::Field { dst, src, part, .. } => {
-            set_of(alloc, next, *dst, field_at(frame, src, *part))
+            set_of(context, *dst, field_at(frame, src, *part))
         }
         Instr::Payload {
             dst,
             src,
             index,
             ..
-        } => { set_of(alloc, next, *dst, payload_at(frame, src, *index)) }
+        } => { set_of(context, *dst, payload_at(frame, src, *index)) }
         Instr::SetField {
             target,
             part,
             src,
             ..
-        } => { field_write(alloc, frame, next, target, *part, src) }
-        Instr::Make { dst, tag, args, .. } => make_effect(alloc, frame, next, *dst, *tag, args),
+        } => { field_write(context, target, *part, src) }
+        Instr::Make { dst, tag, args, .. } => make_effect(context, *dst, *tag, args),
         Instr::NewObject {
             dst,
             shape,
             args,
             ..
-        } => { object_effect(alloc, state, frame, next, *dst, *shape, args) }
-        Instr::NewBox { dst, src, .. } => box_effect(alloc, state, frame, next, *dst, src),
+        } => { object_effect(context, *dst, *shape, args) }
+        Instr::NewBox { dst, src, .. } => box_effect(context, *dst, src),
         Instr::NewActor {
             dst,
             shape,
             args,
             ..
-        } => { actor_effect(alloc, state, frame, next, *dst, *shape, args) }
+        } => { actor_effect(context, *dst, *shape, args) }
         Instr::LoadBox { dst, cell, .. } => {
-            set_of(alloc, next, *dst, loaded(state, frame, cell, Slot::Content))
+            set_of(context, *dst, loaded(context, cell, Slot::Content))
         }
-        Instr::StoreBox { cell, src, .. } => {
-            slot_write(alloc, state, frame, next, cell, Slot::Content, src)
-        }
+        Instr::StoreBox { cell, src, .. } => { slot_write(context, cell, Slot::Content, src) }
         Instr::LoadProp {
             dst,
             cell,
             part,
             ..
-        } => {
-            set_of(
-                alloc,
-                next,
-                *dst,
-                loaded(state, frame, cell, Slot::Part(*part)),
-            )
-        }
+        } => { set_of(context, *dst, loaded(context, cell, Slot::Part(*part))) }
         Instr::StoreProp {
             cell,
             part,
             src,
             ..
-        } => { slot_write(alloc, state, frame, next, cell, Slot::Part(*part), src) }
+        } => { slot_write(context, cell, Slot::Part(*part), src) }
         Instr::LoadGlobal { dst, global, .. } => {
-            set_of(alloc, next, *dst, value_in(&state.globals, *global))
+            set_of(context, *dst, value_in(&state.globals, *global))
         }
-        Instr::StoreGlobal { global, src, .. } => {
-            global_write(alloc, state, frame, next, *global, src)
-        }
+        Instr::StoreGlobal { global, src, .. } => { global_write(context, *global, src) }
         Instr::NewClosure {
             dst,
             function,
             captures,
             ..
-        } => { closure_effect(alloc, state, frame, next, *dst, *function, captures) }
+        } => { closure_effect(context, *dst, *function, captures) }
         Instr::Call {
             at,
             dst,
             kind,
             function,
             args,
-        } => call_effect(
-            alloc, graph, depth, frame, next, *at, *dst, *kind, *function, args,
-        ),
+        } => call_effect(context, *at, *dst, *kind, *function, args),
         Instr::CallClosure {
             at,
             dst,
             closure,
             args,
-        } => closure_call_effect(
-            alloc, graph, state, depth, frame, next, *at, *dst, closure, args,
-        ),
+        } => closure_call_effect(context, *at, *dst, closure, args),
         Instr::NewTask {
             at,
             dst,
             function,
             captures,
-        } => task_effect(
-            alloc, graph, state, frame, next, *at, *dst, *function, captures,
-        ),
-        Instr::Await { dst, task, .. } => Ok(await_effect(state, frame, next, *dst, task)),
-        Instr::Yield { dst, .. } => Ok(Effect::Rest { reg: *dst, next }),
+        } => task_effect(context, *at, *dst, *function, captures),
+        Instr::Await { dst, task, .. } => Ok(await_effect(context, *dst, task)),
+        Instr::Yield { dst, .. } => Ok(Effect::Rest {
+            reg: *dst,
+            next: context.next,
+        }),
     }
 }
 

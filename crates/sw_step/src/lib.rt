@@ -6,6 +6,7 @@ mod applying;
 mod arithmetic;
 mod calling;
 mod computing;
+mod context;
 mod event;
 mod execute;
 mod memory;

@@ -5,8 +5,9 @@ ghost use Rattle.sw_value.specs.declared.effect.Effect.TheVariants.{Wait};
 ghost use Rattle.sw_value.specs.Effect.{needs, cell_at, loaded, slot_at};
 ghost use Rattle.sw_value.specs.Value.{truth_of, tag_of, field_of, payload_of, operand_value};
 
+use crate::context::Context;
 use sw_graph::Operand;
-use sw_value::{Effect, Frame, HeapCell, Slot, State, Value};
+use sw_value::{Effect, Frame, HeapCell, Slot, Value};
 
 /// The truth value of an operand.
 pub fn truth_at(frame: &Frame, operand: &Operand) -> Option<bool>
@@ -39,48 +40,54 @@ pub fn payload_at<'a>(frame: &'a Frame, operand: &Operand, index: u32) -> Option
 }
 
 /// The cell that an operand refers to.
-pub fn cell_at<'a>(state: &'a State, frame: &Frame, operand: &Operand) -> Option<&'a HeapCell>
-    ensures { option_copied result ≡ cell_at state.now frame.now operand.now }
+pub fn cell_at<'a>(context: &Context<'a>, operand: &Operand) -> Option<&'a HeapCell>
+    ensures { option_copied result
+        ≡ cell_at context.now.state.now context.now.frame.now operand.now }
 {
-    let cell = frame.reference_at(operand)?;
+    let state = context.state;
+    let cell = context.frame.reference_at(operand)?;
     state.cells.get(cell as usize)
 }
 
 /// What the cell of an operand has in a slot.
-pub fn loaded<'a>(
-    state: &'a State,
-    frame: &Frame,
-    operand: &Operand,
-    slot: Slot,
-) -> Option<&'a Value>
-    ensures { option_copied result ≡ loaded state.now frame.now operand.now slot }
+pub fn loaded<'a>(context: &Context<'a>, operand: &Operand, slot: Slot) -> Option<&'a Value>
+    ensures { option_copied result
+        ≡ loaded context.now.state.now context.now.frame.now operand.now slot }
 {
-    cell_at(state, frame, operand)?.slot(slot)
+    cell_at(context, operand)?.slot(slot)
 }
 
 /// The cell of an operand by number, if it has that slot.
-pub fn slot_at(state: &State, frame: &Frame, operand: &Operand, slot: Slot) -> Option<u32>
-    ensures { result ≡ slot_at state.now frame.now operand.now slot }
+pub fn slot_at(context: &Context<'_>, operand: &Operand, slot: Slot) -> Option<u32>
+    ensures { result ≡ slot_at context.now.state.now context.now.frame.now operand.now slot }
 {
-    let cell = frame.reference_at(operand)?;
+    let state = context.state;
+    let cell = context.frame.reference_at(operand)?;
     let _old = state.cells.get(cell as usize)?.slot(slot)?;
     Some(cell)
 }
 
 /// The job waits for the job of the task that an operand refers to.
-pub fn await_effect(state: &State, frame: &Frame, next: u32, reg: u32, operand: &Operand) -> Effect
-    ensures { result ≡ needs (option_and_then task_of (cell_at state.now frame.now operand.now))
-        (λ job. Wait job reg next) }
+pub fn await_effect(context: &Context<'_>, reg: u32, operand: &Operand) -> Effect
+    ensures { result ≡ needs
+        (option_and_then task_of
+        (cell_at context.now.state.now context.now.frame.now operand.now))
+        (λ job. Wait job reg context.now.next) }
 {
-    match task_at(state, frame, operand) {
+    match task_at(context, operand) {
         None => Effect::Stuck,
-        Some(job) => Effect::Wait { job, reg, next },
+        Some(job) => Effect::Wait {
+            job,
+            reg,
+            next: context.next,
+        },
     }
 }
 
 /// The job of the task that an operand refers to.
-fn task_at(state: &State, frame: &Frame, operand: &Operand) -> Option<u32>
-    ensures { result ≡ option_and_then task_of (cell_at state.now frame.now operand.now) }
+fn task_at(context: &Context<'_>, operand: &Operand) -> Option<u32>
+    ensures { result ≡ option_and_then task_of
+        (cell_at context.now.state.now context.now.frame.now operand.now) }
 {
-    cell_at(state, frame, operand)?.task()
+    cell_at(context, operand)?.task()
 }

@@ -31,7 +31,7 @@ returns-clause-whole c =
     c.in_ok-event.ensures.steps
     (c.in_ok-add_line.ensures
     ∙ ap (λ e. c.args.progress.now.lines.items ++ line_of e) c.in_ok-event.ensures.event)
-    c.in_ok-_race.ensures.stands c.least_race.ensures
+    c.in_ok-update.ensures.stands c.least_race.ensures
 
 pub returns-clause-stopped : goal.returns-clause-stopped
 returns-clause-stopped c =
@@ -39,4 +39,4 @@ returns-clause-stopped c =
     c.in_ok-event.ensures.steps
     (c.in_ok-add_line.ensures
     ∙ ap (λ e. c.args.progress.now.lines.items ++ line_of e) c.in_ok-event.ensures.event)
-    c.in_ok-_race.ensures.stands c.least_race.ensures
+    c.in_ok-update.ensures.stands c.least_race.ensures
