@@ -1,0 +1,3 @@
+pub mod Removed
+pub mod NamesLemmas
+pub mod PaletteLemmas
