@@ -196,7 +196,7 @@ frames_whole (frame ∷ frames) colors whole =
     (begun_with (number_on colors frame.executor) (owner.Job 0) Pushed (next_color colors) [])) colors
     whole)
 
-start_whole : (graph : Graph) → IsWhole (start_colors graph).palette
+pub start_whole : (graph : Graph) → IsWhole (start_colors graph).palette
 unfolding start_colors
 start_whole graph = frames_whole (start_frames graph) (first_colors graph) (globals_whole (global_count graph.functions))
 

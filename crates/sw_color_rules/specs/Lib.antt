@@ -5,3 +5,4 @@ pub mod Palette
 pub mod Changes
 pub mod Plans
 pub mod Machine
+pub mod Ranges

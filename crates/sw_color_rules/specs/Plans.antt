@@ -56,11 +56,11 @@ handing _ _ = []
 -- what is made
 abbrev pub makings : ℕ → Plan → List Change
 makings job plan = option_to_list (option_map Fresh plan.fresh)
-    ++ option_to_list (option_map Mark plan.tint) ++ frame_changes job plan.frame
+    ++ (option_to_list (option_map Mark plan.tint) ++ frame_changes job plan.frame)
 
 -- and then what is merged and handed over
 abbrev pub changes_by : ℕ → Plan → List Change
-changes_by job plan = makings job plan ++ merges plan.joined ++ handing plan.joined plan.heir
+changes_by job plan = makings job plan ++ (merges plan.joined ++ handing plan.joined plan.heir)
 
 -- ---- plans
 abbrev pub no_plan : Plan

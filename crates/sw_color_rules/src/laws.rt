@@ -3,6 +3,7 @@ ghost use Rattle.sw_graph.specs.declared.graph.Graph.{Graph};
 ghost use Rattle.sw_value.specs.Reach.{step_of, reach};
 ghost use Rattle.sw_color_rules.specs.declared.colored.Colored.{Colored};
 ghost use Rattle.sw_color_rules.specs.Palette.{IsWhole};
+ghost use Rattle.sw_color_rules.specs.Ranges.{AreMade};
 ghost use Rattle.sw_color_rules.specs.Machine.{colored_step, colored_reach};
 
 /// With the colours removed, the coloured machine is the machine.
@@ -18,4 +19,10 @@ pub fn colors_removed()
 pub fn palettes_stay_whole()
     ensures whole { (graph : Graph) (items : List ℕ) →
         IsWhole (colored_reach graph items).colors.palette }
+{}
+
+/// In each state that items lead to, the colours of cells and frames are among those that were made.
+pub fn colors_were_made()
+    ensures made { (graph : Graph) (items : List ℕ) →
+        AreMade (colored_reach graph items).colors }
 {}

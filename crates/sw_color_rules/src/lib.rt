@@ -11,6 +11,6 @@ mod plan;
 
 pub use colored::Colored;
 pub use colors::{ColorNumbers, Colors, HereList, Owner, OwnerList, Palette, Tint, TintList};
-pub use laws::{colors_removed, palettes_stay_whole};
+pub use laws::{colors_removed, colors_were_made, palettes_stay_whole};
 pub use names::Names;
 pub use plan::{FrameChange, Plan};
