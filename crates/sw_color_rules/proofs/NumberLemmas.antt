@@ -44,7 +44,7 @@ all_option P None each = All-nil P
 all_option P (Some x) each = All-cons P x [] (each x refl) (All-nil P)
 
 -- ---- each once, in rising order
-all_inserted : (P : ℕ → Type 0) (n : ℕ) (ns : List ℕ) → P n → All P ns → All P (inserted n ns)
+pub all_inserted : (P : ℕ → Type 0) (n : ℕ) (ns : List ℕ) → P n → All P ns → All P (inserted n ns)
 all_inserted P n [] one all = All-cons P n [] one all
 all_inserted P n (m ∷ ms) one all =
     by (ltb n m) (eqb n m) (all_inserted P n ms one (All-tail P m ms all)) where
@@ -54,7 +54,7 @@ all_inserted P n (m ∷ ms) one all =
       by false true rest = all
       by false false rest = All-cons P m (inserted n ms) (All-head P m ms all) rest
 
-all_ordered : (P : ℕ → Type 0) (done ns : List ℕ) → All P done → All P ns
+pub all_ordered : (P : ℕ → Type 0) (done ns : List ℕ) → All P done → All P ns
     → All P (fold (λ ms n. inserted n ms) done ns)
 all_ordered P done [] before all = before
 all_ordered P done (n ∷ ns) before all =

@@ -76,7 +76,7 @@ on_more palette colors few made =
 
 change_made : (change : Change) (colors : Colors) → Notes (length colors.palette.names) change
     → AreMade colors → AreMade (after_change colors change)
-unfolding mark push_here pop_here begin_heres
+unfolding mark push_here pop_here begin_heres with_last without_last
 change_made (Fresh o) colors notes made =
     on_more (fresh o colors.palette) colors (omega (arith, fresh_length o colors.palette)) made
 change_made (Mark tint) colors notes made = record {

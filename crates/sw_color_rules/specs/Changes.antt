@@ -29,10 +29,10 @@ on_palette g colors = record colors { palette = g colors.palette }
 unfoldable pub mark : Tint → Colors → Colors
 mark tint colors = record colors { cells = colors.cells ++ tint ∷ [] }
 
-abbrev pub with_last : ℕ → List ℕ → List ℕ
+unfoldable pub with_last : ℕ → List ℕ → List ℕ
 with_last n ns = ns ++ n ∷ []
 
-abbrev pub without_last : List ℕ → List ℕ
+unfoldable pub without_last : List ℕ → List ℕ
 without_last ns = take (length ns - 1) ns
 
 unfoldable pub push_here : ℕ → ℕ → Colors → Colors
