@@ -1,6 +1,7 @@
 -- Plans as the program makes them.
 use Rattle.std.proofs.Common.{◌≡◌, ℕ, Bool, true, false, cond, not, List, [], ◌∷◌, ◌++◌, refl, ap, sym, ◌∙◌}
 use Rattle.std.proofs.Common.{Option, Some, None, slice_get, option_to_list}
+use Rattle.std.proofs.lemmas.List.{append-nil}
 use Rattle.std.specs.Prelude.{option_and_then, flat_map}
 use Rattle.std.specs.Option.{option_map_or}
 use Rattle.sw_graph.specs.declared.graph.Graph.{Graph}
@@ -23,6 +24,7 @@ use Rattle.sw_color_rules.specs.declared.colors.Owner.{Owner}
 use Rattle.sw_color_rules.specs.declared.colors.Tint.{Tint}
 use Rattle.sw_color_rules.specs.declared.colors.Colors.{Colors}
 use Rattle.sw_color_rules.specs.declared.plan.FrameChange.{FrameChange}
+use Rattle.sw_color_rules.specs.Tints.{colors_of}
 use Rattle.sw_color_rules.specs.Tints.{held, references_in, layer_references, colors_in, color_number}
 use Rattle.sw_color_rules.specs.Plans.{begun_with, joining, no_plan, changes_by}
 use Rattle.sw_color_rules.specs.Plans.{store_color, is_make, effect_plan, plan_at, plan_of, top_here, last_of}
@@ -44,6 +46,11 @@ lent_is (lent_as.Middle instr) = refl
 lent_is (lent_as.End last) = refl
 
 pub ruleset lent = (lent_is)
+
+pub boxed_alone : (tints : List Tint) (v : Value) → colors_of tints (v ∷ []) ≡ colors_in tints v
+boxed_alone tints v = append-nil (colors_in tints v)
+
+pub ruleset boxes = (boxed_alone)
 
 -- ---- values without colours
 plain_refers : (v : Value) → is_plain v ≡ true → references_in v ≡ []

@@ -1,5 +1,5 @@
 -- What the program reads of acts.
-use Rattle.std.specs.Prelude.{ℕ, Bool, true, false, not, Option, Some, None}
+use Rattle.std.specs.Prelude.{ℕ, Bool, true, false, not, Option, Some, None, List, ◌∷◌}
 use Rattle.sw_graph.specs.Points as points
 use Rattle.sw_graph.specs.declared.point.Point.{Point}
 use Rattle.sw_graph.specs.declared.point.Point.TheVariants.{Middle, End}
@@ -8,11 +8,27 @@ use Rattle.sw_value.specs.declared.value.Value.TheOpen as layer
 use Rattle.sw_value.specs.declared.effect.Effect.{Effect}
 use Rattle.sw_value.specs.declared.effect.Effect.TheVariants as effect
 use Rattle.sw_color_rules.specs.declared.colors.Owner.{Owner}
+use Rattle.sw_color_rules.specs.declared.colors.Owner.TheVariants.{Job, ActorOf, Global}
+use Rattle.sw_color_rules.specs.declared.colors.Tint.{Tint}
+use Rattle.sw_color_rules.specs.declared.colors.Tint.TheVariants.{Colored, Owns}
+use Rattle.sw_color_rules.specs.declared.plan.Plan.{Plan}
+use Rattle.sw_color_rules.specs.Plans.{joining}
 
 -- a point that is lent from the graph
 abbrev pub read_point : Point → points.Point
 read_point (Middle instr) = points.Middle instr.now
 read_point (End last) = points.End last.now
+
+-- what a cell with a new colour has to do with it
+abbrev pub tint_for : Owner → ℕ → Tint
+tint_for (Job j) n = Colored n
+tint_for (ActorOf c) n = Owns n
+tint_for (Global g) n = Owns n
+
+-- a cell is made with a new colour, which merges with these
+abbrev pub fresh_cell : Owner → ℕ → List ℕ → Plan
+fresh_cell owner n ns =
+    record (joining (n ∷ ns)) { fresh = Some owner; tint = Some (tint_for owner n) }
 
 -- the colour of the `Here` of a frame that begins: its actor's, or the next one
 abbrev pub here_number : Option ℕ → ℕ → ℕ

@@ -15,22 +15,24 @@ ghost use Rattle.sw_color_rules.specs.Plans.{new_cell, store_color, sending_of, 
 ghost use Rattle.sw_color_rules.specs.Plans.{called_number, called_closure, entered, spawned, is_make};
 ghost use Rattle.sw_color_rules.specs.Plans.{effect_plan, plan_at, plan_of, changes_by};
 ghost use Rattle.sw_color_rules.specs.Tints.{colors_of, colors_in, slot_colors};
-ghost use Rattle.sw_color.specs.Reading.{read_point, here_number, here_owner, is_plain, effect_colors};
+ghost use Rattle.sw_color.specs.Reading.{read_point, here_number, here_owner, is_plain, effect_colors, tint_for, fresh_cell};
 
 use crate::colors::{color_number, next_color, number_on, top_here};
 use crate::values::{
     add_colors, add_colors_of, add_held, add_option, add_passed, add_slot_colors, left_of,
 };
 use std::alloc::{AllocError, Global};
+use std::slice;
 use sw_color_rules::{ColorNumbers, Colors, FrameChange, Owner, Plan, Tint};
 use sw_graph::{Graph, Instr, Point};
 use sw_list::ListOf;
 use sw_types::{CallKind, Iso, Ty};
-use sw_value::{Act, Effect, Frame, HeapCell, State, Value, ValueList};
+use sw_value::{Act, Effect, Frame, HeapCell, State, Value};
 
 /// What a plan depends on beside the act: the graph, the colours, and whose act it is.
 #[derive(Clone, Copy)]
 pub struct Setting<'a> {
+    pub alloc: Global,
     pub graph: &'a Graph,
     pub colors: &'a Colors,
     pub job: u32,
@@ -49,23 +51,23 @@ fn joining(joined: ColorNumbers) -> Plan
     }
 }
 
-/// Nothing changes.
-fn no_plan(alloc: Global) -> Plan
-    ensures { result ≡ no_plan }
-{
-    joining(ListOf::new(alloc))
-}
-
-/// A cell is made.
-fn making(tint: Tint, fresh: Option<Owner>, joined: ColorNumbers) -> Plan
-    ensures { result ≡ record (joining joined) { fresh = fresh; tint = Some tint } }
+/// A cell without a new colour is made.
+fn tinted(tint: Tint, joined: ColorNumbers) -> Plan
+    ensures { result ≡ record (joining joined) { tint = Some tint } }
 {
     Plan {
-        fresh,
         tint: Some(tint),
-        frame: FrameChange::Stays,
-        joined,
-        heir: None,
+        ..joining(joined)
+    }
+}
+
+/// What a cell with a new colour has to do with it.
+fn tint_for(owner: Owner, number: u32) -> Tint
+    ensures { result ≡ tint_for owner number }
+{
+    match owner {
+        Owner::Job(_) => Tint::Colored { number },
+        Owner::ActorOf(_) | Owner::Global(_) => Tint::Owns { number },
     }
 }
 
@@ -157,6 +159,7 @@ fn here_owner(actor: Option<u32>, owner: Owner) -> Option<Owner>
     }
 }
 
+/// Cells that are made.
 impl Setting<'_> {
     fn tints(&self) -> &[Tint]
         ensures { result.now ≡ self.now.colors.now.cells }
@@ -164,108 +167,86 @@ impl Setting<'_> {
         self.colors.cells.as_slice()
     }
 
+    fn nothing(&self) -> ColorNumbers
+        ensures { result ≡ [] }
+    {
+        ListOf::new(self.alloc)
+    }
+
     /// The colour of the `Here` of the job's top frame, if it has one.
-    fn here(&self, alloc: Global) -> Result<ColorNumbers, AllocError>
+    fn here(&self) -> Result<ColorNumbers, AllocError>
         ensures { IfOk result (λ ns. ns ≡ top_here self.now.colors.now self.now.job) }
     {
-        let mut numbers = ListOf::new(alloc);
+        let mut numbers = self.nothing();
         add_option(top_here(self.colors, self.job), &mut numbers)?;
         Ok(numbers)
     }
-}
 
-/// Cells that are made.
-impl Setting<'_> {
-    fn new_object(&self, alloc: Global, shape: u32, parts: &ValueList) -> Result<Plan, AllocError>
+    /// A cell is made with a new colour, which merges with those of these values, and if it is `near`
+    /// with `Here`.
+    fn fresh_cell(&self, owner: Owner, near: bool, values: &[Value]) -> Result<Plan, AllocError>
+        ensures { IfOk result (λ plan. plan ≡ fresh_cell owner (next_color self.now.colors.now)
+            ((if near then top_here self.now.colors.now self.now.job else [])
+            ++ colors_of self.now.colors.now.cells values.now)) }
+    {
+        let number = next_color(self.colors)?;
+        let mut joined = ListOf::one(self.alloc, number)?;
+        if near {
+            add_option(top_here(self.colors, self.job), &mut joined)?;
+        }
+        add_colors_of(self.tints(), values, &mut joined)?;
+        Ok(Plan {
+            fresh: Some(owner),
+            ..tinted(tint_for(owner, number), joined)
+        })
+    }
+
+    fn new_object(&self, shape: u32, parts: &[Value]) -> Result<Plan, AllocError>
         ensures { IfOk result (λ plan. plan ≡ new_cell self.now.graph.now
             self.now.colors.now self.now.job 0 (Object shape parts.now)) }
     {
-        if is_shared_class(self.graph, shape) {
-            let mut joined = self.here(alloc)?;
-            add_colors_of(self.tints(), parts, &mut joined)?;
-            return Ok(making(Tint::Bare, None, joined));
+        if !is_shared_class(self.graph, shape) {
+            return self.fresh_cell(Owner::Job(self.job), false, parts);
         }
-        let number = next_color(self.colors)?;
-        let mut joined = ListOf::one(alloc, number)?;
+        let mut joined = self.here()?;
         add_colors_of(self.tints(), parts, &mut joined)?;
-        Ok(making(Tint::Colored { number }, Some(Owner::Job(self.job)), joined))
+        Ok(tinted(Tint::Bare, joined))
     }
 
-    fn new_actor(&self, alloc: Global, cell: u32, parts: &ValueList) -> Result<Plan, AllocError>
-        ensures { IfOk result (λ plan. plan ≡ new_actor cell (next_color self.now.colors.now)
-            (top_here self.now.colors.now self.now.job
-            ++ colors_of self.now.colors.now.cells parts.now)) }
-    {
-        let number = next_color(self.colors)?;
-        let mut joined = ListOf::one(alloc, number)?;
-        add_option(top_here(self.colors, self.job), &mut joined)?;
-        add_colors_of(self.tints(), parts, &mut joined)?;
-        Ok(making(Tint::Owns { number }, Some(Owner::ActorOf(cell)), joined))
-    }
-
-    fn new_box(&self, alloc: Global, value: &Value) -> Result<Plan, AllocError>
-        ensures { IfOk result (λ plan. plan ≡ colored_cell self.now.job
-            (next_color self.now.colors.now) (colors_in self.now.colors.now.cells value.now)) }
-    {
-        let number = next_color(self.colors)?;
-        let mut joined = ListOf::one(alloc, number)?;
-        add_colors(self.tints(), value, &mut joined)?;
-        Ok(making(Tint::Colored { number }, Some(Owner::Job(self.job)), joined))
-    }
-
-    fn isolated_closure(&self, alloc: Global, captures: &ValueList) -> Result<Plan, AllocError>
-        ensures { IfOk result (λ plan. plan ≡ new_closure self.now.colors.now true self.now.job
-            (colors_of self.now.colors.now.cells captures.now)) }
-    {
-        let number = next_color(self.colors)?;
-        let mut joined = ListOf::one(alloc, number)?;
-        add_option(top_here(self.colors, self.job), &mut joined)?;
-        add_colors_of(self.tints(), captures, &mut joined)?;
-        Ok(making(Tint::Colored { number }, Some(Owner::Job(self.job)), joined))
-    }
-
-    /// What its captures have is worked out here, once: a closure that captures others takes their
-    /// lists as they are, and what a call merges is one list.
-    fn free_closure(&self, alloc: Global, captures: &ValueList) -> Result<Plan, AllocError>
-        ensures { IfOk result (λ plan. plan ≡ new_closure self.now.colors.now false self.now.job
-            (colors_of self.now.colors.now.cells captures.now)) }
-    {
-        let mut held = ListOf::new(alloc);
-        add_colors_of(self.tints(), captures, &mut held)?;
-        let numbers = left_of(alloc, &self.colors.palette.names, &held)?;
-        Ok(making(Tint::Holds { numbers }, None, ListOf::new(alloc)))
-    }
-
-    fn new_closure(
-        &self,
-        alloc: Global,
-        function: u32,
-        captures: &ValueList,
-    ) -> Result<Plan, AllocError>
+    /// What the captures of a closure that isn't isolated have is worked out here, once. So whoever
+    /// takes such a closure finds one list, however many closures stand one in another.
+    fn new_closure(&self, function: u32, captures: &[Value]) -> Result<Plan, AllocError>
         ensures { IfOk result (λ plan. plan ≡ new_closure self.now.colors.now
             (is_isolated self.now.graph.now function) self.now.job
             (colors_of self.now.colors.now.cells captures.now)) }
     {
         if is_isolated(self.graph, function) {
-            self.isolated_closure(alloc, captures)
-        } else {
-            self.free_closure(alloc, captures)
+            return self.fresh_cell(Owner::Job(self.job), true, captures);
         }
+        let mut held = self.nothing();
+        add_colors_of(self.tints(), captures, &mut held)?;
+        let numbers = left_of(self.alloc, &self.colors.palette.names, &held)?;
+        Ok(tinted(Tint::Holds { numbers }, self.nothing()))
     }
 
     /// The cell with this number is made.
-    fn new_cell(&self, alloc: Global, number: u32, cell: &HeapCell) -> Result<Plan, AllocError>
+    #[tactic(auto, using(crate::proofs::PlanLemmas::boxes))]
+    fn new_cell(&self, number: u32, cell: &HeapCell) -> Result<Plan, AllocError>
         ensures { IfOk result (λ plan. plan ≡ new_cell self.now.graph.now self.now.colors.now
             self.now.job number cell.now) }
     {
         match cell {
-            HeapCell::Object { shape, parts } => self.new_object(alloc, *shape, parts),
-            HeapCell::Actor { parts, .. } => self.new_actor(alloc, number, parts),
-            HeapCell::BoxOf { value } => self.new_box(alloc, value),
-            HeapCell::Closure { function, captures } => self.new_closure(
-                alloc, *function, captures,
-            ),
-            HeapCell::TaskOf { .. } => Ok(making(Tint::Bare, None, ListOf::new(alloc))),
+            HeapCell::Object { shape, parts } => self.new_object(*shape, parts.as_slice()),
+            HeapCell::Actor { parts, .. } => {
+                self.fresh_cell(Owner::ActorOf(number), true, parts.as_slice())
+            }
+            HeapCell::BoxOf { value } => {
+                self.fresh_cell(Owner::Job(self.job), false, slice::from_ref(value))
+            }
+            HeapCell::Closure { function, captures } => {
+                self.new_closure(*function, captures.as_slice())
+            }
+            HeapCell::TaskOf { .. } => Ok(tinted(Tint::Bare, self.nothing())),
         }
     }
 }
@@ -273,14 +254,14 @@ impl Setting<'_> {
 /// Stores, calls and tasks.
 impl Setting<'_> {
     /// A value is stored in what has this colour, if it has one.
-    fn stored(&self, alloc: Global, color: Option<u32>, value: &Value) -> Result<Plan, AllocError>
+    fn stored(&self, color: Option<u32>, value: &Value) -> Result<Plan, AllocError>
         ensures { IfOk result (λ plan. plan
             ≡ joining (store_color self.now.colors.now self.now.job color
             ++ colors_in self.now.colors.now.cells value.now)) }
     {
         let mut joined = match color {
-            None => self.here(alloc)?,
-            Some(color) => ListOf::one(alloc, color)?,
+            None => self.here()?,
+            Some(color) => ListOf::one(self.alloc, color)?,
         };
         add_colors(self.tints(), value, &mut joined)?;
         Ok(joining(joined))
@@ -325,76 +306,61 @@ impl Setting<'_> {
 
     /// A call puts a frame on top of the job's.
     #[tactic(auto, using(crate::proofs::PlanLemmas::begun_here))]
-    fn entered(
-        &self,
-        alloc: Global,
-        top: &Frame,
-        point: Point<'_>,
-        frame: &Frame,
-    ) -> Result<Plan, AllocError>
+    fn entered(&self, top: &Frame, point: Point<'_>, frame: &Frame) -> Result<Plan, AllocError>
         ensures { IfOk result (λ plan. plan ≡ entered self.now.graph.now self.now.colors.now
             self.now.job top.now (read_point point.entry) frame.now) }
     {
         let actor = self.called_number(point, frame);
         let number = here_number(actor, next_color(self.colors)?);
-        let mut joined = ListOf::one(alloc, number)?;
+        let mut joined = ListOf::one(self.alloc, number)?;
         self.add_called(point, top, &mut joined)?;
         let sending = sending_of(self.graph, frame.function);
         add_passed(self.tints(), sending, &frame.regs, &mut joined)?;
         Ok(Plan {
             fresh: here_owner(actor, Owner::Job(self.job)),
-            tint: None,
             frame: FrameChange::Pushed { number },
-            joined,
-            heir: None,
+            ..joining(joined)
         })
     }
 
     /// A job is made with one frame.
     #[tactic(auto, using(crate::proofs::PlanLemmas::begun_here))]
-    fn spawned(&self, alloc: Global, made: u32, frame: &Frame) -> Result<Plan, AllocError>
+    fn spawned(&self, made: u32, frame: &Frame) -> Result<Plan, AllocError>
         ensures { IfOk result (λ plan. plan ≡ spawned self.now.colors.now made frame.now) }
     {
         let actor = number_on(self.colors, frame.executor);
         let number = here_number(actor, next_color(self.colors)?);
-        let mut joined = ListOf::one(alloc, number)?;
+        let mut joined = ListOf::one(self.alloc, number)?;
         add_passed(self.tints(), &[], &frame.regs, &mut joined)?;
         Ok(Plan {
             fresh: here_owner(actor, Owner::Job(made)),
-            tint: Some(Tint::Bare),
             frame: FrameChange::Begun { number },
-            joined,
             heir: Some(made),
+            ..tinted(Tint::Bare, joined)
         })
     }
 }
 
 /// Acts.
 impl Setting<'_> {
-    fn set(&self, alloc: Global, point: Point<'_>, value: &Value) -> Result<Plan, AllocError>
+    fn set(&self, point: Point<'_>, value: &Value) -> Result<Plan, AllocError>
         ensures { IfOk result (λ plan. plan ≡ (if is_make (read_point point.entry)
             then joining (colors_in self.now.colors.now.cells value.now) else no_plan)) }
     {
         if !is_make(point) {
-            return Ok(no_plan(alloc));
+            return Ok(joining(self.nothing()));
         }
-        let mut joined = ListOf::new(alloc);
+        let mut joined = self.nothing();
         add_colors(self.tints(), value, &mut joined)?;
         Ok(joining(joined))
     }
 
-    fn set_field(
-        &self,
-        alloc: Global,
-        top: &Frame,
-        reg: u32,
-        value: &Value,
-    ) -> Result<Plan, AllocError>
+    fn set_field(&self, top: &Frame, reg: u32, value: &Value) -> Result<Plan, AllocError>
         ensures { IfOk result (λ plan. plan
             ≡ joining (slot_colors self.now.colors.now.cells (value_at top.now.regs reg)
             ++ colors_in self.now.colors.now.cells value.now)) }
     {
-        let mut joined = ListOf::new(alloc);
+        let mut joined = self.nothing();
         add_slot_colors(self.tints(), top.value_at(reg), &mut joined)?;
         add_colors(self.tints(), value, &mut joined)?;
         Ok(joining(joined))
@@ -403,7 +369,6 @@ impl Setting<'_> {
     /// What an instruction with this effect does, at a point at which the top frame stands.
     fn effect_plan(
         &self,
-        alloc: Global,
         top: &Frame,
         point: Point<'_>,
         effect: &Effect,
@@ -412,50 +377,51 @@ impl Setting<'_> {
             self.now.job top.now (read_point point.entry) effect.now) }
     {
         match effect {
-            Effect::Set { value, .. } => self.set(alloc, point, value),
-            Effect::SetField { reg, value, .. } => self.set_field(alloc, top, *reg, value),
-            Effect::New { cell, number, .. } => self.new_cell(alloc, *number, cell),
+            Effect::Set { value, .. } => self.set(point, value),
+            Effect::SetField { reg, value, .. } => self.set_field(top, *reg, value),
+            Effect::New { cell, number, .. } => self.new_cell(*number, cell),
             Effect::Write { cell, value, .. } => {
-                self.stored(alloc, color_number(self.colors, *cell), value)
+                self.stored(color_number(self.colors, *cell), value)
             }
-            Effect::WriteGlobal { value, .. } => self.stored(alloc, None, value),
-            Effect::Enter { frame, .. } => self.entered(alloc, top, point, frame),
-            Effect::Spawn { frame, job, .. } => self.spawned(alloc, *job, frame),
+            Effect::WriteGlobal { value, .. } => self.stored(None, value),
+            Effect::Enter { frame, .. } => self.entered(top, point, frame),
+            Effect::Spawn { frame, job, .. } => self.spawned(*job, frame),
             Effect::Leave { .. } => {
-                let mut plan = no_plan(alloc);
-                plan.frame = FrameChange::Popped;
-                Ok(plan)
+                Ok(Plan {
+                    frame: FrameChange::Popped,
+                    ..joining(self.nothing())
+                })
             }
             Effect::Print { .. }
             | Effect::Goto { .. }
             | Effect::Wait { .. }
             | Effect::Rest { .. }
             | Effect::Halt { .. }
-            | Effect::Stuck => Ok(no_plan(alloc)),
+            | Effect::Stuck => Ok(joining(self.nothing())),
         }
     }
 
     #[tactic(auto, using(crate::proofs::PlanLemmas::lent))]
-    fn plan_at(&self, alloc: Global, effect: &Effect, top: &Frame) -> Result<Plan, AllocError>
+    fn plan_at(&self, effect: &Effect, top: &Frame) -> Result<Plan, AllocError>
         ensures { IfOk result (λ plan. plan ≡ plan_at self.now.graph.now self.now.colors.now
             self.now.job effect.now top.now) }
     {
         match top.point_at(self.graph) {
-            None => Ok(no_plan(alloc)),
-            Some(point) => self.effect_plan(alloc, top, point, effect),
+            None => Ok(joining(self.nothing())),
+            Some(point) => self.effect_plan(top, point, effect),
         }
     }
 
     /// What an act of the job does.
-    pub fn plan_of(&self, alloc: Global, state: &State, act: &Act) -> Result<Plan, AllocError>
+    pub fn plan_of(&self, state: &State, act: &Act) -> Result<Plan, AllocError>
         ensures { IfOk result (λ plan. plan ≡ plan_of self.now.graph.now state.now
             self.now.colors.now self.now.job act.now) }
     {
         match act {
-            Act::Dispatch | Act::Wake { .. } => Ok(no_plan(alloc)),
+            Act::Dispatch | Act::Wake { .. } => Ok(joining(self.nothing())),
             Act::Execute { effect } => match top_frame_of(state, self.job) {
-                None => Ok(no_plan(alloc)),
-                Some(top) => self.plan_at(alloc, effect, top),
+                None => Ok(joining(self.nothing())),
+                Some(top) => self.plan_at(effect, top),
             },
         }
     }

@@ -1,6 +1,6 @@
 //! The coloured state before any item.
 ghost use Rattle.std.specs.Prelude.{◌≡◌, ◌≤◌, IfOk, OnOk};
-ghost use Rattle.sw_value.specs.Start.{start_of, start_frames};
+ghost use Rattle.sw_value.specs.Start.{start_of};
 ghost use Rattle.sw_color_rules.specs.Machine.{actors_to, global_count, global_colors, started};
 ghost use Rattle.sw_color_rules.specs.Machine.{start_colors, colored_start};
 
@@ -11,29 +11,21 @@ use sw_color_rules::{Colored, Colors, Owner, Palette};
 use sw_graph::{Function, Graph};
 use sw_list::ListOf;
 use sw_types::Iso;
-use sw_value::{Frame, FrameList, State, start};
+use sw_value::{Frame, State, start};
 
 /// The state before any item, with its colours.
 pub fn color_start(alloc: Global, graph: &Graph) -> Result<Colored, AllocError>
     ensures { IfOk result (λ colored. colored ≡ colored_start graph.now) }
 {
     let state = start(alloc, graph)?;
-    let colors = first_colors(alloc, graph, &state)?;
+    let colors = start_colors(alloc, graph, &state)?;
     Ok(Colored { state, colors })
 }
 
 /// The colours of the state before any item.
-#[tactic(auto, unfolding(sw_value::specs::Start::start_of, sw_value::specs::Job::new_job))]
-fn first_colors(alloc: Global, graph: &Graph, state: &State) -> Result<Colors, AllocError>
+#[tactic(auto, unfolding(sw_value::specs::Start::start_of, sw_value::specs::Job::new_job, sw_color_rules::specs::Machine::start_colors))]
+fn start_colors(alloc: Global, graph: &Graph, state: &State) -> Result<Colors, AllocError>
     requires { state.now ≡ start_of graph.now }
-    ensures { IfOk result (λ colors. colors ≡ start_colors graph.now) }
-{
-    start_colors(alloc, graph, &state.jobs.at(0).frames)
-}
-
-#[tactic(auto, unfolding(sw_color_rules::specs::Machine::start_colors))]
-fn start_colors(alloc: Global, graph: &Graph, frames: &FrameList) -> Result<Colors, AllocError>
-    requires { frames.now ≡ start_frames graph.now }
     ensures { IfOk result (λ colors. colors ≡ start_colors graph.now) }
 {
     let mut colors = Colors {
@@ -41,7 +33,7 @@ fn start_colors(alloc: Global, graph: &Graph, frames: &FrameList) -> Result<Colo
         palette: global_colors(alloc, global_count(graph.functions.as_slice()))?,
         heres: ListOf::one(alloc, ListOf::new(alloc))?,
     };
-    for frame in frames.as_slice() {
+    for frame in state.jobs.at(0).frames.as_slice() {
         start_frame(&mut colors, frame)?;
     }
     Ok(colors)

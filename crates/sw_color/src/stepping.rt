@@ -77,11 +77,12 @@ fn do_act(
         return perform(alloc, &mut colored.state, due.job, due.act);
     }
     let setting = Setting {
+        alloc,
         graph,
         colors: &colored.colors,
         job: due.job,
     };
-    let plan = setting.plan_of(alloc, &colored.state, &due.act)?;
+    let plan = setting.plan_of(&colored.state, &due.act)?;
     carry_out(alloc, colored, due, plan)
 }
 

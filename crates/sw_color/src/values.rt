@@ -12,7 +12,7 @@ use crate::names;
 use std::alloc::{AllocError, Global};
 use sw_color_rules::{ColorNumbers, Names, Tint};
 use sw_list::ListOf;
-use sw_value::{Value, ValueList, ValueSlots};
+use sw_value::{Value, ValueSlots};
 
 fn add_numbers(more: &[u32], numbers: &mut ColorNumbers) -> Result<(), AllocError>
     ensures { OnOk result (numbers.new ≡ numbers.old ++ more.now) }
@@ -75,12 +75,12 @@ pub fn add_colors(
 /// Adds the colours of values.
 pub fn add_colors_of(
     tints: &[Tint],
-    values: &ValueList,
+    values: &[Value],
     numbers: &mut ColorNumbers,
 ) -> Result<(), AllocError>
     ensures { OnOk result (numbers.new ≡ numbers.old ++ colors_of tints.now values.now) }
 {
-    for value in values.as_slice() {
+    for value in values {
         add_colors(tints, value, numbers)?;
     }
     Ok(())

@@ -5,4 +5,4 @@ use Rattle.sw_color.proofs.values.add_colors_of.Given as goal
 
 abbrev pub invariant-loop-value : goal.invariant-loop-value
 invariant-loop-value l =
-    l.numbers ≡ l.fn.numbers ++ flat_map (colors_in l.tints) (take l.value-index l.value-items)
+    l.numbers ≡ l.fn.numbers ++ flat_map (colors_in l.tints) (take l.value-index l.values)
