@@ -1,0 +1,12 @@
+pub mod BuiltLemmas
+pub mod RootLemmas
+pub mod TurnLemmas
+pub mod OwnerLemmas
+pub mod FoldLemmas
+pub mod HereLemmas
+pub mod PassedLemmas
+pub mod ValueLemmas
+pub mod OrderLemmas
+pub mod SendLemmas
+pub mod PlanLemmas
+pub mod StepLemmas
