@@ -19,7 +19,7 @@ ghost use Rattle.sw_color.specs.Reading.{read_point, here_number, here_owner, is
 
 use crate::colors::{color_number, next_color, number_on, top_here};
 use crate::values::{
-    add_colors, add_colors_of, add_held, add_option, add_passed, add_slot_colors, left_of,
+    add_colors, add_colors_of, add_held, add_option, add_passed, add_slot_colors, in_order,
 };
 use std::alloc::{AllocError, Global};
 use std::slice;
@@ -225,7 +225,7 @@ impl Setting<'_> {
         }
         let mut held = self.nothing();
         add_colors_of(self.tints(), captures, &mut held)?;
-        let numbers = left_of(self.alloc, &self.colors.palette.names, &held)?;
+        let numbers = in_order(held);
         Ok(tinted(Tint::Holds { numbers }, self.nothing()))
     }
 

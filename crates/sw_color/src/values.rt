@@ -3,14 +3,12 @@ ghost use Rattle.std.specs.Prelude.{◌≡◌, ◌++◌, OnOk, IfOk, false, slic
 ghost use Rattle.std.specs.Option.{option_copied, option_to_list, option_map_or};
 ghost use Rattle.std.specs.List.{Contains};
 ghost use Rattle.std.specs.List.Sorted.{IsStrictlyIncreasing};
-ghost use Rattle.std.specs.Prelude.{◌↔◌, ℕ, map, []};
-ghost use Rattle.sw_color_rules.specs.Names.{name_in};
+ghost use Rattle.std.specs.Prelude.{◌↔◌, ℕ, []};
 ghost use Rattle.sw_color_rules.specs.Plans.{passed};
-ghost use Rattle.sw_color_rules.specs.Tints.{held, colors_in, colors_of, slot_colors, in_order, left_of};
+ghost use Rattle.sw_color_rules.specs.Tints.{held, colors_in, colors_of, slot_colors, in_order};
 
-use crate::names;
 use std::alloc::{AllocError, Global};
-use sw_color_rules::{ColorNumbers, Names, Tint};
+use sw_color_rules::{ColorNumbers, Tint};
 use sw_list::ListOf;
 use sw_value::{Value, ValueSlots};
 
@@ -134,38 +132,12 @@ pub fn add_passed(
     Ok(())
 }
 
-/// What is left of each of these colours.
-fn names_of(
-    alloc: Global,
-    names: &Names,
-    numbers: &ColorNumbers,
-) -> Result<ColorNumbers, AllocError>
-    ensures { IfOk result (λ left. left ≡ map (name_in names.now) numbers.now) }
-{
-    let mut left = ListOf::new(alloc);
-    for number in numbers.as_slice() {
-        left.push(names::name(names, *number))?;
-    }
-    Ok(left)
-}
-
 /// The same numbers, each once, in rising order.
-fn in_order(numbers: ColorNumbers) -> ColorNumbers
+pub fn in_order(numbers: ColorNumbers) -> ColorNumbers
     ensures { result ≡ in_order numbers }
 {
     let mut numbers = numbers.into_vec();
     numbers.sort_unstable();
     numbers.dedup();
     ListOf::from_vec(numbers)
-}
-
-/// What is left of these colours, each once, in rising order.
-pub fn left_of(
-    alloc: Global,
-    names: &Names,
-    numbers: &ColorNumbers,
-) -> Result<ColorNumbers, AllocError>
-    ensures { IfOk result (λ left. left ≡ left_of names.now numbers.now) }
-{
-    Ok(in_order(names_of(alloc, names, numbers)?))
 }

@@ -1,20 +1,19 @@
 -- Numbers below a bound, in the lists that plans are made of.
-use Rattle.std.proofs.Common.{◌≡◌, ℕ, ◌<◌, ◌≤◌, Bool, true, false, cond, eqb, ltb, List, [], ◌∷◌}
-use Rattle.std.proofs.Common.{map, fold, refl, subst, arith, Option, Some, None, slice_get}
+use Rattle.std.proofs.Common.{◌≡◌, ℕ, ◌<◌, Bool, true, false, cond, eqb, ltb, List, [], ◌∷◌}
+use Rattle.std.proofs.Common.{fold, refl, subst, Option, Some, None, slice_get}
 use Rattle.std.specs.Prelude.{flat_map}
 use Rattle.std.specs.Option.{option_map_or, option_to_list}
 use Rattle.std.specs.List.{All}
 use Rattle.std.proofs.lemmas.List.Elements.{All-nil, All-cons, All-head, All-tail, All-append, All-set}
-use Rattle.std.proofs.lemmas.List.Elements.{All-get_or, All-same, All-map, All-weaker}
+use Rattle.std.proofs.lemmas.List.Elements.{All-get_or, All-same}
 use Rattle.std.proofs.lemmas.Option.{get_or_from_slice_get, slice_get_within}
 use Rattle.sw_value.specs.declared.value.Value.{Value}
 use Rattle.sw_value.specs.Lists.{changed_at}
 use Rattle.sw_value.proofs.ListLemmas.{changed_at_there, changed_at_none}
 use Rattle.sw_color_rules.specs.declared.colors.Tint.{Tint}
 use Rattle.sw_color_rules.specs.declared.colors.Tint.TheVariants.{Bare, Colored, Owns, Holds}
-use Rattle.sw_color_rules.specs.Names.{name_in}
 use Rattle.sw_color_rules.specs.Tints.{held, held_by, references_in, colors_in, colors_of, slot_colors}
-use Rattle.sw_color_rules.specs.Tints.{inserted, in_order, left_of}
+use Rattle.sw_color_rules.specs.Tints.{inserted, in_order}
 use Rattle.sw_color_rules.specs.Ranges.{AreBelow, noted}
 
 -- ---- lists
@@ -61,15 +60,10 @@ all_ordered P done (n ∷ ns) before all =
     all_ordered P (inserted n done) ns (all_inserted P n done (All-head P n ns all) before)
     (All-tail P n ns all)
 
--- what is left of numbers is no higher
-pub left_below : (count : ℕ) (names ns : List ℕ) → ((n : ℕ) → name_in names n ≤ n)
-    → AreBelow count ns → AreBelow count (left_of names ns)
+pub ordered_below : (count : ℕ) (ns : List ℕ) → AreBelow count ns → AreBelow count (in_order ns)
 unfolding in_order
-left_below count names ns lower below =
-    all_ordered (λ n. n < count) [] (map (name_in names) ns) (All-nil (λ n. n < count))
-    (All-map (λ n. n < count) (name_in names) ns
-    (All-weaker (λ n. n < count) (λ n. name_in names n < count)
-    (λ n l. omega (arith, lower n, l)) ns below))
+ordered_below count ns below =
+    all_ordered (λ n. n < count) [] ns (All-nil (λ n. n < count)) below
 
 -- ---- cells and values
 -- all that is noted of cells

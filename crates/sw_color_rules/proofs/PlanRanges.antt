@@ -45,7 +45,7 @@ use Rattle.sw_color_rules.specs.Plans.{is_make, effect_plan, plan_at, plan_of}
 use Rattle.sw_color_rules.specs.Machine.{first_colors, started, start_colors}
 use Rattle.sw_color_rules.specs.Machine.{colored_start, changes_of, colored_step, colored_reach}
 use Rattle.sw_color_rules.specs.Ranges.{noted, AreBelow, AreMade}
-use Rattle.sw_color_rules.proofs.NumberLemmas.{all_there, left_below, values_below}
+use Rattle.sw_color_rules.proofs.NumberLemmas.{all_there, ordered_below, values_below}
 use Rattle.sw_color_rules.proofs.RangeLemmas.{AllNote, changes_made}
 use Rattle.sw_color_rules.proofs.PaletteLemmas.{changes_whole, start_whole}
 
@@ -175,7 +175,7 @@ closure_within : (colors : Colors) (isolated : Bool) (job : ℕ) (ns : List ℕ)
     → Within (next_color colors) (new_closure colors isolated job ns)
 closure_within colors true job ns before below = record { tint = one_below (suc (next_color colors)) (next_color colors) (omega arith); frame = tt }
 closure_within colors false job ns before below = record {
-  tint = left_below (next_color colors) colors.palette.names ns before.whole.lower below;
+  tint = ordered_below (next_color colors) ns below;
   frame = tt;
 }
 

@@ -33,7 +33,7 @@ use Rattle.sw_color_rules.specs.declared.plan.Plan.{Plan}
 use Rattle.sw_color_rules.specs.declared.plan.FrameChange.{FrameChange}
 use Rattle.sw_color_rules.specs.declared.plan.FrameChange.TheVariants.{Stays, Pushed, Begun, Popped}
 use Rattle.sw_color_rules.specs.Tints.{held, color_number, owned_number, colors_in, colors_of, slot_colors}
-use Rattle.sw_color_rules.specs.Tints.{left_of}
+use Rattle.sw_color_rules.specs.Tints.{in_order}
 use Rattle.sw_color_rules.specs.Changes.{Change, Fresh, Mark, Push, Begin, Pop, Merge, HandOver}
 
 -- ---- from a plan to changes
@@ -128,7 +128,7 @@ abbrev pub new_closure : Colors → Bool → ℕ → List ℕ → Plan
 new_closure colors true job ns =
     colored_cell job (next_color colors) (top_here colors job ++ ns)
 new_closure colors false job ns =
-    record no_plan { tint = Some (Holds (left_of colors.palette.names ns)) }
+    record no_plan { tint = Some (Holds (in_order ns)) }
 
 -- The cell with the number c is made. What is stored in an object of a class that is Sendable is with
 -- `Here`.

@@ -1,12 +1,11 @@
 -- The colours of cells and values, by the numbers with which they were made.
 use Rattle.std.specs.Prelude.{ℕ, ◌==◌, nat_lt, Option, Some, None, List, [], ◌∷◌, slice_get, fold}
-use Rattle.std.specs.Prelude.{flat_map, map, option_and_then, if◌then◌else◌}
+use Rattle.std.specs.Prelude.{flat_map, option_and_then, if◌then◌else◌}
 use Rattle.std.specs.Option.{option_map_or}
 use Rattle.sw_value.specs.declared.value.Value.{Value, fold-Value}
 use Rattle.sw_value.specs.declared.value.Value.TheOpen as layer
 use Rattle.sw_color_rules.specs.declared.colors.Tint.{Tint}
 use Rattle.sw_color_rules.specs.declared.colors.Tint.TheVariants.{Bare, Colored, Owns, Holds}
-use Rattle.sw_color_rules.specs.Names.{name_in}
 
 -- ---- cells
 -- the colour of a coloured cell
@@ -67,7 +66,3 @@ inserted n (m ∷ ms) =
 -- the same numbers, each once, in rising order
 unfoldable pub in_order : List ℕ → List ℕ
 in_order ns = fold (λ ms n. inserted n ms) [] ns
-
--- what is left of these colours, each once, in rising order
-abbrev pub left_of : List ℕ → List ℕ → List ℕ
-left_of names ns = in_order (map (name_in names) ns)

@@ -1,0 +1,4 @@
+pub mod Late
+pub mod Alike
+pub mod Hues
+pub mod Carriers
