@@ -1,17 +1,16 @@
 -- What a cell shows, by its number.
-use Rattle.std.proofs.Common.{◌≡◌, ℕ, zero, suc, ◌<◌, ◌==◌, Bool, true, false}
-use Rattle.std.proofs.Common.{cond, Option, Some, None, List, [], ◌∷◌, length, flat_map}
-use Rattle.std.proofs.Common.{refl, sym, ap, ◌∙◌, arith, inl, inr}
 use Rattle.std.specs.List.{slice_get, slice_index_or}
+use Rattle.std.proofs.Common.{◌≡◌, ℕ, zero, suc, ◌<◌, ◌==◌, Bool, true, false, cond, Option, Some}
+use Rattle.std.proofs.Common.{None, List, [], ◌∷◌, length, flat_map, refl, sym, ap, ◌∙◌, arith, inl}
+use Rattle.std.proofs.Common.{inr}
 use Rattle.std.proofs.lemmas.Bool.{cases_eq, ne_eqb, eq-eqb}
 use Rattle.std.proofs.lemmas.List.{append-nil}
-use Rattle.sw_value.specs.declared.value.Value.{out-Value}
+use Rattle.sw_value.specs.declared.value.Value.{out-Value, Value}
 use Rattle.sw_value.specs.declared.value.Value.TheOpen as layer
-use Rattle.sw_reach_facts.proofs.ReferenceLemmas.{references-cell, cell_of}
 use Rattle.sw_value.specs.declared.cell.HeapCell.{HeapCell}
-use Rattle.sw_value.specs.declared.value.Value.{Value}
 use Rattle.sw_value.specs.Value.{reference_of}
 use Rattle.sw_reach_facts.specs.Reached.{shown, shown_below, colours_of}
+use Rattle.sw_reach_facts.proofs.ReferenceLemmas.{references-cell, cell_of}
 
 module _ {C : Type 0} where
   -- heaps whose first cells show the same

@@ -1,11 +1,9 @@
 -- A cell more, and a slot that is written, change nothing of what values reach.
-use Rattle.std.proofs.Common.{◌≡◌, ℕ, suc, ◌<◌}
-use Rattle.std.proofs.Common.{Option, Some, None, List, [], ◌∷◌, ◌++◌, length, flat_map}
-use Rattle.std.proofs.Common.{refl, sym, subst, ap, ◌∙◌, arith, inl, inr}
 use Rattle.std.specs.List.{slice_get, slice_index_or}
+use Rattle.std.proofs.Common.{◌≡◌, ℕ, suc, ◌<◌, Option, Some, None, List, [], ◌∷◌, ◌++◌, length}
+use Rattle.std.proofs.Common.{flat_map, refl, sym, subst, ap, ◌∙◌, arith, inl, inr}
 use Rattle.std.proofs.lemmas.Bool.{cases_eq}
 use Rattle.std.proofs.lemmas.List.{get_or_append_left, length-append}
-use Rattle.sw_reach_facts.proofs.CellLemmas.{shown_same, shown_next}
 use Rattle.sw_list.proofs.ListLemmas.{slice_get_before}
 use Rattle.sw_value.specs.declared.cell.HeapCell.{HeapCell}
 use Rattle.sw_value.specs.declared.cell.HeapCell.TheVariants as cell
@@ -15,10 +13,10 @@ use Rattle.sw_value.specs.declared.value.Value.{Value}
 use Rattle.sw_value.specs.Cell.{with_slot}
 use Rattle.sw_value.specs.Lists.{changed_at}
 use Rattle.sw_value.proofs.ListLemmas.{changed_at_found, length-changed_at, changed_at_none}
-use Rattle.sw_machine_kind_facts.proofs.ItemLemmas.{changed_other}
-use Rattle.sw_machine_kind_facts.proofs.ItemLemmas.{found_within}
+use Rattle.sw_machine_kind_facts.proofs.ItemLemmas.{changed_other, found_within}
 use Rattle.sw_reach_facts.specs.Named.{NamesCells}
 use Rattle.sw_reach_facts.specs.Reached.{references, shown, shown_below, colours_of}
+use Rattle.sw_reach_facts.proofs.CellLemmas.{shown_same, shown_next}
 use Rattle.sw_reach_facts.proofs.ListLemmas.{flat_map_same}
 
 module _ {C : Type 0} where

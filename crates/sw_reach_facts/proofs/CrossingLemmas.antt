@@ -1,9 +1,8 @@
 -- The parts of values that may cross between isolations, and the kinds of cells that may (SE-0302).
-use Rattle.std.proofs.Common.{◌≡◌, ℕ, zero, suc, Bool, true, false}
-use Rattle.std.proofs.Common.{List, [], ◌∷◌, map, flat_map, Option, Some}
-use Rattle.std.proofs.Common.{None, refl, sym, subst, ap, ◌∙◌, inl, inr, ◌⊎◌}
 use Rattle.std.specs.Option.{option_map, option_map_or}
 use Rattle.std.specs.List.{slice_get, list_all}
+use Rattle.std.proofs.Common.{◌≡◌, ℕ, zero, suc, Bool, true, false, List, [], ◌∷◌, map, flat_map}
+use Rattle.std.proofs.Common.{Option, Some, None, refl, sym, subst, ap, ◌∙◌, inl, inr, ◌⊎◌}
 use Rattle.std.proofs.lemmas.Bool.{and_parts, or_cases}
 use Rattle.std.proofs.lemmas.Option.{slice_get-map}
 use Rattle.std.proofs.lemmas.List.Folds.{list_all-append}
@@ -23,10 +22,10 @@ use Rattle.sw_graph.specs.declared.function.RegKind.{RegKind}
 use Rattle.sw_graph.specs.declared.function.RegKind.TheVariants.{Plain, BoxOf}
 use Rattle.sw_graph.specs.declared.graph.Graph.{Graph}
 use Rattle.sw_graph.specs.Clean.{may_cross, is_untracked, is_marked_kind}
-use Rattle.sw_graph.specs.Kinds.{IsCaptured, form_of, box_content, is_struct, is_enum}
-use Rattle.sw_graph.specs.Kinds.{parts, payload}
-use Rattle.sw_region_ops.specs.Calls.{is_isolated}
+use Rattle.sw_graph.specs.Kinds.{IsCaptured, form_of, box_content, is_struct, is_enum, parts}
+use Rattle.sw_graph.specs.Kinds.{payload}
 use Rattle.sw_value.proofs.ListLemmas.{some_injective}
+use Rattle.sw_region_ops.specs.Calls.{is_isolated}
 use Rattle.sw_machine_kind_facts.proofs.KindLemmas.{layers_accept}
 use Rattle.sw_reach_facts.specs.Coloured.{runs_isolated, ConformancesHold}
 use Rattle.sw_reach_facts.proofs.ListLemmas.{all_at}

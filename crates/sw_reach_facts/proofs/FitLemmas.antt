@@ -1,9 +1,9 @@
 -- In a kinded state of a clean graph colours fit.
-use Rattle.std.proofs.Common.{◌≡◌, ◌||◌, ℕ, true, false, not, List, Option, Some}
-use Rattle.std.proofs.Common.{None, map, refl, sym, ap, ◌∙◌}
 use Rattle.std.specs.Prelude.{IsSome}
 use Rattle.std.specs.Option.{option_map}
 use Rattle.std.specs.List.{list_all}
+use Rattle.std.proofs.Common.{◌≡◌, ◌||◌, ℕ, true, false, not, List, Option, Some, None, map, refl}
+use Rattle.std.proofs.Common.{sym, ap, ◌∙◌}
 use Rattle.std.proofs.lemmas.Bool.{and_parts}
 use Rattle.std.proofs.lemmas.Option.{slice_get-map}
 use Rattle.sw_list.proofs.ListLemmas.{at_index}

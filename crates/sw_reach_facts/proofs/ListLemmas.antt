@@ -1,8 +1,7 @@
 -- Members of lists that are made of lists.
-use Rattle.std.proofs.Common.{◌≡◌, ◌⊎◌, ℕ, zero, suc, Bool, true, List, [], ◌∷◌, ◌++◌}
-use Rattle.std.proofs.Common.{Some, Contains, flat_map, map, refl, sym, subst, ap, ◌∙◌}
-use Rattle.std.proofs.Common.{arith, inl, inr}
 use Rattle.std.specs.List.{slice_get, list_all, concat}
+use Rattle.std.proofs.Common.{◌≡◌, ◌⊎◌, ℕ, zero, suc, Bool, true, List, [], ◌∷◌, ◌++◌, Some}
+use Rattle.std.proofs.Common.{Contains, flat_map, map, refl, sym, subst, ap, ◌∙◌, arith, inl, inr}
 use Rattle.std.proofs.lemmas.Bool.{and_parts}
 use Rattle.std.proofs.lemmas.Grind.{flat_map-append}
 use Rattle.std.proofs.lemmas.List.{map-append}

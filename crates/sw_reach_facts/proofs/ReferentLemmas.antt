@@ -1,13 +1,10 @@
 -- The cells to which a value refers go to places of the kinds of its parts.
-use Rattle.std.proofs.Common.{◌≡◌, ℕ, suc}
-use Rattle.std.proofs.Common.{List, [], Contains, Some}
-use Rattle.std.proofs.Common.{sym, subst, ap, ◌∙◌, ◌≤◌}
 use Rattle.std.specs.List.{slice_get}
+use Rattle.std.proofs.Common.{◌≡◌, ℕ, suc, List, [], Contains, Some, sym, subst, ap, ◌∙◌, ◌≤◌}
 use Rattle.std.proofs.lemmas.Option.{slice_get_within}
 use Rattle.sw_types.specs.declared.shape.Shape.{Shape}
 use Rattle.sw_graph.specs.declared.function.RegKind.{RegKind}
-use Rattle.sw_graph.specs.Kinds.{shape_of, is_struct, is_enum}
-use Rattle.sw_graph.specs.Kinds.{parts, payload}
+use Rattle.sw_graph.specs.Kinds.{shape_of, is_struct, is_enum, parts, payload}
 use Rattle.sw_value.specs.declared.value.Value.{Value}
 use Rattle.sw_machine_kind_facts.specs.Kinds.{HasKind, integer, truth, void, refers, group, choice}
 use Rattle.sw_machine_kind_facts.proofs.ItemLemmas.{found_within}
@@ -15,7 +12,8 @@ use Rattle.sw_reach_facts.specs.Coloured.{GoesTo}
 use Rattle.sw_reach_facts.specs.Reached.{references}
 use Rattle.sw_reach_facts.proofs.ListLemmas.{none_in, one_in, of_flat_map, stands_at}
 use Rattle.sw_reach_facts.proofs.ReferenceLemmas.{references-cell, references-int, references-truth}
-use Rattle.sw_reach_facts.proofs.ReferenceLemmas.{references-void, references-group, references-case}
+use Rattle.sw_reach_facts.proofs.ReferenceLemmas.{references-void, references-group}
+use Rattle.sw_reach_facts.proofs.ReferenceLemmas.{references-case}
 
 -- A property of kinds that parts of structs and payloads of enums have if the whole has it, also
 -- goes through references.

@@ -1,9 +1,8 @@
 -- Colours that are renamed.
-use Rattle.std.proofs.Common.{◌≡◌, ℕ, zero, suc, ◌==◌, Bool, true, false}
-use Rattle.std.proofs.Common.{cond, Option, Some, None, List, [], ◌∷◌, length, map, flat_map}
-use Rattle.std.proofs.Common.{refl, sym, ap, ◌∙◌}
 use Rattle.std.specs.Option.{option_map}
 use Rattle.std.specs.List.{slice_get, slice_index_or}
+use Rattle.std.proofs.Common.{◌≡◌, ℕ, zero, suc, ◌==◌, Bool, true, false, cond, Option, Some, None}
+use Rattle.std.proofs.Common.{List, [], ◌∷◌, length, map, flat_map, refl, sym, ap, ◌∙◌}
 use Rattle.sw_value.specs.declared.cell.HeapCell.{HeapCell}
 use Rattle.sw_value.specs.declared.cell.HeapCell.TheVariants as cell
 use Rattle.sw_value.specs.declared.value.Value.{Value}

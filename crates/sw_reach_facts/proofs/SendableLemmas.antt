@@ -1,20 +1,18 @@
 -- A value of an untracked kind reaches no colour.
-use Rattle.std.proofs.Common.{◌≡◌, ℕ, zero, suc, Bool, true, false, cond, ◌==◌, not}
-use Rattle.std.proofs.Common.{List, length, flat_map, Contains, Option, Some}
-use Rattle.std.proofs.Common.{None, refl, sym, subst, ap, ◌∙◌, ◌≤◌}
 use Rattle.std.specs.List.{slice_get, slice_index_or}
+use Rattle.std.proofs.Common.{◌≡◌, ℕ, zero, suc, Bool, true, false, cond, ◌==◌, not, List, length}
+use Rattle.std.proofs.Common.{flat_map, Contains, Option, Some, None, refl, sym, subst, ap, ◌∙◌}
+use Rattle.std.proofs.Common.{◌≤◌}
 use Rattle.std.proofs.lemmas.Bool.{eqb-true}
 use Rattle.std.proofs.lemmas.Option.{slice_get_within}
 use Rattle.sw_graph.specs.declared.function.RegKind.{RegKind}
 use Rattle.sw_graph.specs.declared.graph.Graph.{Graph}
 use Rattle.sw_graph.specs.Clean.{is_untracked}
-use Rattle.sw_graph.specs.Kinds.{IsCaptured, shape_of, is_struct, is_enum}
-use Rattle.sw_graph.specs.Kinds.{parts, payload}
+use Rattle.sw_graph.specs.Kinds.{IsCaptured, shape_of, is_struct, is_enum, parts, payload}
 use Rattle.sw_value.specs.declared.cell.HeapCell.{HeapCell}
 use Rattle.sw_value.specs.declared.cell.HeapCell.TheVariants as cell
 use Rattle.sw_value.specs.declared.value.Value.{Value}
-use Rattle.sw_machine_kind_facts.specs.Kinds.{HasKind}
-use Rattle.sw_machine_kind_facts.specs.Kinds.{Referents}
+use Rattle.sw_machine_kind_facts.specs.Kinds.{HasKind, Referents}
 use Rattle.sw_machine_kind_facts.proofs.ItemLemmas.{found_within}
 use Rattle.sw_machine_kind_facts.proofs.KindLemmas.{shape_is}
 use Rattle.sw_machine_kind_facts.proofs.PartLemmas.{parts_shape, payload_shape}
@@ -25,7 +23,8 @@ use Rattle.sw_reach_facts.proofs.ListLemmas.{none_in, of_flat_map, stands_at}
 use Rattle.sw_reach_facts.proofs.ReferentLemmas.{leads_to}
 use Rattle.sw_reach_facts.proofs.CrossingLemmas.{named_crosses, value_crosses, struct_is_value}
 use Rattle.sw_reach_facts.proofs.CrossingLemmas.{enum_is_value, part_crosses, payload_crosses}
-use Rattle.sw_reach_facts.proofs.CrossingLemmas.{captured_named, captured_marked, boxes_stay, free_runs}
+use Rattle.sw_reach_facts.proofs.CrossingLemmas.{captured_named, captured_marked, boxes_stay}
+use Rattle.sw_reach_facts.proofs.CrossingLemmas.{free_runs}
 
 pub refers_across : (graph : Graph) → ConformancesHold graph → (cells : List RegKind) (v : Value)
     (kind : RegKind) → HasKind graph.shapes cells v kind → is_untracked graph (Some kind) ≡ true

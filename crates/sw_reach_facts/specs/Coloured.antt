@@ -13,10 +13,10 @@ use Rattle.sw_graph.specs.declared.graph.Graph.{Graph}
 use Rattle.sw_graph.specs.Clean.{may_cross, is_untracked, is_marked_kind}
 use Rattle.sw_graph.specs.Kinds.{IsCaptured}
 use Rattle.sw_graph.specs.Placed.{FunctionAt}
-use Rattle.sw_region_ops.specs.Calls.{is_isolated}
 use Rattle.sw_value.specs.declared.cell.HeapCell.{HeapCell}
 use Rattle.sw_value.specs.declared.cell.HeapCell.TheVariants.{Object, Actor, BoxOf, Closure, TaskOf}
 use Rattle.sw_value.specs.declared.value.Value.{Value}
+use Rattle.sw_region_ops.specs.Calls.{is_isolated}
 use Rattle.sw_machine_kind_facts.specs.Kinds.{HaveKinds, Referents, CellFits}
 use Rattle.sw_reach_facts.specs.Reached.{references}
 

@@ -28,8 +28,8 @@ shown below (Some colour) cell = colour ∷ []
 shown below None (Some (Closure f captures)) = reached_by below captures
 shown below None _ = []
 
--- What cell c shows, if it is one of the first n cells. A closure captures what was there before it,
--- so each cell stands on those with lower numbers.
+-- What cell c shows, if it is one of the first n cells. A closure captures what was there before
+-- it, so each cell stands on those with lower numbers.
 unfoldable pub shown_below : {C : Type 0} → List HeapCell → List (Option C) → ℕ → ℕ → List C
 shown_below cells colours zero c = []
 shown_below cells colours (suc n) c =

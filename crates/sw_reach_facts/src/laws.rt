@@ -1,5 +1,6 @@
 //! Laws on references, and on the colours that values reach. `C` is the type of colours.
-ghost use Rattle.std.specs.Prelude.{◌≡◌, ◌⊎◌, ◌<◌, ℕ, ℤ, Bool, true, Option, Some, None, List, [], ◌∷◌};
+ghost use Rattle.std.specs.Prelude.{◌≡◌, ◌⊎◌, ◌<◌, ℕ, ℤ, Bool, true, Option, Some, None, List, []};
+ghost use Rattle.std.specs.Prelude.{◌∷◌};
 ghost use Rattle.std.specs.Prelude.{◌++◌, length, map, flat_map, slice_get, slice_index_or};
 ghost use Rattle.std.specs.List.{Contains};
 ghost use Rattle.std.specs.Option.{option_map};
@@ -17,7 +18,8 @@ ghost use Rattle.sw_value.specs.declared.value.Value.{Value};
 ghost use Rattle.sw_value.specs.declared.value.Value.TheVariants as value;
 ghost use Rattle.sw_value.specs.Cell.{with_slot};
 ghost use Rattle.sw_value.specs.Lists.{changed_at};
-ghost use Rattle.sw_value.specs.Value.{field_of, made, payload_of, reference_of, value_at, with_field};
+ghost use Rattle.sw_value.specs.Value.{field_of, made, payload_of, reference_of, value_at};
+ghost use Rattle.sw_value.specs.Value.{with_field};
 ghost use Rattle.sw_machine_kind_facts.specs.Kinded.{Kinded};
 ghost use Rattle.sw_machine_kind_facts.specs.Kinds.{HasKind, Referents};
 ghost use Rattle.sw_reach_facts.specs.Coloured.{CaptureEarlier, ColoursFit, ConformancesHold};

@@ -1,6 +1,7 @@
 -- A call, from the machine's step to a move of views.
-use Rattle.std.proofs.Common.{◌≡◌, ◌⊎◌, ◌+◌, ℕ, false, Option, Some, List, refl}
-use Rattle.std.proofs.Common.{sym, subst, ap, ◌∙◌}
+use Rattle.std.proofs.Common.{◌≡◌, ◌⊎◌, ◌+◌, ℕ, false, Option, Some, List, refl, sym, subst, ap}
+use Rattle.std.proofs.Common.{◌∙◌, Bool, true, cond, option_map, option_and_then, Contains, None}
+use Rattle.std.proofs.Common.{slice_get, ◌≢◌}
 use Rattle.sw_graph.specs.declared.function.Function.{Function}
 use Rattle.sw_graph.specs.declared.graph.Graph.{Graph}
 use Rattle.sw_graph.specs.Points.{Middle}
@@ -11,38 +12,26 @@ use Rattle.sw_value.specs.Frame.{go_on}
 use Rattle.sw_value.specs.Job.{enter}
 use Rattle.sw_value.specs.Reach.{step_of}
 use Rattle.sw_value.specs.State.{in_job}
-use Rattle.sw_owner_facts.specs.Calls.{Called}
-use Rattle.sw_owner_facts.specs.Colours.{Colour}
-use Rattle.sw_owner_facts.specs.View.{Element, HoldsLive, InOneRegion, IsDisconnected}
-use Rattle.sw_owner_facts.specs.View.{FrameShape, View, above}
-use Rattle.sw_owner_facts.specs.View.{Frame as Spot}
+use Rattle.sw_value.proofs.ListLemmas.{some_injective}
 use Rattle.sw_partition.specs.Regions.{Regions}
-use Rattle.sw_region_ops.specs.Elements.{elements_of}
-use Rattle.sw_region_facts.specs.FrameRegions.{LiveIn, TogetherIn}
+use Rattle.sw_region_ops.specs.Elements.{elements_of, element_at}
+use Rattle.sw_owner_facts.specs.Calls.{Called, ResultWith}
+use Rattle.sw_owner_facts.specs.Colours.{Colour}
+use Rattle.sw_owner_facts.specs.View.{Element, HoldsLive, InOneRegion, IsDisconnected, FrameShape}
+use Rattle.sw_owner_facts.specs.View.{View, above, Frame as Spot, IsLive, Register}
+use Rattle.sw_region_facts.specs.FrameRegions.{LiveIn, TogetherIn, region_in}
 use Rattle.sw_region_facts.specs.Moves.{Sets}
 use Rattle.sw_view_facts.specs.Calling.{Enters}
 use Rattle.sw_view_facts.specs.Changes.{KeepsShape}
 use Rattle.sw_view_facts.specs.Views.{Colours, annotated, closes_at, elements_in, elements_with}
-use Rattle.sw_view_facts.specs.Views.{frame_under, function_of, is_return, shape_by, shape_with, view_of}
-use Rattle.sw_view_facts.proofs.ChangeLemmas.{comes_itself}
+use Rattle.sw_view_facts.specs.Views.{frame_under, function_of, is_return, shape_by, shape_with}
+use Rattle.sw_view_facts.specs.Views.{view_of, frame_at, tracked_in}
+use Rattle.sw_view_facts.proofs.ChangeLemmas.{comes_itself, comes_here}
 use Rattle.sw_view_facts.proofs.EffectLemmas.{step_is}
-use Rattle.sw_view_facts.proofs.EnterLemmas.{calls}
+use Rattle.sw_view_facts.proofs.EnterLemmas.{calls, now, now_above, not_waiting, region_now}
+use Rattle.sw_view_facts.proofs.EnterLemmas.{region_then}
 use Rattle.sw_view_facts.proofs.ShapeLemmas.{open_after, open_here, shape_kept}
 use Rattle.sw_view_facts.proofs.TopLemmas.{ends_with, frame_was}
-use Rattle.std.proofs.Common.{Bool, true, cond}
-use Rattle.sw_region_ops.specs.Elements.{element_at}
-use Rattle.sw_value.proofs.ListLemmas.{some_injective}
-use Rattle.sw_owner_facts.specs.View.{IsLive}
-use Rattle.sw_region_facts.specs.FrameRegions.{region_in}
-use Rattle.sw_view_facts.proofs.ChangeLemmas.{comes_here}
-use Rattle.sw_view_facts.proofs.EnterLemmas.{now, now_above, not_waiting, region_now, region_then}
-use Rattle.sw_view_facts.specs.Views.{frame_at, tracked_in}
-use Rattle.std.proofs.Common.{option_map, option_and_then, Contains, sym, refl, ap, subst, ◌∙◌}
-use Rattle.sw_owner_facts.specs.Calls.{ResultWith}
-use Rattle.std.proofs.Common.{None}
-use Rattle.std.proofs.Common.{slice_get, ◌≢◌, true, false}
-use Rattle.sw_region_ops.specs.Elements.{element_at}
-use Rattle.sw_owner_facts.specs.View.{Register}
 
 module _ (graph : Graph) (states : ℕ → List (Option Regions)) (state : State) (p : Spot)
     (f t : Frame) (function : Function) (regions : Spot → Option Regions) (colours after : Colours)
@@ -70,8 +59,8 @@ module _ (graph : Graph) (states : ℕ → List (Option Regions)) (state : State
   stepped = step_is graph state p x.job f function (Middle x.instr) (Enter t (f.point + 1)) x.stands
       x.gives refl
 
-  -- The callee's elements that share a colour are in one region, and what it holds has the colour of
-  -- its `Here`, or was sent.
+  -- The callee's elements that share a colour are in one region, and what it holds has the colour
+  -- of its `Here`, or was sent.
   pub enters_calls : (c : Regions) (sources : List Element) → annotated states next p ≡ Some c
       → Sets (elements_of graph.shapes function.regs) t.result sources made c
       → ((y z : Element) (d : Colour) → HoldsLive new (above p) y d → HoldsLive new (above p) z d

@@ -1,9 +1,8 @@
 -- A step that changes one top frame, as a change of views.
-use Rattle.std.proofs.Common.{◌≡◌, ◌≢◌, ℕ, zero, suc, ◌<◌, ◌⊎◌}
-use Rattle.std.proofs.Common.{true, Option, Some, None, List, [], ◌∷◌, Contains, refl, sym, subst}
-use Rattle.std.proofs.Common.{ap, ◌∙◌, arith, inl, inr, cond}
 use Rattle.std.specs.Option.{option_map, option_map_or}
 use Rattle.std.specs.List.{slice_get}
+use Rattle.std.proofs.Common.{◌≡◌, ◌≢◌, ℕ, zero, suc, ◌<◌, ◌⊎◌, true, Option, Some, None, List, []}
+use Rattle.std.proofs.Common.{◌∷◌, Contains, refl, sym, subst, ap, ◌∙◌, arith, inl, inr, cond}
 use Rattle.std.proofs.lemmas.Bool.{cases_eq, eq-eqb, ne_eqb}
 use Rattle.sw_graph.specs.declared.function.Function.{Function}
 use Rattle.sw_graph.specs.declared.graph.Graph.{Graph}
@@ -11,20 +10,20 @@ use Rattle.sw_value.specs.declared.frame.Frame.{Frame}
 use Rattle.sw_value.specs.declared.state.State.{State}
 use Rattle.sw_value.specs.declared.value.Value.{Value}
 use Rattle.sw_value.specs.Value.{value_at}
+use Rattle.sw_partition.specs.Regions.{Regions}
 use Rattle.sw_owner_facts.specs.Colours.{Colour, OfJob}
 use Rattle.sw_owner_facts.specs.View.{Element, Here, Register, above, View, IsFrame, HoldsLive}
-use Rattle.sw_owner_facts.specs.View.{FrameShape, IsLive, Holds, IsUnheld}
-use Rattle.sw_owner_facts.specs.View.{Frame as Spot}
-use Rattle.sw_owner_facts.specs.Within.{GivenAway, Kept, SameJobs, BeginsClosing, ChangesTop, Comes, Weakened, Freshened}
+use Rattle.sw_owner_facts.specs.View.{FrameShape, IsLive, Holds, IsUnheld, Frame as Spot}
+use Rattle.sw_owner_facts.specs.Within.{GivenAway, Kept, SameJobs, BeginsClosing, ChangesTop, Comes}
+use Rattle.sw_owner_facts.specs.Within.{Weakened, Freshened}
 use Rattle.sw_owner_facts.proofs.FrameLemmas.{cases_frame}
-use Rattle.sw_partition.specs.Regions.{Regions}
-use Rattle.sw_view_facts.specs.Changes.{Changes, KeepsShape, KeepsOthers, HoldsIn}
 use Rattle.sw_region_facts.specs.Moves as moves
 use Rattle.sw_region_facts.specs.Moves.{IsSent, Sets}
-use Rattle.sw_reach_facts.specs.Reached.{colours_of}
 use Rattle.sw_region_facts.specs.FrameRegions.{TogetherIn, LiveIn, region_in, live_in, IsWeaker}
-use Rattle.sw_view_facts.specs.Views.{Colours, frame_at, frame_under, function_of, shape_by, elements_in}
-use Rattle.sw_view_facts.specs.Views.{elements_with, region_by, live_by, colours_by}
+use Rattle.sw_reach_facts.specs.Reached.{colours_of}
+use Rattle.sw_view_facts.specs.Changes.{Changes, KeepsShape, KeepsOthers, HoldsIn}
+use Rattle.sw_view_facts.specs.Views.{Colours, frame_at, frame_under, function_of, shape_by}
+use Rattle.sw_view_facts.specs.Views.{elements_in, elements_with, region_by, live_by, colours_by}
 use Rattle.sw_view_facts.specs.Views.{here_at, awaited_by, view_of}
 
 -- what an element comes from, where register r gets what some others hold

@@ -1,9 +1,10 @@
 -- A job that gets its executor, as a move of views.
-use Rattle.std.proofs.Common.{◌≡◌, ◌≢◌, ◌<◌, ◌-◌, ℕ, zero, suc, Bool, true, false, not, Option}
-use Rattle.std.proofs.Common.{Some, None, List, [], ◌∷◌, length, refl, sym, subst, ap, ◌∙◌, arith, inl, inr}
 use Rattle.std.specs.Prelude.{IsTrue}
-use Rattle.std.specs.Option.{option_and_then, option_map_or}
+use Rattle.std.specs.Option.{option_and_then, option_map_or, option_map}
 use Rattle.std.specs.List.{slice_get, list_any}
+use Rattle.std.proofs.Common.{◌≡◌, ◌≢◌, ◌<◌, ◌-◌, ℕ, zero, suc, Bool, true, false, not, Option}
+use Rattle.std.proofs.Common.{Some, None, List, [], ◌∷◌, length, refl, sym, subst, ap, ◌∙◌, arith}
+use Rattle.std.proofs.Common.{inl, inr, cond, is_some}
 use Rattle.std.proofs.lemmas.Bool.{and_from, cases_eq, eq-eqb, or_left, or_right}
 use Rattle.sw_graph.specs.declared.function.Function.{Function}
 use Rattle.sw_graph.specs.declared.graph.Graph.{Graph}
@@ -14,33 +15,28 @@ use Rattle.sw_value.specs.declared.job.Job.{Job}
 use Rattle.sw_value.specs.declared.state.State.{State}
 use Rattle.sw_value.specs.Executor.{is_same}
 use Rattle.sw_value.specs.Job.{dispatch, is_running, runs_on, top_frame}
-use Rattle.sw_value.specs.State.{in_job, is_free}
-use Rattle.sw_value.proofs.ListLemmas.{changed_at_found, some_injective}
-use Rattle.sw_machine_kind_facts.proofs.ItemLemmas.{changed_other}
-use Rattle.sw_owner_facts.specs.Colours.{Actor, Instance, GlobalActor, On}
-use Rattle.sw_owner_facts.specs.View.{IsTop, RunsOn, View}
-use Rattle.sw_owner_facts.specs.View.{Frame as Spot}
-use Rattle.sw_owner_facts.specs.Within.{Dispatched}
-use Rattle.sw_partition.specs.Regions.{Regions}
-use Rattle.sw_view_facts.specs.Dispatching.{Dispatches}
-use Rattle.sw_view_facts.specs.Steps.{height_in}
-use Rattle.sw_view_facts.specs.Views.{Colours, annotated, frame_at, frame_under, function_of}
-use Rattle.sw_view_facts.specs.Views.{shape_by, shape_with, stands_on, state_with, view_of}
-use Rattle.sw_view_facts.proofs.KeptLemmas.{kept_as_is}
-use Rattle.sw_value.proofs.ReachLemmas.{after_acts, step_by_act}
+use Rattle.sw_value.specs.State.{in_job, is_free, result_of}
 use Rattle.sw_value.specs.declared.value.Value.{Value}
 use Rattle.sw_value.specs.declared.job.Status.TheVariants.{Ready, Running, Waiting, Ended}
 use Rattle.sw_value.specs.declared.job.Status.{Status}
 use Rattle.sw_value.specs.declared.effect.Effect.TheVariants as effect
 use Rattle.sw_value.specs.declared.effect.Effect.{Effect}
-use Rattle.sw_value.specs.declared.effect.Act.TheVariants.{Wake}
-use Rattle.sw_value.specs.State.{result_of}
+use Rattle.sw_value.specs.declared.effect.Act.TheVariants.{Wake, Dispatch}
 use Rattle.sw_value.specs.Reach.{step_of}
 use Rattle.sw_value.specs.Effect.{effect_of}
 use Rattle.sw_value.specs.Act.{act_by, act_of, dispatch_of, execution_of}
-use Rattle.std.specs.Option.{option_map}
-use Rattle.std.proofs.Common.{cond, is_some}
-use Rattle.sw_value.specs.declared.effect.Act.TheVariants.{Dispatch}
+use Rattle.sw_value.proofs.ListLemmas.{changed_at_found, some_injective}
+use Rattle.sw_value.proofs.ReachLemmas.{after_acts, step_by_act}
+use Rattle.sw_partition.specs.Regions.{Regions}
+use Rattle.sw_machine_kind_facts.proofs.ItemLemmas.{changed_other}
+use Rattle.sw_owner_facts.specs.Colours.{Actor, Instance, GlobalActor, On}
+use Rattle.sw_owner_facts.specs.View.{IsTop, RunsOn, View, Frame as Spot}
+use Rattle.sw_owner_facts.specs.Within.{Dispatched}
+use Rattle.sw_view_facts.specs.Dispatching.{Dispatches}
+use Rattle.sw_view_facts.specs.Steps.{height_in}
+use Rattle.sw_view_facts.specs.Views.{Colours, annotated, frame_at, frame_under, function_of}
+use Rattle.sw_view_facts.specs.Views.{shape_by, shape_with, stands_on, state_with, view_of}
+use Rattle.sw_view_facts.proofs.KeptLemmas.{kept_as_is}
 
 -- one of a list passes a test
 any_at : {A : Type 0} (p : A → Bool) (xs : List A) (i : ℕ) (x : A) → slice_get xs i ≡ Some x

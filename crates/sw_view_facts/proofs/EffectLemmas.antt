@@ -1,10 +1,9 @@
 -- What the effects that change one frame do to it, to the other frames and to memory.
-use Rattle.std.proofs.Common.{is_some, ◌≡◌, ◌≢◌, ◌-◌, ◌&&◌, ℕ, true, false, cond, ◌==◌}
-use Rattle.std.proofs.Common.{Option, Some, None, List, length, refl, sym, subst, ap}
-use Rattle.std.proofs.Common.{◌∙◌, arith, inl, inr}
 use Rattle.std.specs.Prelude.{IsTrue}
 use Rattle.std.specs.Option.{option_and_then, option_map}
 use Rattle.std.specs.List.{slice_get, slice_set}
+use Rattle.std.proofs.Common.{is_some, ◌≡◌, ◌≢◌, ◌-◌, ◌&&◌, ℕ, true, false, cond, ◌==◌, Option}
+use Rattle.std.proofs.Common.{Some, None, List, length, refl, sym, subst, ap, ◌∙◌, arith, inl, inr}
 use Rattle.std.proofs.lemmas.Bool.{cases_eq, eq-eqb, ne_eqb, and_left, and_right}
 use Rattle.sw_graph.specs.declared.function.Function.{Function}
 use Rattle.sw_graph.specs.declared.graph.Graph.{Graph}
@@ -27,11 +26,11 @@ use Rattle.sw_value.specs.Reach.{after_effect, step_of}
 use Rattle.sw_value.specs.State.{add_cell, in_cell, in_job, set_global}
 use Rattle.sw_value.specs.Value.{value_at, with_field}
 use Rattle.sw_value.proofs.ReachLemmas.{after_acts, step_by_act}
+use Rattle.sw_partition.specs.Regions.{Regions}
 use Rattle.sw_machine_kind_facts.proofs.ItemLemmas.{changed_other, set_other}
 use Rattle.sw_owner_facts.specs.Colours.{Colour}
 use Rattle.sw_owner_facts.specs.View.{Frame as Spot}
 use Rattle.sw_owner_facts.proofs.FrameLemmas.{same_frame}
-use Rattle.sw_partition.specs.Regions.{Regions}
 use Rattle.sw_reach_facts.specs.Reached.{colours_of}
 use Rattle.sw_reach_facts.proofs.ChangeLemmas.{colours_before, colours_written}
 use Rattle.sw_view_facts.specs.Changes.{KeepsReach, KeepsShape}
@@ -39,8 +38,7 @@ use Rattle.sw_view_facts.specs.Effects.{is_inside, job_of, memory_of, next_of, r
 use Rattle.sw_view_facts.specs.Memory.{RegistersName, coloured_more}
 use Rattle.sw_view_facts.specs.Standing.{StandsAt}
 use Rattle.sw_view_facts.specs.Steps.{ChangesFrame, SameCall, TopAt, TurnsTop}
-use Rattle.sw_view_facts.specs.Views.{Colours, annotated, closes_at, is_return, over}
-use Rattle.sw_view_facts.specs.Views.{state_with}
+use Rattle.sw_view_facts.specs.Views.{Colours, annotated, closes_at, is_return, over, state_with}
 use Rattle.sw_view_facts.proofs.ShapeLemmas.{isolation_kept, open_here, shape_kept}
 use Rattle.sw_view_facts.proofs.TopLemmas.{turned, turns_in_top, turns_rest, turns_wait}
 

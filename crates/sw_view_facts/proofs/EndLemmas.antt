@@ -1,8 +1,8 @@
 -- The return of a job's last frame, as a move of views.
-use Rattle.std.proofs.Common.{◌≡◌, ◌≢◌, ◌<◌, ℕ, zero, false, Option, Some, List, [], ◌∷◌, ◌++◌}
-use Rattle.std.proofs.Common.{length, refl, sym, subst, ap, ◌∙◌, arith}
 use Rattle.std.specs.Option.{option_and_then, option_map_or}
 use Rattle.std.specs.List.{slice_get}
+use Rattle.std.proofs.Common.{◌≡◌, ◌≢◌, ◌<◌, ℕ, zero, false, Option, Some, List, [], ◌∷◌, ◌++◌}
+use Rattle.std.proofs.Common.{length, refl, sym, subst, ap, ◌∙◌, arith}
 use Rattle.sw_graph.specs.declared.graph.Graph.{Graph}
 use Rattle.sw_value.specs.declared.frame.Frame.{Frame}
 use Rattle.sw_value.specs.declared.job.Job.{Job}
@@ -12,18 +12,16 @@ use Rattle.sw_value.specs.Job.{is_running, leave}
 use Rattle.sw_value.specs.State.{in_job}
 use Rattle.sw_value.proofs.JobLemmas.{leave_some, return_to_none}
 use Rattle.sw_value.proofs.ListLemmas.{changed_at_found}
+use Rattle.sw_partition.specs.Regions.{Regions}
 use Rattle.sw_machine_kind_facts.proofs.ItemLemmas.{changed_other}
 use Rattle.sw_owner_facts.specs.Calls.{JobEnded}
-use Rattle.sw_owner_facts.specs.View.{IsFrame, bottom}
-use Rattle.sw_owner_facts.specs.View.{Frame as Spot}
-use Rattle.sw_partition.specs.Regions.{Regions}
+use Rattle.sw_owner_facts.specs.View.{IsFrame, bottom, Frame as Spot}
+use Rattle.sw_owner_facts.specs.Within.{Kept}
 use Rattle.sw_reach_facts.specs.Reached.{colours_of}
 use Rattle.sw_view_facts.specs.Steps.{TopAt, height_in}
-use Rattle.sw_view_facts.specs.Views.{Colours, annotated, here_at, state_with, view_of}
+use Rattle.sw_view_facts.specs.Views.{Colours, annotated, here_at, state_with, view_of, frame_at}
 use Rattle.sw_view_facts.proofs.KeptLemmas.{kept_as_is}
 use Rattle.sw_view_facts.proofs.TopLemmas.{ends_with}
-use Rattle.sw_view_facts.specs.Views.{frame_at}
-use Rattle.sw_owner_facts.specs.Within.{Kept}
 
 module _ (graph : Graph) (states : ℕ → List (Option Regions)) (state next : State) (j : ℕ)
     (job : Job) (t : Frame) (v : Value) (colours after : Colours)

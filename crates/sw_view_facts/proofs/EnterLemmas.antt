@@ -1,15 +1,15 @@
 -- A call, from the machine's step to soundness.
-use Rattle.std.proofs.Common.{◌≡◌, ◌≢◌, ℕ, suc, ◌+◌, ◌-◌, ◌<◌, ◌≤◌, ◌⊎◌, ◌==◌, ◌&&◌, Bool}
-use Rattle.std.proofs.Common.{true, false, not, cond, Option, Some, None, List, [], ◌∷◌, ◌++◌, length}
-use Rattle.std.proofs.Common.{Contains, refl, sym, subst, ap, ◌∙◌, arith, inl, inr}
 use Rattle.std.specs.Option.{option_map, option_map_or, option_and_then}
 use Rattle.std.specs.List.{slice_get}
+use Rattle.std.proofs.Common.{◌≡◌, ◌≢◌, ℕ, suc, ◌+◌, ◌-◌, ◌<◌, ◌≤◌, ◌⊎◌, ◌==◌, ◌&&◌, Bool, true}
+use Rattle.std.proofs.Common.{false, not, cond, Option, Some, None, List, [], ◌∷◌, ◌++◌, length}
+use Rattle.std.proofs.Common.{Contains, refl, sym, subst, ap, ◌∙◌, arith, inl, inr}
 use Rattle.std.proofs.lemmas.Bool.{cases_eq, cases_lt, and_parts, eqb-false}
-use Rattle.sw_value.specs.Lists.{changed_at}
 use Rattle.std.proofs.lemmas.List.{length-append}
 use Rattle.std.proofs.lemmas.Option.{slice_get_past}
-use Rattle.sw_graph.specs.declared.graph.Graph.{Graph}
 use Rattle.sw_list.proofs.ListLemmas.{slice_get_first}
+use Rattle.sw_graph.specs.declared.graph.Graph.{Graph}
+use Rattle.sw_value.specs.Lists.{changed_at}
 use Rattle.sw_value.specs.declared.frame.Frame.{Frame}
 use Rattle.sw_value.specs.declared.job.Job.{Job}
 use Rattle.sw_value.specs.declared.job.Status.TheVariants.{Ready, Running}
@@ -18,23 +18,19 @@ use Rattle.sw_value.specs.Frame.{go_on}
 use Rattle.sw_value.specs.Job.{enter, is_running, is_running_status}
 use Rattle.sw_value.specs.State.{in_job}
 use Rattle.sw_value.proofs.ListLemmas.{changed_at_found, slice_get_end}
-use Rattle.sw_machine_kind_facts.proofs.ItemLemmas.{changed_other}
-use Rattle.sw_machine_kind_facts.proofs.ItemLemmas.{changed_end}
+use Rattle.sw_partition.specs.Regions.{Regions}
+use Rattle.sw_machine_kind_facts.proofs.ItemLemmas.{changed_other, changed_end}
 use Rattle.sw_owner_facts.specs.Colours.{Colour}
 use Rattle.sw_owner_facts.specs.View.{Element, Here, Register, above, View, HoldsLive, InOneRegion}
-use Rattle.sw_owner_facts.specs.View.{FrameShape, IsLive, Holds}
-use Rattle.sw_owner_facts.specs.View.{Frame as Spot}
+use Rattle.sw_owner_facts.specs.View.{FrameShape, IsLive, Holds, Frame as Spot, IsDisconnected}
 use Rattle.sw_owner_facts.specs.Calls.{Called}
-use Rattle.sw_owner_facts.specs.View.{IsDisconnected}
 use Rattle.sw_owner_facts.proofs.FrameLemmas.{same_frame, below_differs, below_above}
-use Rattle.sw_partition.specs.Regions.{Regions}
-use Rattle.sw_reach_facts.specs.Reached.{colours_of}
 use Rattle.sw_region_facts.specs.FrameRegions.{live_in, TogetherIn, LiveIn, region_in}
+use Rattle.sw_reach_facts.specs.Reached.{colours_of}
 use Rattle.sw_view_facts.specs.Changes.{KeepsShape}
 use Rattle.sw_view_facts.specs.Steps.{height_in, runs_in}
-use Rattle.sw_view_facts.specs.Views.{Colours, frame_at, here_at, view_of, annotated}
-use Rattle.sw_view_facts.specs.Views.{state_with, elements_in}
-use Rattle.sw_view_facts.specs.Views.{live_by, waits, awaited_by, region_by}
+use Rattle.sw_view_facts.specs.Views.{Colours, frame_at, here_at, view_of, annotated, state_with}
+use Rattle.sw_view_facts.specs.Views.{elements_in, live_by, waits, awaited_by, region_by}
 use Rattle.sw_view_facts.specs.Shifts.{Shifts}
 use Rattle.sw_view_facts.proofs.ShiftLemmas.{kept_others, shape_stays, value_stays, elements_stay}
 
@@ -42,8 +38,8 @@ not_not : (b : Bool) → not b ≡ true → b ≡ false
 not_not true e = cc
 not_not false e = refl
 
--- The frame at p calls: t is put on top of it. `regions` says which states frames are in before, after
--- the operations on the arguments.
+-- The frame at p calls: t is put on top of it. `regions` says which states frames are in before,
+-- after the operations on the arguments.
 module _ (graph : Graph) (states : ℕ → List (Option Regions)) (regions : Spot → Option Regions)
     (state : State) (colours after : Colours) (p : Spot) (job : Job) (rest : List Frame)
     (f t : Frame) (made c : Regions)

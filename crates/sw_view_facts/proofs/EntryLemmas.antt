@@ -1,30 +1,29 @@
 -- What a frame holds where it begins: the values that it takes, whose colours are that of its
 -- `Here` where it is lent them.
-use Rattle.std.proofs.Common.{◌≡◌, ℕ, zero, suc, ◌-◌, Option, Some}
-use Rattle.std.proofs.Common.{None, List, [], length, map, Contains, refl, sym, subst, ap}
-use Rattle.std.proofs.Common.{◌∙◌, arith, inl, inr, replicate}
 use Rattle.std.specs.Option.{option_map, option_map_or, option_and_then}
 use Rattle.std.specs.List.{slice_get}
+use Rattle.std.proofs.Common.{◌≡◌, ℕ, zero, suc, ◌-◌, Option, Some, None, List, [], length, map}
+use Rattle.std.proofs.Common.{Contains, refl, sym, subst, ap, ◌∙◌, arith, inl, inr, replicate}
 use Rattle.std.proofs.lemmas.Bool.{cases_lt}
 use Rattle.std.proofs.lemmas.List.{length-map}
 use Rattle.std.proofs.lemmas.Option.{slice_get-map}
+use Rattle.sw_list.proofs.ListLemmas.{slice_get_first, slice_get_second}
 use Rattle.sw_graph.specs.declared.function.Function.{Function}
 use Rattle.sw_graph.specs.declared.graph.Graph.{Graph}
-use Rattle.sw_list.proofs.ListLemmas.{slice_get_first, slice_get_second}
 use Rattle.sw_value.specs.declared.frame.Frame.{Frame}
 use Rattle.sw_value.specs.declared.state.State.{State}
 use Rattle.sw_value.specs.declared.value.Value.{Value}
 use Rattle.sw_value.specs.Value.{value_at, registers}
+use Rattle.sw_partition.specs.Regions.{Regions}
+use Rattle.sw_region_ops.specs.Elements.{elements_of, element_at}
 use Rattle.sw_owner_facts.specs.Colours.{Colour}
 use Rattle.sw_owner_facts.specs.View.{Element, Here, Register, View, HoldsLive, InOneRegion}
 use Rattle.sw_owner_facts.specs.View.{Frame as Spot}
-use Rattle.sw_partition.specs.Regions.{Regions}
-use Rattle.sw_region_ops.specs.Elements.{elements_of, element_at}
-use Rattle.sw_reach_facts.specs.Reached.{colours_of}
 use Rattle.sw_region_facts.specs.FrameRegions.{TogetherIn, region_in}
+use Rattle.sw_reach_facts.specs.Reached.{colours_of}
+use Rattle.sw_reach_facts.proofs.ListLemmas.{none_in, member_at}
 use Rattle.sw_view_facts.specs.Views.{Colours, view_of, colours_by, elements_in, elements_with}
 use Rattle.sw_view_facts.specs.Views.{region_by}
-use Rattle.sw_reach_facts.proofs.ListLemmas.{none_in, member_at}
 use Rattle.sw_view_facts.specs.Entering.{TakesLent}
 
 -- the value of a register at the start is one of those that are given

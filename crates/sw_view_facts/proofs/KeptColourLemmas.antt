@@ -1,12 +1,11 @@
 -- Of colours that one frame holds, all but one are the job's own.
-use Rattle.std.proofs.Common.{◌≡◌, ℕ, ◌⊎◌, sym, ◌∙◌, inl, inr, refl, List, [], ◌∷◌, Contains}
-use Rattle.std.proofs.Common.{suc, arith}
+use Rattle.std.proofs.Common.{◌≡◌, ℕ, ◌⊎◌, sym, ◌∙◌, inl, inr, refl, List, [], ◌∷◌, Contains, suc}
+use Rattle.std.proofs.Common.{arith}
 use Rattle.sw_owner_facts.specs.Colours.{Colour, OfJob}
 use Rattle.sw_owner_facts.specs.View.{Frame, Element, View, HoldsLive}
 use Rattle.sw_owner_facts.specs.Owned.{IsOwned}
 use Rattle.sw_owner_facts.proofs.OwnerLemmas.{one_merges}
-use Rattle.sw_reach_facts.proofs.ListLemmas.{none_in}
-use Rattle.sw_reach_facts.proofs.ListLemmas.{head_cases}
+use Rattle.sw_reach_facts.proofs.ListLemmas.{none_in, head_cases}
 use Rattle.sw_view_facts.specs.Renaming.{AllButOne}
 
 -- Of colours that are held live by elements of one frame one can be kept.

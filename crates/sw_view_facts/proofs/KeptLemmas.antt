@@ -1,24 +1,22 @@
 -- Frames of jobs whose frames a step leaves as they are.
-use Rattle.std.proofs.Common.{◌≡◌, ℕ, zero, suc, Option, Some, None, Contains, refl, sym}
-use Rattle.std.proofs.Common.{subst, ap, ◌∙◌}
 use Rattle.std.specs.Option.{option_map, option_map_or}
+use Rattle.std.proofs.Common.{◌≡◌, ℕ, zero, suc, Option, Some, None, Contains, refl, sym, subst, ap}
+use Rattle.std.proofs.Common.{◌∙◌, []}
 use Rattle.sw_graph.specs.declared.graph.Graph.{Graph}
 use Rattle.sw_value.specs.declared.frame.Frame.{Frame}
 use Rattle.sw_value.specs.declared.state.State.{State}
 use Rattle.sw_value.specs.declared.value.Value.{Value}
 use Rattle.sw_value.specs.Value.{value_at}
-use Rattle.sw_owner_facts.specs.Colours.{Colour}
-use Rattle.sw_owner_facts.specs.View.{Element, FrameShape, Here, Holds, IsFrame, IsLive}
-use Rattle.sw_owner_facts.specs.View.{Register, View}
-use Rattle.sw_owner_facts.specs.View.{Frame as Spot}
-use Rattle.sw_owner_facts.specs.Within.{Kept}
 use Rattle.sw_partition.specs.Regions.{Regions}
+use Rattle.sw_owner_facts.specs.Colours.{Colour}
+use Rattle.sw_owner_facts.specs.View.{Element, FrameShape, Here, Holds, IsFrame, IsLive, Register}
+use Rattle.sw_owner_facts.specs.View.{View, Frame as Spot}
+use Rattle.sw_owner_facts.specs.Within.{Kept}
 use Rattle.sw_reach_facts.specs.Reached.{colours_of}
 use Rattle.sw_view_facts.specs.Changes.{KeepsReach}
 use Rattle.sw_view_facts.specs.Views.{Colours, awaited_by, colours_by, elements_in, frame_at}
-use Rattle.sw_view_facts.specs.Views.{frame_under, function_of, here_at, live_by, region_by, shape_by}
-use Rattle.sw_view_facts.specs.Views.{view_of}
-use Rattle.std.proofs.Common.{[]}
+use Rattle.sw_view_facts.specs.Views.{frame_under, function_of, here_at, live_by, region_by}
+use Rattle.sw_view_facts.specs.Views.{shape_by, view_of}
 
 module _ (graph : Graph) (regions later : Spot → Option Regions) (state next : State)
     (colours after : Colours) (p : Spot)

@@ -1,9 +1,9 @@
 -- A return, from the machine's step to a move of views.
-use Rattle.std.proofs.Common.{◌≡◌, ◌≤◌, ◌==◌, ℕ, zero, suc, Bool, true, false, Option, Some, None}
-use Rattle.std.proofs.Common.{List, [], ◌∷◌, ◌++◌, length, Contains, refl, sym, subst, ap, ◌∙◌, arith}
-use Rattle.std.proofs.Common.{cond}
 use Rattle.std.specs.Option.{option_and_then, option_map_or}
 use Rattle.std.specs.List.{slice_get, slice_set}
+use Rattle.std.proofs.Common.{◌≡◌, ◌≤◌, ◌==◌, ℕ, zero, suc, Bool, true, false, Option, Some, None}
+use Rattle.std.proofs.Common.{List, [], ◌∷◌, ◌++◌, length, Contains, refl, sym, subst, ap, ◌∙◌}
+use Rattle.std.proofs.Common.{arith, cond}
 use Rattle.std.proofs.lemmas.Bool.{eqb-true}
 use Rattle.std.proofs.lemmas.Option.{slice_get_past}
 use Rattle.sw_list.proofs.ListLemmas.{slice_get_first}
@@ -21,11 +21,10 @@ use Rattle.sw_value.specs.Reach.{step_of}
 use Rattle.sw_value.specs.State.{in_job}
 use Rattle.sw_value.specs.Value.{value_at}
 use Rattle.sw_value.proofs.ListLemmas.{some_injective}
+use Rattle.sw_partition.specs.Regions.{Regions}
 use Rattle.sw_owner_facts.specs.Calls.{Handed, Returned}
 use Rattle.sw_owner_facts.specs.Colours.{Colour}
-use Rattle.sw_owner_facts.specs.View.{View, above}
-use Rattle.sw_owner_facts.specs.View.{Frame as Spot}
-use Rattle.sw_partition.specs.Regions.{Regions}
+use Rattle.sw_owner_facts.specs.View.{View, above, Frame as Spot}
 use Rattle.sw_reach_facts.specs.Reached.{colours_of}
 use Rattle.sw_reach_facts.proofs.ListLemmas.{none_in}
 use Rattle.sw_view_facts.specs.Changes.{KeepsShape}

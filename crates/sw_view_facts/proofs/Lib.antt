@@ -22,3 +22,4 @@ pub mod TakenLemmas
 pub mod TopLemmas
 pub mod ValueLemmas
 pub mod WakeLemmas
+pub mod WholeLemmas

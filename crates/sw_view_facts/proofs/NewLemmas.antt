@@ -1,25 +1,24 @@
 -- What the reference to a new cell reaches, and that registers name the cells that were there.
-use Rattle.std.proofs.Common.{◌≡◌, ◌<◌, ℕ, Option, Some, None, List, [], ◌∷◌, ◌++◌, length}
-use Rattle.std.proofs.Common.{refl, sym, ap, ◌∙◌, arith, length-append}
 use Rattle.std.specs.Option.{option_and_then}
 use Rattle.std.specs.List.{slice_get, slice_index_or}
+use Rattle.std.proofs.Common.{◌≡◌, ◌<◌, ℕ, Option, Some, None, List, [], ◌∷◌, ◌++◌, length, refl}
+use Rattle.std.proofs.Common.{sym, ap, ◌∙◌, arith, length-append}
+use Rattle.std.proofs.Math.Seq.{get_or-append_seam}
 use Rattle.sw_graph.specs.declared.graph.Graph.{Graph}
 use Rattle.sw_value.specs.declared.cell.HeapCell.{HeapCell}
 use Rattle.sw_value.specs.declared.job.Job.{Job}
 use Rattle.sw_value.specs.declared.state.State.{State}
 use Rattle.sw_value.specs.declared.value.Value.TheVariants as value
+use Rattle.sw_value.specs.declared.cell.HeapCell.TheVariants.{Object, Actor, BoxOf, Closure, TaskOf}
+use Rattle.sw_value.specs.declared.value.Value.{Value}
+use Rattle.sw_value.proofs.ListLemmas.{slice_get_end}
 use Rattle.sw_machine_kind_facts.specs.Kinded.{Kinded}
 use Rattle.sw_owner_facts.specs.Colours.{Colour}
 use Rattle.sw_reach_facts.specs.Named.{NamesCells}
-use Rattle.sw_reach_facts.specs.Reached.{colours_of}
+use Rattle.sw_reach_facts.specs.Reached.{colours_of, shown, shown_below}
 use Rattle.sw_reach_facts.proofs.CellLemmas.{colours_of_cell, shows_own}
 use Rattle.sw_reach_facts.proofs.NamedLemmas.{registers_named}
 use Rattle.sw_view_facts.specs.Memory.{RegistersName}
-use Rattle.std.proofs.Math.Seq.{get_or-append_seam}
-use Rattle.sw_value.proofs.ListLemmas.{slice_get_end}
-use Rattle.sw_reach_facts.specs.Reached.{shown, shown_below}
-use Rattle.sw_value.specs.declared.cell.HeapCell.TheVariants.{Object, Actor, BoxOf, Closure, TaskOf}
-use Rattle.sw_value.specs.declared.value.Value.{Value}
 
 index_end : (xs : List (Option Colour)) (n : ℕ) (colour : Option Colour) → length xs ≡ n
     → slice_index_or (xs ++ colour ∷ []) n None ≡ colour

@@ -1,9 +1,8 @@
 -- Colours that become one keep a view sound.
-use Rattle.std.proofs.Common.{◌≡◌, ℕ, suc, ◌⊎◌, ◌==◌, ◌&&◌, cond}
-use Rattle.std.proofs.Common.{Option, Some, None, List, [], ◌∷◌, map, Contains, refl, sym}
-use Rattle.std.proofs.Common.{subst, ap, ◌∙◌, arith, inl, inr}
 use Rattle.std.specs.Option.{option_map, option_map_or}
 use Rattle.std.specs.List.{slice_get, slice_index_or}
+use Rattle.std.proofs.Common.{◌≡◌, ℕ, suc, ◌⊎◌, ◌==◌, ◌&&◌, cond, Option, Some, None, List, [], ◌∷◌}
+use Rattle.std.proofs.Common.{map, Contains, refl, sym, subst, ap, ◌∙◌, arith, inl, inr}
 use Rattle.std.proofs.lemmas.Bool.{cases_eq, eq-eqb, ne_eqb, and_left, and_right}
 use Rattle.std.proofs.lemmas.Option.{slice_get-map, get_or_from_slice_get}
 use Rattle.sw_graph.specs.declared.graph.Graph.{Graph}
@@ -11,20 +10,19 @@ use Rattle.sw_value.specs.declared.frame.Frame.{Frame}
 use Rattle.sw_value.specs.declared.state.State.{State}
 use Rattle.sw_value.specs.declared.value.Value.{Value}
 use Rattle.sw_value.specs.Value.{value_at}
+use Rattle.sw_partition.specs.Regions.{Regions}
 use Rattle.sw_owner_facts.specs.Colours.{Colour, OfJob, OfActor}
-use Rattle.sw_owner_facts.specs.View.{Element, Here, Register, View, IsFrame, IsTop, HoldsLive, IsUnheld}
-use Rattle.sw_owner_facts.specs.View.{InOneRegion}
-use Rattle.sw_owner_facts.specs.View.{Frame as Spot}
+use Rattle.sw_owner_facts.specs.View.{Element, Here, Register, View, IsFrame, IsTop, HoldsLive}
+use Rattle.sw_owner_facts.specs.View.{IsUnheld, InOneRegion, Frame as Spot}
 use Rattle.sw_owner_facts.specs.Owned.{IsSound}
 use Rattle.sw_owner_facts.specs.Within.{Becomes, Recoloured}
 use Rattle.sw_owner_facts.proofs.MergedLemmas.{merged}
 use Rattle.sw_owner_facts.proofs.WithinLemmas.{unheld}
-use Rattle.sw_partition.specs.Regions.{Regions}
 use Rattle.sw_reach_facts.specs.Reached.{colours_of}
-use Rattle.sw_view_facts.specs.Renaming.{renames, recoloured_by, united, HasHere, MayUnite}
-use Rattle.sw_view_facts.specs.Views.{Colours, frame_at, here_at, colours_by, view_of}
 use Rattle.sw_reach_facts.proofs.RenamedLemmas.{colours_renamed}
 use Rattle.sw_reach_facts.proofs.ListLemmas.{member_at, stands_at}
+use Rattle.sw_view_facts.specs.Renaming.{renames, recoloured_by, united, HasHere, MayUnite}
+use Rattle.sw_view_facts.specs.Views.{Colours, frame_at, here_at, colours_by, view_of}
 
 -- ---- colours
 pub renames_it : (job n : ℕ) (kept : Colour) → renames job n kept (OfJob job n) ≡ kept

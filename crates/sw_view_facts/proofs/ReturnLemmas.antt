@@ -1,15 +1,15 @@
 -- A return to the frame below, from the machine's step to soundness.
-use Rattle.std.proofs.Common.{◌≡◌, ◌≢◌, ℕ, suc, ◌<◌, ◌≤◌, ◌⊎◌, ◌==◌, ◌&&◌}
-use Rattle.std.proofs.Common.{true, false, not, cond, Option, Some, None, List, [], ◌∷◌, ◌++◌, length}
-use Rattle.std.proofs.Common.{Contains, refl, sym, subst, ap, ◌∙◌, arith, inl, inr}
 use Rattle.std.specs.Option.{option_map, option_map_or, option_and_then}
 use Rattle.std.specs.List.{slice_get, slice_set}
+use Rattle.std.proofs.Common.{◌≡◌, ◌≢◌, ℕ, suc, ◌<◌, ◌≤◌, ◌⊎◌, ◌==◌, ◌&&◌, true, false, not, cond}
+use Rattle.std.proofs.Common.{Option, Some, None, List, [], ◌∷◌, ◌++◌, length, Contains, refl, sym}
+use Rattle.std.proofs.Common.{subst, ap, ◌∙◌, arith, inl, inr, Bool}
 use Rattle.std.proofs.lemmas.Bool.{cases_eq, cases_lt, ne_eqb}
 use Rattle.std.proofs.lemmas.List.{length-append}
 use Rattle.std.proofs.lemmas.Option.{slice_get_past}
+use Rattle.sw_list.proofs.ListLemmas.{slice_get_first}
 use Rattle.sw_graph.specs.declared.function.Function.{Function}
 use Rattle.sw_graph.specs.declared.graph.Graph.{Graph}
-use Rattle.sw_list.proofs.ListLemmas.{slice_get_first}
 use Rattle.sw_value.specs.declared.frame.Frame.{Frame}
 use Rattle.sw_value.specs.declared.frame.TheConstants.{NO_REGISTER}
 use Rattle.sw_value.specs.declared.job.Job.{Job}
@@ -19,31 +19,27 @@ use Rattle.sw_value.specs.declared.value.Value.{Value}
 use Rattle.sw_value.specs.Frame.{take_result, set_register}
 use Rattle.sw_value.specs.Job.{leave, is_running, is_running_status}
 use Rattle.sw_value.specs.State.{in_job}
+use Rattle.sw_value.specs.Value.{value_at}
 use Rattle.sw_value.proofs.JobLemmas.{leave_some, return_to_there}
 use Rattle.sw_value.proofs.ListLemmas.{changed_at_found, slice_get_end}
-use Rattle.sw_machine_kind_facts.proofs.ItemLemmas.{changed_other}
-use Rattle.sw_machine_kind_facts.proofs.ItemLemmas.{last_of, top_of, set_end}
-use Rattle.sw_owner_facts.specs.Colours.{Colour}
-use Rattle.sw_owner_facts.specs.View.{Element, Here, Register, above, View, HoldsLive}
-use Rattle.sw_owner_facts.specs.View.{FrameShape, IsLive, Holds}
-use Rattle.sw_owner_facts.specs.View.{Frame as Spot}
-use Rattle.sw_owner_facts.specs.Calls.{Returned, Handed}
-use Rattle.sw_owner_facts.proofs.FrameLemmas.{same_frame, below_differs, below_above, cases_register}
+use Rattle.sw_solve.specs.Annotation as annotation
 use Rattle.sw_partition.specs.Regions.{Regions}
+use Rattle.sw_machine_kind_facts.proofs.ItemLemmas.{changed_other, last_of, top_of, set_end}
+use Rattle.sw_machine_kind_facts.proofs.ItemLemmas.{set_other}
+use Rattle.sw_owner_facts.specs.Colours.{Colour}
+use Rattle.sw_owner_facts.specs.View.{Element, Here, Register, above, View, HoldsLive, FrameShape}
+use Rattle.sw_owner_facts.specs.View.{IsLive, Holds, Frame as Spot}
+use Rattle.sw_owner_facts.specs.Calls.{Returned, Handed}
+use Rattle.sw_owner_facts.proofs.FrameLemmas.{same_frame, below_differs, below_above}
+use Rattle.sw_owner_facts.proofs.FrameLemmas.{cases_register}
 use Rattle.sw_reach_facts.specs.Reached.{colours_of}
-use Rattle.sw_view_facts.specs.Views.{Colours, frame_at, shape_by, shape_with, here_at, view_of, annotated}
-use Rattle.sw_view_facts.specs.Views.{state_with, elements_in}
-use Rattle.sw_view_facts.specs.Views.{function_of, frame_under}
+use Rattle.sw_view_facts.specs.Views.{Colours, frame_at, shape_by, shape_with, here_at, view_of}
+use Rattle.sw_view_facts.specs.Views.{annotated, state_with, elements_in, function_of, frame_under}
 use Rattle.sw_view_facts.specs.Views.{live_by, awaited_by, region_by, colours_by, live_with}
 use Rattle.sw_view_facts.specs.Shifts.{Shifts}
-use Rattle.sw_machine_kind_facts.proofs.ItemLemmas.{set_other}
-use Rattle.sw_view_facts.proofs.ShiftLemmas.{kept_others, shape_stays, value_stays, elements_stay}
-use Rattle.sw_machine_kind_facts.proofs.ItemLemmas.{set_other}
-use Rattle.sw_solve.specs.Annotation as annotation
-use Rattle.sw_value.specs.Value.{value_at}
 use Rattle.sw_view_facts.specs.Changes.{KeepsShape}
 use Rattle.sw_view_facts.specs.Steps.{SameCall, height_in, runs_in}
-use Rattle.std.proofs.Common.{Bool}
+use Rattle.sw_view_facts.proofs.ShiftLemmas.{kept_others, shape_stays, value_stays, elements_stay}
 
 -- what holds of a frame and of the frame with register r set holds of the frame that takes a result
 pub takes : (r : ℕ) (v : Value) (f : Frame) (P : Frame → Type 0) → P f → P (set_register r v f)

@@ -1,9 +1,9 @@
 -- When a frame keeps its shape.
-use Rattle.std.proofs.Common.{◌≡◌, ◌+◌, ◌&&◌, ℕ, Bool, true, false, not, cond}
-use Rattle.std.proofs.Common.{Option, Some, None, List, refl, sym, ap, ◌∙◌, add-one}
 use Rattle.std.specs.Prelude.{IsTrue}
 use Rattle.std.specs.Option.{option_and_then}
 use Rattle.std.specs.List.{slice_get}
+use Rattle.std.proofs.Common.{◌≡◌, ◌+◌, ◌&&◌, ℕ, Bool, true, false, not, cond, Option, Some, None}
+use Rattle.std.proofs.Common.{List, refl, sym, ap, ◌∙◌, add-one}
 use Rattle.std.proofs.lemmas.Bool.{and_left, and_right}
 use Rattle.sw_types.specs.declared.isolation.Iso.{Iso}
 use Rattle.sw_types.specs.declared.isolation.Iso.TheVariants as iso
@@ -19,8 +19,8 @@ use Rattle.sw_owner_facts.specs.View.{MakesActor}
 use Rattle.sw_view_facts.specs.Changes.{KeepsShape}
 use Rattle.sw_view_facts.specs.Steps.{SameCall}
 use Rattle.sw_view_facts.specs.Views.{closes, closes_at, is_return, isolation_by, isolation_in}
-use Rattle.sw_view_facts.specs.Views.{makes_itself, on_actor, shape_by, shape_with}
-use Rattle.sw_view_facts.specs.Views.{stands_on, tracked_in}
+use Rattle.sw_view_facts.specs.Views.{makes_itself, on_actor, shape_by, shape_with, stands_on}
+use Rattle.sw_view_facts.specs.Views.{tracked_in}
 
 same_cond : {X : Type 0} (b : Bool) (x y z : X) → (b ≡ false → y ≡ z) → cond b x y ≡ cond b x z
 same_cond true x y z same = refl

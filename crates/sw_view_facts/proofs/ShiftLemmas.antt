@@ -1,26 +1,24 @@
 -- A call or a return, as a change of views: the frames that it leaves as they are.
-use Rattle.std.proofs.Common.{◌≡◌, ◌≢◌, ℕ, zero, suc}
-use Rattle.std.proofs.Common.{Option, Some, None, [], Contains, refl, sym, subst}
-use Rattle.std.proofs.Common.{ap, ◌∙◌, inl, inr}
 use Rattle.std.specs.Option.{option_map, option_map_or}
 use Rattle.std.specs.List.{slice_get}
+use Rattle.std.proofs.Common.{◌≡◌, ◌≢◌, ℕ, zero, suc, Option, Some, None, [], Contains, refl, sym}
+use Rattle.std.proofs.Common.{subst, ap, ◌∙◌, inl, inr}
 use Rattle.sw_graph.specs.declared.function.Function.{Function}
 use Rattle.sw_graph.specs.declared.graph.Graph.{Graph}
 use Rattle.sw_value.specs.declared.frame.Frame.{Frame}
 use Rattle.sw_value.specs.declared.state.State.{State}
 use Rattle.sw_value.specs.declared.value.Value.{Value}
 use Rattle.sw_value.specs.Value.{value_at}
+use Rattle.sw_partition.specs.Regions.{Regions}
 use Rattle.sw_owner_facts.specs.Colours.{Colour}
-use Rattle.sw_owner_facts.specs.View.{Element, Here, Register, above, View}
-use Rattle.sw_owner_facts.specs.View.{FrameShape, IsLive, Holds}
-use Rattle.sw_owner_facts.specs.View.{Frame as Spot}
+use Rattle.sw_owner_facts.specs.View.{Element, Here, Register, above, View, FrameShape, IsLive}
+use Rattle.sw_owner_facts.specs.View.{Holds, Frame as Spot}
 use Rattle.sw_owner_facts.specs.Within.{Kept}
 use Rattle.sw_owner_facts.proofs.FrameLemmas.{cases_frame}
-use Rattle.sw_partition.specs.Regions.{Regions}
 use Rattle.sw_reach_facts.specs.Reached.{colours_of}
-use Rattle.sw_view_facts.specs.Views.{Colours, frame_at, frame_under, function_of, shape_by, elements_in}
-use Rattle.sw_view_facts.specs.Views.{elements_with, region_by, live_by, colours_by, awaited_by}
-use Rattle.sw_view_facts.specs.Views.{view_of}
+use Rattle.sw_view_facts.specs.Views.{Colours, frame_at, frame_under, function_of, shape_by}
+use Rattle.sw_view_facts.specs.Views.{elements_in, elements_with, region_by, live_by, colours_by}
+use Rattle.sw_view_facts.specs.Views.{awaited_by, view_of}
 use Rattle.sw_view_facts.specs.Shifts.{Shifts}
 
 above_same : (s t : Spot) → above s ≡ above t → s ≡ t

@@ -1,9 +1,10 @@
 -- A job more, as a move of views.
-use Rattle.std.proofs.Common.{◌≡◌, ◌≢◌, ◌⊎◌, ◌<◌, ℕ, zero, suc, false, Option, Some, None, [], ◌∷◌}
-use Rattle.std.proofs.Common.{◌++◌, length, refl, sym, subst, ap, ◌∙◌, arith, inl, inr, length-append}
 use Rattle.std.specs.Option.{option_and_then, option_map_or}
 use Rattle.std.specs.List.{slice_get}
-use Rattle.std.proofs.lemmas.Bool.{cases_lt}
+use Rattle.std.proofs.Common.{◌≡◌, ◌≢◌, ◌⊎◌, ◌<◌, ℕ, zero, suc, false, Option, Some, None, [], ◌∷◌}
+use Rattle.std.proofs.Common.{◌++◌, length, refl, sym, subst, ap, ◌∙◌, arith, inl, inr}
+use Rattle.std.proofs.Common.{length-append, true}
+use Rattle.std.proofs.lemmas.Bool.{cases_lt, cases_eq}
 use Rattle.std.proofs.lemmas.Option.{slice_get_past, slice_get_within}
 use Rattle.sw_list.proofs.ListLemmas.{slice_get_first}
 use Rattle.sw_graph.specs.declared.graph.Graph.{Graph}
@@ -13,21 +14,16 @@ use Rattle.sw_value.specs.declared.state.State.{State}
 use Rattle.sw_value.specs.Job.{is_running, new_job}
 use Rattle.sw_value.specs.State.{add_job}
 use Rattle.sw_value.proofs.ListLemmas.{slice_get_end}
+use Rattle.sw_partition.specs.Regions.{Regions}
 use Rattle.sw_owner_facts.specs.Calls.{IsOnActor, IsOnNone, Spawned}
 use Rattle.sw_owner_facts.specs.Colours.{Actor, Colour}
-use Rattle.sw_owner_facts.specs.View.{Element, HoldsLive, InOneRegion, IsDisconnected, IsFrame, View}
-use Rattle.sw_owner_facts.specs.View.{bottom}
-use Rattle.sw_owner_facts.specs.View.{Frame as Spot}
+use Rattle.sw_owner_facts.specs.View.{Element, HoldsLive, InOneRegion, IsDisconnected, IsFrame}
+use Rattle.sw_owner_facts.specs.View.{View, bottom, Frame as Spot}
 use Rattle.sw_owner_facts.specs.Within.{Kept}
-use Rattle.sw_partition.specs.Regions.{Regions}
 use Rattle.sw_reach_facts.specs.Reached.{colours_of}
-use Rattle.sw_view_facts.specs.Steps.{height_in, runs_in}
-use Rattle.sw_view_facts.specs.Views.{Colours, here_at, view_of}
+use Rattle.sw_view_facts.specs.Steps.{height_in, runs_in, TopAt}
+use Rattle.sw_view_facts.specs.Views.{Colours, here_at, view_of, shape_by, shape_with}
 use Rattle.sw_view_facts.proofs.KeptLemmas.{kept_as_is}
-use Rattle.std.proofs.lemmas.Bool.{cases_eq}
-use Rattle.std.proofs.Common.{true}
-use Rattle.sw_view_facts.specs.Views.{shape_by, shape_with}
-use Rattle.sw_view_facts.specs.Steps.{TopAt}
 
 module _ (graph : Graph) (regions later : Spot → Option Regions) (state : State) (frame : Frame)
     (colours after : Colours) (cells : after.cells ≡ colours.cells)

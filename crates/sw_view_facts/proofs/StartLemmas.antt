@@ -1,9 +1,8 @@
 -- Before any item: frames that hold nothing but the colour of their `Here`.
-use Rattle.std.proofs.Common.{◌≡◌, ℕ, ◌⊎◌, ◌&&◌, Bool, true, false, cond, IsTrue}
-use Rattle.std.proofs.Common.{Option, Some, None, List, [], Contains, refl, sym, subst}
-use Rattle.std.proofs.Common.{ap, ◌∙◌, arith, inl, inr}
 use Rattle.std.specs.Option.{option_map_or}
-use Rattle.std.specs.List.{slice_get}
+use Rattle.std.specs.List.{slice_get, list_any}
+use Rattle.std.proofs.Common.{◌≡◌, ℕ, ◌⊎◌, ◌&&◌, Bool, true, false, cond, IsTrue, Option, Some}
+use Rattle.std.proofs.Common.{None, List, [], Contains, refl, sym, subst, ap, ◌∙◌, arith, inl, inr}
 use Rattle.sw_types.specs.declared.isolation.Iso.{Iso}
 use Rattle.sw_types.specs.declared.isolation.Iso.TheVariants.{Free, Global}
 use Rattle.sw_graph.specs.declared.function.Function.{Function}
@@ -11,21 +10,21 @@ use Rattle.sw_graph.specs.declared.graph.Graph.{Graph}
 use Rattle.sw_graph.specs.Bodies.{is_own, makes_actor}
 use Rattle.sw_graph.specs.Points.{point_in, points_of}
 use Rattle.sw_graph.specs.Sure.{point_before}
-use Rattle.std.specs.List.{list_any}
 use Rattle.sw_value.specs.declared.frame.Frame.{Frame}
 use Rattle.sw_value.specs.declared.state.State.{State}
 use Rattle.sw_value.specs.declared.value.Value.{Value}
-use Rattle.sw_owner_facts.specs.Colours.{Actor, Colour, OfJob, OfActor, GlobalActor, Generic, On, IsOwnedBy}
+use Rattle.sw_partition.specs.Regions.{Regions}
+use Rattle.sw_owner_facts.specs.Colours.{Actor, Colour, OfJob, OfActor, GlobalActor, Generic, On}
+use Rattle.sw_owner_facts.specs.Colours.{IsOwnedBy}
 use Rattle.sw_owner_facts.specs.View.{Element, Here, Register, above, View, IsFrame, HoldsLive}
 use Rattle.sw_owner_facts.specs.View.{Nonisolated, IsolatedTo, MakesActor, FrameShape}
 use Rattle.sw_owner_facts.specs.View.{Frame as Spot}
 use Rattle.sw_owner_facts.specs.Owned.{IsSound}
-use Rattle.sw_partition.specs.Regions.{Regions}
 use Rattle.sw_reach_facts.specs.Reached.{colours_of}
-use Rattle.sw_view_facts.specs.Views.{Colours, view_of, frame_at, frame_under, function_of}
-use Rattle.sw_view_facts.specs.Views.{shape_by, shape_with, isolation_in, isolation_by}
-use Rattle.sw_view_facts.specs.Views.{colours_by, stands_on, closes}
 use Rattle.sw_reach_facts.proofs.ListLemmas.{none_in}
+use Rattle.sw_view_facts.specs.Views.{Colours, view_of, frame_at, frame_under, function_of}
+use Rattle.sw_view_facts.specs.Views.{shape_by, shape_with, isolation_in, isolation_by, colours_by}
+use Rattle.sw_view_facts.specs.Views.{stands_on, closes}
 use Rattle.sw_view_facts.specs.Entering.{IsFirstFrame}
 
 module _ (graph : Graph) (regions : Spot → Option Regions) (state : State) (colours : Colours)

@@ -1,39 +1,32 @@
 -- An effect that changes one frame, from the machine's step to soundness.
-use Rattle.std.proofs.Common.{◌≡◌, ◌≢◌, ℕ, Option, Some, None, List, Contains, refl, sym}
-use Rattle.std.proofs.Common.{slice_get, subst, ap, ◌∙◌}
+use Rattle.std.proofs.Common.{◌≡◌, ◌≢◌, ℕ, Option, Some, None, List, Contains, refl, sym, slice_get}
+use Rattle.std.proofs.Common.{subst, ap, ◌∙◌, true}
 use Rattle.sw_graph.specs.declared.function.Function.{Function}
 use Rattle.sw_graph.specs.declared.graph.Graph.{Graph}
 use Rattle.sw_value.specs.declared.effect.Effect.{Effect}
 use Rattle.sw_value.specs.declared.frame.Frame.{Frame}
 use Rattle.sw_value.specs.declared.job.Job.{Job}
 use Rattle.sw_value.specs.declared.state.State.{State}
-use Rattle.sw_owner_facts.specs.Colours.{Colour, OfJob}
-use Rattle.sw_owner_facts.specs.Owned.{IsSound}
-use Rattle.sw_owner_facts.specs.View.{Element, IsUnheld, Register}
-use Rattle.sw_owner_facts.specs.View.{Frame as Spot}
-use Rattle.sw_owner_facts.specs.Within.{GivenAway, Weakened}
-use Rattle.sw_owner_facts.proofs.FreshenedLemmas.{freshened}
-use Rattle.sw_owner_facts.proofs.WithinLemmas.{comes, weakened}
 use Rattle.sw_partition.specs.Regions.{Regions}
 use Rattle.sw_region_ops.specs.Elements.{elements_of}
+use Rattle.sw_owner_facts.specs.Colours.{Colour, OfJob}
+use Rattle.sw_owner_facts.specs.Owned.{IsSound}
+use Rattle.sw_owner_facts.specs.View.{Element, IsUnheld, Register, Frame as Spot}
+use Rattle.sw_owner_facts.specs.Within.{GivenAway, Weakened, BeginsClosing}
+use Rattle.sw_owner_facts.proofs.FreshenedLemmas.{freshened}
+use Rattle.sw_owner_facts.proofs.WithinLemmas.{comes, weakened}
 use Rattle.sw_region_facts.specs.FrameRegions.{IsWeaker, LiveIn, TogetherIn}
 use Rattle.sw_region_facts.specs.Moves as moves
 use Rattle.sw_region_facts.specs.Moves.{IsSent, Sets}
-use Rattle.sw_view_facts.specs.Changes.{Changes, HoldsIn, KeepsOthers}
+use Rattle.sw_view_facts.specs.Changes.{Changes, HoldsIn, KeepsOthers, KeepsShape}
 use Rattle.sw_view_facts.specs.Effects.{register_of, turn_of}
 use Rattle.sw_view_facts.specs.Executing.{Executes}
 use Rattle.sw_view_facts.specs.Steps.{ChangesFrame, TopAt}
-use Rattle.sw_view_facts.specs.Views.{Colours, colours_by, elements_in, elements_with}
-use Rattle.sw_view_facts.specs.Views.{here_at, view_of}
-use Rattle.sw_view_facts.proofs.ChangeLemmas.{freshens, gives_away, sets_come, weakens}
-use Rattle.sw_view_facts.proofs.EffectLemmas.{annotated_kept, inside_changes}
-use Rattle.sw_view_facts.proofs.EffectLemmas.{others_kept}
+use Rattle.sw_view_facts.specs.Views.{Colours, colours_by, elements_in, elements_with, here_at}
+use Rattle.sw_view_facts.specs.Views.{view_of, shape_by}
+use Rattle.sw_view_facts.proofs.ChangeLemmas.{freshens, gives_away, sets_come, weakens, closes_now}
+use Rattle.sw_view_facts.proofs.EffectLemmas.{annotated_kept, inside_changes, others_kept}
 use Rattle.sw_view_facts.proofs.TopLemmas.{untouched}
-use Rattle.std.proofs.Common.{true}
-use Rattle.sw_view_facts.specs.Changes.{KeepsShape}
-use Rattle.sw_view_facts.specs.Views.{shape_by}
-use Rattle.sw_owner_facts.specs.Within.{BeginsClosing}
-use Rattle.sw_view_facts.proofs.ChangeLemmas.{closes_now}
 
 -- ---- the same state, with the top frame of a job in another region state
 module _ (graph : Graph) (regions later : Spot → Option Regions) (state : State) (colours : Colours)

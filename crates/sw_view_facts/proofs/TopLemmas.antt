@@ -1,8 +1,8 @@
 -- What a change of a job's top frame does to the frames of a state.
-use Rattle.std.proofs.Common.{List, ◌++◌, ◌∷◌, [], ◌≡◌, ◌≢◌, ℕ, suc, ◌-◌, false, Some, None, length, refl, sym}
-use Rattle.std.proofs.Common.{ap, ◌∙◌, arith, inl, inr}
 use Rattle.std.specs.Option.{option_and_then, option_map_or}
 use Rattle.std.specs.List.{slice_get}
+use Rattle.std.proofs.Common.{List, ◌++◌, ◌∷◌, [], ◌≡◌, ◌≢◌, ℕ, suc, ◌-◌, false, Some, None, length}
+use Rattle.std.proofs.Common.{refl, sym, ap, ◌∙◌, arith, inl, inr, length-append}
 use Rattle.std.proofs.lemmas.Bool.{cases_eq}
 use Rattle.std.proofs.lemmas.Option.{slice_get_past}
 use Rattle.sw_value.specs.declared.frame.Frame.{Frame}
@@ -14,15 +14,13 @@ use Rattle.sw_value.specs.Frame.{finish_instr, go_on, set_register}
 use Rattle.sw_value.specs.Job.{in_top, is_running, rest, wait, wake}
 use Rattle.sw_value.specs.Lists.{changed_at}
 use Rattle.sw_value.specs.State.{in_job}
-use Rattle.sw_value.proofs.ListLemmas.{changed_at_found, length-changed_at}
-use Rattle.sw_value.proofs.ListLemmas.{slice_get_end, some_injective}
+use Rattle.sw_value.proofs.ListLemmas.{changed_at_found, length-changed_at, slice_get_end}
+use Rattle.sw_value.proofs.ListLemmas.{some_injective}
 use Rattle.sw_machine_kind_facts.proofs.ItemLemmas.{changed_other, split_end}
-use Rattle.sw_owner_facts.specs.View.{above}
-use Rattle.sw_owner_facts.specs.View.{Frame as Spot}
+use Rattle.sw_owner_facts.specs.View.{above, Frame as Spot}
 use Rattle.sw_owner_facts.proofs.FrameLemmas.{same_frame}
 use Rattle.sw_view_facts.specs.Steps.{TopAt, SameCall, TurnsTop, ChangesFrame, height_in, runs_in}
 use Rattle.sw_view_facts.specs.Views.{frame_at}
-use Rattle.std.proofs.Common.{length-append}
 
 -- ---- changes of a job that turn its top frame
 pub turns_in_top : (g : Frame → Frame) → TurnsTop g (in_top g)

@@ -1,8 +1,8 @@
 -- What the register reaches that an effect sets.
-use Rattle.std.proofs.Common.{◌≡◌, ◌⊎◌, ℕ, Option, Some, None, List, [], length}
-use Rattle.std.proofs.Common.{Contains, refl, sym, subst, inl, inr}
 use Rattle.std.specs.Option.{option_and_then, option_map, option_map_or}
-use Rattle.std.specs.List.{slice_get}
+use Rattle.std.specs.List.{slice_get, slice_set}
+use Rattle.std.proofs.Common.{◌≡◌, ◌⊎◌, ℕ, Option, Some, None, List, [], length, Contains, refl}
+use Rattle.std.proofs.Common.{sym, subst, inl, inr, flat_map}
 use Rattle.sw_value.specs.declared.effect.Effect.{Effect}
 use Rattle.sw_value.specs.declared.effect.Effect.TheVariants as effect
 use Rattle.sw_value.specs.declared.frame.Frame.{Frame}
@@ -20,8 +20,6 @@ use Rattle.sw_reach_facts.proofs.ReferenceLemmas.{references-void}
 use Rattle.sw_view_facts.specs.Effects.{register_of, turn_of, value_by}
 use Rattle.sw_view_facts.specs.Views.{Colours, colours_by}
 use Rattle.sw_view_facts.proofs.LeaveLemmas.{set_has}
-use Rattle.std.proofs.Common.{flat_map}
-use Rattle.std.specs.List.{slice_set}
 
 -- the register has that value, if it is there
 value_is : (e : Effect) (f : Frame) (r : ℕ) (v w : Value) → register_of e ≡ Some r

@@ -1,9 +1,9 @@
 -- A job that goes on with the result of another, from the machine's step to soundness.
-use Rattle.std.proofs.Common.{◌≡◌, ◌≢◌, ℕ, Option, Some, None, List, [], Contains, refl, sym, subst, ap}
-use Rattle.std.proofs.Common.{◌∙◌}
 use Rattle.std.specs.Prelude.{IsTrue}
 use Rattle.std.specs.Option.{option_and_then, option_map_or}
 use Rattle.std.specs.List.{slice_get}
+use Rattle.std.proofs.Common.{◌≡◌, ◌≢◌, ℕ, Option, Some, None, List, [], Contains, refl, sym, subst}
+use Rattle.std.proofs.Common.{ap, ◌∙◌}
 use Rattle.sw_graph.specs.declared.function.Function.{Function}
 use Rattle.sw_graph.specs.declared.graph.Graph.{Graph}
 use Rattle.sw_graph.specs.Bodies.{has_self}
@@ -15,29 +15,28 @@ use Rattle.sw_value.specs.Frame.{set_register}
 use Rattle.sw_value.specs.Job.{wake}
 use Rattle.sw_value.specs.State.{in_job}
 use Rattle.sw_value.specs.Value.{value_at}
+use Rattle.sw_value.specs.declared.effect.Act.TheVariants.{Wake}
+use Rattle.sw_value.specs.Act.{act_of}
+use Rattle.sw_value.specs.Reach.{step_of}
+use Rattle.sw_value.proofs.ReachLemmas.{after_acts, step_by_act}
+use Rattle.sw_partition.specs.Regions.{Regions}
 use Rattle.sw_machine_kind_facts.proofs.ItemLemmas.{set_other}
 use Rattle.sw_owner_facts.specs.Colours.{Colour}
 use Rattle.sw_owner_facts.specs.Owned.{IsSound}
 use Rattle.sw_owner_facts.specs.View.{Frame as Spot}
 use Rattle.sw_owner_facts.proofs.WithinLemmas.{comes}
-use Rattle.sw_partition.specs.Regions.{Regions}
 use Rattle.sw_region_facts.specs.Moves as moves
+use Rattle.sw_region_facts.proofs.Comes.{sets_weaker}
 use Rattle.sw_reach_facts.specs.Reached.{colours_of}
 use Rattle.sw_reach_facts.proofs.ListLemmas.{none_in}
 use Rattle.sw_view_facts.specs.Changes.{Changes, KeepsOthers, KeepsShape}
 use Rattle.sw_view_facts.specs.Steps.{ChangesFrame, SameCall, TopAt}
-use Rattle.sw_view_facts.specs.Views.{Colours, annotated, elements_in, view_of}
+use Rattle.sw_view_facts.specs.Views.{Colours, annotated, elements_in, view_of, state_with}
 use Rattle.sw_view_facts.proofs.ChangeLemmas.{sets_come}
 use Rattle.sw_view_facts.proofs.EffectLemmas.{annotated_kept}
 use Rattle.sw_view_facts.proofs.LeaveLemmas.{set_has}
 use Rattle.sw_view_facts.proofs.ShapeLemmas.{isolation_kept, shape_kept}
-use Rattle.sw_region_facts.proofs.Comes.{sets_weaker}
 use Rattle.sw_view_facts.proofs.TopLemmas.{frame_was, turned, turns_wake}
-use Rattle.sw_view_facts.specs.Views.{state_with}
-use Rattle.sw_value.specs.declared.effect.Act.TheVariants.{Wake}
-use Rattle.sw_value.specs.Act.{act_of}
-use Rattle.sw_value.specs.Reach.{step_of}
-use Rattle.sw_value.proofs.ReachLemmas.{after_acts, step_by_act}
 
 -- The result reaches no colour.
 pub wake_keeps : (graph : Graph) (states : ℕ → List (Option Regions)) (state next : State) (q : Spot)

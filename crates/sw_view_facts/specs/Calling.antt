@@ -9,9 +9,8 @@ use Rattle.sw_value.specs.declared.frame.Frame.{Frame}
 use Rattle.sw_value.specs.declared.job.Job.{Job}
 use Rattle.sw_value.specs.declared.state.State.{State}
 use Rattle.sw_value.specs.Effect.{point_effect}
-use Rattle.sw_owner_facts.specs.View.{above}
-use Rattle.sw_owner_facts.specs.View.{Frame as Spot}
 use Rattle.sw_partition.specs.Regions.{Regions}
+use Rattle.sw_owner_facts.specs.View.{above, Frame as Spot}
 use Rattle.sw_view_facts.specs.Standing.{StandsAt}
 use Rattle.sw_view_facts.specs.Views.{Colours, annotated, here_at, makes_itself}
 

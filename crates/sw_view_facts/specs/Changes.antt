@@ -6,10 +6,9 @@ use Rattle.sw_value.specs.declared.frame.Frame.{Frame}
 use Rattle.sw_value.specs.declared.state.State.{State}
 use Rattle.sw_value.specs.declared.value.Value.{Value}
 use Rattle.sw_value.specs.Value.{value_at}
-use Rattle.sw_owner_facts.specs.Colours.{Colour}
-use Rattle.sw_owner_facts.specs.View.{Element, Here, Register}
-use Rattle.sw_owner_facts.specs.View.{Frame as Spot}
 use Rattle.sw_partition.specs.Regions.{Regions}
+use Rattle.sw_owner_facts.specs.Colours.{Colour}
+use Rattle.sw_owner_facts.specs.View.{Element, Here, Register, Frame as Spot}
 use Rattle.sw_reach_facts.specs.Reached.{colours_of}
 use Rattle.sw_view_facts.specs.Steps.{ChangesFrame}
 use Rattle.sw_view_facts.specs.Views.{Colours, frame_at, shape_by, here_at, colours_by}

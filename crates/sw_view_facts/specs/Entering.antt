@@ -9,17 +9,16 @@ use Rattle.sw_value.specs.declared.frame.Frame.{Frame}
 use Rattle.sw_value.specs.declared.state.State.{State}
 use Rattle.sw_value.specs.declared.value.Value.{Value}
 use Rattle.sw_value.specs.Value.{registers, value_at}
-use Rattle.sw_owner_facts.specs.Colours.{Colour, GlobalActor, OfActor, OfJob}
-use Rattle.sw_owner_facts.specs.View.{Here, Register}
-use Rattle.sw_owner_facts.specs.View.{Frame as Spot}
 use Rattle.sw_partition.specs.Regions.{Regions}
-use Rattle.sw_region_facts.specs.FrameRegions.{TogetherIn}
 use Rattle.sw_region_ops.specs.Elements.{element_at, elements_of}
+use Rattle.sw_owner_facts.specs.Colours.{Colour, GlobalActor, OfActor, OfJob}
+use Rattle.sw_owner_facts.specs.View.{Here, Register, Frame as Spot}
+use Rattle.sw_region_facts.specs.FrameRegions.{TogetherIn}
 use Rattle.sw_reach_facts.specs.Reached.{colours_of}
 use Rattle.sw_view_facts.specs.Views.{Colours, frame_at, here_at, result_in}
 
--- A frame of the entry or of a first value, before any item: it has no values, and stands on no actor
--- or on the global actor of its function.
+-- A frame of the entry or of a first value, before any item: it has no values, and stands on no
+-- actor or on the global actor of its function.
 pub record IsFirstFrame (graph : Graph) (colours : Colours) (p : Spot) (h : Frame) : Type 0 where
   pub function : Function
   pub is : slice_get graph.functions h.function ≡ Some function

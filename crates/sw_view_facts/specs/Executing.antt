@@ -7,8 +7,8 @@ use Rattle.sw_value.specs.declared.frame.Frame.{Frame}
 use Rattle.sw_value.specs.declared.job.Job.{Job}
 use Rattle.sw_value.specs.declared.state.State.{State}
 use Rattle.sw_value.specs.Reach.{after_effect}
-use Rattle.sw_owner_facts.specs.View.{Frame as Spot}
 use Rattle.sw_partition.specs.Regions.{Regions}
+use Rattle.sw_owner_facts.specs.View.{Frame as Spot}
 use Rattle.sw_view_facts.specs.Changes.{KeepsReach}
 use Rattle.sw_view_facts.specs.Effects.{is_inside}
 use Rattle.sw_view_facts.specs.Steps.{TopAt}

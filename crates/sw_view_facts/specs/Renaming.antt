@@ -1,12 +1,11 @@
 -- Colours that become another one, everywhere.
-use Rattle.std.specs.Prelude.{◌≡◌, ◌⊎◌, ℕ, ◌==◌, ◌&&◌, if◌then◌else◌, Some, List, [], ◌∷◌}
-use Rattle.std.specs.Prelude.{map, slice_get}
+use Rattle.std.specs.Prelude.{◌≡◌, ◌⊎◌, ℕ, ◌==◌, ◌&&◌, if◌then◌else◌, Some, List, [], ◌∷◌, map}
+use Rattle.std.specs.Prelude.{slice_get, Contains}
 use Rattle.std.specs.Option.{option_map}
 use Rattle.sw_owner_facts.specs.Colours.{Colour, OfJob, OfActor}
 use Rattle.sw_owner_facts.specs.View.{Element, View, HoldsLive, IsUnheld, InOneRegion}
 use Rattle.sw_owner_facts.specs.View.{Frame as Spot}
 use Rattle.sw_view_facts.specs.Views.{Colours}
-use Rattle.std.specs.Prelude.{Contains, ◌⊎◌}
 
 -- a colour of a job becomes `kept`
 abbrev pub renames : ℕ → ℕ → Colour → Colour → Colour

@@ -11,8 +11,7 @@ use Rattle.sw_value.specs.declared.job.Job.{Job}
 use Rattle.sw_value.specs.declared.state.State.{State}
 use Rattle.sw_value.specs.declared.value.Value.{Value}
 use Rattle.sw_value.specs.Effect.{point_effect}
-use Rattle.sw_owner_facts.specs.View.{above}
-use Rattle.sw_owner_facts.specs.View.{Frame as Spot}
+use Rattle.sw_owner_facts.specs.View.{above, Frame as Spot}
 use Rattle.sw_view_facts.specs.Standing.{StandsAt}
 use Rattle.sw_view_facts.specs.Views.{Colours, frame_at, here_at}
 

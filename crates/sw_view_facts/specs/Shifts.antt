@@ -3,9 +3,8 @@ use Rattle.std.specs.Prelude.{◌≡◌, ◌≢◌, Option, Some, None}
 use Rattle.sw_graph.specs.declared.graph.Graph.{Graph}
 use Rattle.sw_value.specs.declared.frame.Frame.{Frame}
 use Rattle.sw_value.specs.declared.state.State.{State}
-use Rattle.sw_owner_facts.specs.View.{above, IsFrame}
-use Rattle.sw_owner_facts.specs.View.{Frame as Spot}
 use Rattle.sw_partition.specs.Regions.{Regions}
+use Rattle.sw_owner_facts.specs.View.{above, IsFrame, Frame as Spot}
 use Rattle.sw_view_facts.specs.Views.{Colours, frame_at, here_at, view_of}
 use Rattle.sw_view_facts.specs.Changes.{KeepsReach, KeepsShape}
 use Rattle.sw_view_facts.specs.Steps.{SameCall}

@@ -1,14 +1,12 @@
 -- What a step does to the frames of the jobs, whatever it does to memory.
-use Rattle.std.specs.Prelude.{◌≡◌, ◌≢◌, ◌-◌, ℕ, suc, false, IsTrue, Some, None, length}
-use Rattle.std.specs.Prelude.{slice_get}
+use Rattle.std.specs.Prelude.{◌≡◌, ◌≢◌, ◌-◌, ℕ, suc, false, IsTrue, Some, None, length, slice_get}
 use Rattle.std.specs.Option.{option_map_or}
 use Rattle.sw_value.specs.declared.frame.Frame.{Frame}
 use Rattle.sw_value.specs.declared.job.Job.{Job}
 use Rattle.sw_value.specs.declared.state.State.{State}
 use Rattle.sw_value.specs.Job.{is_running}
 use Rattle.sw_value.specs.Lists.{changed_at}
-use Rattle.sw_owner_facts.specs.View.{above}
-use Rattle.sw_owner_facts.specs.View.{Frame as Spot}
+use Rattle.sw_owner_facts.specs.View.{above, Frame as Spot}
 use Rattle.sw_view_facts.specs.Views.{frame_at}
 
 -- f is the frame at q, and the top one of its job

@@ -1,7 +1,7 @@
 -- The view of a coloured state: what is known of its jobs and frames, and which colours they hold.
-use Rattle.std.specs.Prelude.{ℕ, zero, suc, Bool, true, false, not, ◌&&◌, ◌||◌, ◌==◌, Option}
-use Rattle.std.specs.Prelude.{Some, None, List, [], length, slice_get, slice_index_or}
-use Rattle.std.specs.Prelude.{if◌then◌else◌, option_and_then}
+use Rattle.std.specs.Prelude.{ℕ, zero, suc, Bool, true, false, not, ◌&&◌, ◌||◌, ◌==◌, Option, Some}
+use Rattle.std.specs.Prelude.{None, List, [], length, slice_get, slice_index_or, if◌then◌else◌}
+use Rattle.std.specs.Prelude.{option_and_then}
 use Rattle.std.specs.Option.{option_map, option_map_or}
 use Rattle.sw_types.specs.declared.isolation.Iso.{Iso}
 use Rattle.sw_types.specs.declared.isolation.Iso.TheVariants as iso
@@ -10,6 +10,7 @@ use Rattle.sw_graph.specs.declared.graph.Graph.{Graph}
 use Rattle.sw_graph.specs.Bodies.{is_own, is_actor_initialiser, makes_actor, makes_object}
 use Rattle.sw_graph.specs.Points.{Point, End, point_in}
 use Rattle.sw_graph.specs.declared.instr.Last.TheVariants.{Return}
+use Rattle.sw_graph.specs.Sure.{point_before}
 use Rattle.sw_value.specs.declared.executor.Executor.{Executor}
 use Rattle.sw_value.specs.declared.executor.Executor.TheVariants as executor
 use Rattle.sw_value.specs.declared.frame.Frame.{Frame}
@@ -18,18 +19,15 @@ use Rattle.sw_value.specs.declared.state.State.{State}
 use Rattle.sw_value.specs.declared.value.Value.{Value}
 use Rattle.sw_value.specs.Job.{is_running}
 use Rattle.sw_value.specs.Value.{value_at, reference_of}
-use Rattle.sw_graph.specs.Sure.{point_before}
+use Rattle.sw_solve.specs.Annotation as annotation
+use Rattle.sw_partition.specs.Regions.{Regions}
+use Rattle.sw_region_ops.specs.Elements.{elements_of, element_at}
 use Rattle.sw_owner_facts.specs.Colours.{Actor, Instance, GlobalActor, Colour, OfJob}
 use Rattle.sw_owner_facts.specs.Colours as owned
 use Rattle.sw_owner_facts.specs.View.{Element, FunctionIsolation, Nonisolated, IsolatedTo}
-use Rattle.sw_owner_facts.specs.View.{MakesActor, FrameShape, View, above}
-use Rattle.sw_owner_facts.specs.View.{Frame as Spot}
-use Rattle.sw_partition.specs.Regions.{Regions}
-use Rattle.sw_region_ops.specs.Elements.{elements_of, element_at}
-use Rattle.sw_solve.specs.Annotation as annotation
-use Rattle.sw_reach_facts.specs.Reached.{colours_of}
+use Rattle.sw_owner_facts.specs.View.{MakesActor, FrameShape, View, above, Frame as Spot}
 use Rattle.sw_region_facts.specs.FrameRegions.{region_in, live_in}
-use Rattle.std.specs.Prelude.{◌==◌, ◌&&◌, if◌then◌else◌, Option, Some}
+use Rattle.sw_reach_facts.specs.Reached.{colours_of}
 
 -- the colours of the cells, and those of the frames' `Here`, by job, from the bottom
 pub record Colours : Type 0 where
@@ -180,6 +178,10 @@ state_with states (Some frame) = annotation.value_at (states frame.function) fra
 
 abbrev pub annotated : (ℕ → List (Option Regions)) → State → Spot → Option Regions
 annotated states state p = state_with states (frame_at state p)
+
+-- the view in which each frame is in the region state of its point
+abbrev pub view_at : Graph → (ℕ → List (Option Regions)) → State → Colours → View
+view_at graph states state colours = view_of graph (annotated states state) state colours
 
 -- frame q is in this state, and each other one where it was
 abbrev pub over : (Spot → Option Regions) → Spot → Regions → Spot → Option Regions

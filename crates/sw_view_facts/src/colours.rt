@@ -28,8 +28,8 @@ ghost use Rattle.sw_view_facts.specs.Renaming.{AllButOne, HasHere, MayUnite, rec
 ghost use Rattle.sw_view_facts.specs.Renaming.{renames, united};
 ghost use Rattle.sw_view_facts.specs.Views.{Colours, colours_by, view_of};
 
-/// What registers reach stays: if memory stays, if a slot is written, and if a cell is made, since in
-/// a kinded state registers refer to cells that are there.
+/// What registers reach stays: if memory stays, if a slot is written, and if a cell is made, since
+/// in a kinded state registers refer to cells that are there.
 pub fn registers_keep_what_they_reach()
     ensures same { (state next : State) (colours after : Colours) → next.cells ≡ state.cells
         → after.cells ≡ colours.cells → KeepsReach state next colours after }
@@ -73,9 +73,9 @@ pub fn cells_show_what_they_are_given()
         ≡ own ∷ [] }
 {}
 
-/// Colours of a job that become another one, everywhere. The view stays sound if the top frame holds
-/// the colour that is kept, and each of the others is that one, or is held together with it, or is
-/// held by nothing that is live; and also if none of them is held, whosever the kept one is.
+/// Colours of a job that become another one, everywhere. The view stays sound if the top frame
+/// holds the colour that is kept, and each of the others is that one, or is held together with it,
+/// or is held by nothing that is live; and also if none of them is held, whosever the kept one is.
 pub fn colours_unite()
     ensures recoloured { (graph : Graph) (regions : Spot → Option Regions) (state : State)
         (colours : Colours)
@@ -102,7 +102,8 @@ pub fn colours_unite()
         → IsSound (view_of graph regions state (united job numbers kept colours)) }
 {}
 
-/// Of colours that a frame holds live, one can be kept such that each of the others is the job's own.
+/// Of colours that a frame holds live, one can be kept such that each of the others is the job's
+/// own.
 pub fn some_colour_is_kept()
     ensures { (w : View) (p : Spot) → IsOwned w → (first : Colour) (rest : List Colour)
         → ((c : Colour) → Contains (first ∷ rest) c → (x : Element) × HoldsLive w p x c)

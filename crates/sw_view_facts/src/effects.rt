@@ -1,5 +1,6 @@
 //! Laws on effects that change the top frame of the job that executes them, and no other frame.
-ghost use Rattle.std.specs.Prelude.{◌≡◌, ◌≢◌, ◌+◌, ℕ, true, false, IsTrue, Option, Some, None, List, [], length};
+ghost use Rattle.std.specs.Prelude.{◌≡◌, ◌≢◌, ◌+◌, ℕ, true, false, IsTrue, Option, Some, None};
+ghost use Rattle.std.specs.Prelude.{List, [], length};
 ghost use Rattle.std.specs.Prelude.{slice_get};
 ghost use Rattle.std.specs.List.{Contains};
 ghost use Rattle.sw_graph.specs.declared.function.Function.{Function};
@@ -21,22 +22,24 @@ ghost use Rattle.sw_value.specs.Value.{value_at};
 ghost use Rattle.sw_machine_kind_facts.specs.Kinds.{HasKind, Referents};
 ghost use Rattle.sw_owner_facts.specs.Colours.{Colour, OfJob};
 ghost use Rattle.sw_owner_facts.specs.Owned.{IsSound};
-ghost use Rattle.sw_owner_facts.specs.View.{Element, IsUnheld, Register};
+ghost use Rattle.sw_owner_facts.specs.View.{Element, HoldsLive, IsFrame, IsUnheld, Register};
 ghost use Rattle.sw_owner_facts.specs.View.{Frame as Spot};
 ghost use Rattle.sw_owner_facts.specs.Within.{BeginsClosing, GivenAway, Weakened};
 ghost use Rattle.sw_partition.specs.Regions.{Regions};
 ghost use Rattle.sw_region_ops.specs.Elements.{element_at, elements_of};
 ghost use Rattle.sw_region_facts.specs.FrameRegions.{IsWeaker, LiveIn, TogetherIn};
-ghost use Rattle.sw_region_facts.specs.Moves.{IsSent, Sets, copied_from};
+ghost use Rattle.sw_region_facts.specs.Moves.{IsSent, Makes, Sets, copied_from};
 ghost use Rattle.sw_reach_facts.specs.Coloured.{ColoursFit, ConformancesHold};
 ghost use Rattle.sw_reach_facts.specs.Reached.{colours_of};
 ghost use Rattle.sw_view_facts.specs.Changes.{HoldsIn, KeepsShape};
 ghost use Rattle.sw_view_facts.specs.Effects.{is_inside, next_of, register_of, turn_of};
 ghost use Rattle.sw_view_facts.specs.Executing.{Executes};
+ghost use Rattle.sw_view_facts.specs.Renaming.{HasHere, MayUnite, united};
 ghost use Rattle.sw_view_facts.specs.Standing.{StandsAt};
 ghost use Rattle.sw_view_facts.specs.Steps.{ChangesFrame, SameCall, TopAt};
-ghost use Rattle.sw_view_facts.specs.Views.{Colours, closes_at, colours_by, here_at, is_return};
-ghost use Rattle.sw_view_facts.specs.Views.{isolation_in, makes_itself, shape_by, view_of};
+ghost use Rattle.sw_view_facts.specs.Views.{Colours, annotated, closes_at, colours_by, here_at};
+ghost use Rattle.sw_view_facts.specs.Views.{is_return, isolation_in, makes_itself, over, shape_by};
+ghost use Rattle.sw_view_facts.specs.Views.{view_at, view_of};
 
 /// A running job executes the effect of the point at which its top frame stands. If it is one of
 /// these effects, only that frame changes, and in it at most one register.
@@ -54,9 +57,9 @@ pub fn effects_change_one_frame()
         → value_at (turn_of e f).regs s ≡ value_at f.regs s }
 {}
 
-/// When a frame has the shape that it had: it wasn't about to return, it doesn't begin to close, and
-/// its own `self` stays. It closes at a return directly after the point that makes what its function
-/// initialises, and nowhere else.
+/// When a frame has the shape that it had: it wasn't about to return, it doesn't begin to close,
+/// and its own `self` stays. It closes at a return directly after the point that makes what its
+/// function initialises, and nowhere else.
 pub fn frames_keep_their_shapes()
     ensures shape { (graph : Graph) (state : State) (q : Spot) (job : Job) (f : Frame)
         (function : Function) (point : Point) → StandsAt graph state q job f function point
@@ -104,8 +107,8 @@ pub fn region_states_change()
         x }
 {}
 
-/// An effect keeps soundness, whatever it does: it sets no register; or the register holds only what
-/// some elements held, with which it is together; or it holds a new colour alone.
+/// An effect keeps soundness, whatever it does: it sets no register; or the register holds only
+/// what some elements held, with which it is together; or it holds a new colour alone.
 pub fn effects_keep_soundness()
     ensures goes_on { (graph : Graph) (states : ℕ → List (Option Regions)) (state next : State)
         (q : Spot) (f : Frame) (function : Function) (e : Effect)
@@ -144,8 +147,47 @@ pub fn effects_keep_soundness()
         → IsSound (view_of graph later next after) }
 {}
 
-/// Copies, fields, payloads and loads: the register gets a value that reaches no more than the value
-/// of another register. If one of the two isn't tracked, the value reaches nothing.
+/// A store whole: operands come together, their colours become one, and then the effect sets no
+/// register. And a maker whole: the effect makes a cell with a new colour, and then the colours of
+/// its operands become one with that.
+pub fn stores_and_makers_keep_soundness()
+    ensures stores { (graph : Graph) (states : ℕ → List (Option Regions)) (state next : State)
+        (q : Spot) (f : Frame) (function : Function) (e : Effect) (colours : Colours)
+        (a c : Regions) (y : Element) (kept : Colour) (numbers : List ℕ)
+        → Executes graph states state next q f function e (over (annotated states state) q c)
+        (annotated states next) (united q.job numbers kept colours)
+        (united q.job numbers kept colours) c c
+        → KeepsShape graph f (turn_of e f) → register_of e ≡ None
+        → annotated states state q ≡ Some a
+        → IsWeaker (elements_of graph.shapes function.regs) a c
+        → ((p : Spot)
+        → IsFrame (view_of graph (over (annotated states state) q c) state colours) p
+        → HasHere colours p)
+        → HoldsLive (view_of graph (over (annotated states state) q c) state colours) q y kept
+        → ((n : ℕ) → Contains numbers n
+        → MayUnite (view_of graph (over (annotated states state) q c) state colours) q y kept n)
+        → IsSound (view_at graph states state colours)
+        → IsSound (view_at graph states next (united q.job numbers kept colours)) }
+    ensures makes { (graph : Graph) (states : ℕ → List (Option Regions)) (state next : State)
+        (q : Spot) (f : Frame) (function : Function) (e : Effect) (colours after : Colours)
+        (a c : Regions) (y : Element) (kept : Colour) (numbers : List ℕ)
+        → Executes graph states state next q f function e (annotated states state)
+        (annotated states next) colours after a c
+        → KeepsShape graph f (turn_of e f) → (r number : ℕ) (xs : List Element)
+        → register_of e ≡ Some r → Makes (elements_of graph.shapes function.regs) r xs a c
+        → IsUnheld (view_at graph states state colours) (OfJob q.job number)
+        → ((colour : Colour) → Contains (colours_by next after (Some (turn_of e f)) r) colour
+        → colour ≡ OfJob q.job number)
+        → ((p : Spot) → IsFrame (view_at graph states next after) p → HasHere after p)
+        → HoldsLive (view_at graph states next after) q y kept
+        → ((n : ℕ) → Contains numbers n
+        → MayUnite (view_at graph states next after) q y kept n)
+        → IsSound (view_at graph states state colours)
+        → IsSound (view_at graph states next (united q.job numbers kept after)) }
+{}
+
+/// Copies, fields, payloads and loads: the register gets a value that reaches no more than the
+/// value of another register. If one of the two isn't tracked, the value reaches nothing.
 pub fn parts_are_taken()
     ensures { (graph : Graph) → ConformancesHold graph → (world : Referents) (state : State)
         (colours : Colours) → ColoursFit graph world state.cells colours.cells

@@ -1,5 +1,6 @@
 //! Laws on calls, returns and jobs: what each does to the view of a state.
-ghost use Rattle.std.specs.Prelude.{◌≡◌, ◌≢◌, ◌⊎◌, ◌<◌, ℕ, false, IsTrue, Option, Some, None, List, []};
+ghost use Rattle.std.specs.Prelude.{◌≡◌, ◌≢◌, ◌⊎◌, ◌<◌, ℕ, false, IsTrue, Option, Some, None, List};
+ghost use Rattle.std.specs.Prelude.{[]};
 ghost use Rattle.std.specs.Prelude.{◌∷◌, length, slice_get};
 ghost use Rattle.std.specs.List.{Contains};
 ghost use Rattle.sw_graph.specs.declared.function.Function.{Function};
@@ -21,7 +22,8 @@ ghost use Rattle.sw_owner_facts.specs.Calls.{Called, Handed, IsOnActor, IsOnNone
 ghost use Rattle.sw_owner_facts.specs.Calls.{ResultWith, Returned, Spawned};
 ghost use Rattle.sw_owner_facts.specs.Colours.{Actor, Colour};
 ghost use Rattle.sw_owner_facts.specs.Owned.{IsSound};
-ghost use Rattle.sw_owner_facts.specs.View.{Element, HoldsLive, InOneRegion, IsDisconnected, IsFrame};
+ghost use Rattle.sw_owner_facts.specs.View.{Element, HoldsLive, InOneRegion, IsDisconnected};
+ghost use Rattle.sw_owner_facts.specs.View.{IsFrame};
 ghost use Rattle.sw_owner_facts.specs.View.{above, bottom};
 ghost use Rattle.sw_owner_facts.specs.View.{Frame as Spot};
 ghost use Rattle.sw_owner_facts.specs.Within.{Dispatched};
@@ -35,19 +37,18 @@ ghost use Rattle.sw_view_facts.specs.Entering.{IsFirstFrame, TakesLent};
 ghost use Rattle.sw_view_facts.specs.Returning.{Leaves};
 ghost use Rattle.sw_view_facts.specs.Steps.{TopAt};
 ghost use Rattle.sw_view_facts.specs.Views.{Colours, annotated, frame_at, here_at, shape_with};
-ghost use Rattle.sw_view_facts.specs.Views.{view_of};
+ghost use Rattle.sw_view_facts.specs.Views.{view_at, view_of};
 
 /// A call of any kind puts a frame on top, if the callee's elements that share a colour are in one
-/// region, and what it holds has the colour of its `Here` or was sent to it. The register that waits
-/// is with each element that the result may come from. The shape of the new frame is read off the
-/// frame that the machine pushes.
+/// region, and what it holds has the colour of its `Here` or was sent to it. The register that
+/// waits is with each element that the result may come from. The shape of the new frame is read off
+/// the frame that the machine pushes.
 pub fn calls_push_frames()
     ensures shape { (graph : Graph) (states : ℕ → List (Option Regions)) (state : State) (p : Spot)
         (f t : Frame) (function : Function) (regions : Spot → Option Regions)
         (colours after : Colours) (made : Regions)
         → Enters graph states state p f t function regions colours after made
-        → (view_of graph (annotated states (step_of graph state p.job)) (step_of graph state p.job)
-        after).shape (above p)
+        → (view_at graph states (step_of graph state p.job) after).shape (above p)
         ≡ shape_with graph (Some function) t (slice_get graph.functions t.function) }
     ensures called { (graph : Graph) (states : ℕ → List (Option Regions)) (state : State) (p : Spot)
         (f t : Frame) (function : Function) (regions : Spot → Option Regions)
@@ -57,20 +58,15 @@ pub fn calls_push_frames()
         → annotated states (step_of graph state p.job) p ≡ Some c
         → Sets (elements_of graph.shapes function.regs) t.result sources made c
         → ((y z : Element) (d : Colour)
-        → HoldsLive (view_of graph (annotated states (step_of graph state p.job))
-        (step_of graph state p.job) after) (above p) y d
-        → HoldsLive (view_of graph (annotated states (step_of graph state p.job))
-        (step_of graph state p.job) after) (above p) z d
-        → InOneRegion (view_of graph (annotated states (step_of graph state p.job))
-        (step_of graph state p.job) after) (above p) y z)
+        → HoldsLive (view_at graph states (step_of graph state p.job) after) (above p) y d
+        → HoldsLive (view_at graph states (step_of graph state p.job) after) (above p) z d
+        → InOneRegion (view_at graph states (step_of graph state p.job) after) (above p) y z)
         → ((y : Element) (d : Colour)
-        → HoldsLive (view_of graph (annotated states (step_of graph state p.job))
-        (step_of graph state p.job) after) (above p) y d
+        → HoldsLive (view_at graph states (step_of graph state p.job) after) (above p) y d
         → (here_at after (above p) ≡ d)
         ⊎ IsDisconnected (view_of graph regions state colours) p.job d)
         → Called (view_of graph regions state colours)
-        (view_of graph (annotated states (step_of graph state p.job)) (step_of graph state p.job)
-        after) p }
+        (view_at graph states (step_of graph state p.job) after) p }
     ensures shares { (graph : Graph) (states : ℕ → List (Option Regions)) (state : State) (p : Spot)
         (f t : Frame) (function : Function) (regions : Spot → Option Regions)
         (colours after : Colours) (made : Regions)
@@ -80,12 +76,11 @@ pub fn calls_push_frames()
         → Sets (elements_of graph.shapes function.regs) t.result sources made c
         → (s : Element) → Contains sources s
         → ResultWith (view_of graph regions state colours)
-        (view_of graph (annotated states (step_of graph state p.job)) (step_of graph state p.job)
-        after) p s }
+        (view_at graph states (step_of graph state p.job) after) p s }
 {}
 
-/// A frame that begins with values that it is lent holds the colour of its `Here` alone, all of it in
-/// one region.
+/// A frame that begins with values that it is lent holds the colour of its `Here` alone, all of it
+/// in one region.
 pub fn frames_hold_what_is_lent()
     ensures own { (graph : Graph) (regions : Spot → Option Regions) (state : State)
         (colours : Colours) (q : Spot) (t : Frame) (callee : Function) (values : List Value)
@@ -107,21 +102,20 @@ pub fn returns_pop_frames()
         (p : Spot) (f t : Frame) (function callee : Function) (v : Value) (colours after : Colours)
         → Leaves graph state p f t function callee v colours after
         → ((c : Colour) → Contains (colours_of state.cells colours.cells v) c
-        → Handed (view_of graph (annotated states state) state colours) p t.result c)
-        → Returned (view_of graph (annotated states state) state colours)
-        (view_of graph (annotated states (step_of graph state p.job)) (step_of graph state p.job)
-        after) p t.result }
+        → Handed (view_at graph states state colours) p t.result c)
+        → Returned (view_at graph states state colours)
+        (view_at graph states (step_of graph state p.job) after) p t.result }
     ensures ended { (graph : Graph) (states : ℕ → List (Option Regions)) (state next : State)
         (j : ℕ) (job : Job) (t : Frame) (v : Value) (colours after : Colours)
         → TopAt state (bottom j) job t → next ≡ in_job (leave v) j state
         → after.cells ≡ colours.cells
         → ((p : Spot) → p.job ≢ j → here_at after p ≡ here_at colours p)
-        → JobEnded (view_of graph (annotated states state) state colours)
-        (view_of graph (annotated states next) next after) j }
+        → JobEnded (view_at graph states state colours)
+        (view_at graph states next after) j }
 {}
 
-/// A job more, of one frame, if what it holds has the colour of its `Here` or was sent to it, and it
-/// stands on its actor or on none. The task's cell is then made in the state with that job.
+/// A job more, of one frame, if what it holds has the colour of its `Here` or was sent to it, and
+/// it stands on its actor or on none. The task's cell is then made in the state with that job.
 pub fn tasks_add_jobs()
     ensures then { (state : State) (j r job cell next : ℕ) (frame : Frame)
         → after_effect j (Spawn r frame job cell next) state
@@ -164,8 +158,8 @@ pub fn dispatches_give_executors()
         → Dispatches state (step_of graph state j) j }
     ensures dispatched { (graph : Graph) (states : ℕ → List (Option Regions)) (state next : State)
         (j : ℕ) (colours : Colours) → Dispatches state next j
-        → Dispatched (view_of graph (annotated states state) state colours)
-        (view_of graph (annotated states next) next colours) j }
+        → Dispatched (view_at graph states state colours)
+        (view_at graph states next colours) j }
 {}
 
 /// A job goes on with the result of another, which reaches no colour.
@@ -180,16 +174,16 @@ pub fn waking_keeps_soundness()
         → next ≡ in_job (wake r v) q.job state → (IsTrue (has_self function) → r ≢ 0)
         → annotated states state q ≡ Some a
         → ((colour : Colour) → Contains (colours_of state.cells colours.cells v) colour → ⊥)
-        → IsSound (view_of graph (annotated states state) state colours)
-        → IsSound (view_of graph (annotated states next) next colours) }
+        → IsSound (view_at graph states state colours)
+        → IsSound (view_at graph states next colours) }
 {}
 
 /// A trap halts the machine, and leaves the view as it is.
 pub fn traps_change_no_view()
     ensures { (graph : Graph) (states : ℕ → List (Option Regions)) (state : State)
         (kind : TrapKind) (at : ℕ) (colours : Colours)
-        → view_of graph (annotated states (halt kind at state)) (halt kind at state) colours
-        ≡ view_of graph (annotated states state) state colours }
+        → view_at graph states (halt kind at state) colours
+        ≡ view_at graph states state colours }
 {}
 
 /// Before any item the view is sound: no job runs, and no frame holds more than its `Here`.

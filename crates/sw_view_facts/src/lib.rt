@@ -1,7 +1,7 @@
-//! Laws, without code, that join the machine to ownership: what the view of a coloured state is, and
-//! what each effect does to it, as a move of ownership or a chain of moves. The crate knows nothing
-//! of which colours a step gives, of the instruction that has an effect, or of how the region
-//! states of a function are found.
+//! Laws, without code, that join the machine to ownership: what the view of a coloured state is,
+//! and what each effect does to it, as a move of ownership or a chain of moves. The crate knows
+//! nothing of which colours a step gives, of the instruction that has an effect, or of how the
+//! region states of a function are found.
 #![tactic(auto)]
 
 mod colours;
@@ -15,6 +15,7 @@ pub use colours::{
 pub use effects::{
     effects_change_one_frame, effects_keep_soundness, frames_keep_their_shapes,
     initialisers_begin_to_close, parts_are_taken, region_states_change,
+    stores_and_makers_keep_soundness,
 };
 pub use jobs::{
     calls_push_frames, dispatches_give_executors, first_frames_are_sound, frames_hold_what_is_lent,
