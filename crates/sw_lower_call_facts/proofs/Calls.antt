@@ -1,9 +1,5 @@
 pub mod Bodies
-pub mod Expressions
 pub mod Induction
 pub mod Insides
-pub mod Inside
-pub mod Operators
 pub mod Programs
-pub mod Statements
 pub mod Uses

@@ -1,15 +1,12 @@
--- What holds of the code of each type of tree: each call and each task in it, and in the bodies in
--- it, is of something.
-use Rattle.std.specs.Prelude.{◌≡◌, true, List, Option, Some, None, All, Contains}
-use Rattle.sw_graph.specs.declared.instr.Operand.{Operand}
+-- What holds of the code of expressions and blocks: each call and each task in it, and in the bodies
+-- in it, is of something.
+use Rattle.std.specs.Prelude.{◌≡◌, true, List, All, Contains}
+use Rattle.sw_types.specs.declared.ty.Ty.{Ty}
 use Rattle.sw_lower_plans.specs.Plan.{Numbers}
-use Rattle.sw_lower_code.specs.Code.{Code}
 use Rattle.sw_lower_code.specs.Whole.{Body}
-use Rattle.sw_lower_rules.specs.Carriers.{ArgCode, BlockCode, ExprCode, Given, IfCode, LinkCode}
-use Rattle.sw_lower_rules.specs.Carriers.{StmtCode}
-use Rattle.sw_lower_rules.specs.Expressions.{iso_of}
+use Rattle.sw_lower_rules.specs.Carriers.{BlockCode, ExprCode, Given}
+use Rattle.sw_lower_rules.specs.Expressions.{body_code, iso_of}
 use Rattle.sw_lower_rules.specs.Tables.{Tables}
-use Rattle.sw_lower_rules.specs.declared.targets.Targets.{Targets}
 use Rattle.sw_lower_call_facts.specs.Calls.{CodeIsOfBodies}
 
 module _ (tables : Tables) (numbers : Numbers) (bodies : List Body) where
@@ -22,40 +19,14 @@ module _ (tables : Tables) (numbers : Numbers) (bodies : List Body) where
     pub code : CodeIsOfBodies tables numbers bodies body.code
     pub isolated : body.getter ≡ true → body.iso ≡ iso_of (tables.isolation.body_at body.key)
 
-  pub record ExprCalls (code : ExprCode) : Type 0 where
-    pub read : CodeIsOfBodies tables numbers bodies code.read
-    pub write : (given : Operand) → CodeIsOfBodies tables numbers bodies (code.write given)
-    pub inside : All BodyCalls code.inside
-
-  pub record ArgCalls (arg : ArgCode) : Type 0 where
-    pub read : CodeIsOfBodies tables numbers bodies arg.read
-    pub inside : All BodyCalls arg.inside
-
-  pub record LinkCalls (link : LinkCode) : Type 0 where
-    pub read : CodeIsOfBodies tables numbers bodies link.read
-    pub inside : All BodyCalls link.inside
-
   pub record GivenCalls (given : Given) : Type 0 where
     pub read : CodeIsOfBodies tables numbers bodies given.read
 
-  -- the code of a value, where there is one
-  abbrev pub OnlyCalls : Option (Code Operand) → Type 0
-  OnlyCalls None = Unit {0}
-  OnlyCalls (Some read) = CodeIsOfBodies tables numbers bodies read
-
-  pub record StmtCalls (stmt : StmtCode) : Type 0 where
-    pub code : (targets : Targets) → CodeIsOfBodies tables numbers bodies (stmt.code targets)
-    pub only : OnlyCalls stmt.only
-    pub gives : All GivenCalls stmt.gives
-    pub inside : All BodyCalls stmt.inside
+  pub record ExprCalls (code : ExprCode) : Type 0 where
+    pub read : CodeIsOfBodies tables numbers bodies code.read
+    pub inside : All BodyCalls code.inside
 
   pub record BlockCalls (block : BlockCode) : Type 0 where
-    pub code : (targets : Targets) → CodeIsOfBodies tables numbers bodies (block.code targets)
-    pub only : OnlyCalls block.only
+    pub code : (result : Ty) → CodeIsOfBodies tables numbers bodies (body_code result block)
     pub gives : All GivenCalls block.gives
     pub inside : All BodyCalls block.inside
-
-  pub record IfCalls (arm : IfCode) : Type 0 where
-    pub cond : CodeIsOfBodies tables numbers bodies arm.cond
-    pub body : BlockCalls arm.body
-    pub inside : All BodyCalls arm.inside

@@ -38,13 +38,12 @@ use Rattle.sw_lower_rules.specs.Expressions.{iso_of}
 use Rattle.sw_lower_rules.specs.Statements.{block_code, expr_code}
 use Rattle.sw_lower_rules.specs.Tables.{Tables}
 use Rattle.sw_typing_facts.proofs.Lists.Listed.{in_first, in_rest}
+use Rattle.sw_lower_code_facts.proofs.Uses.{has_each, has_each_of}
 use Rattle.sw_lower_call_facts.specs.Calls.{CodeIsOfBodies, IsOfBody}
 use Rattle.sw_lower_call_facts.specs.Carried.{AreIn, BodyCalls, GivenCalls}
-use Rattle.sw_lower_call_facts.proofs.Calls.Induction.{block_code_calls, expr_calls}
-use Rattle.sw_lower_call_facts.proofs.Calls.Inside.{body_code_calls, in_left, in_right}
-use Rattle.sw_lower_call_facts.proofs.Calls.Uses.{writes_give}
-use Rattle.sw_lower_call_facts.proofs.Writing.Joining.{writes_done, writes_each, writes_each_of}
-use Rattle.sw_lower_call_facts.proofs.Writing.Joining.{writes_then}
+use Rattle.sw_lower_call_facts.proofs.Calls.Induction.{block_code_calls, expr_calls, in_left, in_right}
+use Rattle.sw_lower_call_facts.proofs.Calls.Uses.{calling, writes_give}
+use Rattle.sw_lower_call_facts.proofs.Writing.Joining.{writes_done, writes_then}
 use Rattle.sw_lower_call_facts.proofs.Writing.Steps.{writes_close, writes_emit, writes_known}
 
 -- the bodies in a first value
@@ -109,7 +108,7 @@ module _ (tables : Tables) (numbers : Numbers) (bodies : List Body) where
       let so = block_code_calls tables numbers bodies func.owner block are in
       All-cons Bodies _ code.inside
       (record {
-        code = body_code_calls tables numbers bodies func.result code so;
+        code = so.code func.result;
         isolated = λ is. cc;
       }) so.inside
 
@@ -148,8 +147,8 @@ module _ (tables : Tables) (numbers : Numbers) (bodies : List Body) where
       → Here (init_code key number shape givens)
   unfolding init_code
   init_calls key number shape givens all =
-      writes_then _ _ (writes_each give_value givens (values_call givens all)) (λ values.
-      writes_then _ _ (writes_each_of _ shape.parts (λ part. writes_known _ _)) (λ operands.
+      writes_then _ _ (has_each (calling tables numbers bodies) give_value givens (values_call givens all)) (λ values.
+      writes_then _ _ (has_each_of (calling tables numbers bodies) _ shape.parts (λ part. writes_known _ _)) (λ operands.
       writes_then _ _
       (writes_give key _ _ (λ r. made_of shape.kind key r number operands)) (λ made.
       writes_close _)))

@@ -1,12 +1,12 @@
 -- Code after code that goes on at its end alone.
 use Rattle.std.proofs.Common.{◌≡◌, ℕ, ◌+◌, ◌≤◌, ◌<◌, ◌==◌, inl, inr, Bool, true, false, ◌||◌}
-use Rattle.std.proofs.Common.{List, [], ◌∷◌, ◌++◌, length, map, refl, sym, subst, ◌∙◌, arith}
+use Rattle.std.proofs.Common.{List, [], ◌∷◌, ◌++◌, length, refl, sym, subst, ◌∙◌, arith}
 use Rattle.std.proofs.Common.{ap}
 use Rattle.std.proofs.lemmas.Bool.{cases_lt}
 use Rattle.std.proofs.Common.{length-append}
 use Rattle.std.specs.List.{AllByRecursion}
 use Rattle.sw_lower_plans.specs.Plan.{Ended, Piece, Place, after, joined}
-use Rattle.sw_lower_code.specs.Code.{Code, andthen, done, each}
+use Rattle.sw_lower_code.specs.Code.{Code, andthen, done}
 use Rattle.sw_lower_first_facts.specs.Flowing.{FlowsWithoutReturn, GoesWithoutReturn, IsNoReturn, IsOwn}
 use Rattle.sw_lower_first_facts.specs.Flowing.{ends}
 
@@ -15,12 +15,6 @@ pub all_joined : {X : Type 0} (P : X → Type 0) (xs ys : List X) → AllByRecur
     → AllByRecursion P ys → AllByRecursion P (xs ++ ys)
 all_joined P [] ys one other = other
 all_joined P (x ∷ xs) ys one other = (one.0, all_joined P xs ys one.1 other)
-
--- what holds of what is made of each element
-pub all_mapped : {X Y : Type 0} (P : Y → Type 0) (f : X → Y) (xs : List X)
-    → AllByRecursion (λ x. P (f x)) xs → AllByRecursion P (map f xs)
-all_mapped P f [] all = tt
-all_mapped P f (x ∷ xs) all = (all.0, all_mapped P f xs all.1)
 
 second_holds : (a b : Bool) → b ≡ true → (a || b) ≡ true
 second_holds true b is = refl
@@ -105,12 +99,3 @@ goes_still place piece made lasts there = record {
 pub flows_done : {A : Type 0} (value : A) → FlowsWithoutReturn (done value)
 unfolding done
 flows_done value place = goes_still place _ refl refl refl
-
--- code for each item
-pub flows_each : {A B : Type 0} (code : A → Code B) (xs : List A)
-    → AllByRecursion (λ x. FlowsWithoutReturn (code x)) xs → FlowsWithoutReturn (each code xs)
-unfolding each
-flows_each code [] all = flows_done []
-flows_each code (x ∷ xs) all =
-    flows_then (code x) _ all.0 (λ y.
-    flows_then (each code xs) _ (flows_each code xs all.1) (λ ys. flows_done (y ∷ ys)))

@@ -1,13 +1,11 @@
 -- Each single step of code that makes and ends no block.
 use Rattle.std.proofs.Common.{ℕ, Option, refl}
-use Rattle.sw_types.specs.declared.ty.Ty.{Ty}
 use Rattle.sw_graph.specs.declared.function.RegKind.{RegKind}
 use Rattle.sw_graph.specs.declared.instr.Instr.{Instr}
 use Rattle.sw_lower_plans.specs.declared.name.FunctionName.{FunctionName}
 use Rattle.sw_lower_code.specs.Code.{emit, known, number, reg, var}
-use Rattle.sw_lower_rules.specs.Uses.{give}
 use Rattle.sw_lower_first_facts.specs.Flowing.{FlowsWithoutReturn}
-use Rattle.sw_lower_first_facts.proofs.Flowing.Joining.{flows_done, flows_then, goes_still}
+use Rattle.sw_lower_first_facts.proofs.Flowing.Joining.{goes_still}
 
 pub flows_reg : (kind : RegKind) → FlowsWithoutReturn (reg kind)
 unfolding reg
@@ -29,8 +27,3 @@ pub flows_known : {A : Type 0} (fallback : A) (value : Option A)
     → FlowsWithoutReturn (known fallback value)
 unfolding known
 flows_known fallback value place = goes_still place _ refl refl refl
-
-pub flows_give : (at : ℕ) (ty : Ty) (instr : ℕ → Instr) → FlowsWithoutReturn (give at ty instr)
-flows_give at ty instr =
-    flows_then (reg _) _ (flows_reg _) (λ r.
-    flows_then (emit (instr r)) _ (flows_emit (instr r)) (λ value. flows_done _))
