@@ -1,10 +1,11 @@
 -- What is noted of a body by a table that begins with its parameters, and of a closure.
 use Rattle.std.proofs.Common.{◌≡◌, ◌++◌, ◌&&◌, ℕ, Bool, List, Option, append_assoc, ap, drop}
-use Rattle.std.proofs.Common.{length, map, not, refl, sym, ◌∙◌}
+use Rattle.std.proofs.Common.{false, if◌then◌else◌, is_some, length, map, None, not, refl, sym, ◌∙◌}
 use Rattle.std.proofs.lemmas.List.{drop_at, take_at}
 use Rattle.sw_tree.proofs.FoldEquations as eq
 use Rattle.sw_tree.specs.declared.decl.ParamTree.{ParamTree}
 use Rattle.sw_tree.specs.declared.expr.Closure.{Closure, out-Closure}
+use Rattle.sw_tree.specs.declared.name.Name.{Name}
 use Rattle.sw_tree.specs.declared.stmt.Block.{Block}
 use Rattle.sw_types.specs.declared.ty.Ty.{Ty}
 use Rattle.sw_typing_rules.specs.Doubts.{decided}
@@ -20,9 +21,10 @@ use Rattle.sw_typing_rules.specs.Worlds.{World}
 use Rattle.sw_typing_rules.specs.declared.row.Row.{Row}
 use Rattle.sw_typing_rules.specs.declared.scope.Returned.{Returned}
 use Rattle.sw_typing_rules.specs.declared.scope.Returned.TheVariants.{Wants}
-use Rattle.sw_typing_steps.specs.Closures.{captures_rows, opened, opening}
-use Rattle.sw_typing_steps.specs.Steps.{decided_since, left_since, setting_in, state_of, went_of}
-use Rattle.sw_typing_steps.specs.Steps.{with_rows}
+use Rattle.sw_typing_steps.specs.Closures.{captures_rows, closed_after, opened, opening}
+use Rattle.sw_typing_steps.specs.Steps.{decided_since, enclosed_of, left_since, setting_in}
+use Rattle.sw_typing_steps.specs.Steps.{state_of, went_of, with_rows}
+use Rattle.sw_typing_steps.specs.declared.known.Enclosed.{Enclosed}
 use Rattle.sw_typing_steps.specs.declared.closures.Opened.{Opened}
 use Rattle.sw_typing_steps.specs.declared.known.Went.{Went}
 use Rattle.sw_typing_steps.specs.declared.table.Table.{Table}
@@ -115,38 +117,89 @@ closure_said at before left went start mid s w r t =
     ∙ ap (decided_since (length before) valued) (append_assoc before left.rows ill)
     ∙ decided_after valued before (left.rows ++ ill)
 
--- The rows of a closure whose body was gone through after its words and its parameters.
-pub closure_rows : (world : World) (owner : Option ℕ) (tree : Closure) (old begun mid now : Table)
-    (enclosing : Opened) (went : Went) → begun ≡ opening world tree old
-    → enclosing ≡ opened world tree old
-    → went
-    ≡ went_of (block_left world (out-Closure tree).body (in_body owner false) (state_of begun))
-    → mid.rows ≡ begun.rows
-    ++ (block_left world (out-Closure tree).body (in_body owner false) (state_of begun)).rows
-    → mid.returned ≡ (block_left world (out-Closure tree).body (in_body owner false)
-    (state_of begun)).state.returned
-    → now.rows ≡ decided_since enclosing.start (is_result (body_result mid.returned))
-    (mid.rows
-    ++ ill_if (lacks_result (left_since went enclosing.start mid)) (out-Closure tree).at 406)
-    → now.rows ≡ old.rows ++ (closure_known world tree (setting_in owner old)).rows
-unfolding closure_known
-closure_rows world owner tree old begun mid now enclosing went b e w r t n =
-    let inner = out-Closure tree in
-    let words = captures_rows old.vars inner.captures in
-    let params = vars_rows (map (stmts.param_var world) inner.params) in
-    let left = block_left world inner.body (in_body owner false)
-    (state_of (opening world tree old)) in
-    let same : block_left world inner.body (in_body owner false) (state_of begun) ≡ left =
-    ap (λ (x : Table). block_left world inner.body (in_body owner false) (state_of x)) b in
-    n
-    ∙ closure_said inner.at (old.rows ++ (words ++ params)) left went enclosing.start mid
-    (ap (λ (x : Opened). x.start) e) (w ∙ ap went_of same)
-    (r ∙ ap (λ (x : Table). x.rows
-    ++ (block_left world inner.body (in_body owner false) (state_of begun)).rows) b
-    ∙ ap (λ (l : Left). (old.rows ++ (words ++ params)) ++ l.rows) same)
-    (t ∙ ap (λ (l : Left). l.state.returned) same)
-    ∙ append_assoc old.rows (words ++ params) (decided_rows inner.at left)
-    ∙ ap (λ rows. old.rows ++ rows) (append_assoc words params (decided_rows inner.at left))
-    ∙ ap (λ (c : Closed). old.rows ++ c.rows)
-    (sym (ap (λ (f : Setting → Closed). f (setting_in owner old))
-    (eq.fold_closure-out (typing_steps world) tree)))
+-- what is known of a closure, by how its statements went
+abbrev known_by : ℕ → Option Name → Opened → Bool → Bool → Returned → Enclosed
+known_by at mark opened fine lacks returned = record {
+  at = at;
+  params = opened.params;
+  marked = is_some mark;
+  result = if opened.captured then (if fine && not lacks then body_result returned else None)
+      else None;
+}
+
+-- a closure whose body was gone through after its words and its parameters
+module _ (world : World) (owner : Option ℕ) (tree : Closure) (old begun mid : Table)
+    (enclosing : Opened) (went : Went) (b : begun ≡ opening world tree old)
+    (e : enclosing ≡ opened world tree old)
+    (w : went
+    ≡ went_of (block_left world (out-Closure tree).body (in_body owner false) (state_of begun)))
+    (r : mid.rows ≡ begun.rows
+    ++ (block_left world (out-Closure tree).body (in_body owner false) (state_of begun)).rows)
+    (t : mid.returned ≡ (block_left world (out-Closure tree).body (in_body owner false)
+    (state_of begun)).state.returned) where
+  abbrev at : ℕ
+  at = (out-Closure tree).at
+
+  -- what its statements leave
+  abbrev left : Left
+  left = block_left world (out-Closure tree).body (in_body owner false)
+      (state_of (opening world tree old))
+
+  -- the rows of its words and of its parameters
+  abbrev words : List Row
+  words = captures_rows old.vars (out-Closure tree).captures
+
+  abbrev params : List Row
+  params = vars_rows (map (stmts.param_var world) (out-Closure tree).params)
+
+  abbrev before : List Row
+  before = old.rows ++ (words ++ params)
+
+  same : block_left world (out-Closure tree).body (in_body owner false) (state_of begun) ≡ left
+  same = ap (λ (x : Table). block_left world (out-Closure tree).body (in_body owner false)
+      (state_of x)) b
+
+  started : enclosing.start ≡ length before
+  started = ap (λ (x : Opened). x.start) e
+
+  gone : went ≡ went_of left
+  gone = w ∙ ap went_of same
+
+  rows_are : mid.rows ≡ before ++ left.rows
+  rows_are = r ∙ ap (λ (x : Table). x.rows
+      ++ (block_left world (out-Closure tree).body (in_body owner false) (state_of begun)).rows) b
+      ∙ ap (λ (l : Left). before ++ l.rows) same
+
+  returned_is : mid.returned ≡ left.state.returned
+  returned_is = t ∙ ap (λ (l : Left). l.state.returned) same
+
+  pub closure_rows : (now : Table)
+      → now.rows ≡ decided_since enclosing.start (is_result (body_result mid.returned))
+      (mid.rows ++ ill_if (lacks_result (left_since went enclosing.start mid)) at 406)
+      → now.rows ≡ old.rows ++ (closure_known world tree (setting_in owner old)).rows
+  unfolding closure_known
+  closure_rows now n =
+      n
+      ∙ closure_said at before left went enclosing.start mid started gone rows_are returned_is
+      ∙ append_assoc old.rows (words ++ params) (decided_rows at left)
+      ∙ ap (λ rows. old.rows ++ rows) (append_assoc words params (decided_rows at left))
+      ∙ ap (λ (c : Closed). old.rows ++ c.rows)
+      (sym (ap (λ (f : Setting → Closed). f (setting_in owner old))
+      (eq.fold_closure-out (typing_steps world) tree)))
+
+  pub closure_enclosed :
+      closed_after at (out-Closure tree).mark enclosing (left_since went enclosing.start mid)
+      ≡ enclosed_of (closure_known world tree (setting_in owner old))
+  unfolding closure_known
+  closure_enclosed =
+      let mark = (out-Closure tree).mark in
+      let lacks = lacks_result (left_since went enclosing.start mid) in
+      ap (λ (x : Opened). known_by at mark x went.fine lacks mid.returned) e
+      ∙ ap (λ x. known_by at mark (opened world tree old) went.fine x mid.returned)
+      (lacks_same before left went enclosing.start mid started gone rows_are returned_is)
+      ∙ ap (λ (x : Went). known_by at mark (opened world tree old) x.fine (lacks_result left)
+      mid.returned) gone
+      ∙ ap (λ x. known_by at mark (opened world tree old) left.fine (lacks_result left) x)
+      returned_is
+      ∙ ap enclosed_of (sym (ap (λ (f : Setting → Closed). f (setting_in owner old))
+      (eq.fold_closure-out (typing_steps world) tree)))

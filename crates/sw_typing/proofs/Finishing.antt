@@ -47,7 +47,7 @@ noted_rows r now mid old own inner whole p q h =
     ∙ ap (λ rows. old.rows ++ rows) (sym q)) h
 
 -- what is known by an equal judgement
-pub known_by : {E : Type 0} (r : Result Known E) (one other : Known) → one ≡ other
+pub known_by : {A E : Type 0} (r : Result A E) (one other : A) → one ≡ other
     → IfOk r (λ known. known ≡ one) → IfOk r (λ known. known ≡ other)
 known_by r one other p h = subst (λ k. IfOk r (λ known. known ≡ k)) p h
 

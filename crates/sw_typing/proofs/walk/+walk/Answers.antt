@@ -224,11 +224,20 @@ pass-loop-index-preserved t c =
       ),
     )
 
-pub closure-returns-in_ok-went-clause-rows : goal.closure-returns-in_ok-went-clause-rows
-closure-returns-in_ok-went-clause-rows t c =
+pub closure-returns-clause-rows : goal.closure-returns-clause-rows
+closure-returns-clause-rows t c =
     on_ok_weaker c.close_closure.result
     (closure_rows (world_of c.args.world.now) c.args.owner c.args.tree.now c.args.table.now
-    c.open_closure.new.table c.block.new.table c.close_closure.new.table c.in_ok-opened.opened
-    c.in_ok-went.went c.in_ok-opened.ensures.opening c.in_ok-opened.ensures.opened
-    c.in_ok-went.ensures.went c.in_ok-went.ensures.rows c.in_ok-went.ensures.returned)
+    c.open_closure.new.table c.block.new.table c.in_ok-opened.opened c.in_ok-went.went
+    c.in_ok-opened.ensures.opening c.in_ok-opened.ensures.opened c.in_ok-went.ensures.went
+    c.in_ok-went.ensures.rows c.in_ok-went.ensures.returned c.close_closure.new.table)
     c.close_closure.ensures.rows
+
+pub closure-returns-clause-enclosed : goal.closure-returns-clause-enclosed
+closure-returns-clause-enclosed t c =
+    known_by c.close_closure.result _ _
+    (closure_enclosed (world_of c.args.world.now) c.args.owner c.args.tree.now c.args.table.now
+    c.open_closure.new.table c.block.new.table c.in_ok-opened.opened c.in_ok-went.went
+    c.in_ok-opened.ensures.opening c.in_ok-opened.ensures.opened c.in_ok-went.ensures.went
+    c.in_ok-went.ensures.rows c.in_ok-went.ensures.returned)
+    c.close_closure.ensures.enclosed
