@@ -19,6 +19,7 @@ use Rattle.sw_typing_rules.specs.Words.{Setting}
 use Rattle.sw_typing_rules.specs.Verdicts.{all_well, ill_if}
 use Rattle.sw_typing_rules.specs.Worlds.{World}
 use Rattle.sw_typing_rules.specs.declared.row.Row.{Row}
+use Rattle.sw_typing_rules.specs.declared.scope.Inside.{Inside}
 use Rattle.sw_typing_rules.specs.declared.scope.Returned.{Returned}
 use Rattle.sw_typing_rules.specs.declared.scope.Returned.TheVariants.{Wants}
 use Rattle.sw_typing_steps.specs.Closures.{captures_rows, closed_after, opened, opening}
@@ -129,13 +130,14 @@ known_by at mark opened fine lacks returned = record {
 
 -- a closure whose body was gone through after its words and its parameters
 module _ (world : World) (owner : Option ℕ) (tree : Closure) (old begun mid : Table)
-    (enclosing : Opened) (went : Went) (b : begun ≡ opening world tree old)
+    (inside : Inside) (enclosing : Opened) (went : Went) (i : inside ≡ in_body owner false)
+    (b : begun ≡ opening world tree old)
     (e : enclosing ≡ opened world tree old)
     (w : went
-    ≡ went_of (block_left world (out-Closure tree).body (in_body owner false) (state_of begun)))
+    ≡ went_of (block_left world (out-Closure tree).body inside (state_of begun)))
     (r : mid.rows ≡ begun.rows
-    ++ (block_left world (out-Closure tree).body (in_body owner false) (state_of begun)).rows)
-    (t : mid.returned ≡ (block_left world (out-Closure tree).body (in_body owner false)
+    ++ (block_left world (out-Closure tree).body inside (state_of begun)).rows)
+    (t : mid.returned ≡ (block_left world (out-Closure tree).body inside
     (state_of begun)).state.returned) where
   abbrev at : ℕ
   at = (out-Closure tree).at
@@ -155,9 +157,9 @@ module _ (world : World) (owner : Option ℕ) (tree : Closure) (old begun mid : 
   abbrev before : List Row
   before = old.rows ++ (words ++ params)
 
-  same : block_left world (out-Closure tree).body (in_body owner false) (state_of begun) ≡ left
-  same = ap (λ (x : Table). block_left world (out-Closure tree).body (in_body owner false)
-      (state_of x)) b
+  same : block_left world (out-Closure tree).body inside (state_of begun) ≡ left
+  same = ap (λ (x : Table). block_left world (out-Closure tree).body inside (state_of x)) b
+      ∙ ap (λ x. block_left world (out-Closure tree).body x (state_of (opening world tree old))) i
 
   started : enclosing.start ≡ length before
   started = ap (λ (x : Opened). x.start) e
@@ -167,7 +169,7 @@ module _ (world : World) (owner : Option ℕ) (tree : Closure) (old begun mid : 
 
   rows_are : mid.rows ≡ before ++ left.rows
   rows_are = r ∙ ap (λ (x : Table). x.rows
-      ++ (block_left world (out-Closure tree).body (in_body owner false) (state_of begun)).rows) b
+      ++ (block_left world (out-Closure tree).body inside (state_of begun)).rows) b
       ∙ ap (λ (l : Left). before ++ l.rows) same
 
   returned_is : mid.returned ≡ left.state.returned

@@ -1,8 +1,8 @@
 -- The ends of the arms of the walk over statements: what a step leaves after what its parts noted
 -- is what the whole leaves.
-use Rattle.std.proofs.Common.{◌≡◌, ◌++◌, ◌&&◌, ◌||◌, ◌+◌, ℕ, Bool, true, false, List, [], ◌∷◌}
-use Rattle.std.proofs.Common.{Option, Some, Result, append_assoc, ap, drop, is_some, length, map}
-use Rattle.std.proofs.Common.{sym, subst, take, ◌∙◌, IfOk, OnOk}
+use Rattle.std.proofs.Common.{◌≡◌, ◌++◌, ◌&&◌, ◌||◌, ℕ, Bool, true, false, List, []}
+use Rattle.std.proofs.Common.{Option, Some, Result, append_assoc, ap, is_some, length, map}
+use Rattle.std.proofs.Common.{sym, subst, ◌∙◌, IfOk, OnOk}
 use Rattle.std.proofs.lemmas.Result.{on_ok_weaker}
 use Rattle.sw_tree.proofs.FoldEquations as eq
 use Rattle.sw_tree.specs.Folds.{fold_block}
@@ -15,7 +15,7 @@ use Rattle.sw_types.specs.declared.shape.CaseShape.{CaseShape}
 use Rattle.sw_typing_rules.proofs.Complete.{is_some-map}
 use Rattle.sw_typing_rules.specs.Expressions.{Judged}
 use Rattle.sw_typing_rules.specs.Judging.{OfStmt, typing_steps}
-use Rattle.sw_typing_rules.specs.Statements.{Armed, Head, Left, State, beside, cases_of, expects}
+use Rattle.sw_typing_rules.specs.Statements.{Armed, Head, Left, beside, cases_of, expects}
 use Rattle.sw_typing_rules.specs.Statements.{in_switch, marked_result, plain_left, return_value}
 use Rattle.sw_typing_rules.specs.Statements.{switch_left}
 use Rattle.sw_typing_rules.specs.Worlds.{World}

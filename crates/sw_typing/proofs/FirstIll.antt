@@ -1,13 +1,13 @@
 -- The first ill row of all that is said of a program is its first ill node.
-use Rattle.std.proofs.Common.{◌≡◌, ℕ, Bool, false, List, [], Option, Some, None, Contains, All}
-use Rattle.std.proofs.Common.{subst, sym}
+use Rattle.std.proofs.Common.{◌≡◌, false, List, Option, Some, None, Contains}
+use Rattle.std.proofs.Common.{subst}
 use Rattle.std.proofs.lemmas.List.Elements.{All-contains}
 use Rattle.std.specs.Ordering.{is_lt}
 use Rattle.sw_tree.specs.declared.decl.Decl.{Decl}
 use Rattle.sw_decl_words.specs.Placed.{IsFirstPlaced, placed_cmp}
 use Rattle.sw_decl_words.specs.declared.placed.Placed.{Placed}
 use Rattle.sw_typing_rules.proofs.Saying.{ill_is, is_ill, none_in}
-use Rattle.sw_typing_rules.specs.Programs.{IsFirstIll, IsIll, said}
+use Rattle.sw_typing_rules.specs.Programs.{IsFirstIll, said}
 use Rattle.sw_typing_rules.specs.Verdicts.{ills_in}
 use Rattle.sw_typing_rules.specs.Worlds.{World}
 

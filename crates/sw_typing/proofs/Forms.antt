@@ -7,7 +7,7 @@ use Rattle.sw_tree.specs.declared.expr.Expr.{Expr}
 use Rattle.sw_tree.specs.declared.expr.Expr.TheVariants as exprs
 use Rattle.sw_tree.specs.declared.name.Name.{Name}
 use Rattle.sw_typing_rules.specs.Calls.{slots_of}
-use Rattle.sw_typing_rules.specs.Expressions.{Judged, base_rows, call_judged, fun_judged}
+use Rattle.sw_typing_rules.specs.Expressions.{base_rows, call_judged, fun_judged}
 use Rattle.sw_typing_rules.specs.Expressions.{spawn_judged}
 use Rattle.sw_typing_rules.specs.Judging.{OfExpr, typing_steps}
 use Rattle.sw_typing_rules.specs.Words.{Setting}

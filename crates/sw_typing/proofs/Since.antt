@@ -1,5 +1,5 @@
 -- What a step notes after what was noted of a part since the table had `start` rows.
-use Rattle.std.proofs.Common.{◌≡◌, ◌++◌, ℕ, Bool, List, [], ◌∷◌, Option, append_assoc, ap, drop}
+use Rattle.std.proofs.Common.{◌≡◌, ◌++◌, ℕ, Bool, List, [], Option, append_assoc, ap, drop}
 use Rattle.std.proofs.Common.{length, refl, take, ◌∙◌}
 use Rattle.std.proofs.lemmas.List.{drop_at, take_at}
 use Rattle.sw_tree.specs.declared.expr.Link.{Link}
@@ -10,8 +10,6 @@ use Rattle.sw_typing_rules.specs.Statements.{Head, Left, State, plain_left, retu
 use Rattle.sw_typing_rules.specs.Statements.{switch_left}
 use Rattle.sw_typing_rules.specs.Worlds.{World}
 use Rattle.sw_typing_rules.specs.declared.row.Row.{Row}
-use Rattle.sw_typing_rules.specs.declared.scope.Returned.{Returned}
-use Rattle.sw_typing_rules.specs.declared.scope.Var.{Var}
 use Rattle.sw_typing_rules.specs.declared.verdict.Given.{Given}
 use Rattle.sw_typing_steps.specs.Steps.{after, cut, judged_of, judged_since, known_of, left_since}
 use Rattle.sw_typing_steps.specs.Steps.{setting_in, state_of, went_of}

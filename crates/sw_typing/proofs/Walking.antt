@@ -11,10 +11,10 @@ use Rattle.sw_types.specs.declared.shape.CaseShape.{CaseShape}
 use Rattle.sw_typing_steps.specs.Switches.{head_at}
 use Rattle.sw_typing_rules.proofs.Complete.{is_one-map}
 use Rattle.sw_typing_rules.specs.Calls.{Slot}
-use Rattle.sw_typing_rules.specs.Expressions.{Passed, first_marked, later, one_passed}
+use Rattle.sw_typing_rules.specs.Expressions.{first_marked, later, one_passed}
 use Rattle.sw_typing_rules.specs.Judging.{OfArg, OfCaseArm, OfStmt, do_all, do_case, do_cases}
 use Rattle.sw_typing_rules.specs.Judging.{typing_steps}
-use Rattle.sw_typing_rules.specs.Statements.{Head, State, is_one, with_only}
+use Rattle.sw_typing_rules.specs.Statements.{State, is_one, with_only}
 use Rattle.sw_typing_rules.specs.Worlds.{World}
 use Rattle.sw_typing_rules.specs.Words.{Setting}
 use Rattle.sw_typing_rules.specs.declared.row.Row.{Row}

@@ -1,7 +1,7 @@
 -- The fault of a program with an ill node.
 use Rattle.std.specs.Prelude.{List, Some}
 use Rattle.sw_tree.specs.declared.decl.Decl.{Decl}
-use Rattle.sw_typing_rules.specs.Programs.{IsFirstIll, said}
+use Rattle.sw_typing_rules.specs.Programs.{IsFirstIll}
 use Rattle.sw_typing_rules.specs.Worlds.{World}
 use Rattle.sw_typing.specs.declared.typing.TypeFault.{TypeFault}
 use Rattle.sw_typing.specs.declared.typing.TypeFault.TheVariants as fault

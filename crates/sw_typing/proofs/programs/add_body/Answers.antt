@@ -1,5 +1,4 @@
 use Rattle.std.proofs.Common.{rules, ap, ◌∙◌, ◌++◌}
-use Rattle.sw_typing_rules.specs.Statements.{in_body}
 use Rattle.sw_typing_rules.specs.Worlds.{world_of}
 use Rattle.sw_typing_rules.specs.declared.scope.Inside.{Inside}
 use Rattle.sw_typing_steps.specs.Steps.{state_of, went_of}

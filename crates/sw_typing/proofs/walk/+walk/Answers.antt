@@ -10,7 +10,7 @@ use Rattle.sw_typing_rules.specs.declared.scope.Var.{Var}
 use Rattle.sw_typing_words.specs.Callees.{as_callee}
 use Rattle.sw_typing.specs.Walked.{expr_known}
 use Rattle.sw_typing_steps.specs.Steps.{known_of, setting_in, state_of}
-use Rattle.sw_typing.proofs.Bodies.{closure_rows}
+use Rattle.sw_typing.proofs.Bodies.{closure_enclosed, closure_rows}
 use Rattle.sw_typing.proofs.Ending.{plain_end, return_end, switch_end, switch_went, went_by}
 use Rattle.sw_typing.proofs.Finishing.{await_whole, block_vars, chain_rows, chain_same, fun_same}
 use Rattle.sw_typing.proofs.Finishing.{fun_whole, known_by, method_rows, method_same, noted_rows}
@@ -228,8 +228,8 @@ pub closure-returns-clause-rows : goal.closure-returns-clause-rows
 closure-returns-clause-rows t c =
     on_ok_weaker c.close_closure.result
     (closure_rows (world_of c.args.world.now) c.args.owner c.args.tree.now c.args.table.now
-    c.open_closure.new.table c.block.new.table c.in_ok-opened.opened c.in_ok-went.went
-    c.in_ok-opened.ensures.opening c.in_ok-opened.ensures.opened c.in_ok-went.ensures.went
+    c.open_closure.new.table c.block.new.table c.in_body.result c.in_ok-opened.opened
+    c.in_ok-went.went c.in_body.ensures c.in_ok-opened.ensures.opening c.in_ok-opened.ensures.opened c.in_ok-went.ensures.went
     c.in_ok-went.ensures.rows c.in_ok-went.ensures.returned c.close_closure.new.table)
     c.close_closure.ensures.rows
 
@@ -237,7 +237,7 @@ pub closure-returns-clause-enclosed : goal.closure-returns-clause-enclosed
 closure-returns-clause-enclosed t c =
     known_by c.close_closure.result _ _
     (closure_enclosed (world_of c.args.world.now) c.args.owner c.args.tree.now c.args.table.now
-    c.open_closure.new.table c.block.new.table c.in_ok-opened.opened c.in_ok-went.went
-    c.in_ok-opened.ensures.opening c.in_ok-opened.ensures.opened c.in_ok-went.ensures.went
+    c.open_closure.new.table c.block.new.table c.in_body.result c.in_ok-opened.opened
+    c.in_ok-went.went c.in_body.ensures c.in_ok-opened.ensures.opening c.in_ok-opened.ensures.opened c.in_ok-went.ensures.went
     c.in_ok-went.ensures.rows c.in_ok-went.ensures.returned)
     c.close_closure.ensures.enclosed
