@@ -8,7 +8,6 @@ use Rattle.sw_graph.specs.declared.function.Function.{Function}
 use Rattle.sw_graph.specs.declared.graph.Graph.{Graph}
 use Rattle.sw_value.specs.declared.frame.Frame.{Frame}
 use Rattle.sw_value.specs.declared.state.State.{State}
-use Rattle.sw_value.specs.declared.value.Value.{Value}
 use Rattle.sw_value.specs.Value.{value_at}
 use Rattle.sw_partition.specs.Regions.{Regions}
 use Rattle.sw_owner_facts.specs.Colours.{Colour, OfJob}
@@ -25,6 +24,7 @@ use Rattle.sw_view_facts.specs.Changes.{Changes, KeepsShape, KeepsOthers, HoldsI
 use Rattle.sw_view_facts.specs.Views.{Colours, frame_at, frame_under, function_of, shape_by}
 use Rattle.sw_view_facts.specs.Views.{elements_in, elements_with, region_by, live_by, colours_by}
 use Rattle.sw_view_facts.specs.Views.{here_at, awaited_by, view_of}
+use Rattle.sw_view_facts.proofs.HeldLemmas.{colours_kept}
 
 -- what an element comes from, where register r gets what some others hold
 pub comes_here : (r : ℕ) (sources : List Element) (s : ℕ) → s ≡ r → (y : Element)
@@ -104,13 +104,7 @@ module _ (graph : Graph) (regions later : Spot → Option Regions) (state next :
   -- what a register of a frame that was there reaches stays
   reached_stays : (p : Spot) (o : Option Frame) (r : ℕ) → frame_at state p ≡ o
       → colours_by next after o r ≡ colours_by state colours o r
-  reached_stays p None r is = refl
-  reached_stays p (Some h) r is = by (value_at h.regs r) refl where
-    by : (v : Option Value) → value_at h.regs r ≡ v
-        → option_map_or (colours_of next.cells after.cells) v []
-        ≡ option_map_or (colours_of state.cells colours.cells) v []
-    by None at = refl
-    by (Some v) at = m.reached p h r v is at
+  reached_stays = colours_kept state next colours after m.reached
 
   colours_stay : (p : Spot) (r : ℕ) → p ≢ q → new.colours p r ≡ old.colours p r
   colours_stay p r differ =

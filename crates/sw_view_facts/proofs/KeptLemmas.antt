@@ -1,22 +1,19 @@
 -- Frames of jobs whose frames a step leaves as they are.
-use Rattle.std.specs.Option.{option_map, option_map_or}
-use Rattle.std.proofs.Common.{◌≡◌, ℕ, zero, suc, Option, Some, None, Contains, refl, sym, subst, ap}
-use Rattle.std.proofs.Common.{◌∙◌, []}
+use Rattle.std.specs.Option.{option_map}
+use Rattle.std.proofs.Common.{◌≡◌, ℕ, zero, suc, Option, Contains, refl, sym, subst, ap, ◌∙◌}
 use Rattle.sw_graph.specs.declared.graph.Graph.{Graph}
 use Rattle.sw_value.specs.declared.frame.Frame.{Frame}
 use Rattle.sw_value.specs.declared.state.State.{State}
-use Rattle.sw_value.specs.declared.value.Value.{Value}
-use Rattle.sw_value.specs.Value.{value_at}
 use Rattle.sw_partition.specs.Regions.{Regions}
 use Rattle.sw_owner_facts.specs.Colours.{Colour}
 use Rattle.sw_owner_facts.specs.View.{Element, FrameShape, Here, Holds, IsFrame, IsLive, Register}
 use Rattle.sw_owner_facts.specs.View.{View, Frame as Spot}
 use Rattle.sw_owner_facts.specs.Within.{Kept}
-use Rattle.sw_reach_facts.specs.Reached.{colours_of}
 use Rattle.sw_view_facts.specs.Changes.{KeepsReach}
 use Rattle.sw_view_facts.specs.Views.{Colours, awaited_by, colours_by, elements_in, frame_at}
 use Rattle.sw_view_facts.specs.Views.{frame_under, function_of, here_at, live_by, region_by}
 use Rattle.sw_view_facts.specs.Views.{shape_by, view_of}
+use Rattle.sw_view_facts.proofs.HeldLemmas.{colours_kept}
 
 module _ (graph : Graph) (regions later : Spot → Option Regions) (state next : State)
     (colours after : Colours) (p : Spot)
@@ -53,13 +50,7 @@ module _ (graph : Graph) (regions later : Spot → Option Regions) (state next :
 
   reached_same : (o : Option Frame) (r : ℕ) → frame_at state p ≡ o
       → colours_by next after o r ≡ colours_by state colours o r
-  reached_same None r is = refl
-  reached_same (Some h) r is = by (value_at h.regs r) refl where
-    by : (v : Option Value) → value_at h.regs r ≡ v
-        → option_map_or (colours_of next.cells after.cells) v []
-        ≡ option_map_or (colours_of state.cells colours.cells) v []
-    by None at = refl
-    by (Some v) at = reach p h r v is at
+  reached_same = colours_kept state next colours after reach p
 
   pub kept_as_is : Kept old new p
   kept_as_is = record {

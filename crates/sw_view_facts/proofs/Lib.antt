@@ -7,6 +7,7 @@ pub mod EndLemmas
 pub mod EnterLemmas
 pub mod EntryLemmas
 pub mod HaltLemmas
+pub mod HeldLemmas
 pub mod KeptColourLemmas
 pub mod KeptLemmas
 pub mod LeaveLemmas

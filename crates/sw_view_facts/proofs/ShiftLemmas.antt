@@ -7,7 +7,6 @@ use Rattle.sw_graph.specs.declared.function.Function.{Function}
 use Rattle.sw_graph.specs.declared.graph.Graph.{Graph}
 use Rattle.sw_value.specs.declared.frame.Frame.{Frame}
 use Rattle.sw_value.specs.declared.state.State.{State}
-use Rattle.sw_value.specs.declared.value.Value.{Value}
 use Rattle.sw_value.specs.Value.{value_at}
 use Rattle.sw_partition.specs.Regions.{Regions}
 use Rattle.sw_owner_facts.specs.Colours.{Colour}
@@ -20,6 +19,7 @@ use Rattle.sw_view_facts.specs.Views.{Colours, frame_at, frame_under, function_o
 use Rattle.sw_view_facts.specs.Views.{elements_in, elements_with, region_by, live_by, colours_by}
 use Rattle.sw_view_facts.specs.Views.{awaited_by, view_of}
 use Rattle.sw_view_facts.specs.Shifts.{Shifts}
+use Rattle.sw_view_facts.proofs.HeldLemmas.{colours_kept}
 
 above_same : (s t : Spot) → above s ≡ above t → s ≡ t
 above_same s t e = λ i. record { job = (e i).job; depth = below (e i).depth } where
@@ -94,15 +94,9 @@ module _ (graph : Graph) (regions later : Spot → Option Regions) (state next :
         let x : ⊥ = cc in x))
         ∙ frames (Some h) is under ∙ sym (ap (shape_by graph under) is)
 
-  reached_stays : (s : Spot) (o : Option Frame) (r : ℕ) → frame_at state s ≡ o
+  reached_stays : (p : Spot) (o : Option Frame) (r : ℕ) → frame_at state p ≡ o
       → colours_by next after o r ≡ colours_by state colours o r
-  reached_stays s None r is = refl
-  reached_stays s (Some h) r is = by (value_at h.regs r) refl where
-    by : (v : Option Value) → value_at h.regs r ≡ v
-        → option_map_or (colours_of next.cells after.cells) v []
-        ≡ option_map_or (colours_of state.cells colours.cells) v []
-    by None at = refl
-    by (Some v) at = m.reached s h r v is at
+  reached_stays = colours_kept state next colours after m.reached
 
   -- frames that are neither of the two stay
   pub kept_others : (s : Spot) → s ≢ p → s ≢ above p → Kept old new s
