@@ -1,5 +1,5 @@
 -- Calls and tasks have what each instruction has, whatever it is.
-use Rattle.std.proofs.Common.{◌≡◌, ℕ, List, Option, Some, None}
+use Rattle.std.proofs.Common.{ℕ, List, Option, None}
 use Rattle.sw_types.specs.declared.isolation.CallKind.{CallKind}
 use Rattle.sw_types.specs.declared.shape.ShapeKind.{ShapeKind}
 use Rattle.sw_types.specs.declared.shape.ShapeKind.TheVariants as shapes
@@ -11,7 +11,7 @@ use Rattle.sw_decls.specs.declared.signature.Signature.{Signature}
 use Rattle.sw_lower_code.specs.Code.{Code, emit}
 use Rattle.sw_lower_code.specs.Whole.{Body}
 use Rattle.sw_lower_rules.specs.Carriers.{ClosureCode}
-use Rattle.sw_lower_rules.specs.Expressions.{both, captured, either, spawn_read}
+use Rattle.sw_lower_rules.specs.Expressions.{both, either, spawn_read}
 use Rattle.sw_lower_rules.specs.Tables.{Tables, getter_of, plain}
 use Rattle.sw_lower_rules.specs.Uses.{call_func, call_getter, call_signature, give, make, make_by}
 use Rattle.sw_lower_rules.specs.Uses.{operand}

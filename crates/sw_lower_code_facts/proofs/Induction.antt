@@ -25,7 +25,7 @@ use Rattle.sw_lower_rules.specs.Statements.{block_code, code_steps, expr_code, g
 use Rattle.sw_lower_rules.specs.Statements.{statement}
 use Rattle.sw_lower_rules.specs.Tables.{Tables}
 use Rattle.sw_lower_rules.specs.declared.targets.Targets.{Targets}
-use Rattle.sw_lower_code_facts.specs.Kept.{ArgHas, ExprHas, GivesHave, Kept, KeptByForms, LinkHas}
+use Rattle.sw_lower_code_facts.specs.Kept.{ArgHas, GivesHave, Kept, KeptByForms, LinkHas}
 use Rattle.sw_lower_code_facts.specs.Said.{ArgSo, BlockSo, BodySo, ExprSo, ForSome, ForTargets, IfSo}
 use Rattle.sw_lower_code_facts.specs.Said.{LinkSo, Said, StmtSo}
 use Rattle.sw_lower_code_facts.proofs.Expressions.{await_has, call_has, chain_has, member_has}

@@ -1,6 +1,6 @@
 -- What is said of the code of statements, where a property of the code of expressions is kept, and
 -- what is then shown of the code of each type of tree.
-use Rattle.std.specs.Prelude.{◌≡◌, ℕ, Bool, false, List, Option, Some, None, All}
+use Rattle.std.specs.Prelude.{◌≡◌, ℕ, false, List, Option, Some, None, All}
 use Rattle.std.specs.List.{AllByRecursion}
 use Rattle.sw_tree.specs.declared.operator.AssignOp.{AssignOp}
 use Rattle.sw_graph.specs.declared.instr.Last.TheVariants.{Return}

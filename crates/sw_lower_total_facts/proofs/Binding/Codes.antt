@@ -1,7 +1,6 @@
 -- Pieces of code that declare no variable.
-use Rattle.std.proofs.Common.{ℕ, Bool, true, false, List, [], ◌∷◌, ◌++◌, Option, ap, ◌∙◌, refl}
+use Rattle.std.proofs.Common.{ℕ, List, [], ◌∷◌, ◌++◌, Option, ap, ◌∙◌, refl}
 use Rattle.std.specs.List.{AllByRecursion}
-use Rattle.std.specs.Prelude.{if◌then◌else◌}
 use Rattle.sw_graph.specs.declared.function.RegKind.{RegKind}
 use Rattle.sw_graph.specs.declared.instr.Instr.{Instr}
 use Rattle.sw_graph.specs.declared.instr.Last.{Last}
@@ -81,9 +80,3 @@ unfolding all
 nothing_all code [] one = nothing_done tt
 nothing_all code (x ∷ xs) one =
     nothing_then (code x) (λ y. all code xs) one.0 (λ y. nothing_all code xs one.1)
-
--- one of two pieces of code
-pub nothing_if : {A : Type 0} (test : Bool) (one other : Code A) → BindsNothing one
-    → BindsNothing other → BindsNothing (if test then one else other)
-nothing_if true one other first second = first
-nothing_if false one other first second = second
