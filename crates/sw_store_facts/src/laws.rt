@@ -1,0 +1,66 @@
+//! The laws. In each the job of q runs, and its top frame stands at the instruction.
+ghost use Rattle.std.specs.Prelude.{◌≡◌, ℕ, Option, Some, List};
+ghost use Rattle.sw_graph.specs.declared.function.Function.{Function};
+ghost use Rattle.sw_graph.specs.declared.graph.Graph.{Graph};
+ghost use Rattle.sw_graph.specs.declared.instr.Instr.TheVariants.{Copy, Field, Payload, LoadBox};
+ghost use Rattle.sw_graph.specs.declared.instr.Instr.TheVariants.{LoadProp, Make};
+ghost use Rattle.sw_graph.specs.declared.instr.Operand.{Operand};
+ghost use Rattle.sw_graph.specs.Points.{Middle};
+ghost use Rattle.sw_value.specs.declared.cell.Slot.TheVariants.{Part, Content};
+ghost use Rattle.sw_value.specs.declared.frame.Frame.{Frame};
+ghost use Rattle.sw_value.specs.declared.job.Job.{Job};
+ghost use Rattle.sw_value.specs.declared.state.State.{State};
+ghost use Rattle.sw_value.specs.Reach.{step_of};
+ghost use Rattle.sw_owner_facts.specs.View.{Frame as Spot};
+ghost use Rattle.sw_partition.specs.Regions.{Regions};
+ghost use Rattle.sw_region_ops.specs.Elements.{element_at, elements_of};
+ghost use Rattle.sw_view_facts.specs.Standing.{StandsAt};
+ghost use Rattle.sw_view_facts.specs.Views.{Colours};
+ghost use Rattle.sw_store_facts.specs.Sound.{HasSlotColour, HasSoundView, IsColoured};
+
+/// A register gets the value of another, a part of it, or a value of its payload.
+pub fn copies_keep_soundness()
+    ensures copy { (graph : Graph) (states : ℕ → List (Option Regions)) (state : State)
+        (colours : Colours) → IsColoured graph states state colours → (q : Spot) (job : Job)
+        (f : Frame) (function : Function) (at dst : ℕ) (src : Operand)
+        → StandsAt graph state q job f function (Middle (Copy at dst src))
+        → HasSoundView graph states (step_of graph state q.job) colours }
+    ensures field { (graph : Graph) (states : ℕ → List (Option Regions)) (state : State)
+        (colours : Colours) → IsColoured graph states state colours → (q : Spot) (job : Job)
+        (f : Frame) (function : Function) (at dst : ℕ) (src : Operand) (part : ℕ)
+        → StandsAt graph state q job f function (Middle (Field at dst src part))
+        → HasSoundView graph states (step_of graph state q.job) colours }
+    ensures payload { (graph : Graph) (states : ℕ → List (Option Regions)) (state : State)
+        (colours : Colours) → IsColoured graph states state colours → (q : Spot) (job : Job)
+        (f : Frame) (function : Function) (at dst : ℕ) (src : Operand) (index : ℕ)
+        → StandsAt graph state q job f function (Middle (Payload at dst src index))
+        → HasSoundView graph states (step_of graph state q.job) colours }
+{}
+
+/// A register gets what is in a box, or in an object that is tracked, if that reaches the colour of
+/// its cell alone.
+pub fn loads_keep_soundness()
+    ensures boxes { (graph : Graph) (states : ℕ → List (Option Regions)) (state : State)
+        (colours : Colours) → IsColoured graph states state colours → (q : Spot) (job : Job)
+        (f : Frame) (function : Function) (at dst : ℕ) (cell : Operand)
+        → StandsAt graph state q job f function (Middle (LoadBox at dst cell))
+        → HasSlotColour state colours f cell Content
+        → HasSoundView graph states (step_of graph state q.job) colours }
+    ensures parts { (graph : Graph) (states : ℕ → List (Option Regions)) (state : State)
+        (colours : Colours) → IsColoured graph states state colours → (q : Spot) (job : Job)
+        (f : Frame) (function : Function) (at dst : ℕ) (cell : Operand) (part number : ℕ)
+        → StandsAt graph state q job f function (Middle (LoadProp at dst cell part))
+        → element_at (elements_of graph.shapes function.regs) cell.reg ≡ Some number
+        → HasSlotColour state colours f cell (Part part)
+        → HasSoundView graph states (step_of graph state q.job) colours }
+{}
+
+/// A struct, or a case of an enum, is made of registers.
+pub fn makers_keep_soundness()
+    ensures { (graph : Graph) (states : ℕ → List (Option Regions)) (state : State)
+        (colours : Colours) → IsColoured graph states state colours → (q : Spot) (job : Job)
+        (f : Frame) (function : Function) (at dst shape : ℕ) (tag : Option ℕ)
+        (args : List Operand)
+        → StandsAt graph state q job f function (Middle (Make at dst shape tag args))
+        → HasSoundView graph states (step_of graph state q.job) colours }
+{}
