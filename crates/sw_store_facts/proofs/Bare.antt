@@ -1,6 +1,6 @@
 -- Registers that aren't tracked reach nothing.
-use Rattle.std.proofs.Common.{[], ◌≡◌, ◌<◌, ℕ, Option, Some, None, List, length, Contains, refl}
-use Rattle.std.proofs.Common.{ap, ◌∙◌, sym, arith}
+use Rattle.std.proofs.Common.{[], ◌≡◌, ◌<◌, ℕ, Option, Some, None, List, length, Contains, refl, ap}
+use Rattle.std.proofs.Common.{◌∙◌, sym, arith}
 use Rattle.std.specs.Option.{option_map_or, option_and_then}
 use Rattle.std.specs.List.{slice_get}
 use Rattle.std.proofs.lemmas.Option.{slice_get_within}
@@ -12,13 +12,13 @@ use Rattle.sw_value.specs.declared.job.Job.{Job}
 use Rattle.sw_value.specs.declared.state.State.{State}
 use Rattle.sw_value.specs.declared.value.Value.{Value}
 use Rattle.sw_value.specs.Value.{value_at}
+use Rattle.sw_region_ops.specs.Elements.{element_at, elements_of}
 use Rattle.sw_machine_kind_facts.specs.Kinded.{Kinded}
 use Rattle.sw_machine_kind_facts.specs.Standing.{FrameFits, awaited_at}
 use Rattle.sw_machine_kind_facts.proofs.ItemLemmas.{found_within}
 use Rattle.sw_machine_kind_facts.proofs.StackLemmas as stack
 use Rattle.sw_owner_facts.specs.Colours.{Colour}
 use Rattle.sw_owner_facts.specs.View.{Frame as Spot}
-use Rattle.sw_region_ops.specs.Elements.{element_at, elements_of}
 use Rattle.sw_reach_facts.specs.Coloured.{HaveColours}
 use Rattle.sw_reach_facts.specs.Reached.{colours_of}
 use Rattle.sw_reach_facts.proofs.FitLemmas.{colours_fit, conformances_hold}

@@ -1,6 +1,5 @@
 -- Copies, fields, payloads, and loads of cells that are tracked.
-use Rattle.std.proofs.Common.{◌≡◌, ℕ, Option, Some, List, [], ◌∷◌, Contains}
-use Rattle.std.proofs.Common.{refl, sym, subst}
+use Rattle.std.proofs.Common.{◌≡◌, ℕ, Option, Some, List, [], ◌∷◌, Contains, refl, sym, subst}
 use Rattle.std.specs.List.{slice_get}
 use Rattle.std.specs.Option.{option_and_then}
 use Rattle.std.proofs.lemmas.Option.{slice_get_within}
@@ -20,10 +19,10 @@ use Rattle.sw_value.specs.Cell.{slot_of}
 use Rattle.sw_value.specs.Effect.{cell_at, loaded}
 use Rattle.sw_value.specs.Reach.{step_of}
 use Rattle.sw_value.specs.Value.{field_of, operand_value, payload_of, reference_at, reference_of}
-use Rattle.sw_owner_facts.specs.Colours.{Colour}
-use Rattle.sw_owner_facts.specs.View.{Frame as Spot}
 use Rattle.sw_partition.specs.Regions.{Regions}
 use Rattle.sw_region_ops.specs.Elements.{element_at, elements_of}
+use Rattle.sw_owner_facts.specs.Colours.{Colour}
+use Rattle.sw_owner_facts.specs.View.{Frame as Spot}
 use Rattle.sw_region_facts.specs.Rows.{LoadsPart}
 use Rattle.sw_reach_facts.specs.Reached.{colours_of}
 use Rattle.sw_reach_facts.proofs.CellLemmas.{reference_shows}

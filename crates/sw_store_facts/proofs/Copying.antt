@@ -1,6 +1,6 @@
 -- A register that gets a value which reaches no more than another register's.
-use Rattle.std.proofs.Common.{◌≡◌, ◌+◌, ℕ, false, Option, Some, None, List}
-use Rattle.std.proofs.Common.{[], length, Contains, refl, sym, subst, ap, ◌∙◌}
+use Rattle.std.proofs.Common.{◌≡◌, ◌+◌, ℕ, false, Option, Some, None, List, [], length, Contains}
+use Rattle.std.proofs.Common.{refl, sym, subst, ap, ◌∙◌}
 use Rattle.std.specs.List.{slice_get}
 use Rattle.std.specs.Option.{option_map_or}
 use Rattle.sw_graph.specs.declared.function.Function.{Function}
@@ -17,12 +17,11 @@ use Rattle.sw_value.specs.declared.value.Value.{Value}
 use Rattle.sw_value.specs.Effect.{point_effect}
 use Rattle.sw_value.specs.State.{in_job}
 use Rattle.sw_value.specs.Value.{value_at}
-use Rattle.sw_machine_kind_facts.proofs.NeverStuck.{step_kinded}
-use Rattle.sw_owner_facts.specs.Colours.{Colour}
-use Rattle.sw_owner_facts.specs.View.{Element, Register}
-use Rattle.sw_owner_facts.specs.View.{Frame as Spot}
 use Rattle.sw_partition.specs.Regions.{Regions}
 use Rattle.sw_region_ops.specs.Elements.{element_at, elements_of}
+use Rattle.sw_machine_kind_facts.proofs.NeverStuck.{step_kinded}
+use Rattle.sw_owner_facts.specs.Colours.{Colour}
+use Rattle.sw_owner_facts.specs.View.{Element, Register, Frame as Spot}
 use Rattle.sw_region_facts.specs.Moves.{Sets, copied_from}
 use Rattle.sw_region_facts.specs.Rows.{CopiesFrom}
 use Rattle.sw_reach_facts.specs.Reached.{colours_of}

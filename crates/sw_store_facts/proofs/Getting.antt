@@ -1,6 +1,6 @@
 -- What a register gets, where the instruction gives it a value.
-use Rattle.std.proofs.Common.{◌≡◌, ◌+◌, ◌-◌, ℕ, Bool, true, false, ◌&&◌, ◌||◌, Option, Some, None, List}
-use Rattle.std.proofs.Common.{length, refl, sym, ap, ◌∙◌, arith}
+use Rattle.std.proofs.Common.{◌≡◌, ◌+◌, ◌-◌, ℕ, Bool, true, false, ◌&&◌, ◌||◌, Option, Some, None}
+use Rattle.std.proofs.Common.{List, length, refl, sym, ap, ◌∙◌, arith}
 use Rattle.std.specs.Option.{option_and_then}
 use Rattle.std.specs.List.{slice_get}
 use Rattle.sw_graph.specs.declared.function.Function.{Function}
@@ -15,10 +15,10 @@ use Rattle.sw_value.specs.declared.value.Value.{Value}
 use Rattle.sw_value.specs.Effect.{effect_of, is_stuck, needs, point_effect, set_of}
 use Rattle.sw_value.specs.Frame.{point_at}
 use Rattle.sw_value.specs.Job.{is_running, is_running_status, top_frame}
+use Rattle.sw_partition.specs.Regions.{Regions}
 use Rattle.sw_machine_kind_facts.specs.Operands.{HasNext}
 use Rattle.sw_machine_kind_facts.proofs.LawLemmas.{has_next}
 use Rattle.sw_owner_facts.specs.View.{Frame as Spot}
-use Rattle.sw_partition.specs.Regions.{Regions}
 use Rattle.sw_view_facts.specs.Standing.{StandsAt}
 use Rattle.sw_view_facts.specs.Views.{Colours}
 use Rattle.sw_store_facts.specs.Sound.{IsColoured}

@@ -4,3 +4,7 @@ pub mod Copying
 pub mod Getting
 pub mod Copies
 pub mod Making
+pub mod Holding
+pub mod Storing
+pub mod Stores
+pub mod Heres

@@ -1,6 +1,6 @@
 -- A struct, or a case of an enum, that is made of operands.
-use Rattle.std.proofs.Common.{◌≡◌, ◌≢◌, ◌+◌, ℕ, Option, Some, None, List, [], ◌∷◌, length}
-use Rattle.std.proofs.Common.{Contains, refl, sym, subst, ap, ◌∙◌, map, inl, inr}
+use Rattle.std.proofs.Common.{◌≡◌, ◌≢◌, ◌+◌, ℕ, Option, Some, None, List, [], ◌∷◌, length, Contains}
+use Rattle.std.proofs.Common.{refl, sym, subst, ap, ◌∙◌, map, inl, inr}
 use Rattle.std.specs.Option.{option_map, option_map_or}
 use Rattle.std.proofs.lemmas.List.Elements.{Contains-append_left, Contains-append_right}
 use Rattle.sw_graph.specs.declared.function.Function.{Function}
@@ -19,11 +19,10 @@ use Rattle.sw_value.specs.Effect.{needs, point_effect, set_of}
 use Rattle.sw_value.specs.Lists.{each_of}
 use Rattle.sw_value.specs.Reach.{step_of}
 use Rattle.sw_value.specs.Value.{made, operand_value, values_at}
-use Rattle.sw_owner_facts.specs.Colours.{Colour}
-use Rattle.sw_owner_facts.specs.View.{Element, Register}
-use Rattle.sw_owner_facts.specs.View.{Frame as Spot}
 use Rattle.sw_partition.specs.Regions.{Regions}
 use Rattle.sw_region_ops.specs.Elements.{element_at, elements_of}
+use Rattle.sw_owner_facts.specs.Colours.{Colour}
+use Rattle.sw_owner_facts.specs.View.{Element, Register, Frame as Spot}
 use Rattle.sw_region_facts.specs.Moves.{if_tracked, tracked}
 use Rattle.sw_region_facts.proofs.Comes.{makes_sets}
 use Rattle.sw_region_facts.proofs.Lists.{none_in, first_in, later_in, first_or_later}

@@ -1,6 +1,6 @@
 -- A running job whose top frame stands at an instruction, with its row, and the step that it makes.
-use Rattle.std.proofs.Common.{◌≡◌, ◌+◌, ℕ, true, false, Option, Some, List}
-use Rattle.std.proofs.Common.{length, refl, sym, subst, ap, ◌∙◌, IsTrue}
+use Rattle.std.proofs.Common.{◌≡◌, ◌+◌, ℕ, true, false, Option, Some, List, length, refl, sym}
+use Rattle.std.proofs.Common.{subst, ap, ◌∙◌, IsTrue}
 use Rattle.std.specs.Option.{option_and_then}
 use Rattle.std.specs.List.{slice_get}
 use Rattle.sw_graph.specs.declared.function.Function.{Function}
@@ -12,27 +12,28 @@ use Rattle.sw_graph.specs.Points.{Middle}
 use Rattle.sw_graph.specs.Sure.{SureWay}
 use Rattle.sw_graph.specs.Ways.{is_number, point_sets}
 use Rattle.sw_value.specs.declared.effect.Effect.{Effect}
-use Rattle.sw_value.specs.declared.effect.Effect.TheVariants as effect
 use Rattle.sw_value.specs.declared.frame.Frame.{Frame}
 use Rattle.sw_value.specs.declared.job.Job.{Job}
 use Rattle.sw_value.specs.declared.state.State.{State}
 use Rattle.sw_value.specs.Effect.{point_effect}
 use Rattle.sw_value.specs.Frame.{finish_instr, go_on, set_field}
 use Rattle.sw_value.specs.Reach.{after_effect, step_of}
-use Rattle.sw_machine_kind_facts.specs.Standing.{FrameFits}
-use Rattle.sw_owner_facts.specs.View.{Frame as Spot}
+use Rattle.sw_value.specs.declared.effect.Effect.TheVariants as effect
+use Rattle.sw_solve.specs.Annotation.{value_at}
 use Rattle.sw_partition.specs.Regions.{Regions}
 use Rattle.sw_region_ops.specs.Setting.{setting_of}
+use Rattle.sw_machine_kind_facts.specs.Standing.{FrameFits}
+use Rattle.sw_owner_facts.specs.View.{Frame as Spot}
 use Rattle.sw_region_facts.specs.Annotated.{Annotates}
 use Rattle.sw_region_facts.specs.Rows.{InstrMoves}
 use Rattle.sw_region_facts.proofs.Annotated.{reached_at, row_at}
-use Rattle.sw_solve.specs.Annotation.{value_at}
 use Rattle.sw_view_facts.specs.Changes.{KeepsReach, KeepsShape}
 use Rattle.sw_view_facts.specs.Effects.{is_inside, next_of, register_of, turn_of}
 use Rattle.sw_view_facts.specs.Executing.{Executes}
 use Rattle.sw_view_facts.specs.Standing.{StandsAt}
 use Rattle.sw_view_facts.specs.Steps.{ChangesFrame}
-use Rattle.sw_view_facts.specs.Views.{Colours, annotated, frame_at, here_at, makes_itself, state_with}
+use Rattle.sw_view_facts.specs.Views.{Colours, annotated, frame_at, here_at, makes_itself}
+use Rattle.sw_view_facts.specs.Views.{state_with}
 use Rattle.sw_view_facts.proofs.EffectLemmas.{inside_changes, inside_executes, inside_keeps_shape}
 use Rattle.sw_view_facts.proofs.EffectLemmas.{step_is}
 use Rattle.sw_view_facts.proofs.ShapeLemmas.{open_after}
@@ -115,7 +116,7 @@ module _ (graph : Graph) (states : ℕ → List (Option Regions)) (state : State
     pub function_now : (turn_of e f).function ≡ f.function
     function_now = changes.call.function
 
-    stands_behind : annotated states next_state q ≡ Some row.c
+    pub stands_behind : annotated states next_state q ≡ Some row.c
     stands_behind = ap (state_with states) changes.now
         ∙ ap (λ n. value_at (states n) (turn_of e f).point) changes.call.function
         ∙ ap (value_at (states f.function)) (goes_next e f (f.point + 1) goes) ∙ row.behind

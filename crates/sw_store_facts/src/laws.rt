@@ -1,22 +1,33 @@
 //! The laws. In each the job of q runs, and its top frame stands at the instruction.
-ghost use Rattle.std.specs.Prelude.{◌≡◌, ℕ, Option, Some, List};
+ghost use Rattle.std.specs.Prelude.{◌≡◌, ℕ, Option, Some, None, List, [], ◌∷◌};
 ghost use Rattle.sw_graph.specs.declared.function.Function.{Function};
 ghost use Rattle.sw_graph.specs.declared.graph.Graph.{Graph};
 ghost use Rattle.sw_graph.specs.declared.instr.Instr.TheVariants.{Copy, Field, Payload, LoadBox};
-ghost use Rattle.sw_graph.specs.declared.instr.Instr.TheVariants.{LoadProp, Make};
+ghost use Rattle.sw_graph.specs.declared.instr.Instr.TheVariants.{LoadProp, Make, Const};
+ghost use Rattle.sw_graph.specs.declared.instr.Instr.TheVariants.{LoadGlobal, StoreBox, StoreProp};
+ghost use Rattle.sw_graph.specs.declared.instr.Instr.TheVariants.{StoreGlobal};
+ghost use Rattle.sw_graph.specs.declared.instr.Literal.{Literal};
 ghost use Rattle.sw_graph.specs.declared.instr.Operand.{Operand};
 ghost use Rattle.sw_graph.specs.Points.{Middle};
 ghost use Rattle.sw_value.specs.declared.cell.Slot.TheVariants.{Part, Content};
 ghost use Rattle.sw_value.specs.declared.frame.Frame.{Frame};
 ghost use Rattle.sw_value.specs.declared.job.Job.{Job};
 ghost use Rattle.sw_value.specs.declared.state.State.{State};
+ghost use Rattle.sw_value.specs.declared.value.Value.{Value};
+ghost use Rattle.sw_value.specs.Effect.{loaded};
 ghost use Rattle.sw_value.specs.Reach.{step_of};
+ghost use Rattle.sw_value.specs.Value.{value_at};
+ghost use Rattle.sw_owner_facts.specs.Colours.{Colour};
+ghost use Rattle.sw_owner_facts.specs.View.{Here};
 ghost use Rattle.sw_owner_facts.specs.View.{Frame as Spot};
 ghost use Rattle.sw_partition.specs.Regions.{Regions};
 ghost use Rattle.sw_region_ops.specs.Elements.{element_at, elements_of};
+ghost use Rattle.sw_region_facts.specs.Moves.{tracked};
+ghost use Rattle.sw_view_facts.specs.Renaming.{united};
 ghost use Rattle.sw_view_facts.specs.Standing.{StandsAt};
 ghost use Rattle.sw_view_facts.specs.Views.{Colours};
-ghost use Rattle.sw_store_facts.specs.Sound.{HasSlotColour, HasSoundView, IsColoured};
+ghost use Rattle.sw_store_facts.specs.Sound.{HasSlotColour, HasSoundView, HaveHeres, IsColoured};
+ghost use Rattle.sw_store_facts.specs.Sound.{IsOfHere, MayBecomeOne, stored_with};
 
 /// A register gets the value of another, a part of it, or a value of its payload.
 pub fn copies_keep_soundness()
@@ -53,6 +64,68 @@ pub fn loads_keep_soundness()
         → element_at (elements_of graph.shapes function.regs) cell.reg ≡ Some number
         → HasSlotColour state colours f cell (Part part)
         → HasSoundView graph states (step_of graph state q.job) colours }
+{}
+
+/// A register gets a literal, which reaches nothing.
+pub fn literals_keep_soundness()
+    ensures { (graph : Graph) (states : ℕ → List (Option Regions)) (state : State)
+        (colours : Colours) → IsColoured graph states state colours → (q : Spot) (job : Job)
+        (f : Frame) (function : Function) (at dst : ℕ) (l : Literal)
+        → StandsAt graph state q job f function (Middle (Const at dst l))
+        → HasSoundView graph states (step_of graph state q.job) colours }
+{}
+
+/// A register gets what is in a global, or in a cell that isn't tracked, if that reaches the colour
+/// of the frame's `Here` alone.
+pub fn reads_of_what_is_here_keep_soundness()
+    ensures globals { (graph : Graph) (states : ℕ → List (Option Regions)) (state : State)
+        (colours : Colours) → IsColoured graph states state colours → (q : Spot) (job : Job)
+        (f : Frame) (function : Function) (at dst global : ℕ)
+        → StandsAt graph state q job f function (Middle (LoadGlobal at dst global))
+        → ((v : Value) → value_at state.globals global ≡ Some v → IsOfHere state colours q v)
+        → HasSoundView graph states (step_of graph state q.job) colours }
+    ensures parts { (graph : Graph) (states : ℕ → List (Option Regions)) (state : State)
+        (colours : Colours) → IsColoured graph states state colours → (q : Spot) (job : Job)
+        (f : Frame) (function : Function) (at dst : ℕ) (cell : Operand) (part : ℕ)
+        → StandsAt graph state q job f function (Middle (LoadProp at dst cell part))
+        → element_at (elements_of graph.shapes function.regs) cell.reg ≡ None
+        → ((v : Value) → loaded state f cell (Part part) ≡ Some v → IsOfHere state colours q v)
+        → HasSoundView graph states (step_of graph state q.job) colours }
+{}
+
+/// A register is stored in a box, in a part of a cell or in a global, and colours of what comes
+/// together by that become one.
+pub fn stores_keep_soundness()
+    ensures boxes { (graph : Graph) (states : ℕ → List (Option Regions)) (state : State)
+        (colours : Colours) → IsColoured graph states state colours
+        → HaveHeres graph states state colours → (q : Spot) (job : Job) (f : Frame)
+        (function : Function) (at : ℕ) (cell src : Operand)
+        → StandsAt graph state q job f function (Middle (StoreBox at cell src)) → (kept : Colour)
+        (numbers : List ℕ)
+        → MayBecomeOne state colours q f
+        (tracked (elements_of graph.shapes function.regs) (cell ∷ src ∷ [])) kept numbers
+        → HasSoundView graph states (step_of graph state q.job)
+        (united q.job numbers kept colours) }
+    ensures parts { (graph : Graph) (states : ℕ → List (Option Regions)) (state : State)
+        (colours : Colours) → IsColoured graph states state colours
+        → HaveHeres graph states state colours → (q : Spot) (job : Job) (f : Frame)
+        (function : Function) (at : ℕ) (cell : Operand) (part : ℕ) (src : Operand)
+        → StandsAt graph state q job f function (Middle (StoreProp at cell part src))
+        → (kept : Colour) (numbers : List ℕ)
+        → MayBecomeOne state colours q f (stored_with (elements_of graph.shapes function.regs)
+        (element_at (elements_of graph.shapes function.regs) cell.reg) cell src) kept numbers
+        → HasSoundView graph states (step_of graph state q.job)
+        (united q.job numbers kept colours) }
+    ensures globals { (graph : Graph) (states : ℕ → List (Option Regions)) (state : State)
+        (colours : Colours) → IsColoured graph states state colours
+        → HaveHeres graph states state colours → (q : Spot) (job : Job) (f : Frame)
+        (function : Function) (at global : ℕ) (src : Operand)
+        → StandsAt graph state q job f function (Middle (StoreGlobal at global src))
+        → (kept : Colour) (numbers : List ℕ)
+        → MayBecomeOne state colours q f
+        (Here ∷ tracked (elements_of graph.shapes function.regs) (src ∷ [])) kept numbers
+        → HasSoundView graph states (step_of graph state q.job)
+        (united q.job numbers kept colours) }
 {}
 
 /// A struct, or a case of an enum, is made of registers.
