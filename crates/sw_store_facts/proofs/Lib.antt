@@ -8,3 +8,5 @@ pub mod Holding
 pub mod Storing
 pub mod Stores
 pub mod Heres
+pub mod Fresh
+pub mod Cells

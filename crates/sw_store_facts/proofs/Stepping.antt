@@ -41,7 +41,7 @@ use Rattle.sw_store_facts.specs.Sound.{IsColoured}
 use Rattle.sw_store_facts.proofs.Bare.{fits_at}
 
 -- where a frame goes on
-goes_next : (e : Effect) (f : Frame) (n : ℕ) → next_of e ≡ Some n → (turn_of e f).point ≡ n
+pub goes_next : (e : Effect) (f : Frame) (n : ℕ) → next_of e ≡ Some n → (turn_of e f).point ≡ n
 unfolding finish_instr go_on set_field
 goes_next (effect.Set r v next) f n is = cc
 goes_next (effect.SetField r i v next) f n is = cc
@@ -106,7 +106,7 @@ module _ (graph : Graph) (states : ℕ → List (Option Regions)) (state : State
     pub steps : next_state ≡ after_effect q.job e state
     steps = step_is graph state q job f function (Middle instr) e x gives (inside_executes e inside)
 
-    changes : ChangesFrame state next_state q f (turn_of e f)
+    pub changes : ChangesFrame state next_state q f (turn_of e f)
     changes = subst (λ t. ChangesFrame state t q f (turn_of e f)) (sym steps)
         (inside_changes state q job f x.top e inside)
 

@@ -38,7 +38,7 @@ use Rattle.sw_store_facts.proofs.Stepping.{next_state, row, steps}
 use Rattle.sw_store_facts.proofs.Storing.{stored}
 
 -- what isn't stuck has what it needs
-found : {X : Type 0} (o : Option X) (e : X → Effect) → is_stuck (needs o e) ≡ false
+pub found : {X : Type 0} (o : Option X) (e : X → Effect) → is_stuck (needs o e) ≡ false
     → (z : X) × (o ≡ Some z)
 found None e free = absurd (let clash : ⊥ = cc in clash)
 found (Some z) e free = (z, refl)

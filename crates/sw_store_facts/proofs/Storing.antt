@@ -24,12 +24,15 @@ use Rattle.sw_view_facts.specs.Executing.{Executes}
 use Rattle.sw_view_facts.specs.Renaming.{MayUnite, united}
 use Rattle.sw_view_facts.specs.Standing.{StandsAt}
 use Rattle.sw_view_facts.specs.Views.{Colours, annotated, here_at, makes_itself, over, state_with}
-use Rattle.sw_view_facts.specs.Views.{view_of}
+use Rattle.sw_view_facts.specs.Views.{view_of, closes_at, is_return}
+use Rattle.sw_view_facts.specs.Steps.{ChangesFrame}
 use Rattle.sw_view_facts.proofs.EffectLemmas.{over_other, over_there}
 use Rattle.sw_view_facts.proofs.RenameLemmas.{unites_all}
 use Rattle.sw_view_facts.proofs.StepLemmas.{effect_goes_on, regions_weaken}
+use Rattle.sw_view_facts.proofs.ShapeLemmas.{open_here}
+use Rattle.sw_view_facts.proofs.TopLemmas.{untouched}
 use Rattle.sw_store_facts.specs.Sound.{HasSoundView, HaveHeres, IsColoured, MayBecomeOne}
-use Rattle.sw_store_facts.proofs.Holding.{height_is, holds_live, one_region}
+use Rattle.sw_store_facts.proofs.Holding.{holds_live, one_region}
 use Rattle.sw_store_facts.proofs.Stepping.{Row, frame_is, keeps_shape, next_state, row}
 use Rattle.sw_store_facts.proofs.Stepping.{stands_behind, steps}
 
@@ -49,6 +52,12 @@ module _ (graph : Graph) (states : ℕ → List (Option Regions)) (state : State
   abbrev between : Spot → Option Regions
   between = over (annotated states state) q here.c
 
+  same : ChangesFrame state state q f f
+  same = untouched state q job f x.top
+
+  goes_on : closes_at graph function f.point ≡ false
+  goes_on = open_here graph function f.point (ap is_return x.here)
+
   module _ (xs : List Element) (gathers : Gathers elements xs here.a here.c) (kept : Colour)
       (numbers : List ℕ) (one : MayBecomeOne state colours q f xs kept numbers) where
     -- the regions have come together
@@ -66,8 +75,8 @@ module _ (graph : Graph) (states : ℕ → List (Option Regions)) (state : State
     held : (y : Element) (colour : Colour) → Contains xs y
         → HoldsIn state colours f (here_at colours q) y colour
         → HoldsLive (view_of graph between state colours) q y colour
-    held y colour has holds = holds_live graph state colours q job f function instr x
-        (annotated states state) here.c y colour (gathers.still y has) holds
+    held y colour has holds = holds_live graph state colours q f function same.was x.is
+        same.alone same.top goes_on between here.c (over_there (annotated states state) q here.c) y colour (gathers.still y has) holds
 
     may_unite : (n : ℕ) → Contains numbers n
         → MayUnite (view_of graph between state colours) q one.holder kept n
@@ -76,15 +85,15 @@ module _ (graph : Graph) (states : ℕ → List (Option Regions)) (state : State
       | inr (y, among, holds) ↦ inr (inr (
         y,
         held y (OfJob q.job n) among holds,
-        one_region graph state colours q job f function instr x (annotated states state) here.c y
-            one.holder (gathers.together y one.holder among one.among),
+        one_region graph state colours q f function same.was x.is same.alone same.top goes_on between
+            here.c (over_there (annotated states state) q here.c) y one.holder (gathers.together y one.holder among one.among),
       ))
     ]
 
     -- and then the colours have
     coloured : IsSound (view_of graph between state (united q.job numbers kept colours))
     coloured = unites_all graph between state q one.holder kept numbers colours heres
-        (height_is graph state colours q job f function instr x (annotated states state) here.c)
+        same.top
         (held one.holder kept one.among one.holds) may_unite gathered
 
     -- the effect sets no register, and no frame's reach changes

@@ -1,11 +1,11 @@
 //! The laws. In each the job of q runs, and its top frame stands at the instruction.
-ghost use Rattle.std.specs.Prelude.{◌≡◌, ℕ, Option, Some, None, List, [], ◌∷◌};
+ghost use Rattle.std.specs.Prelude.{◌≡◌, ℕ, Option, Some, None, List, [], ◌∷◌, false, length};
 ghost use Rattle.sw_graph.specs.declared.function.Function.{Function};
 ghost use Rattle.sw_graph.specs.declared.graph.Graph.{Graph};
 ghost use Rattle.sw_graph.specs.declared.instr.Instr.TheVariants.{Copy, Field, Payload, LoadBox};
 ghost use Rattle.sw_graph.specs.declared.instr.Instr.TheVariants.{LoadProp, Make, Const};
 ghost use Rattle.sw_graph.specs.declared.instr.Instr.TheVariants.{LoadGlobal, StoreBox, StoreProp};
-ghost use Rattle.sw_graph.specs.declared.instr.Instr.TheVariants.{StoreGlobal};
+ghost use Rattle.sw_graph.specs.declared.instr.Instr.TheVariants.{StoreGlobal, NewBox, NewObject};
 ghost use Rattle.sw_graph.specs.declared.instr.Literal.{Literal};
 ghost use Rattle.sw_graph.specs.declared.instr.Operand.{Operand};
 ghost use Rattle.sw_graph.specs.Points.{Middle};
@@ -17,15 +17,16 @@ ghost use Rattle.sw_value.specs.declared.value.Value.{Value};
 ghost use Rattle.sw_value.specs.Effect.{loaded};
 ghost use Rattle.sw_value.specs.Reach.{step_of};
 ghost use Rattle.sw_value.specs.Value.{value_at};
-ghost use Rattle.sw_owner_facts.specs.Colours.{Colour};
-ghost use Rattle.sw_owner_facts.specs.View.{Here};
+ghost use Rattle.sw_owner_facts.specs.Colours.{Colour, OfJob};
+ghost use Rattle.sw_owner_facts.specs.View.{Here, IsUnheld, Register};
 ghost use Rattle.sw_owner_facts.specs.View.{Frame as Spot};
 ghost use Rattle.sw_partition.specs.Regions.{Regions};
 ghost use Rattle.sw_region_ops.specs.Elements.{element_at, elements_of};
 ghost use Rattle.sw_region_facts.specs.Moves.{tracked};
+ghost use Rattle.sw_view_facts.specs.Memory.{coloured_more};
 ghost use Rattle.sw_view_facts.specs.Renaming.{united};
 ghost use Rattle.sw_view_facts.specs.Standing.{StandsAt};
-ghost use Rattle.sw_view_facts.specs.Views.{Colours};
+ghost use Rattle.sw_view_facts.specs.Views.{Colours, annotated, frame_at, makes_itself, view_of};
 ghost use Rattle.sw_store_facts.specs.Sound.{HasSlotColour, HasSoundView, HaveHeres, IsColoured};
 ghost use Rattle.sw_store_facts.specs.Sound.{IsOfHere, MayBecomeOne, stored_with};
 
@@ -136,4 +137,39 @@ pub fn makers_keep_soundness()
         (args : List Operand)
         → StandsAt graph state q job f function (Middle (Make at dst shape tag args))
         → HasSoundView graph states (step_of graph state q.job) colours }
+{}
+
+/// A box, or an object that is tracked, is made with a colour of its own that nothing live holds,
+/// and that colour becomes one with others of what it is made of.
+pub fn new_cells_keep_soundness()
+    ensures boxes { (graph : Graph) (states : ℕ → List (Option Regions)) (state : State)
+        (colours : Colours) → IsColoured graph states state colours
+        → HaveHeres graph states state colours → length colours.cells ≡ length state.cells
+        → (q : Spot) (job : Job) (f : Frame) (function : Function) (at dst number : ℕ)
+        (src : Operand) → StandsAt graph state q job f function (Middle (NewBox at dst src))
+        → element_at (elements_of graph.shapes function.regs) dst ≡ Some number → (own : ℕ)
+        → IsUnheld (view_of graph (annotated states state) state colours) (OfJob q.job own)
+        → (kept : Colour) (numbers : List ℕ)
+        → ((g : Frame) → frame_at (step_of graph state q.job) q ≡ Some g
+        → MayBecomeOne (step_of graph state q.job)
+        (coloured_more (Some (OfJob q.job own)) colours) q g
+        (Register dst ∷ tracked (elements_of graph.shapes function.regs) (src ∷ [])) kept numbers)
+        → HasSoundView graph states (step_of graph state q.job)
+        (united q.job numbers kept (coloured_more (Some (OfJob q.job own)) colours)) }
+    ensures objects { (graph : Graph) (states : ℕ → List (Option Regions)) (state : State)
+        (colours : Colours) → IsColoured graph states state colours
+        → HaveHeres graph states state colours → length colours.cells ≡ length state.cells
+        → (q : Spot) (job : Job) (f : Frame) (function : Function) (at dst shape number : ℕ)
+        (args : List Operand)
+        → StandsAt graph state q job f function (Middle (NewObject at dst shape args))
+        → makes_itself graph function (Middle (NewObject at dst shape args)) ≡ false
+        → element_at (elements_of graph.shapes function.regs) dst ≡ Some number → (own : ℕ)
+        → IsUnheld (view_of graph (annotated states state) state colours) (OfJob q.job own)
+        → (kept : Colour) (numbers : List ℕ)
+        → ((g : Frame) → frame_at (step_of graph state q.job) q ≡ Some g
+        → MayBecomeOne (step_of graph state q.job)
+        (coloured_more (Some (OfJob q.job own)) colours) q g
+        (Register dst ∷ tracked (elements_of graph.shapes function.regs) args) kept numbers)
+        → HasSoundView graph states (step_of graph state q.job)
+        (united q.job numbers kept (coloured_more (Some (OfJob q.job own)) colours)) }
 {}
