@@ -10,3 +10,4 @@ pub mod Stores
 pub mod Heres
 pub mod Fresh
 pub mod Cells
+pub mod Units

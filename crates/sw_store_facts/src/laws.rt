@@ -5,7 +5,8 @@ ghost use Rattle.sw_graph.specs.declared.graph.Graph.{Graph};
 ghost use Rattle.sw_graph.specs.declared.instr.Instr.TheVariants.{Copy, Field, Payload, LoadBox};
 ghost use Rattle.sw_graph.specs.declared.instr.Instr.TheVariants.{LoadProp, Make, Const};
 ghost use Rattle.sw_graph.specs.declared.instr.Instr.TheVariants.{LoadGlobal, StoreBox, StoreProp};
-ghost use Rattle.sw_graph.specs.declared.instr.Instr.TheVariants.{StoreGlobal, NewBox, NewObject};
+ghost use Rattle.sw_graph.specs.declared.instr.Instr.TheVariants.{StoreGlobal, NewBox, NewObject, Print};
+ghost use Rattle.sw_graph.specs.declared.instr.Instr.TheVariants.{Yield};
 ghost use Rattle.sw_graph.specs.declared.instr.Literal.{Literal};
 ghost use Rattle.sw_graph.specs.declared.instr.Operand.{Operand};
 ghost use Rattle.sw_graph.specs.Points.{Middle};
@@ -172,4 +173,19 @@ pub fn new_cells_keep_soundness()
         (Register dst ∷ tracked (elements_of graph.shapes function.regs) args) kept numbers)
         → HasSoundView graph states (step_of graph state q.job)
         (united q.job numbers kept (coloured_more (Some (OfJob q.job own)) colours)) }
+{}
+
+/// A register gets the value of `Void`, which reaches nothing, where a line is printed or the job
+/// yields.
+pub fn prints_and_yields_keep_soundness()
+    ensures prints { (graph : Graph) (states : ℕ → List (Option Regions)) (state : State)
+        (colours : Colours) → IsColoured graph states state colours → (q : Spot) (job : Job)
+        (f : Frame) (function : Function) (at dst : ℕ) (args : List Operand)
+        → StandsAt graph state q job f function (Middle (Print at dst args))
+        → HasSoundView graph states (step_of graph state q.job) colours }
+    ensures yields { (graph : Graph) (states : ℕ → List (Option Regions)) (state : State)
+        (colours : Colours) → IsColoured graph states state colours → (q : Spot) (job : Job)
+        (f : Frame) (function : Function) (at dst : ℕ)
+        → StandsAt graph state q job f function (Middle (Yield at dst))
+        → HasSoundView graph states (step_of graph state q.job) colours }
 {}

@@ -10,5 +10,6 @@ mod laws;
 
 pub use laws::{
     copies_keep_soundness, literals_keep_soundness, loads_keep_soundness, makers_keep_soundness,
-    new_cells_keep_soundness, reads_of_what_is_here_keep_soundness, stores_keep_soundness,
+    new_cells_keep_soundness, prints_and_yields_keep_soundness,
+    reads_of_what_is_here_keep_soundness, stores_keep_soundness,
 };
