@@ -1,0 +1,13 @@
+pub mod Bare
+pub mod Stepping
+pub mod Copying
+pub mod Getting
+pub mod Copies
+pub mod Making
+pub mod Holding
+pub mod Storing
+pub mod Stores
+pub mod Heres
+pub mod Fresh
+pub mod Cells
+pub mod Units
