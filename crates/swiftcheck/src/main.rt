@@ -1,6 +1,8 @@
 //! The command `swiftcheck`: it runs the words after its name over the system's files and standard
-//! output. It knows the runtime and nothing of the words.
+//! output. It knows the runtime and nothing of the words. `theorem` states what is proved of every call.
 #![tactic(auto)]
+
+mod theorem;
 
 ghost use Rattle.std.specs.Prelude.{◌≡◌};
 ghost use Rattle.std.specs.IoError.{error_kind};
