@@ -14,9 +14,10 @@ use Rattle.sw_decls.specs.declared.signature.AsyncDefault.{AsyncDefault}
 use Rattle.sw_verdict.specs.Phases.{all_phases, IsGraphOf}
 use Rattle.sw_verdict.specs.Verdict.{Accepts, Refuses}
 use Rattle.sw_check.specs.Call.{Answered}
-use Rattle.sw_check.specs.Claims.{NeverRaces, ExitSays, default_of, phases_of, program_of}
+use Rattle.sw_check.specs.Claims.{NeverRaces, ExitSays, ProgramFits, default_of, phases_of}
+use Rattle.sw_check.specs.Claims.{program_of}
 use Rattle.sw_check.specs.Reply.{Reply}
-use Rattle.sw_check.specs.Words.{Command, Check, command_of, command_in}
+use Rattle.sw_check_words.specs.Words.{Command, Check, OnFile, command_of, command_in}
 use Rattle.sw_check.proofs.ClaimLemmas.{reply_says, says_no_race, says_not_raced}
 use Rattle.sw_check.proofs.Courses.{one_reply}
 use Rattle.sw_check.proofs.OneExit.{one_exit, says_accepted, says_breached}
@@ -70,7 +71,7 @@ pub answer_no_race : {command : Option Command} {before after : Option KnownShel
     {outcome : Outcome}
     → Answered command before outcome after → (known : KnownShelf) (given : Command)
     → before ≡ Some known → command ≡ Some given → phases_of given ≡ all_phases
-    → length (program_of (file_of known.files) given) ≤ PROGRAM_LIMIT → outcome.exit ≢ Breached
+    → ProgramFits (file_of known.files) given → outcome.exit ≢ Breached
     → (graph : Graph) × IsGraphOf (default_of given) (program_of (file_of known.files) given) graph
     × (IsRunnable graph → NeverRaces graph)
 answer_no_race {outcome = outcome} answered known given is same all =
@@ -100,7 +101,7 @@ pub answer_breached : {command : Option Command} {before after : Option KnownShe
     {outcome : Outcome}
     → Answered command before outcome after → (known : KnownShelf) (given : Command)
     → before ≡ Some known → command ≡ Some given
-    → length (program_of (file_of known.files) given) ≤ PROGRAM_LIMIT
+    → ProgramFits (file_of known.files) given
     → Refuses (default_of given) (phases_of given) (program_of (file_of known.files) given)
     → outcome.exit ≡ Breached
 answer_breached {outcome = outcome} answered known given is same =
@@ -112,8 +113,8 @@ pub answer_accepted : {command : Option Command} {before after : Option KnownShe
     → Answered command before outcome after → (known : KnownShelf) (rule : AsyncDefault)
     (file : List ℕ)
     → before ≡ Some known
-    → command ≡ Some (Check rule file) → length (file_of known.files file) ≤ PROGRAM_LIMIT
+    → command ≡ Some (OnFile rule file Check) → length (file_of known.files file) ≤ PROGRAM_LIMIT
     → Accepts rule (file_of known.files file) → outcome.exit ≡ Done
 answer_accepted {outcome = outcome} answered known rule file is same =
     says_accepted (file_of known.files) rule file outcome.exit
-    (answer_says_of answered known (Check rule file) is same)
+    (answer_says_of answered known (OnFile rule file Check) is same)

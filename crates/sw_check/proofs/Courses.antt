@@ -9,15 +9,18 @@ use Rattle.sw_check_parts.specs.Lawful.{CanEnd, IsLawful, IsPrefixOf}
 use Rattle.sw_check_parts.proofs.LawfulParts.{can_end_alone, can_end_fetched, can_end_then}
 use Rattle.sw_check_parts.proofs.LawfulParts.{lawful_alone, lawful_fetched, lawful_then}
 use Rattle.sw_decls.specs.declared.signature.AsyncDefault.{AsyncDefault}
-use Rattle.sw_verdict.specs.Phases.{Phase, all_phases, phases_to_size, IsGraphOf}
+use Rattle.sw_decls.specs.declared.signature.AsyncDefault.TheVariants.{Concurrent}
+use Rattle.sw_verdict.specs.Phases.{Phase, all_phases, IsGraphOf}
 use Rattle.sw_verdict.specs.Verdict.{Breaches, Refuses}
 use Rattle.sw_verdict.proofs.GraphsExist.{some_graph}
 use Rattle.sw_verdict.proofs.LoweredTexts.{decided_to_size, some_graph_of}
 use Rattle.sw_verdict.proofs.Verdicts.{decided}
 use Rattle.sw_check.specs.Reply.{usage, accepted, EndsWithReply, IsJudgement, Scheduled, Replayed}
-use Rattle.sw_check.specs.Reply.{course_of}
+use Rattle.sw_check.specs.Reply.{after_verdict, course_of, demo_course, demo_items, demo_outcome}
+use Rattle.sw_check.specs.Reply.{phases_for, replay_outcome, schedule_file_in}
 use Rattle.sw_check.specs.Reply.{Reply, at_end, before_end, replay_by}
-use Rattle.sw_check.specs.Words.{Command, Check, Run, Trace}
+use Rattle.sw_gen.specs.Program.{program}
+use Rattle.sw_check_words.specs.Words.{Action, Check, Run, Trace, Command, OnFile, Demo}
 use Rattle.sw_check.proofs.Pieces.{program_then}
 use Rattle.sw_check.proofs.RuleLemmas.{answers_one, answers_some, judged_one, judged_some}
 use Rattle.sw_check.proofs.RuleLemmas.{replayed_one, replayed_some, scheduled_one, scheduled_some}
@@ -50,48 +53,88 @@ module _ (rule : AsyncDefault) (phases : List Phase) (file : List ℕ)
 
 -- a schedule is fetched, and its items replay a graph
 module _ (file text : List ℕ) (graph : Graph) where
+  abbrev replayed_by : List ℕ → Part Outcome
+  replayed_by items = Alone (Replayed (replay_outcome text) graph items)
+
   abbrev by_items : List ℕ → Part Outcome
-  by_items schedule = Alone (Scheduled schedule) >>= (λ items. Alone (Replayed text graph items))
+  by_items schedule = Alone (Scheduled schedule) >>= replayed_by
 
   lawful_replay : IsLawful (replay_by file text graph)
   lawful_replay =
       lawful_then (Fetched file SCHEDULE_LIMIT) by_items (lawful_fetched file SCHEDULE_LIMIT)
-      (λ schedule. lawful_then (Alone (Scheduled schedule))
-      (λ items. Alone (Replayed text graph items))
+      (λ schedule. lawful_then (Alone (Scheduled schedule)) replayed_by
       (lawful_alone (Scheduled schedule) (scheduled_one schedule))
-      (λ items. lawful_alone (Replayed text graph items) (replayed_one text graph items)))
+      (λ items. lawful_alone (Replayed (replay_outcome text) graph items)
+      (replayed_one (replay_outcome text) graph items)))
 
   can_end_replay : CanEnd (replay_by file text graph)
   can_end_replay =
       can_end_then (Fetched file SCHEDULE_LIMIT) by_items (can_end_fetched file SCHEDULE_LIMIT)
-      (λ schedule. can_end_then (Alone (Scheduled schedule))
-      (λ items. Alone (Replayed text graph items))
+      (λ schedule. can_end_then (Alone (Scheduled schedule)) replayed_by
       (can_end_alone (Scheduled schedule) (scheduled_some schedule))
-      (λ items. can_end_alone (Replayed text graph items) (replayed_some text graph items)))
+      (λ items. can_end_alone (Replayed (replay_outcome text) graph items)
+      (replayed_some (replay_outcome text) graph items)))
+
+-- what follows the verdict
+lawful_after : (schedule_file : Option (List ℕ)) (text : List ℕ) (graph : Graph)
+    → IsLawful (after_verdict schedule_file text graph)
+lawful_after None text graph = lawful_alone (EndsWithReply accepted) (answers_one accepted)
+lawful_after (Some file) text graph = lawful_replay file text graph
+
+can_end_after : (schedule_file : Option (List ℕ)) (text : List ℕ) (graph : Graph)
+    → CanEnd (after_verdict schedule_file text graph)
+can_end_after None text graph = can_end_alone (EndsWithReply accepted) (answers_some accepted)
+can_end_after (Some file) text graph = can_end_replay file text graph
+
+-- the phases of an action accept or refuse a text, and one that they accept has a graph
+decided_for : (rule : AsyncDefault) (action : Action) (text : List ℕ)
+    → Breaches rule (phases_for action) text [] ⊎ Refuses rule (phases_for action) text
+decided_for rule Check = decided rule
+decided_for rule (Run schedule_file) = decided rule
+decided_for rule (Trace schedule_file) = decided_to_size rule
+
+graph_for : (rule : AsyncDefault) (action : Action) (text : List ℕ)
+    → Breaches rule (phases_for action) text [] → (graph : Graph) × IsGraphOf rule text graph
+graph_for rule Check = some_graph_of rule
+graph_for rule (Run schedule_file) = some_graph_of rule
+graph_for rule (Trace schedule_file) = some_graph rule
+
+-- a program is generated, judged and replayed
+module _ (actors : ℕ) where
+  abbrev demo_judged : Result Graph Outcome → Type 0
+  demo_judged = IsJudgement Concurrent all_phases (program actors)
+
+  abbrev demo_replayed : Graph → Result Outcome Outcome → Type 0
+  demo_replayed graph = Replayed (demo_outcome actors) graph (demo_items actors)
+
+  lawful_demo : IsLawful (demo_course actors)
+  lawful_demo =
+      lawful_then (Alone demo_judged) (λ graph. Alone (demo_replayed graph))
+      (lawful_alone demo_judged (judged_one Concurrent all_phases (program actors)))
+      (λ graph. lawful_alone (demo_replayed graph)
+      (replayed_one (demo_outcome actors) graph (demo_items actors)))
+
+  can_end_demo : CanEnd (demo_course actors)
+  can_end_demo =
+      can_end_then (Alone demo_judged) (λ graph. Alone (demo_replayed graph))
+      (can_end_alone demo_judged (judged_some Concurrent all_phases (program actors)
+      (some_graph_of Concurrent (program actors)) (decided Concurrent (program actors))))
+      (λ graph. can_end_alone (demo_replayed graph)
+      (replayed_some (demo_outcome actors) graph (demo_items actors)))
 
 pub lawful : (command : Option Command) → IsLawful (course_of command)
 lawful None = lawful_alone (EndsWithReply usage) (answers_one usage)
-lawful (Some (Check rule file)) =
-    lawful_program rule all_phases file _
-    (λ text graph. lawful_alone (EndsWithReply accepted) (answers_one accepted))
-lawful (Some (Run rule file schedule_file)) =
-    lawful_program rule all_phases file (replay_by schedule_file) (lawful_replay schedule_file)
-lawful (Some (Trace rule file schedule_file)) =
-    lawful_program rule phases_to_size file (replay_by schedule_file) (lawful_replay schedule_file)
+lawful (Some (OnFile rule file action)) =
+    lawful_program rule (phases_for action) file (after_verdict (schedule_file_in action))
+    (lawful_after (schedule_file_in action))
+lawful (Some (Demo actors)) = lawful_demo actors
 
 pub can_end : (command : Option Command) → CanEnd (course_of command)
 can_end None = can_end_alone (EndsWithReply usage) (answers_some usage)
-can_end (Some (Check rule file)) =
-    can_end_program rule all_phases file _ (some_graph_of rule) (decided rule)
-    (λ text graph. can_end_alone (EndsWithReply accepted) (answers_some accepted))
-can_end (Some (Run rule file schedule_file)) =
-    can_end_program rule all_phases file (replay_by schedule_file) (some_graph_of rule)
-    (decided rule)
-    (can_end_replay schedule_file)
-can_end (Some (Trace rule file schedule_file)) =
-    can_end_program rule phases_to_size file (replay_by schedule_file) (some_graph rule)
-    (decided_to_size rule)
-    (can_end_replay schedule_file)
+can_end (Some (OnFile rule file action)) =
+    can_end_program rule (phases_for action) file (after_verdict (schedule_file_in action))
+    (graph_for rule action) (decided_for rule action) (can_end_after (schedule_file_in action))
+can_end (Some (Demo actors)) = can_end_demo actors
 
 reply_of : (command : Option Command) (reads : List Read) (result : Result Outcome Outcome)
     → course_of command reads (Ended result) → (outcome : Outcome) × Reply command reads outcome

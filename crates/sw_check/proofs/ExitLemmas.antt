@@ -5,6 +5,7 @@ use Rattle.std.proofs.Common.{append-nil}
 use Rattle.sw_graph.specs.declared.graph.Graph.{Graph}
 use Rattle.sw_replay.specs.declared.output.End.{End}
 use Rattle.sw_replay.specs.declared.output.End.TheVariants.{Ran, Trapped, Raced}
+use Rattle.sw_replay.specs.declared.output.Replay.{Replay}
 use Rattle.sw_replay.specs.declared.text.TheConstants.{SCHEDULE_LIMIT}
 use Rattle.sw_check_parts.specs.declared.TheConstants.{PROGRAM_LIMIT}
 use Rattle.sw_check_parts.specs.declared.exit.Exit.{Exit}
@@ -17,11 +18,16 @@ use Rattle.sw_check_parts.specs.Written.{Appended}
 use Rattle.sw_check_parts.proofs.Inversions.{EndsBy, refuses_alone}
 use Rattle.sw_check_parts.proofs.Inversions.{refuses_fetched, refuses_then, ends_alone, ends_then}
 use Rattle.sw_decls.specs.declared.signature.AsyncDefault.{AsyncDefault}
-use Rattle.sw_verdict.specs.Phases.{Phase, all_phases, phases_to_size}
+use Rattle.sw_decls.specs.declared.signature.AsyncDefault.TheVariants.{Concurrent}
+use Rattle.sw_verdict.specs.Phases.{Phase, all_phases}
 use Rattle.sw_check.specs.Reply.{usage, accepted, end_outcome, EndsWithReply, IsJudgement, breached}
 use Rattle.sw_check.specs.Reply.{Scheduled, has_fault, Replayed, ends, course_of, Reply, at_end}
-use Rattle.sw_check.specs.Reply.{before_end, exits_of, replay_by, replay_exits}
-use Rattle.sw_check.specs.Words.{Command, Check, Run, Trace}
+use Rattle.sw_check.specs.Reply.{before_end, demo_course, demo_end, demo_exits, demo_items}
+use Rattle.sw_check.specs.Reply.{demo_outcome}
+use Rattle.sw_check.specs.Reply.{exits_of, file_course, file_exits, phases_for, replay_by}
+use Rattle.sw_check.specs.Reply.{replay_outcome, schedule_file_in}
+use Rattle.sw_gen.specs.Program.{program}
+use Rattle.sw_check_words.specs.Words.{Command, OnFile, Demo}
 use Rattle.sw_check.proofs.Pieces.{program_then}
 
 -- a reply that has one of these exits: it reports no failure, and nothing is written where the exit
@@ -58,9 +64,9 @@ answers_nothing_else : (Q : Outcome → Type 0) (outcome other : Outcome)
     → EndsWithReply outcome (Err other) → Q other
 answers_nothing_else Q outcome other is = cc
 
-replayed_nothing_else : (Q : Outcome → Type 0) (text : List ℕ) (graph : Graph) (items : List ℕ)
-    (other : Outcome) → Replayed text graph items (Err other) → Q other
-replayed_nothing_else Q text graph items other is = elim is [ ]
+replayed_nothing_else : (Q : Outcome → Type 0) (answer : Replay → Outcome) (graph : Graph)
+    (items : List ℕ) (other : Outcome) → Replayed answer graph items (Err other) → Q other
+replayed_nothing_else Q answer graph items other is = elim is [ ]
 
 -- a program that is fetched and judged, and the rest
 program_refusals : (among : List Exit) (rule : AsyncDefault) (phases : List Phase) (file : List ℕ)
@@ -85,20 +91,34 @@ replay_refusals among file text graph long bad =
     (refuses_fetched (HasExit among) file SCHEDULE_LIMIT (too_long_exit among long))
     (λ schedule. refuses_then (HasExit among) (Alone (Scheduled schedule)) _
     (refuses_alone (HasExit among) (Scheduled schedule) (scheduled_exit among schedule bad))
-    (λ items. refuses_alone (HasExit among) (Replayed text graph items)
-    (replayed_nothing_else (HasExit among) text graph items)))
+    (λ items. refuses_alone (HasExit among) (Replayed (replay_outcome text) graph items)
+    (replayed_nothing_else (HasExit among) (replay_outcome text) graph items)))
+
+-- the refusals of a command on a file, which may have a schedule
+file_refusals : (rule : AsyncDefault) (phases : List Phase) (file : List ℕ)
+    (schedule_file : Option (List ℕ))
+    → RefusesBy (HasExit (file_exits schedule_file)) (file_course rule phases file schedule_file)
+file_refusals rule phases file None =
+    program_refusals _ rule phases file _ (inl refl) (inr (inl refl))
+    (λ text graph. refuses_alone _ (EndsWithReply accepted) (answers_nothing_else _ accepted))
+file_refusals rule phases file (Some schedule_file) =
+    program_refusals _ rule phases file _ (inl refl) (inr (inl refl))
+    (λ text graph. replay_refusals _ schedule_file text graph (inl refl) (inr (inr (inl refl))))
+
+demo_refusals : (actors : ℕ) → RefusesBy (HasExit demo_exits) (demo_course actors)
+demo_refusals actors =
+    refuses_then (HasExit demo_exits) (Alone (IsJudgement Concurrent all_phases (program actors))) _
+    (refuses_alone (HasExit demo_exits) (IsJudgement Concurrent all_phases (program actors))
+    (judged_exit demo_exits Concurrent all_phases (program actors) (inl refl)))
+    (λ graph. refuses_alone (HasExit demo_exits)
+    (Replayed (demo_outcome actors) graph (demo_items actors))
+    (replayed_nothing_else (HasExit demo_exits) (demo_outcome actors) graph (demo_items actors)))
 
 refusals : (command : Option Command) → RefusesBy (HasExit (exits_of command)) (course_of command)
 refusals None = refuses_alone _ (EndsWithReply usage) (answers_nothing_else _ usage)
-refusals (Some (Check rule file)) =
-    program_refusals _ rule all_phases file _ (inl refl) (inr (inl refl))
-    (λ text graph. refuses_alone _ (EndsWithReply accepted) (answers_nothing_else _ accepted))
-refusals (Some (Run rule file schedule_file)) =
-    program_refusals _ rule all_phases file _ (inl refl) (inr (inl refl))
-    (λ text graph. replay_refusals _ schedule_file text graph (inl refl) (inr (inr (inl refl))))
-refusals (Some (Trace rule file schedule_file)) =
-    program_refusals _ rule phases_to_size file _ (inl refl) (inr (inl refl))
-    (λ text graph. replay_refusals _ schedule_file text graph (inl refl) (inr (inr (inl refl))))
+refusals (Some (OnFile rule file action)) =
+    file_refusals rule (phases_for action) file (schedule_file_in action)
+refusals (Some (Demo actors)) = demo_refusals actors
 
 -- the replies at the end
 answers_end : (among : List Exit) (outcome other : Outcome) → HasEndExit among outcome
@@ -107,8 +127,11 @@ answers_end among outcome other end is =
     let same : outcome ≡ other = cc (is) in
     subst (HasEndExit among) same end
 
+abbrev replay_exits : List Exit
+replay_exits = file_exits (Some [])
+
 replayed_end : (text : List ℕ) (graph : Graph) (items : List ℕ) (outcome : Outcome)
-    → Replayed text graph items (Ok outcome) → HasEndExit replay_exits outcome
+    → Replayed (replay_outcome text) graph items (Ok outcome) → HasEndExit replay_exits outcome
 replayed_end text graph items _ (ends replay is) = by replay.end where
   by : (end : End)
       → HasEndExit replay_exits (end_outcome text replay.lines replay.ended replay.jobs end)
@@ -117,6 +140,15 @@ replayed_end text graph items _ (ends replay is) = by replay.end where
       record { exit = inr (inr (inr (inr (inl refl)))); plain = refl; speaks = refl }
   by (Raced race) =
       record { exit = inr (inr (inr (inr (inr (inl refl))))); plain = refl; speaks = refl }
+
+demo_ends : (actors : ℕ) (graph : Graph) (items : List ℕ) (outcome : Outcome)
+    → Replayed (demo_outcome actors) graph items (Ok outcome) → HasEndExit demo_exits outcome
+demo_ends actors graph items _ (ends replay is) = by replay.end where
+  by : (end : End)
+      → HasEndExit demo_exits (demo_end actors replay.lines replay.ended replay.jobs end)
+  by Ran = record { exit = inr (inl refl); plain = refl; speaks = refl }
+  by (Trapped kind at) = record { exit = inr (inr (inl refl)); plain = refl; speaks = refl }
+  by (Raced race) = record { exit = inr (inr (inr (inl refl))); plain = refl; speaks = refl }
 
 program_ends : (among : List Exit) (rule : AsyncDefault) (phases : List Phase) (file : List ℕ)
     (rest : List ℕ → Graph → Part Outcome)
@@ -132,22 +164,30 @@ replay_ends : (file text : List ℕ) (graph : Graph)
 replay_ends file text graph =
     ends_then (HasEndExit replay_exits) (Fetched file SCHEDULE_LIMIT) _
     (λ _ schedule _. ends_then (HasEndExit replay_exits) (Alone (Scheduled schedule)) _
-    (λ _ items _. ends_alone (HasEndExit replay_exits) (Replayed text graph items)
+    (λ _ items _. ends_alone (HasEndExit replay_exits) (Replayed (replay_outcome text) graph items)
     (replayed_end text graph items)))
+
+file_ends : (rule : AsyncDefault) (phases : List Phase) (file : List ℕ)
+    (schedule_file : Option (List ℕ))
+    → EndsBy (HasEndExit (file_exits schedule_file)) (file_course rule phases file schedule_file)
+file_ends rule phases file None =
+    program_ends _ rule phases file _ (λ text graph. ends_alone _ (EndsWithReply accepted)
+    (λ outcome is. answers_end _ accepted outcome
+    (record { exit = inr (inr (inl refl)); plain = refl; speaks = refl }) is))
+file_ends rule phases file (Some schedule_file) =
+    program_ends _ rule phases file (replay_by schedule_file) (replay_ends schedule_file)
 
 at_ends : (command : Option Command) → EndsBy (HasEndExit (exits_of command)) (course_of command)
 at_ends None = ends_alone _ (EndsWithReply usage)
     (λ outcome is. answers_end _ usage outcome
     (record { exit = inl refl; plain = refl; speaks = refl }) is)
-at_ends (Some (Check rule file)) =
-    program_ends _ rule all_phases file _
-    (λ text graph. ends_alone _ (EndsWithReply accepted)
-    (λ outcome is. answers_end _ accepted outcome
-    (record { exit = inr (inr (inl refl)); plain = refl; speaks = refl }) is))
-at_ends (Some (Run rule file schedule_file)) =
-    program_ends _ rule all_phases file (replay_by schedule_file) (replay_ends schedule_file)
-at_ends (Some (Trace rule file schedule_file)) =
-    program_ends _ rule phases_to_size file (replay_by schedule_file) (replay_ends schedule_file)
+at_ends (Some (OnFile rule file action)) =
+    file_ends rule (phases_for action) file (schedule_file_in action)
+at_ends (Some (Demo actors)) =
+    ends_then (HasEndExit demo_exits) (Alone (IsJudgement Concurrent all_phases (program actors))) _
+    (λ _ graph _. ends_alone (HasEndExit demo_exits)
+    (Replayed (demo_outcome actors) graph (demo_items actors))
+    (demo_ends actors graph (demo_items actors)))
 
 pub end_exit : (command : Option Command) (reads : List Read) (outcome : Outcome)
     → course_of command reads (Ended (Ok outcome)) → IsOneOf (exits_of command) outcome.exit

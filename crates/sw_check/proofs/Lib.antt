@@ -1,6 +1,7 @@
 pub mod CallLemmas
 pub mod ClaimLemmas
 pub mod Courses
+pub mod DemoLemmas
 pub mod ExitLemmas
 pub mod OneExit
 pub mod PartLemmas

@@ -1,48 +1,56 @@
 -- No two exits say what holds of the same words and files.
-use Rattle.std.proofs.Common.{◌≡◌, ℕ, ◌<◌, ◌≤◌, inl, inr, List, length, Option, Some, None, refl}
+use Rattle.std.proofs.Common.{◌≡◌, ℕ, ◌≤◌, inl, inr, List, length, Option, Some, None, refl}
 use Rattle.std.proofs.Common.{sym}
-use Rattle.std.proofs.Common.{ap, ◌∙◌, arith}
+use Rattle.std.proofs.Common.{ap, ◌∙◌}
 use Rattle.sw_replay.specs.declared.output.End.{End}
 use Rattle.sw_replay.specs.declared.output.End.TheVariants as ends
+use Rattle.sw_replay.specs.declared.text.TheConstants.{SCHEDULE_LIMIT}
 use Rattle.sw_replay.proofs.ScheduleLaws.{never_both as items_and_fault}
 use Rattle.sw_check_parts.specs.declared.TheConstants.{PROGRAM_LIMIT}
 use Rattle.sw_check_parts.specs.declared.exit.Exit.{Exit}
-use Rattle.sw_check_parts.specs.declared.exit.Exit.TheVariants.{Done, Breached, Usage, NotRead, TooLong}
-use Rattle.sw_check_parts.specs.declared.exit.Exit.TheVariants.{NotWritten, Memory, Trapped, BadSchedule}
+use Rattle.sw_check_parts.specs.declared.exit.Exit.TheVariants.{Done, Breached, Usage, NotRead}
+use Rattle.sw_check_parts.specs.declared.exit.Exit.TheVariants.{TooLong}
+use Rattle.sw_check_parts.specs.declared.exit.Exit.TheVariants.{NotWritten, Memory, Trapped}
+use Rattle.sw_check_parts.specs.declared.exit.Exit.TheVariants.{BadSchedule}
 use Rattle.sw_check_parts.specs.declared.exit.Exit.TheVariants.{Raced}
 use Rattle.sw_decls.specs.declared.signature.AsyncDefault.{AsyncDefault}
+use Rattle.sw_decls.specs.declared.signature.AsyncDefault.TheVariants.{Concurrent}
 use Rattle.sw_verdict.specs.Verdict.{Accepts, Refuses}
 use Rattle.sw_verdict.proofs.Verdicts.{never_both}
 use Rattle.sw_check.specs.Claims.{Ends, ProgramIsRefused, ProgramPasses, ExitSays, ExitSaysOf}
-use Rattle.sw_check.specs.Claims.{ScheduleIsBad, SecondFits}
-use Rattle.sw_check.specs.Claims.{SecondIsLong, default_of, phases_of, program_of}
-use Rattle.sw_check.specs.Words.{Command, Check, Run, Trace}
-use Rattle.sw_check.proofs.ClaimLemmas.{one_end}
-
--- a second file that is within its limit isn't too long
-second_fits : (files : List ℕ → List ℕ) (command : Command) → SecondFits files command
-    → SecondIsLong files command → ⊥
-second_fits files (Check rule file) fits long = long
-second_fits files (Run rule file schedule_file) fits long = omega (arith, fits, long)
-second_fits files (Trace rule file schedule_file) fits long = omega (arith, fits, long)
+use Rattle.sw_check.specs.Claims.{FileEnds, HasFault, IsLong, ProgramFits, ScheduleIsBad}
+use Rattle.sw_check.specs.Claims.{SecondFits, SecondIsLong, default_of, phases_of, program_of}
+use Rattle.sw_check.specs.Claims.{program_file_of, schedule_file_of}
+use Rattle.sw_gen.specs.Program.{program}
+use Rattle.sw_check_words.specs.Words.{Command, Check, OnFile, Demo}
+use Rattle.sw_check.specs.Reply.{demo_items, schedule_file_in}
+use Rattle.sw_check.proofs.ClaimLemmas.{fits_or_long, one_end, one_end_by}
 
 -- a command ends in one way
 one_end_of : (files : List ℕ → List ℕ) (command : Command) (a b : End) → Ends a files command
     → Ends b files command → a ≡ b
-one_end_of files (Check rule file) a b is_a is_b = is_a ∙ sym is_b
-one_end_of files (Run rule file schedule_file) a b is_a is_b =
-    one_end rule (files file) (files schedule_file) a b is_a is_b
-one_end_of files (Trace rule file schedule_file) a b is_a is_b =
-    one_end rule (files file) (files schedule_file) a b is_a is_b
+one_end_of files (OnFile rule file action) a b is_a is_b =
+    by (schedule_file_in action) is_a is_b where
+      by : (schedule_file : Option (List ℕ)) → FileEnds a files rule file schedule_file
+          → FileEnds b files rule file schedule_file → a ≡ b
+      by None is_a is_b = is_a ∙ sym is_b
+      by (Some schedule_file) is_a is_b =
+          one_end rule (files file) (files schedule_file) a b is_a is_b
+one_end_of files (Demo actors) a b is_a is_b =
+    one_end_by (λ items. items ≡ demo_items actors)
+    (λ items others is_those are. is_those ∙ sym are) Concurrent (program actors) a b is_a is_b
 
 -- a command whose schedule has a fault doesn't come to its end
 ends_or_bad : (files : List ℕ → List ℕ) (command : Command) (end : End) → Ends end files command
     → ScheduleIsBad files command → ⊥
-ends_or_bad files (Check rule file) end ends_so bad = bad
-ends_or_bad files (Run rule file schedule_file) end ends_so (fault, is) =
-    items_and_fault (files schedule_file) ends_so.items fault ends_so.are_items is
-ends_or_bad files (Trace rule file schedule_file) end ends_so (fault, is) =
-    items_and_fault (files schedule_file) ends_so.items fault ends_so.are_items is
+ends_or_bad files (OnFile rule file action) end ends_so bad =
+    by (schedule_file_in action) ends_so bad where
+      by : (schedule_file : Option (List ℕ)) → FileEnds end files rule file schedule_file
+          → HasFault files schedule_file → ⊥
+      by None ends_so bad = bad
+      by (Some schedule_file) ends_so (fault, is) =
+          items_and_fault (files schedule_file) ends_so.items fault ends_so.are_items is
+ends_or_bad files (Demo actors) end ends_so bad = bad
 
 -- the exit of each end
 abbrev exit_of : End → Exit
@@ -53,7 +61,7 @@ exit_of (ends.Raced race) = Raced
 -- why a command has an exit over these files
 data Cause (files : List ℕ → List ℕ) (command : Command) : Exit → Type 0 where
   refused : ProgramIsRefused files command → Cause files command Breached
-  first_long : PROGRAM_LIMIT < length (program_of files command) → Cause files command TooLong
+  first_long : IsLong files PROGRAM_LIMIT (program_file_of command) → Cause files command TooLong
   second_long : ProgramPasses files command → SecondIsLong files command
       → Cause files command TooLong
   bad : ProgramPasses files command → SecondFits files command → ScheduleIsBad files command
@@ -75,6 +83,12 @@ module _ (files : List ℕ → List ℕ) (command : Command) where
   cause_of NotWritten says = absurd says
   cause_of Memory says = absurd says
 
+  first_fits : ProgramFits files command → IsLong files PROGRAM_LIMIT (program_file_of command) → ⊥
+  first_fits = fits_or_long files PROGRAM_LIMIT (program_file_of command)
+
+  second_fits : SecondFits files command → SecondIsLong files command → ⊥
+  second_fits = fits_or_long files SCHEDULE_LIMIT (schedule_file_of command)
+
   passes_or_refused : ProgramPasses files command → ProgramIsRefused files command → ⊥
   passes_or_refused passes it =
       never_both (default_of command) (phases_of command) (program_of files command)
@@ -82,35 +96,35 @@ module _ (files : List ℕ → List ℕ) (command : Command) where
 
   one_cause : (a b : Exit) → Cause files command a → Cause files command b → a ≡ b
   one_cause _ _ (refused it) (refused _) = refl
-  one_cause _ _ (refused it) (first_long long) = absurd (omega (arith, it.short, long))
+  one_cause _ _ (refused it) (first_long long) = absurd (first_fits it.short long)
   one_cause _ _ (refused it) (second_long passes _) = absurd (passes_or_refused passes it)
   one_cause _ _ (refused it) (bad passes _ _) = absurd (passes_or_refused passes it)
   one_cause _ _ (refused it) (ended _ passes _ _) = absurd (passes_or_refused passes it)
-  one_cause _ _ (first_long long) (refused it) = absurd (omega (arith, it.short, long))
+  one_cause _ _ (first_long long) (refused it) = absurd (first_fits it.short long)
   one_cause _ _ (first_long _) (first_long _) = refl
   one_cause _ _ (first_long _) (second_long _ _) = refl
-  one_cause _ _ (first_long long) (bad passes _ _) = absurd (omega (arith, passes.short, long))
+  one_cause _ _ (first_long long) (bad passes _ _) = absurd (first_fits passes.short long)
   one_cause _ _ (first_long long) (ended _ passes _ _) =
-      absurd (omega (arith, passes.short, long))
+      absurd (first_fits passes.short long)
   one_cause _ _ (second_long passes _) (refused it) = absurd (passes_or_refused passes it)
   one_cause _ _ (second_long _ _) (first_long _) = refl
   one_cause _ _ (second_long _ _) (second_long _ _) = refl
   one_cause _ _ (second_long _ long) (bad _ fits _) =
-      absurd (second_fits files command fits long)
+      absurd (second_fits fits long)
   one_cause _ _ (second_long _ long) (ended _ _ fits _) =
-      absurd (second_fits files command fits long)
+      absurd (second_fits fits long)
   one_cause _ _ (bad passes _ _) (refused it) = absurd (passes_or_refused passes it)
-  one_cause _ _ (bad passes _ _) (first_long long) = absurd (omega (arith, passes.short, long))
+  one_cause _ _ (bad passes _ _) (first_long long) = absurd (first_fits passes.short long)
   one_cause _ _ (bad _ fits _) (second_long _ long) =
-      absurd (second_fits files command fits long)
+      absurd (second_fits fits long)
   one_cause _ _ (bad _ _ _) (bad _ _ _) = refl
   one_cause _ _ (bad _ _ is_bad) (ended end _ _ is) =
       absurd (ends_or_bad files command end is is_bad)
   one_cause _ _ (ended _ passes _ _) (refused it) = absurd (passes_or_refused passes it)
   one_cause _ _ (ended _ passes _ _) (first_long long) =
-      absurd (omega (arith, passes.short, long))
+      absurd (first_fits passes.short long)
   one_cause _ _ (ended _ _ fits _) (second_long _ long) =
-      absurd (second_fits files command fits long)
+      absurd (second_fits fits long)
   one_cause _ _ (ended end _ _ is) (bad _ _ is_bad) =
       absurd (ends_or_bad files command end is is_bad)
   one_cause _ _ (ended a _ _ is_a) (ended b _ _ is_b) =
@@ -126,7 +140,7 @@ one_exit files (Some command) a b says_a says_b = one_exit_of files command a b 
 
 -- a program that is refused and within the limit has that exit
 pub says_breached : (files : List ℕ → List ℕ) (command : Command) (exit : Exit)
-    → ExitSays files (Some command) exit → length (program_of files command) ≤ PROGRAM_LIMIT
+    → ExitSays files (Some command) exit → ProgramFits files command
     → Refuses (default_of command) (phases_of command) (program_of files command)
     → exit ≡ Breached
 says_breached files command exit says short found =
@@ -134,8 +148,8 @@ says_breached files command exit says short found =
 
 -- a program that `check` accepts, within the limit, has that exit
 pub says_accepted : (files : List ℕ → List ℕ) (rule : AsyncDefault) (file : List ℕ) (exit : Exit)
-    → ExitSays files (Some (Check rule file)) exit → length (files file) ≤ PROGRAM_LIMIT
+    → ExitSays files (Some (OnFile rule file Check)) exit → length (files file) ≤ PROGRAM_LIMIT
     → Accepts rule (files file) → exit ≡ Done
 says_accepted files rule file exit says short accepts =
-    one_exit_of files (Check rule file) exit Done says
+    one_exit_of files (OnFile rule file Check) exit Done says
     (record { short = short; no_breach = accepts }, tt, refl)

@@ -5,21 +5,24 @@ use Rattle.std.specs.declared.alloc.AllocError.{AllocError}
 use Rattle.sw_graph.specs.declared.graph.Graph.{Graph}
 use Rattle.sw_breach.specs.declared.Breach.{Breach}
 use Rattle.sw_replay.specs.declared.text.SchedFault.{SchedFault}
-use Rattle.sw_replay.specs.declared.text.SchedFault.TheVariants.{Memory}
+use Rattle.sw_replay.specs.declared.text.SchedFault.TheVariants.{Memory as NoMemory}
 use Rattle.sw_replay.specs.declared.output.Replay.{Replay}
 use Rattle.sw_replay.specs.Items.{IsFirstFault}
 use Rattle.sw_check_parts.specs.declared.exit.Exit.TheVariants.{TooLong}
 use Rattle.sw_check_parts.specs.declared.outcome.Outcome.{Outcome}
 use Rattle.sw_check_parts.specs.declared.stop.Stop.{Stop}
+use Rattle.sw_check_parts.specs.declared.stop.Stop.TheVariants.{Memory}
 use Rattle.sw_check_parts.specs.Leaves.{SeenShelf, Does, Decides}
 use Rattle.sw_check_parts.proofs.Doing.{does_alone}
+use Rattle.sw_check_parts.proofs.ReadLemmas.{has_read_nothing}
+use Rattle.sw_check.proofs.Courses.{can_end}
 use Rattle.sw_decls.specs.declared.signature.AsyncDefault.{AsyncDefault}
 use Rattle.sw_verdict.specs.Phases.{Phase}
 use Rattle.sw_verdict.specs.Verdict.{IsVerdict}
 use Rattle.sw_replay.specs.Replay.{IsReplay}
-use Rattle.sw_check.specs.Words.{Command}
+use Rattle.sw_check_words.specs.Words.{Command}
 use Rattle.sw_check.specs.Reply.{usage, course_of, EndsWithReply, refusal, bad_schedule_outcome}
-use Rattle.sw_check.specs.Reply.{replay_outcome, IsJudgement, breached, Scheduled, has_fault}
+use Rattle.sw_check.specs.Reply.{IsJudgement, breached, Scheduled, has_fault}
 use Rattle.sw_check.specs.Reply.{Replayed}
 use Rattle.sw_check.specs.Reply.{ends, replay_by}
 
@@ -33,20 +36,20 @@ judged_refused rule phases text breaches outcome is judges =
     (sym is)
     (breached breaches judges, λ e. cc)
 
-pub scheduled_refused : (text : List ℕ) (fault : SchedFault) (outcome : Outcome) → (fault ≢ Memory)
-    × (outcome ≡ bad_schedule_outcome text fault) → (fault ≢ Memory → IsFirstFault text fault)
+pub scheduled_refused : (text : List ℕ) (fault : SchedFault) (outcome : Outcome)
+    → (fault ≢ NoMemory) × (outcome ≡ bad_schedule_outcome text fault) → (fault ≢ NoMemory → IsFirstFault text fault)
     → Scheduled text (Err outcome) × (outcome.exit ≢ TooLong)
 scheduled_refused text fault outcome (not, is) bad =
     subst (λ outcome. Scheduled text (Err outcome) × (outcome.exit ≢ TooLong)) (sym is)
     (has_fault fault (bad not), λ e. cc)
 
-pub replay_answered : (text : List ℕ) (graph : Graph) (items : List ℕ) (replay : Replay)
-    (answer : Result Outcome AllocError) → IsReplay graph items replay
-    → IfOk answer (λ outcome. outcome ≡ replay_outcome text replay)
-    → IfOk answer (λ outcome. Replayed text graph items (Ok outcome))
-replay_answered text graph items replay (Ok outcome) is same =
-    subst (λ outcome. Replayed text graph items (Ok outcome)) (sym same) (ends replay is)
-replay_answered text graph items replay (Err error) is same = tt
+pub replay_answered : (answer : Replay → Outcome) (graph : Graph) (items : List ℕ)
+    (replay : Replay) (result : Result Outcome AllocError) → IsReplay graph items replay
+    → IfOk result (λ outcome. outcome ≡ answer replay)
+    → IfOk result (λ outcome. Replayed answer graph items (Ok outcome))
+replay_answered answer graph items replay (Ok outcome) is same =
+    subst (λ outcome. Replayed answer graph items (Ok outcome)) (sym same) (ends replay is)
+replay_answered answer graph items replay (Err error) is same = tt
 
 -- the last parts, for a text that was lent
 pub replays_lent : {text lent : List ℕ} {before after : SeenShelf} {result : Result Outcome Stop}
@@ -63,6 +66,17 @@ pub no_form : {command : Option Command} {shelf : SeenShelf} → None ≡ comman
 no_form {shelf = shelf} is result decides =
     subst (λ command. Does (course_of command) shelf result shelf) is
     (does_alone (EndsWithReply usage) result decides)
+
+-- Memory ran out before the command was known.
+pub not_begun : (command : Option Command) {shelf : SeenShelf}
+    → Does (course_of command) shelf (Err Memory) shelf
+not_begun command {shelf} = record {
+  reads = [];
+  so_far = (can_end command).begins;
+  has_read = has_read_nothing shelf.known;
+  counts = refl;
+  received_long = tt;
+}
 
 -- what is answered has a breach
 pub some_breach : (breaches : List Breach) → breaches ≢ [] → 0 < length breaches

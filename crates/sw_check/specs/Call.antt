@@ -7,7 +7,7 @@ use Rattle.sw_check_parts.specs.Course.{Read, Underway}
 use Rattle.sw_check_parts.specs.Leaves.{HasRead}
 use Rattle.sw_check_parts.specs.Written.{Appended, IsPrefixWritten}
 use Rattle.sw_check.specs.Reply.{Reply, course_of}
-use Rattle.sw_check.specs.Words.{Command}
+use Rattle.sw_check_words.specs.Words.{Command}
 
 -- the outcome is the reply to the words over the files that were read, and no others were read
 pub record Answered (command : Option Command) (before : Option KnownShelf) (outcome : Outcome)

@@ -12,83 +12,113 @@ use Rattle.sw_replay.specs.declared.output.End.TheVariants as ends
 use Rattle.sw_replay.specs.declared.output.Replay.{Replay}
 use Rattle.sw_replay.specs.Items.{IsItems, IsFirstFault}
 use Rattle.sw_check_parts.specs.declared.exit.Exit.{Exit}
-use Rattle.sw_check_parts.specs.declared.exit.Exit.TheVariants.{Done, Breached, Usage, NotRead, TooLong}
-use Rattle.sw_check_parts.specs.declared.exit.Exit.TheVariants.{NotWritten, Memory, Trapped, BadSchedule}
+use Rattle.sw_check_parts.specs.declared.exit.Exit.TheVariants.{Done, Breached, Usage, NotRead}
+use Rattle.sw_check_parts.specs.declared.exit.Exit.TheVariants.{TooLong}
+use Rattle.sw_check_parts.specs.declared.exit.Exit.TheVariants.{NotWritten, Memory, Trapped}
+use Rattle.sw_check_parts.specs.declared.exit.Exit.TheVariants.{BadSchedule}
 use Rattle.sw_check_parts.specs.declared.exit.Exit.TheVariants.{Raced}
 use Rattle.sw_check_parts.specs.declared.TheConstants.{PROGRAM_LIMIT}
 use Rattle.sw_decls.specs.declared.signature.AsyncDefault.{AsyncDefault}
-use Rattle.sw_verdict.specs.Phases.{Phase, all_phases, phases_to_size, IsGraphOf}
+use Rattle.sw_decls.specs.declared.signature.AsyncDefault.TheVariants.{Concurrent}
+use Rattle.sw_verdict.specs.Phases.{Phase, all_phases, IsGraphOf}
 use Rattle.sw_verdict.specs.Verdict.{Breaches, Refuses}
 use Rattle.sw_replay.specs.Replay.{IsReplay}
-use Rattle.sw_check.specs.Words.{Command, Check, Run, Trace}
+use Rattle.sw_gen.specs.Program.{program}
+use Rattle.sw_check_words.specs.Words.{Command, OnFile, Demo}
+use Rattle.sw_check.specs.Reply.{demo_items, phases_for, schedule_file_in}
 
 -- The machine of the graph isn't racing after any list of items, of any length.
 abbrev pub NeverRaces : Graph → Type 0
 NeverRaces graph = (items : List ℕ) → ¬ Racing graph (reach graph items)
 
--- the text of the program that a command is about
+-- the file of the program that a command is about, where it is in a file
+abbrev pub program_file_of : Command → Option (List ℕ)
+program_file_of (OnFile rule file action) = Some file
+program_file_of (Demo actors) = None
+
+-- the text of that program
 abbrev pub program_of : (List ℕ → List ℕ) → Command → List ℕ
-program_of files (Check rule file) = files file
-program_of files (Run rule file schedule_file) = files file
-program_of files (Trace rule file schedule_file) = files file
+program_of files (OnFile rule file action) = files file
+program_of files (Demo actors) = program actors
 
 -- the default by which a command's program is judged
 abbrev pub default_of : Command → AsyncDefault
-default_of (Check rule file) = rule
-default_of (Run rule file schedule_file) = rule
-default_of (Trace rule file schedule_file) = rule
+default_of (OnFile rule file action) = rule
+default_of (Demo actors) = Concurrent
 
 -- the phases that count for a command: it refuses a program in which one of them finds a breach
 abbrev pub phases_of : Command → List Phase
-phases_of (Check rule file) = all_phases
-phases_of (Run rule file schedule_file) = all_phases
-phases_of (Trace rule file schedule_file) = phases_to_size
+phases_of (OnFile rule file action) = phases_for action
+phases_of (Demo actors) = all_phases
+
+-- the schedule's file of a command, where it has one
+abbrev pub schedule_file_of : Command → Option (List ℕ)
+schedule_file_of (OnFile rule file action) = schedule_file_in action
+schedule_file_of (Demo actors) = None
+
+-- the file of this name, where there is one, is within its limit, or longer
+abbrev pub Fits : (List ℕ → List ℕ) → ℕ → Option (List ℕ) → Type 0
+Fits files limit None = Unit {0}
+Fits files limit (Some name) = length (files name) ≤ limit
+
+abbrev pub IsLong : (List ℕ → List ℕ) → ℕ → Option (List ℕ) → Type 0
+IsLong files limit None = ⊥
+IsLong files limit (Some name) = limit < length (files name)
+
+-- the program of the command is within the limit, as each generated program is
+abbrev pub ProgramFits : (List ℕ → List ℕ) → Command → Type 0
+ProgramFits files command = Fits files PROGRAM_LIMIT (program_file_of command)
 
 -- the program of the command is within the limit, and no phase that counts finds a breach in it
 pub record ProgramPasses (files : List ℕ → List ℕ) (command : Command) : Type 0 where
-  pub short : length (program_of files command) ≤ PROGRAM_LIMIT
+  pub short : ProgramFits files command
   pub no_breach : Breaches (default_of command) (phases_of command) (program_of files command) []
 
 -- The program of the command is within the limit, and a phase that counts finds a breach in it.
 pub record ProgramIsRefused (files : List ℕ → List ℕ) (command : Command) : Type 0 where
-  pub short : length (program_of files command) ≤ PROGRAM_LIMIT
+  pub short : ProgramFits files command
   pub breaches : Refuses (default_of command) (phases_of command) (program_of files command)
 
--- under a default, the replay of a program's graph by a schedule ends so
-pub record EndsSo (rule : AsyncDefault) (end : End) (text schedule : List ℕ) : Type 0 where
+-- under a default, the replay of a program's graph by such items ends so
+pub record EndsSo (rule : AsyncDefault) (end : End) (text : List ℕ) (AreItems : List ℕ → Type 0)
+    : Type 0 where
   pub graph : Graph
   pub of_text : IsGraphOf rule text graph
   pub items : List ℕ
-  pub are_items : IsItems schedule items
+  pub are_items : AreItems items
   pub replay : Replay
   pub is_replay : IsReplay graph items replay
   pub ends : replay.end ≡ end
 
--- How a command ends that goes to its end: `check` has no replay, and ends in one way.
+-- How a command on a file ends that goes to its end: by its schedule, if it has one. `check` has no
+-- replay, and ends in one way.
+abbrev pub FileEnds : End → (List ℕ → List ℕ) → AsyncDefault → List ℕ → Option (List ℕ) → Type 0
+FileEnds end files rule file None = end ≡ ends.Ran
+FileEnds end files rule file (Some schedule_file) =
+    EndsSo rule end (files file) (IsItems (files schedule_file))
+
+-- how a command ends that goes to its end
 abbrev pub Ends : End → (List ℕ → List ℕ) → Command → Type 0
-Ends end files (Check rule file) = end ≡ ends.Ran
-Ends end files (Run rule file schedule_file) = EndsSo rule end (files file) (files schedule_file)
-Ends end files (Trace rule file schedule_file) = EndsSo rule end (files file) (files schedule_file)
+Ends end files (OnFile rule file action) = FileEnds end files rule file (schedule_file_in action)
+Ends end files (Demo actors) =
+    EndsSo Concurrent end (program actors) (λ items. items ≡ demo_items actors)
 
 -- the second file of a command, where it has one, is within its limit
 abbrev pub SecondFits : (List ℕ → List ℕ) → Command → Type 0
-SecondFits files (Check rule file) = Unit {0}
-SecondFits files (Run rule file schedule_file) = length (files schedule_file) ≤ SCHEDULE_LIMIT
-SecondFits files (Trace rule file schedule_file) = length (files schedule_file) ≤ SCHEDULE_LIMIT
+SecondFits files command = Fits files SCHEDULE_LIMIT (schedule_file_of command)
 
 -- the second file of a command is longer than it may be
 abbrev pub SecondIsLong : (List ℕ → List ℕ) → Command → Type 0
-SecondIsLong files (Check rule file) = ⊥
-SecondIsLong files (Run rule file schedule_file) = SCHEDULE_LIMIT < length (files schedule_file)
-SecondIsLong files (Trace rule file schedule_file) = SCHEDULE_LIMIT < length (files schedule_file)
+SecondIsLong files command = IsLong files SCHEDULE_LIMIT (schedule_file_of command)
+
+-- the text of the file, where there is one, has a fault
+abbrev pub HasFault : (List ℕ → List ℕ) → Option (List ℕ) → Type 0
+HasFault files None = ⊥
+HasFault files (Some name) = (fault : SchedFault) × IsFirstFault (files name) fault
 
 -- the schedule of a command has a fault
 abbrev pub ScheduleIsBad : (List ℕ → List ℕ) → Command → Type 0
-ScheduleIsBad files (Check rule file) = ⊥
-ScheduleIsBad files (Run rule file schedule_file) = (fault : SchedFault)
-    × IsFirstFault (files schedule_file) fault
-ScheduleIsBad files (Trace rule file schedule_file) = (fault : SchedFault)
-    × IsFirstFault (files schedule_file) fault
+ScheduleIsBad files command = HasFault files (schedule_file_of command)
 
 -- What an exit says of a command and its files: how the command ends over them. No two exits say
 -- what holds of the same command and files. Those that report a failure say nothing of them; they
@@ -99,7 +129,7 @@ ExitSaysOf files command Done =
     ProgramPasses files command × SecondFits files command × Ends ends.Ran files command
 ExitSaysOf files command Breached = ProgramIsRefused files command
 -- the program's file is too long, or the program passes and the schedule's file is too long
-ExitSaysOf files command TooLong = (PROGRAM_LIMIT < length (program_of files command))
+ExitSaysOf files command TooLong = IsLong files PROGRAM_LIMIT (program_file_of command)
     ⊎ (ProgramPasses files command × SecondIsLong files command)
 -- the program passes, and its replay ends with a trap
 ExitSaysOf files command Trapped = ProgramPasses files command × SecondFits files command

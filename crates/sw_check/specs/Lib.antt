@@ -3,5 +3,3 @@ pub mod Claims
 pub mod Lines
 pub mod Phases
 pub mod Reply
-pub mod Words
-pub mod WordsRead

@@ -1,5 +1,6 @@
 -- The lines about a replay.
-use Rattle.std.specs.Prelude.{ℕ, Bool, List, ◌++◌, codes, if◌then◌else◌}
+use Rattle.std.specs.Prelude.{ℕ, ◌==◌, Bool, List, ◌++◌, length, count_by, codes}
+use Rattle.std.specs.Prelude.{if◌then◌else◌}
 use Rattle.std.specs.Fmt.{decimal}
 use Rattle.sw_text.specs.Position.{shown_position}
 use Rattle.sw_breach.specs.Lines.{line_feed}
@@ -15,6 +16,17 @@ use Rattle.sw_replay.specs.Items.{position_of}
 unfoldable pub summary : ℕ → ℕ → List ℕ
 summary ended jobs = codes "done "
     ++ (decimal ended ++ (codes " of " ++ (decimal jobs ++ (codes " jobs" ++ line_feed))))
+
+-- how many lines the bytes are: each line ends in a line feed
+abbrev pub line_count : List ℕ → ℕ
+line_count bytes = count_by (λ byte. byte == 10) bytes
+
+-- `demo N: B bytes, P lines, done D of J jobs`: for which number the program was generated, how
+-- long its text is, and how many lines it printed
+unfoldable pub demo_line : ℕ → List ℕ → List ℕ → ℕ → ℕ → List ℕ
+demo_line actors text lines ended jobs = codes "demo "
+    ++ (decimal actors ++ (codes ": " ++ (decimal (length text) ++ (codes " bytes, "
+    ++ (decimal (line_count lines) ++ (codes " lines, " ++ summary ended jobs))))))
 
 -- what halted the machine
 abbrev pub trap_text : TrapKind → List ℕ

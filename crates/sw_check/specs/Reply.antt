@@ -7,7 +7,7 @@ use Rattle.sw_replay.specs.declared.text.SchedFault.{SchedFault}
 use Rattle.sw_replay.specs.declared.output.End.{End}
 use Rattle.sw_replay.specs.declared.output.End.TheVariants.{Ran, Trapped, Raced}
 use Rattle.sw_replay.specs.declared.output.Replay.{Replay}
-use Rattle.sw_replay.specs.Items.{IsItems, IsFirstFault}
+use Rattle.sw_replay.specs.Items.{IsItems, IsFirstFault, written_out}
 use Rattle.sw_breach.specs.declared.Breach.{Breach}
 use Rattle.sw_breach.specs.Lines.{line_feed, verdict_text}
 use Rattle.sw_check_parts.specs.declared.exit.Exit.{Exit}
@@ -16,11 +16,14 @@ use Rattle.sw_check_parts.specs.declared.outcome.Outcome.{Outcome}
 use Rattle.sw_check_parts.specs.declared.TheConstants.{PROGRAM_LIMIT}
 use Rattle.sw_check_parts.specs.Course.{Read, Ended, Part, Alone, Fetched, ◌>>=◌}
 use Rattle.sw_decls.specs.declared.signature.AsyncDefault.{AsyncDefault}
+use Rattle.sw_decls.specs.declared.signature.AsyncDefault.TheVariants.{Concurrent}
 use Rattle.sw_verdict.specs.Phases.{Phase, all_phases, phases_to_size}
 use Rattle.sw_verdict.specs.Verdict.{IsVerdict}
 use Rattle.sw_replay.specs.Replay.{IsReplay}
-use Rattle.sw_check.specs.Lines.{summary, trap_line, race_lines, schedule_line}
-use Rattle.sw_check.specs.Words.{Command, Check, Run, Trace}
+use Rattle.sw_check.specs.Lines.{demo_line, summary, trap_line, race_lines, schedule_line}
+use Rattle.sw_gen.specs.Program.{program}
+use Rattle.sw_gen.specs.Schedule.{runs}
+use Rattle.sw_check_words.specs.Words.{Action, Check, Run, Trace, Command, OnFile, Demo}
 
 -- the one line about words that have no form
 abbrev pub usage : Outcome
@@ -56,6 +59,19 @@ end_outcome text lines ended jobs (Raced race) =
 abbrev pub replay_outcome : List ℕ → Replay → Outcome
 replay_outcome text replay = end_outcome text replay.lines replay.ended replay.jobs replay.end
 
+-- The same of a program that was generated for a number of actors: where its replay takes all
+-- items, the reply is one line.
+abbrev pub demo_end : ℕ → List ℕ → ℕ → ℕ → End → Outcome
+demo_end actors lines ended jobs Ran =
+    record { exit = exits.Done; bytes = demo_line actors (program actors) lines ended jobs }
+demo_end actors lines ended jobs (Trapped kind at) =
+    end_outcome (program actors) lines ended jobs (Trapped kind at)
+demo_end actors lines ended jobs (Raced race) =
+    end_outcome (program actors) lines ended jobs (Raced race)
+
+abbrev pub demo_outcome : ℕ → Replay → Outcome
+demo_outcome actors replay = demo_end actors replay.lines replay.ended replay.jobs replay.end
+
 -- The part ends with this reply.
 abbrev pub EndsWithReply : Outcome → Result Outcome Outcome → Type 0
 EndsWithReply outcome result = result ≡ Ok outcome
@@ -74,37 +90,59 @@ pub data Scheduled (schedule : List ℕ) : Result (List ℕ) Outcome → Type 0 
   has_fault : (fault : SchedFault) → IsFirstFault schedule fault
       → Scheduled schedule (Err (bad_schedule_outcome schedule fault))
 
--- The graph of a program is replayed by items.
-pub data Replayed (text : List ℕ) (graph : Graph) (items : List ℕ) : Result Outcome Outcome
-    → Type 0 where
+-- The graph of a program is replayed by items, and this is answered.
+pub data Replayed (answer : Replay → Outcome) (graph : Graph) (items : List ℕ)
+    : Result Outcome Outcome → Type 0 where
   ends : (replay : Replay) → IsReplay graph items replay
-      → Replayed text graph items (Ok (replay_outcome text replay))
+      → Replayed answer graph items (Ok (answer replay))
 
 -- A schedule is fetched, and its items replay the graph of the text.
 abbrev pub replay_by : List ℕ → List ℕ → Graph → Part Outcome
 replay_by schedule_file text graph = do
   schedule ← Fetched schedule_file SCHEDULE_LIMIT
   items ← Alone (Scheduled schedule)
-  Alone (Replayed text graph items)
+  Alone (Replayed (replay_outcome text) graph items)
 
--- A program is fetched and judged by these phases, and then a schedule replays its graph.
-abbrev pub replay_course : AsyncDefault → List Phase → List ℕ → List ℕ → Part Outcome
-replay_course rule phases file schedule_file = do
+-- the phases that count: an action refuses a program in which one of them finds a breach
+abbrev pub phases_for : Action → List Phase
+phases_for Check = all_phases
+phases_for (Run schedule_file) = all_phases
+phases_for (Trace schedule_file) = phases_to_size
+
+-- the schedule's file of an action
+abbrev pub schedule_file_in : Action → Option (List ℕ)
+schedule_file_in Check = None
+schedule_file_in (Run schedule_file) = Some schedule_file
+schedule_file_in (Trace schedule_file) = Some schedule_file
+
+-- what follows the verdict on a text that has a graph: a replay by the schedule, if there is one
+abbrev pub after_verdict : Option (List ℕ) → List ℕ → Graph → Part Outcome
+after_verdict None text graph = Alone (EndsWithReply accepted)
+after_verdict (Some schedule_file) text graph = replay_by schedule_file text graph
+
+-- A program is fetched and judged by these phases, and then comes what follows the verdict.
+abbrev pub file_course : AsyncDefault → List Phase → List ℕ → Option (List ℕ) → Part Outcome
+file_course rule phases file schedule_file = do
   text ← Fetched file PROGRAM_LIMIT
   graph ← Alone (IsJudgement rule phases text)
-  replay_by schedule_file text graph
+  after_verdict schedule_file text graph
+
+-- the items by which a generated program is replayed
+abbrev pub demo_items : ℕ → List ℕ
+demo_items actors = written_out (runs actors)
+
+-- The program that is generated for a number of actors is judged, and replayed by its own schedule.
+abbrev pub demo_course : ℕ → Part Outcome
+demo_course actors = do
+  graph ← Alone (IsJudgement Concurrent all_phases (program actors))
+  Alone (Replayed (demo_outcome actors) graph (demo_items actors))
 
 -- the parts of each command
 abbrev pub course_of : Option Command → Part Outcome
 course_of None = Alone (EndsWithReply usage)
-course_of (Some (Check rule file)) = do
-  text ← Fetched file PROGRAM_LIMIT
-  graph ← Alone (IsJudgement rule all_phases text)
-  Alone (EndsWithReply accepted)
-course_of (Some (Run rule file schedule_file)) =
-    replay_course rule all_phases file schedule_file
-course_of (Some (Trace rule file schedule_file)) =
-    replay_course rule phases_to_size file schedule_file
+course_of (Some (OnFile rule file action)) =
+    file_course rule (phases_for action) file (schedule_file_in action)
+course_of (Some (Demo actors)) = demo_course actors
 
 -- `Reply command reads outcome`: this is answered to the words, where exactly these files are read
 -- for it, in this order.
@@ -112,15 +150,19 @@ pub data Reply (command : Option Command) (reads : List Read) (outcome : Outcome
   at_end : course_of command reads (Ended (Ok outcome)) → Reply command reads outcome
   before_end : course_of command reads (Ended (Err outcome)) → Reply command reads outcome
 
--- the exits of the replies to a command that replays a program
-abbrev pub replay_exits : List Exit
-replay_exits =
+-- the exits of the replies to a command on a file, which may have a schedule
+abbrev pub file_exits : Option (List ℕ) → List Exit
+file_exits None = exits.TooLong ∷ exits.Breached ∷ exits.Done ∷ []
+file_exits (Some schedule_file) =
     exits.TooLong ∷ exits.Breached ∷ exits.BadSchedule ∷ exits.Done ∷ exits.Trapped ∷ exits.Raced
     ∷ []
+
+-- the exits of the replies to `demo`
+abbrev pub demo_exits : List Exit
+demo_exits = exits.Breached ∷ exits.Done ∷ exits.Trapped ∷ exits.Raced ∷ []
 
 -- the exits of the replies to a command
 abbrev pub exits_of : Option Command → List Exit
 exits_of None = exits.Usage ∷ []
-exits_of (Some (Check rule file)) = exits.TooLong ∷ exits.Breached ∷ exits.Done ∷ []
-exits_of (Some (Run rule file schedule_file)) = replay_exits
-exits_of (Some (Trace rule file schedule_file)) = replay_exits
+exits_of (Some (OnFile rule file action)) = file_exits (schedule_file_in action)
+exits_of (Some (Demo actors)) = demo_exits

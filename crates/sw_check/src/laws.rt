@@ -1,12 +1,13 @@
 ghost use Rattle.std.specs.Prelude.{◌≡◌, ℕ, List, ◌++◌, Option};
 ghost use Rattle.sw_replay.specs.declared.output.End.{End};
+ghost use Rattle.sw_replay.specs.Items.{IsItems};
 ghost use Rattle.sw_check_parts.specs.declared.outcome.Outcome.{Outcome};
 ghost use Rattle.sw_decls.specs.declared.signature.AsyncDefault.{AsyncDefault};
 ghost use Rattle.sw_check_parts.specs.Course.{AreOf, Read, Underway};
 ghost use Rattle.sw_check_parts.specs.Lawful.{IsPrefixOf};
 ghost use Rattle.sw_check.specs.Claims.{EndsSo};
 ghost use Rattle.sw_check.specs.Reply.{Reply, course_of};
-ghost use Rattle.sw_check.specs.Words.{Command};
+ghost use Rattle.sw_check_words.specs.Words.{Command};
 
 use crate::PROGRAM_LIMIT;
 
@@ -31,7 +32,8 @@ pub fn words_have_one_reply()
         → (others : List Read) × (outcome : Outcome) × Reply command (reads ++ others) outcome }
     // Under a default a replay of a program by a schedule ends in one way.
     ensures one_end { (rule : AsyncDefault) (text schedule : List ℕ) (a b : End)
-        → EndsSo rule a text schedule → EndsSo rule b text schedule → a ≡ b }
+        → EndsSo rule a text (IsItems schedule) → EndsSo rule b text (IsItems schedule)
+        → a ≡ b }
 {}
 
 /// The limit that the definitions of replies take from here.

@@ -1,5 +1,6 @@
 //! The commands of the tool, and the call that the program's `main` makes. The crate knows the
-//! words of the command line and the replies. It knows nothing of how a phase finds a breach.
+//! parts of each command and the replies. It knows nothing of how words are read or how a phase
+//! finds a breach.
 #![tactic(auto)]
 
 ghost use Rattle.std.specs.Prelude.{◌≡◌, ◌≢◌, ◌<◌, ◌≤◌, ℕ, List, Some, None, IfSome, IfNone};
@@ -16,16 +17,16 @@ ghost use Rattle.sw_value.specs.Runnable.{IsRunnable};
 ghost use Rattle.sw_verdict.specs.Phases.{IsGraphOf, all_phases};
 ghost use Rattle.sw_verdict.specs.Verdict.{Accepts, Refuses};
 ghost use Rattle.sw_check.specs.Call.{Interrupted, Replied, Unanswered};
-ghost use Rattle.sw_check.specs.Claims.{NeverRaces, ExitSays, default_of, phases_of, program_of};
+ghost use Rattle.sw_check.specs.Claims.{NeverRaces, ExitSays, ProgramFits, default_of, phases_of};
+ghost use Rattle.sw_check.specs.Claims.{program_of};
 ghost use Rattle.sw_check.specs.Reply.{Reply, exits_of};
-ghost use Rattle.sw_check.specs.Words.{Check, Command, command_in};
+ghost use Rattle.sw_check_words.specs.Words.{Check, Command, OnFile, command_in};
 
 mod commands;
 mod laws;
 mod lines;
 mod parts;
 mod reply;
-mod words;
 
 pub use laws::{program_limit, words_have_one_reply};
 use reply::{NoReply, reply};
@@ -77,13 +78,14 @@ pub fn run_words<S: Shelf, K: Sink>(
     // A program within the limit in which a phase that counts finds a breach is refused.
     ensures breached { (known : KnownShelf) (command : Command) → S.known shelf.old ≡ Some known
         → command_in words.now.items ≡ Some command
-        → length (program_of (file_of known.files) command) ≤ PROGRAM_LIMIT
+        → ProgramFits (file_of known.files) command
         → Refuses (default_of command) (phases_of command)
         (program_of (file_of known.files) command)
         → IsFalse (is_failure result) → result ≡ Exit.Breached }
     // `check` accepts a program within the limit in which no phase finds a breach.
     ensures accepted { (known : KnownShelf) (rule : AsyncDefault) (file : List ℕ)
-        → S.known shelf.old ≡ Some known → command_in words.now.items ≡ Some (Check rule file)
+        → S.known shelf.old ≡ Some known
+        → command_in words.now.items ≡ Some (OnFile rule file Check)
         → length (file_of known.files file) ≤ PROGRAM_LIMIT
         → Accepts rule (file_of known.files file) → IsFalse (is_failure result)
         → result ≡ Exit.Done }
@@ -93,7 +95,7 @@ pub fn run_words<S: Shelf, K: Sink>(
     // that is longer isn't judged, and nothing is said of it.
     ensures no_race { (known : KnownShelf) (command : Command) → S.known shelf.old ≡ Some known
         → command_in words.now.items ≡ Some command → phases_of command ≡ all_phases
-        → length (program_of (file_of known.files) command) ≤ PROGRAM_LIMIT
+        → ProgramFits (file_of known.files) command
         → IsFalse (is_failure result) → result ≢ Exit.Breached → (graph : Graph)
         × IsGraphOf (default_of command) (program_of (file_of known.files) command) graph
         × (IsRunnable graph → NeverRaces graph) }

@@ -2,11 +2,12 @@
 
 ghost use Rattle.std.specs.Prelude.{◌≡◌, ◌<◌, IfOk, length, string_bytes};
 ghost use Rattle.sw_replay.specs.Items.{position_of};
-ghost use Rattle.sw_check.specs.Lines.{access_line, deed, race_lines, schedule_line, schedule_text};
+ghost use Rattle.sw_check.specs.Lines.{access_line, deed, demo_line, line_count, race_lines};
+ghost use Rattle.sw_check.specs.Lines.{schedule_line, schedule_text};
 ghost use Rattle.sw_check.specs.Lines.{summary, trap_line, trap_text};
 
 use std::alloc::{AllocError, Global};
-use sw_replay::SchedFault;
+use sw_replay::{Replay, SchedFault};
 use sw_text::shown_position;
 use sw_value::{Access, Race, TrapKind};
 
@@ -16,6 +17,31 @@ pub fn summary(alloc: Global, ended: u32, jobs: u32) -> Result<String, AllocErro
     ensures { IfOk result (λ text. string_bytes text ≡ summary ended jobs) }
 {
     format!(in alloc; "done {ended} of {jobs} jobs\n")
+}
+
+/// How many lines the bytes are.
+fn line_count(bytes: &[u8]) -> usize
+    ensures { result ≡ line_count bytes.now }
+{
+    bytes.iter().filter(|byte| **byte == b'\n').count()
+}
+
+/// The line about a generated program with the text `bytes` that was replayed to the end.
+#[tactic(auto, unfolding(crate::specs::Lines::demo_line))]
+pub fn demo_line(
+    alloc: Global,
+    actors: u32,
+    bytes: &[u8],
+    replay: &Replay,
+) -> Result<String, AllocError>
+    ensures { IfOk result (λ text.
+        string_bytes text
+        ≡ demo_line actors bytes.now replay.now.lines replay.now.ended replay.now.jobs) }
+{
+    let length = bytes.len();
+    let count = line_count(replay.lines.as_slice());
+    let end = summary(alloc, replay.ended, replay.jobs)?;
+    format!(in alloc; "demo {actors}: {length} bytes, {count} lines, {end}")
 }
 
 /// What halted the machine, in words.

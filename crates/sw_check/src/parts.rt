@@ -9,10 +9,10 @@ ghost use Rattle.sw_verdict.specs.Verdict.{IsVerdict};
 ghost use Rattle.sw_check.specs.Lines.{schedule_line};
 ghost use Rattle.sw_check.specs.Phases.{list_of};
 ghost use Rattle.sw_check.specs.Reply.{IsJudgement, Replayed, Scheduled, bad_schedule_outcome};
-ghost use Rattle.sw_check.specs.Reply.{refusal};
-ghost use Rattle.sw_check.specs.Reply.{replay_outcome};
+ghost use Rattle.sw_check.specs.Reply.{demo_outcome, refusal, replay_outcome};
+ghost use Rattle.sw_gen.specs.Program.{program};
 
-use crate::lines::{race_lines, schedule_line, summary, trap_line};
+use crate::lines::{demo_line, race_lines, schedule_line, summary, trap_line};
 use std::alloc::{AllocError, Global};
 use sw_breach::{Breach, render};
 use sw_check_parts::{Exit, Outcome, PROGRAM_LIMIT, Stop, lines, with_last_line};
@@ -143,8 +143,46 @@ pub fn replayed(
     items: &Schedule,
 ) -> Result<Outcome, AllocError>
     requires { length text.now ≤ PROGRAM_LIMIT }
-    ensures { IfOk result (λ outcome. Replayed text.now graph.now items.now (Ok outcome)) }
+    ensures { IfOk result (λ outcome.
+        Replayed (replay_outcome text.now) graph.now items.now (Ok outcome)) }
 {
     let replay = replay(alloc, graph, items)?;
     ending(alloc, text, replay)
+}
+
+/// The reply to the replay of the program that was generated for a number of actors.
+fn demo_ending(
+    alloc: Global,
+    actors: u32,
+    text: &[u8],
+    replay: Replay,
+) -> Result<Outcome, AllocError>
+    requires short { length text.now ≤ PROGRAM_LIMIT }
+    requires generated { text.now ≡ program actors }
+    ensures { IfOk result (λ outcome. outcome ≡ demo_outcome actors replay) }
+{
+    match replay.end {
+        End::Ran => {
+            let line = demo_line(alloc, actors, text, &replay)?;
+            lines(alloc, Exit::Done, line.as_str())
+        }
+        End::Trapped { .. } | End::Raced { .. } => ending(alloc, text, replay),
+    }
+}
+
+/// The reply to a replay of its graph by items.
+pub fn demonstrated(
+    alloc: Global,
+    actors: u32,
+    text: &[u8],
+    graph: &Graph,
+    items: &Schedule,
+) -> Result<Outcome, AllocError>
+    requires short { length text.now ≤ PROGRAM_LIMIT }
+    requires generated { text.now ≡ program actors }
+    ensures { IfOk result (λ outcome.
+        Replayed (demo_outcome actors) graph.now items.now (Ok outcome)) }
+{
+    let replay = replay(alloc, graph, items)?;
+    demo_ending(alloc, actors, text, replay)
 }

@@ -4,7 +4,7 @@ ghost use Rattle.sw_outside.specs.Rise.{Rose};
 ghost use Rattle.sw_check_parts.specs.Exit.{IsOneOf, is_failure};
 ghost use Rattle.sw_check.specs.Call.{Answered, Unanswered};
 ghost use Rattle.sw_check.specs.Reply.{exits_of};
-ghost use Rattle.sw_check.specs.Words.{command_of};
+ghost use Rattle.sw_check_words.specs.Words.{command_of};
 
 use crate::commands::answer;
 use std::alloc::Global;

@@ -62,7 +62,7 @@ ghost use Rattle.sw_check_parts.specs.Lawful.{IsPrefixOf};
 ghost use Rattle.sw_check_parts.specs.declared.outcome.Outcome.{Outcome};
 ghost use Rattle.sw_check.specs.Claims.{EndsSo};
 ghost use Rattle.sw_check.specs.Reply.{Reply, course_of};
-ghost use Rattle.sw_check.specs.Words.{Command};
+ghost use Rattle.sw_check_words.specs.Words.{Command};
 
 use sw_check::PROGRAM_LIMIT;
 use sw_graph::{MAX_POINTS, MAX_REGISTERS};
@@ -396,7 +396,8 @@ pub fn words_have_one_reply()
         → (others : List Read) × (outcome : Outcome) × Reply command (reads ++ others) outcome }
     // Under a default a replay of a program by a schedule ends in one way.
     ensures one_end { (rule : AsyncDefault) (text schedule : List ℕ) (a b : End)
-        → EndsSo rule a text schedule → EndsSo rule b text schedule → a ≡ b }
+        → EndsSo rule a text (IsItems schedule) → EndsSo rule b text (IsItems schedule)
+        → a ≡ b }
 {
     sw_check::words_have_one_reply()
 }

@@ -3,7 +3,7 @@ use Rattle.std.proofs.lemmas.Result.{err_from_is_err_and}
 use Rattle.sw_check_parts.specs.declared.stop.Stop.TheVariants.{Memory}
 use Rattle.sw_check_parts.specs.Leaves.{Decides}
 use Rattle.sw_check_parts.proofs.Doing.{does_on, does_stop, does_alone, decides_on, decides_stop}
-use Rattle.sw_check.specs.Reply.{Scheduled, Replayed}
+use Rattle.sw_check.specs.Reply.{Scheduled, Replayed, replay_outcome}
 use Rattle.sw_check.proofs.commands.by_schedule.Goals as goal
 
 pub returns-in_err-schedule : goal.returns-in_err-schedule
@@ -29,12 +29,13 @@ returns-in_err-replayed g c =
     (decides_on (Scheduled c.in_ok-schedule.schedule)
     (subst (λ schedule. Scheduled schedule (Ok c.in_ok-items.items)) c.as_slice.ensures
     c.in_ok-items.ensures)
-    (does_alone (Replayed c.args.text.now c.args.graph.now c.in_ok-items.items) (Err Memory) tt)))
+    (does_alone (Replayed (replay_outcome c.args.text.now) c.args.graph.now c.in_ok-items.items)
+    (Err Memory) tt)))
 
 pub returns : goal.returns
 returns g c =
     does_on c.in_ok-schedule.ensures.done (decides_on (Scheduled c.in_ok-schedule.schedule)
     (subst (λ schedule. Scheduled schedule (Ok c.in_ok-items.items)) c.as_slice.ensures
     c.in_ok-items.ensures)
-    (does_alone (Replayed c.args.text.now c.args.graph.now c.in_ok-items.items)
+    (does_alone (Replayed (replay_outcome c.args.text.now) c.args.graph.now c.in_ok-items.items)
     (Ok c.in_ok-replayed.field-0) c.in_ok-replayed.ensures))

@@ -1,0 +1,7 @@
+pub mod Agreement
+pub mod Checks
+pub mod Demos
+pub mod Found
+pub mod Leaves
+pub mod Replays
+pub mod Standing

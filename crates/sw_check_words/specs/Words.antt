@@ -1,0 +1,99 @@
+-- The words of the command line, after the program's name.
+use Rattle.std.specs.Prelude.{ℕ, ◌==◌, Bool, false, ◌&&◌, ◌||◌, not, nat_le, List, [], ◌∷◌, length}
+use Rattle.std.specs.Prelude.{map}
+use Rattle.std.specs.Prelude.{filter, Option, Some, None, option_map, option_and_then}
+use Rattle.std.specs.Prelude.{if◌then◌else◌}
+use Rattle.std.specs.Prelude.{codes, String, string_bytes}
+use Rattle.std.specs.List.{list_all}
+use Rattle.std.specs.declared.alloc.Global.{Global}
+use Rattle.std.specs.Str.{bytes_eq}
+use Rattle.sw_scan.specs.Classes.{is_digit}
+use Rattle.sw_scan.specs.Decimal.{number_of}
+use Rattle.sw_decls.specs.declared.signature.AsyncDefault.{AsyncDefault}
+use Rattle.sw_decls.specs.declared.signature.AsyncDefault.TheVariants.{Concurrent, Caller}
+
+-- What is done with the program in a file.
+pub data Action : Type 0 where
+  -- is it accepted?
+  Check : Action
+  -- run it, where it is accepted, by the schedule in the other file
+  Run : (schedule_file : List ℕ) → Action
+  -- run it by the schedule in the other file, also where jobs of it may race
+  Trace : (schedule_file : List ℕ) → Action
+
+-- What the words ask for.
+pub data Command : Type 0 where
+  -- the program in the file, under a default: where asynchronous functions without an annotation
+  -- run
+  OnFile : (rule : AsyncDefault) (file : List ℕ) (action : Action) → Command
+  -- the program that is generated for a number of actors
+  Demo : (actors : ℕ) → Command
+
+-- A name is a word that isn't empty and doesn't begin with `-`, the byte 45.
+abbrev pub is_name : List ℕ → Bool
+is_name [] = false
+is_name (first ∷ rest) = not (first == 45)
+
+-- the option for the default of SE-0461
+abbrev pub nonsending_default : List ℕ
+nonsending_default = codes "--nonsending-default"
+
+-- the words of the lists that have a form
+abbrev pub may_stand : List ℕ → Bool
+may_stand word = is_name word || bytes_eq word nonsending_default
+
+-- The default, by the words that aren't names: that of SE-0338 where there are none, and where the
+-- option is the only one, that of SE-0461, by which such functions run where their callers run.
+abbrev pub default_by : List (List ℕ) → Option AsyncDefault
+default_by [] = Some Concurrent
+default_by (option ∷ []) = if bytes_eq option nonsending_default then Some Caller else None
+default_by (first ∷ second ∷ others) = None
+
+-- `check FILE`: the file and the action
+abbrev pub check_form : List (List ℕ) → Option (List ℕ × Action)
+check_form (file ∷ []) = Some (file, Check)
+check_form names = None
+
+-- `run FILE SCHEDULE`, and likewise `trace`
+abbrev pub replay_form : (List ℕ → Action) → List (List ℕ) → Option (List ℕ × Action)
+replay_form action (file ∷ schedule_file ∷ []) = Some (file, action schedule_file)
+replay_form action names = None
+
+-- a command on a file, by the names and the other words after it
+abbrev pub file_form : Option (List ℕ × Action) → List (List ℕ) → Option Command
+file_form form others =
+    option_and_then (λ rule. option_map (λ found. OnFile rule found.0 found.1) form)
+    (default_by others)
+
+-- A number of actors is written in one to three digits, and from 1 to 200.
+abbrev pub is_actor_count : List ℕ → Bool
+is_actor_count text = list_all is_digit text && (nat_le 1 (length text) && (nat_le (length text) 3
+    && (nat_le 1 (number_of text) && nat_le (number_of text) 200)))
+
+abbrev pub actors_of : List ℕ → Option ℕ
+actors_of text = if is_actor_count text then Some (number_of text) else None
+
+-- `demo N`
+abbrev pub demo_form : List (List ℕ) → List (List ℕ) → Option Command
+demo_form (number ∷ []) [] = option_map Demo (actors_of number)
+demo_form names others = None
+
+-- the forms, by the first word and the names and other words after it
+abbrev pub form_of : List ℕ → List (List ℕ) → List (List ℕ) → Option Command
+form_of verb names others =
+    if bytes_eq (codes "check") verb then file_form (check_form names) others
+    else if bytes_eq (codes "run") verb then file_form (replay_form Run names) others
+    else if bytes_eq (codes "trace") verb then file_form (replay_form Trace names) others
+    else if bytes_eq (codes "demo") verb then demo_form names others
+    else None
+
+-- `check FILE`, `run FILE SCHEDULE` and `trace FILE SCHEDULE`, with the option anywhere after the
+-- first word, and `demo N` are the forms. Any other list of words has none.
+unfoldable pub command_of : List (List ℕ) → Option Command
+command_of [] = None
+command_of (verb ∷ words) =
+    form_of verb (filter is_name words) (filter (λ word. not (is_name word)) words)
+
+-- the command of the words as the program has them
+abbrev pub command_in : List (String Global) → Option Command
+command_in words = command_of (map string_bytes words)
