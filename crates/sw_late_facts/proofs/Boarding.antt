@@ -27,7 +27,7 @@ use Rattle.sw_color_rules.specs.declared.colors.Colors.{Colors}
 use Rattle.sw_color_rules.specs.Palette.{IsWhole}
 use Rattle.sw_color_rules.specs.Changes.{Change, after_changes}
 use Rattle.sw_color_rules.specs.Plans.{number_on, called_number, next_color, no_plan, effect_plan, plan_at, plan_of}
-use Rattle.sw_late_facts.specs.Late.{carrier, destination, destination_at, destination_by}
+use Rattle.sw_late_facts.specs.Late.{goes_away, carrier, destination, destination_at, destination_by}
 use Rattle.sw_late_facts.specs.Carriers.{AwaitsActor}
 use Rattle.sw_late_facts.proofs.Fits.{Fits, fits_act}
 use Rattle.sw_late_facts.proofs.Reaching.{HaveColors, called_on}
@@ -111,7 +111,7 @@ module _ (graph : Graph) (state : State) (colors : Colors) (have : HaveColors gr
         (record { job = carrier j heir; actor = a; colors = ns })
 
     by : (job : Job) → slice_get state.jobs j ≡ Some job → (top : Frame) (point : Point) (e : Effect)
-        → e ≡ f → Fits graph state e → destination_by colors point e ≡ Some a
+        → e ≡ f → Fits graph state e → destination_by colors top point e ≡ Some a
         → AwaitsActor (after_act j (Execute e) state) later (record {
           job = carrier j (effect_plan graph colors j top point e).heir;
           actor = a;
@@ -139,11 +139,16 @@ module _ (graph : Graph) (state : State) (colors : Colors) (have : HaveColors gr
               (sym (no_heir (called_number colors point frame) (next_color colors) given))
               (entered_awaits job there point frame next a ns crosses g)
     by job there top point (effect.Spawn r frame made cell next) same fits h =
-        spawned_awaits job there r frame made cell next a ns fits.1 h
+        away (goes_away top.executor frame.executor) h where
+          away : (b : Bool) → cond b (number_on colors frame.executor) None ≡ Some a
+              → AwaitsActor (after_act j (Execute (effect.Spawn r frame made cell next)) state) later
+              (record { job = made; actor = a; colors = ns })
+          away false g = cc
+          away true g = spawned_awaits job there r frame made cell next a ns fits.1 g
     by job there top point _ same fits h = cc
 
     at_point : (job : Job) → slice_get state.jobs j ≡ Some job → (top : Frame) (o : Option Point)
-        → option_and_then (λ point. destination_by colors point f) o ≡ Some a
+        → option_and_then (λ point. destination_by colors top point f) o ≡ Some a
         → AwaitsActor (after_act j (Execute f) state) later (record {
           job = carrier j (option_map_or (λ point. effect_plan graph colors j top point f) o no_plan).heir;
           actor = a;

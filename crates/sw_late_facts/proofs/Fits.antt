@@ -1,4 +1,4 @@
--- What the effects that push a frame or make a job say of executors.
+-- What the effects that push a frame, make a job or make a cell say of executors and of numbers.
 use Rattle.std.proofs.Common.{◌≡◌, ℕ, zero, suc, ◌+◌, ◌<◌, ◌≤◌, max, arith, refl, ap, sym, ◌∙◌, Bool, true, false, cond}
 use Rattle.std.proofs.Common.{Option, Some, None, List, [], ◌∷◌, ◌++◌, length, fold, slice_get, subst}
 use Rattle.std.specs.Prelude.{option_map, option_and_then, nat_le, Result, Ok, Err, is_some}
@@ -56,11 +56,12 @@ IsKnown graph (executor.Global g) = g < global_count graph.functions
 IsKnown graph _ = Unit {0}
 
 -- A frame that is pushed by a call from elsewhere, or begins a task, is on such an executor; a task
--- has the next job's number.
+-- has the next job's number, and a cell that is made the next cell's.
 abbrev pub Fits : Graph → State → Effect → Type 0
 Fits graph state (effect.Enter frame next) = frame.crossing ≡ true → IsKnown graph frame.executor
 Fits graph state (effect.Spawn r frame job cell next) =
     IsKnown graph frame.executor × (job ≡ length state.jobs)
+Fits graph state (effect.New r cell n next) = n ≡ length state.cells
 Fits graph state _ = Unit {0}
 
 -- ---- global actors
@@ -254,13 +255,13 @@ module _ (graph : Graph) (state : State) where
       (λ parts. record { fits = tt })
   fits_instr depth frame next (instr.NewObject at dst shape args) =
       fits_after (values_at frame.regs args) (λ parts. new_of state next dst (cell.Object shape parts))
-      (λ parts. record { fits = tt })
+      (λ parts. record { fits = refl })
   fits_instr depth frame next (instr.NewBox at dst src) =
       fits_after (operand_value frame.regs src) (λ v. new_of state next dst (cell.BoxOf v))
-      (λ v. record { fits = tt })
+      (λ v. record { fits = refl })
   fits_instr depth frame next (instr.NewActor at dst shape args) =
       fits_after (values_at frame.regs args) (λ parts. new_of state next dst (cell.Actor shape parts))
-      (λ parts. record { fits = tt })
+      (λ parts. record { fits = refl })
   fits_instr depth frame next (instr.LoadBox at dst c) = fits_set next dst (loaded state frame c Content)
   fits_instr depth frame next (instr.StoreBox at c src) = fits_write frame next c Content src
   fits_instr depth frame next (instr.LoadProp at dst c part) =
@@ -275,7 +276,7 @@ module _ (graph : Graph) (state : State) where
       (λ old. record { fits = tt }))
   fits_instr depth frame next (instr.NewClosure at dst function captures) =
       fits_after (values_at frame.regs captures)
-      (λ values. new_of state next dst (cell.Closure function values)) (λ values. record { fits = tt })
+      (λ values. new_of state next dst (cell.Closure function values)) (λ values. record { fits = refl })
   fits_instr depth frame next (instr.Call at dst kind function args) =
       fits_after (values_at frame.regs args)
       (λ values. needs (called_frame graph frame function kind dst values) (enter_of depth next at))

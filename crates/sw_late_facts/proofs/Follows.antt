@@ -98,7 +98,7 @@ owned_more [] t (suc c) n e = cc
 owned_more (u ∷ us) t zero n e = inl e
 owned_more (u ∷ us) t (suc c) n e = owned_more us t c n e
 
-cells_made : (job : ℕ) (plan : Plan) (cells : List Tint)
+pub cells_made : (job : ℕ) (plan : Plan) (cells : List Tint)
     → cells_after (makings job plan) cells ≡ cells ++ option_to_list plan.tint
 cells_made job plan cells = by plan.fresh plan.tint where
   framed : (f : FrameChange) (c : List Tint) → cells_after (frame_changes job f) c ≡ c

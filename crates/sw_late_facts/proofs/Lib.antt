@@ -20,3 +20,10 @@ pub mod HueLemmas
 pub mod Waiting
 pub mod Boarding
 pub mod Carriers
+pub mod Acting
+pub mod Makings
+pub mod Numbers
+pub mod Owners
+pub mod Delivered
+pub mod Once
+pub mod SameOwners

@@ -37,7 +37,7 @@ use Rattle.sw_late_facts.proofs.Steps.{step_follows}
 abbrev with_globals : ℕ → Colors
 with_globals n = record { cells = []; palette = global_colors n; heres = [] }
 
-globals_whole : (n : ℕ) → IsWhole (global_colors n)
+pub globals_whole : (n : ℕ) → IsWhole (global_colors n)
 globals_whole zero = record { owned = refl; lower = λ n. omega arith; left = λ n. refl }
 globals_whole (suc n) =
     changes_whole (Fresh (owner.Global n) ∷ []) (with_globals n) (globals_whole n)
@@ -46,7 +46,7 @@ global_made : (n : ℕ) → sight (global_colors (suc n))
     ≡ see (Fresh (owner.Global n)) (sight (global_colors n))
 global_made n = sight_change (Fresh (owner.Global n)) (with_globals n) (globals_whole n)
 
-globals_counted : (n : ℕ) → (sight (global_colors n)).count ≡ n
+pub globals_counted : (n : ℕ) → (sight (global_colors n)).count ≡ n
 globals_counted zero = refl
 globals_counted (suc n) = omega (arith, ap (λ (s : Jobs). s.count) (global_made n), globals_counted n)
 
@@ -102,7 +102,7 @@ start_follows graph = record {
 }
 
 -- ---- each state that items lead to
-early_next : (graph : Graph) (items : List ℕ) (item : ℕ)
+pub early_next : (graph : Graph) (items : List ℕ) (item : ℕ)
     → colored_reach graph (items ++ item ∷ []) ≡ colored_step graph (colored_reach graph items) item
 unfolding colored_reach
 early_next graph items item = fold-append (colored_step graph) (colored_start graph) items (item ∷ [])

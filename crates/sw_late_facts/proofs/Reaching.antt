@@ -39,7 +39,7 @@ use Rattle.sw_color_rules.specs.Plans.{called_number, called_closure, is_make, e
 use Rattle.sw_color_rules.specs.Machine.{global_count}
 use Rattle.sw_color_rules.specs.Ranges.{AreBelow}
 use Rattle.sw_color_rules.proofs.NumberLemmas.{AreNoted, value_below, held_option_below}
-use Rattle.sw_late_facts.specs.Late.{destination, destination_at, destination_by}
+use Rattle.sw_late_facts.specs.Late.{goes_away, destination, destination_at, destination_by}
 use Rattle.sw_late_facts.proofs.Seen.{IsActors}
 use Rattle.sw_late_facts.proofs.Showing.{sight}
 use Rattle.sw_late_facts.proofs.Fits.{IsKnown, Fits, fits_act}
@@ -49,7 +49,8 @@ pub record HaveColors (graph : Graph) (colors : Colors) : Type 0 where
   pub globals : (g : ℕ) → g < global_count graph.functions → IsActors (sight colors.palette) g
   pub actors : (c n : ℕ) → owned_number colors.cells c ≡ Some n → IsActors (sight colors.palette) n
 
--- What a plan joins: nothing that is handed over; what goes to an actor; or what a new job takes.
+-- What a plan joins: nothing that is handed over; what goes to an actor; what a new job takes on no
+-- actor; or what it takes where the job that makes it runs itself.
 pub data Reaches (colors : Colors) (plan : Plan) : Option ℕ → Type 0 where
   Stays : plan.heir ≡ None → Reaches colors plan None
   Goes : (a : ℕ) (ns : List ℕ) → plan.joined ≡ a ∷ ns → plan.fresh ≡ None
@@ -57,6 +58,9 @@ pub data Reaches (colors : Colors) (plan : Plan) : Option ℕ → Type 0 where
       → Reaches colors plan (Some a)
   Begins : (heir : ℕ) (ns : List ℕ) → plan.heir ≡ Some heir → plan.joined ≡ next_color colors ∷ ns
       → plan.fresh ≡ Some (owner.Job heir) → AreBelow (next_color colors) ns
+      → Reaches colors plan None
+  Remains : (heir a : ℕ) (ns : List ℕ) → plan.heir ≡ Some heir → plan.joined ≡ a ∷ ns
+      → IsActors (sight colors.palette) a → AreBelow (next_color colors) ns
       → Reaches colors plan None
 
 -- an actor that a plan makes has the colour that it makes
@@ -125,7 +129,7 @@ module _ (graph : Graph) (state : State) (colors : Colors) (have : HaveColors gr
     no_heir (Some a) = refl
 
     entered_reaches : Reaches colors (effect_plan graph colors job top point (effect.Enter frame next))
-        (destination_by colors point (effect.Enter frame next))
+        (destination_by colors top point (effect.Enter frame next))
     entered_reaches = by frame.crossing (called_number colors point frame) refl refl where
       by : (b : Bool) (o : Option ℕ) → frame.crossing ≡ b → called_number colors point frame ≡ o
           → Reaches colors (plan_with o) (cond b o None)
@@ -138,15 +142,24 @@ module _ (graph : Graph) (state : State) (colors : Colors) (have : HaveColors gr
   spawned_reaches : (job : ℕ) (top : Frame) (point : Point) (r : ℕ) (frame : Frame) (made cell next : ℕ)
       → IsKnown graph frame.executor
       → Reaches colors (effect_plan graph colors job top point (effect.Spawn r frame made cell next))
-      (destination_by colors point (effect.Spawn r frame made cell next))
-  spawned_reaches job top point r frame made cell next known = by (number_on colors frame.executor) refl where
-    by : (o : Option ℕ) → number_on colors frame.executor ≡ o
-        → Reaches colors (record (begun_with o (owner.Job made) Begun count
-        (passed colors.cells [] frame.regs)) { tint = Some Bare; heir = Some made }) o
-    by None is = Begins made (passed colors.cells [] frame.regs) refl refl refl (passed_below [] frame.regs)
-    by (Some a) is =
-        Goes a (passed colors.cells [] frame.regs) refl refl (number_owned frame.executor known a is)
-        (passed_below [] frame.regs)
+      (destination_by colors top point (effect.Spawn r frame made cell next))
+  spawned_reaches job top point r frame made cell next known =
+      by (goes_away top.executor frame.executor) (number_on colors frame.executor) refl where
+        taken : List ℕ
+        taken = passed colors.cells [] frame.regs
+
+        by : (away : Bool) (o : Option ℕ) → number_on colors frame.executor ≡ o
+            → Reaches colors (record (begun_with o (owner.Job made) Begun count taken) {
+              tint = Some Bare;
+              heir = Some made;
+            }) (cond away o None)
+        by true None is = Begins made taken refl refl refl (passed_below [] frame.regs)
+        by false None is = Begins made taken refl refl refl (passed_below [] frame.regs)
+        by true (Some a) is =
+            Goes a taken refl refl (number_owned frame.executor known a is) (passed_below [] frame.regs)
+        by false (Some a) is =
+            Remains made a taken refl refl (number_owned frame.executor known a is)
+            (passed_below [] frame.regs)
 
   -- ---- each effect
   cell_stays : (job n : ℕ) (cell : HeapCell) → (new_cell graph colors job n cell).heir ≡ None
@@ -168,7 +181,7 @@ module _ (graph : Graph) (state : State) (colors : Colors) (have : HaveColors gr
   set_stays false ns = refl
 
   effect_reaches : (job : ℕ) (top : Frame) (point : Point) (f : Effect) → Fits graph state f
-      → Reaches colors (effect_plan graph colors job top point f) (destination_by colors point f)
+      → Reaches colors (effect_plan graph colors job top point f) (destination_by colors top point f)
   effect_reaches job top point (effect.Set r v next) fits =
       Stays (set_stays (is_make point) (colors_in colors.cells v))
   effect_reaches job top point (effect.SetField r i v next) fits = Stays refl
@@ -194,7 +207,7 @@ module _ (graph : Graph) (state : State) (colors : Colors) (have : HaveColors gr
   act_reaches job (Execute f) is = on_top (option_and_then top_frame (slice_get state.jobs job)) where
     at_point : (top : Frame) (o : Option Point)
         → Reaches colors (option_map_or (λ point. effect_plan graph colors job top point f) o no_plan)
-        (option_and_then (λ point. destination_by colors point f) o)
+        (option_and_then (λ point. destination_by colors top point f) o)
     at_point top None = Stays refl
     at_point top (Some point) = effect_reaches job top point f (fits_act graph state job f is)
 

@@ -25,7 +25,7 @@ use Rattle.sw_late_facts.proofs.Links.{seen_both, seen_sight, seen_count, seen_t
 use Rattle.sw_late_facts.proofs.Links.{cargo_links, givings_lost}
 use Rattle.sw_late_facts.proofs.TaskLemmas.{taken_first}
 use Rattle.sw_late_facts.proofs.Showing.{sight}
-use Rattle.sw_late_facts.proofs.Reaching.{Reaches, Stays, Goes, Begins}
+use Rattle.sw_late_facts.proofs.Reaching.{Reaches, Stays, Goes, Begins, Remains}
 
 -- ---- what is made
 abbrev pub seen_fresh : Option Owner → Jobs → Jobs
@@ -162,12 +162,39 @@ module _ (job : ℕ) (colors : Colors) (plan : Plan) (cargo : List Cargo)
       own : begun.owner n ≡ Some heir
       own = ap (λ (s : Jobs). s.owner n) made ∙ if_same n early.count _ _ (sym early_count)
 
+  -- What merges with an actor's colour may be handed over before: then it is the actor's all the same.
+  actor_agrees : (a : ℕ) (ns : List ℕ) → IsActors now a → AreBelow (next_color colors) ns
+      → (heir : Option ℕ) → seen (handing (a ∷ ns) heir) (seen (map (Merge a) ns) begun)
+      ≡ seen (map (Merge a) ns) (seen (givings heir ns) begun)
+  actor_agrees a ns top below = by where
+    begun_top : IsActors begun a
+    begun_top = seen_top (makings job plan) early early_sight a (seen_top (deliveries cargo) now is a top)
+
+    by : (heir : Option ℕ) → seen (handing (a ∷ ns) heir) (seen (map (Merge a) ns) begun)
+        ≡ seen (map (Merge a) ns) (seen (givings heir ns) begun)
+    by None = refl
+    by (Some j) =
+        handing_none job_united job_handed None (λ o. refl) none_wins (λ k. refl) a j
+        (seen (map (Merge a) ns) begun)
+        (is_named (seen (map (Merge a) ns) begun) (seen_sight (map (Merge a) ns) begun begun_sight))
+        (seen_top (map (Merge a) ns) begun begun_sight a begun_top).none
+        ∙ sym (givings_lost a j ns begun begun_sight begun_top (still_in ns below))
+
+  remains_agrees : (heir a : ℕ) (ns : List ℕ) → plan.heir ≡ Some heir → plan.joined ≡ a ∷ ns
+      → IsActors now a → AreBelow (next_color colors) ns → Agrees None
+  remains_agrees heir a ns heir_is joined_is top below =
+      early_rest
+      ∙ ap (λ js. seen (handing js plan.heir) (seen (merges js) begun)) joined_is
+      ∙ actor_agrees a ns top below plan.heir
+      ∙ ap (λ js. seen (merges js) (seen (givings plan.heir (later_of js)) begun)) (sym joined_is)
+      ∙ sym nothing_more
+
   goes_agrees : (a : ℕ) (ns : List ℕ) → plan.joined ≡ a ∷ ns → plan.fresh ≡ None
       → IsActors now a → AreBelow (next_color colors) ns → Agrees (Some a)
   goes_agrees a ns joined_is fresh_is top below =
       early_rest
       ∙ ap (λ js. seen (handing js plan.heir) (seen (merges js) begun)) joined_is
-      ∙ by plan.heir
+      ∙ actor_agrees a ns top below plan.heir
       ∙ ap (λ js. seen (map (Merge a) (later_of js)) (seen (givings plan.heir (later_of js)) begun))
       (sym joined_is)
       ∙ ap (seen (map (Merge a) (later_of plan.joined))) (sym (waits (late_by job plan (Some a))
@@ -177,22 +204,11 @@ module _ (job : ℕ) (colors : Colors) (plan : Plan) (cargo : List Cargo)
         actor = a;
         colors = later_of plan.joined;
       }) (seen (late_by job plan (Some a)) now))
-    where
-      begun_top : IsActors begun a
-      begun_top = seen_top (makings job plan) early early_sight a (seen_top (deliveries cargo) now is a top)
-
-      by : (heir : Option ℕ) → seen (handing (a ∷ ns) heir) (seen (map (Merge a) ns) begun)
-          ≡ seen (map (Merge a) ns) (seen (givings heir ns) begun)
-      by None = refl
-      by (Some j) =
-          handing_none job_united job_handed None (λ o. refl) none_wins (λ k. refl) a j
-          (seen (map (Merge a) ns) begun)
-          (is_named (seen (map (Merge a) ns) begun) (seen_sight (map (Merge a) ns) begun begun_sight))
-          (seen_top (map (Merge a) ns) begun begun_sight a begun_top).none
-          ∙ sym (givings_lost a j ns begun begun_sight begun_top (still_in ns below))
 
   pub agrees : (to : Option ℕ) → Reaches colors plan to → Agrees to
   agrees None (Stays none) = stays_agrees none
   agrees (Some a) (Goes _ ns joined_is fresh_is top below) = goes_agrees a ns joined_is fresh_is top below
   agrees None (Begins heir ns heir_is joined_is fresh_is below) =
       begins_agrees heir ns heir_is joined_is fresh_is below
+  agrees None (Remains heir a ns heir_is joined_is top below) =
+      remains_agrees heir a ns heir_is joined_is top below

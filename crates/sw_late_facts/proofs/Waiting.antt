@@ -35,7 +35,7 @@ use Rattle.sw_late_facts.proofs.Showing.{sight, sight_changes}
 use Rattle.sw_late_facts.proofs.Cells.{cells_after, changes_cells}
 
 -- ---- an actor's colour stays the actor's
-owned_more : (cells : List Tint) (t : Tint) (c n : ℕ) → owned_number cells c ≡ Some n
+pub owned_more : (cells : List Tint) (t : Tint) (c n : ℕ) → owned_number cells c ≡ Some n
     → owned_number (cells ++ t ∷ []) c ≡ Some n
 unfolding owned_number
 owned_more cells t c n e = by (slice_get cells c) refl e where

@@ -1,10 +1,13 @@
 -- Late colours: the coloured machine in which what a job hands over to an actor stays the job's until
--- the job is dispatched on that actor.
+-- the job is dispatched on that actor. What a job hands over where it runs itself is the actor's at
+-- once.
 use Rattle.std.specs.Prelude.{ℕ, ◌==◌, Bool, Option, Some, None, List, [], ◌∷◌, ◌++◌, map, flat_map, fold, slice_get}
-use Rattle.std.specs.Prelude.{filter, not, option_and_then, if◌then◌else◌}
+use Rattle.std.specs.Prelude.{false, filter, not, option_and_then, if◌then◌else◌}
 use Rattle.std.specs.Option.{option_map_or}
 use Rattle.sw_graph.specs.declared.graph.Graph.{Graph}
 use Rattle.sw_graph.specs.Points.{Point}
+use Rattle.sw_value.specs.declared.executor.Executor.{Executor}
+use Rattle.sw_value.specs.declared.executor.Executor.TheVariants as executor
 use Rattle.sw_value.specs.declared.frame.Frame.{Frame}
 use Rattle.sw_value.specs.declared.state.State.{State}
 use Rattle.sw_value.specs.declared.effect.Effect.{Effect}
@@ -12,6 +15,7 @@ use Rattle.sw_value.specs.declared.effect.Effect.TheVariants as effect
 use Rattle.sw_value.specs.declared.effect.Act.{Act}
 use Rattle.sw_value.specs.declared.effect.Act.TheVariants.{Dispatch, Execute}
 use Rattle.sw_value.specs.Act.{act_of}
+use Rattle.sw_value.specs.Executor.{is_same}
 use Rattle.sw_value.specs.Frame.{point_at}
 use Rattle.sw_value.specs.Job.{top_frame}
 use Rattle.sw_value.specs.Reach.{step_of}
@@ -35,17 +39,23 @@ pub record Late : Type 0 where
   pub cargo : List Cargo
 
 -- ---- calls and tasks
--- the colour of the actor or global actor on which a frame begins before its job is there
-abbrev pub destination_by : Colors → Point → Effect → Option ℕ
-destination_by colors point (effect.Enter frame next) =
+-- Whether a task runs where the job that makes it doesn't: on an actor that isn't that job's.
+abbrev pub goes_away : Executor → Executor → Bool
+goes_away own executor.Generic = false
+goes_away own other = not (is_same own other)
+
+-- The colour of the actor or global actor on which a frame begins before its job is there. The top
+-- frame is that of the job that calls or makes a task.
+abbrev pub destination_by : Colors → Frame → Point → Effect → Option ℕ
+destination_by colors top point (effect.Enter frame next) =
     if frame.crossing then called_number colors point frame else None
-destination_by colors point (effect.Spawn r frame made cell next) =
-    number_on colors frame.executor
-destination_by colors point _ = None
+destination_by colors top point (effect.Spawn r frame made cell next) =
+    if goes_away top.executor frame.executor then number_on colors frame.executor else None
+destination_by colors top point _ = None
 
 abbrev pub destination_at : Graph → Colors → Effect → Frame → Option ℕ
 destination_at graph colors e top =
-    option_and_then (λ point. destination_by colors point e) (point_at graph top)
+    option_and_then (λ point. destination_by colors top point e) (point_at graph top)
 
 abbrev pub destination : Graph → State → Colors → ℕ → Act → Option ℕ
 destination graph state colors job (Execute e) =
