@@ -1,9 +1,13 @@
 pub mod CellLemmas
+pub mod CellShapeLemmas
 pub mod ChangeLemmas
+pub mod ClassLemmas
 pub mod ClosureLemmas
 pub mod CrossingLemmas
+pub mod ElementLemmas
 pub mod FitLemmas
 pub mod ListLemmas
+pub mod MarkedLemmas
 pub mod NamedLemmas
 pub mod PartLemmas
 pub mod ReferenceLemmas
