@@ -26,14 +26,14 @@ use Rattle.sw_view_facts.specs.Views.{Colours, view_of, colours_by, elements_in,
 use Rattle.sw_view_facts.specs.Views.{region_by}
 use Rattle.sw_view_facts.specs.Entering.{TakesLent}
 
--- the value of a register at the start is one of those that are given
 none_there : (n k : ℕ) (v : Value)
     → option_and_then (λ (o : Option Value). o) (slice_get (replicate n None) k) ≡ Some v → ⊥
 none_there zero k v e = cc
 none_there (suc n) zero v e = cc
 none_there (suc n) (suc k) v e = none_there n k v e
 
-given_value : (n : ℕ) (values : List Value) (r : ℕ) (v : Value)
+-- the value of a register at the start is one of those that are given
+pub given_value : (n : ℕ) (values : List Value) (r : ℕ) (v : Value)
     → value_at (registers n values) r ≡ Some v → slice_get values r ≡ Some v
 unfolding registers
 given_value n values r v e = elim (cases_lt r (length values)) [

@@ -6,8 +6,10 @@ pub mod EffectLemmas
 pub mod EndLemmas
 pub mod EnterLemmas
 pub mod EntryLemmas
+pub mod FirstLemmas
 pub mod HaltLemmas
 pub mod HeldLemmas
+pub mod IsolationLemmas
 pub mod KeptColourLemmas
 pub mod KeptLemmas
 pub mod LeaveLemmas
@@ -17,6 +19,7 @@ pub mod ReturnLemmas
 pub mod ShapeLemmas
 pub mod ShiftLemmas
 pub mod SpawnLemmas
+pub mod StandingLemmas
 pub mod StartLemmas
 pub mod StepLemmas
 pub mod TakenLemmas

@@ -15,16 +15,19 @@ use Rattle.sw_owner_facts.specs.Colours.{Colour, GlobalActor, OfActor, OfJob}
 use Rattle.sw_owner_facts.specs.View.{Here, Register, Frame as Spot}
 use Rattle.sw_region_facts.specs.FrameRegions.{TogetherIn}
 use Rattle.sw_reach_facts.specs.Reached.{colours_of}
-use Rattle.sw_view_facts.specs.Views.{Colours, frame_at, here_at, result_in}
+use Rattle.sw_view_facts.specs.Views.{Colours, frame_at, frame_under, function_of, here_at}
+use Rattle.sw_view_facts.specs.Views.{result_in}
 
 -- A frame of the entry or of a first value, before any item: it has no values, and stands on no
 -- actor or on the global actor of its function.
-pub record IsFirstFrame (graph : Graph) (colours : Colours) (p : Spot) (h : Frame) : Type 0 where
+pub record IsFirstFrame (graph : Graph) (state : State) (colours : Colours) (p : Spot) (h : Frame)
+    : Type 0 where
   pub function : Function
   pub is : slice_get graph.functions h.function ≡ Some function
   pub crossing : h.crossing ≡ true
   pub point : h.point ≡ 0
-  pub result : (under : Option Function) → result_in graph under h function ≡ None
+  pub result : result_in graph (function_of graph (frame_under state p.job p.depth)) h function
+      ≡ None
   pub bare : (r : ℕ) → value_at h.regs r ≡ None
   pub stands : ((function.iso ≡ Free) × (h.executor ≡ executor.Generic)
       × ((n : ℕ) × (here_at colours p ≡ OfJob p.job n)))

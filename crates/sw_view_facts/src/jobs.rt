@@ -190,7 +190,7 @@ pub fn traps_change_no_view()
 pub fn first_frames_are_sound()
     ensures { (graph : Graph) (regions : Spot → Option Regions) (state : State) (colours : Colours)
         → ((p : Spot) → IsFrame (view_of graph regions state colours) p
-        → (h : Frame) × (frame_at state p ≡ Some h) × IsFirstFrame graph colours p h)
+        → (h : Frame) × (frame_at state p ≡ Some h) × IsFirstFrame graph state colours p h)
         → ((j : ℕ) → (view_of graph regions state colours).running j ≡ false)
         → IsSound (view_of graph regions state colours) }
 {}
