@@ -27,7 +27,7 @@ use Rattle.sw_view_facts.specs.Views.{Colours, colours_by, frame_at}
 use Rattle.sw_view_facts.proofs.TakenLemmas.{untracked_shows}
 
 -- a value stands within the registers
-value_within : (regs : List (Option Value)) (r : ℕ) (v : Value) → value_at regs r ≡ Some v
+pub value_within : (regs : List (Option Value)) (r : ℕ) (v : Value) → value_at regs r ≡ Some v
     → r < length regs
 value_within regs r v has = by (slice_get regs r) refl has where
   by : (o : Option (Option Value)) → slice_get regs r ≡ o → option_and_then (λ x. x) o ≡ Some v

@@ -55,6 +55,9 @@ module _ (graph : Graph) (state : State) (colours : Colours) (q : Spot) (f : Fra
   pub one_region : (y z : Element) → TogetherIn elements c y z → InOneRegion meant q y z
   one_region y z together = region_is y ∙ together ∙ sym (region_is z)
 
+  pub together_is : (y z : Element) → InOneRegion meant q y z → TogetherIn elements c y z
+  together_is y z one = sym (region_is y) ∙ one ∙ region_is z
+
   pub holds_live : (y : Element) (colour : Colour) → LiveIn elements c y
       → HoldsIn state colours f (here_at colours q) y colour → HoldsLive meant q y colour
   holds_live y colour live holds = record {

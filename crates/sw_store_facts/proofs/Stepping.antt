@@ -1,15 +1,12 @@
 -- A running job whose top frame stands at an instruction, with its row, and the step that it makes.
 use Rattle.std.proofs.Common.{◌≡◌, ◌+◌, ℕ, true, false, Option, Some, List, length, refl, sym}
 use Rattle.std.proofs.Common.{subst, ap, ◌∙◌, IsTrue}
-use Rattle.std.specs.Option.{option_and_then}
-use Rattle.std.specs.List.{slice_get}
 use Rattle.sw_graph.specs.declared.function.Function.{Function}
 use Rattle.sw_graph.specs.declared.graph.Graph.{Graph}
 use Rattle.sw_graph.specs.declared.instr.Instr.{Instr}
 use Rattle.sw_graph.specs.Bodies.{has_self}
 use Rattle.sw_graph.specs.Mentions.{set_by}
 use Rattle.sw_graph.specs.Points.{Middle}
-use Rattle.sw_graph.specs.Sure.{SureWay}
 use Rattle.sw_graph.specs.Ways.{is_number, point_sets}
 use Rattle.sw_value.specs.declared.effect.Effect.{Effect}
 use Rattle.sw_value.specs.declared.frame.Frame.{Frame}
@@ -22,11 +19,9 @@ use Rattle.sw_value.specs.declared.effect.Effect.TheVariants as effect
 use Rattle.sw_solve.specs.Annotation.{value_at}
 use Rattle.sw_partition.specs.Regions.{Regions}
 use Rattle.sw_region_ops.specs.Setting.{setting_of}
-use Rattle.sw_machine_kind_facts.specs.Standing.{FrameFits}
 use Rattle.sw_owner_facts.specs.View.{Frame as Spot}
-use Rattle.sw_region_facts.specs.Annotated.{Annotates}
 use Rattle.sw_region_facts.specs.Rows.{InstrMoves}
-use Rattle.sw_region_facts.proofs.Annotated.{reached_at, row_at}
+use Rattle.sw_region_facts.proofs.Annotated.{row_at}
 use Rattle.sw_view_facts.specs.Changes.{KeepsReach, KeepsShape}
 use Rattle.sw_view_facts.specs.Effects.{is_inside, next_of, register_of, turn_of}
 use Rattle.sw_view_facts.specs.Executing.{Executes}
@@ -38,7 +33,8 @@ use Rattle.sw_view_facts.proofs.EffectLemmas.{inside_changes, inside_executes, i
 use Rattle.sw_view_facts.proofs.EffectLemmas.{step_is}
 use Rattle.sw_view_facts.proofs.ShapeLemmas.{open_after}
 use Rattle.sw_store_facts.specs.Sound.{IsColoured}
-use Rattle.sw_store_facts.proofs.Bare.{fits_at}
+use Rattle.sw_view_facts.proofs.TopLemmas.{frame_was}
+use Rattle.sw_store_facts.proofs.Standing.{state_at}
 
 -- where a frame goes on
 pub goes_next : (e : Effect) (f : Frame) (n : ℕ) → next_of e ≡ Some n → (turn_of e f).point ≡ n
@@ -66,16 +62,7 @@ module _ (graph : Graph) (states : ℕ → List (Option Regions)) (state : State
   next_state = step_of graph state q.job
 
   pub frame_is : frame_at state q ≡ Some f
-  frame_is = ap (option_and_then (λ (j : Job). slice_get j.frames q.depth)) x.top.there ∙ x.top.top
-
-  annotates : Annotates graph function (states f.function)
-  annotates = s.annotates f.function function x.is
-
-  fits : (awaits : Option ℕ) × FrameFits graph s.kinded.world.cells awaits f
-  fits = fits_at graph state s.kinded q f frame_is
-
-  same_function : fits.1.function ≡ function
-  same_function = let both : Some fits.1.function ≡ Some function = sym fits.1.is ∙ x.is in cc
+  frame_is = frame_was state q job f x.top
 
   -- the states at the instruction and after it
   pub record Row : Type 0 where
@@ -87,12 +74,9 @@ module _ (graph : Graph) (states : ℕ → List (Option Regions)) (state : State
 
   pub row : Row
   row =
-      let here = reached_at graph function (states f.function) annotates f.point
-      fits.1.stands.passed
-      (subst (λ (b : Function). SureWay b f.point fits.1.stands.passed) same_function
-      fits.1.stands.way) in
-      let there = row_at graph function (states f.function) annotates f.point instr x.here here.0
-      here.1 in
+      let here = state_at graph states state colours s q job f function (Middle instr) x in
+      let there = row_at graph function (states f.function)
+      (s.annotates f.function function x.is) f.point instr x.here here.0 here.1 in
       record {
         a = here.0;
         at = here.1;
@@ -100,6 +84,9 @@ module _ (graph : Graph) (states : ℕ → List (Option Regions)) (state : State
         behind = there.stands;
         moves = there.is;
       }
+
+  pub stands_before : annotated states state q ≡ Some row.a
+  stands_before = ap (state_with states) frame_is ∙ row.at
 
   module _ (e : Effect) (inside : is_inside e ≡ true) (goes : next_of e ≡ Some (f.point + 1))
       (gives : point_effect graph state (length job.frames) f (Middle instr) ≡ e) where
@@ -131,7 +118,7 @@ module _ (graph : Graph) (states : ℕ → List (Option Regions)) (state : State
       is = x.is;
       steps = steps;
       inside = inside;
-      before = ap (state_with states) frame_is ∙ row.at;
+      before = stands_before;
       behind = stands_behind;
       elsewhere = λ p differ. refl;
       others = λ p differ. refl;

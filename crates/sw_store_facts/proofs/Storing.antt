@@ -1,6 +1,6 @@
 -- Stores: what is stored and what it is stored in come together, and so do their colours.
-use Rattle.std.proofs.Common.{◌≡◌, ◌+◌, ℕ, true, false, Option, Some, None, List, length, Contains}
-use Rattle.std.proofs.Common.{refl, sym, ap, ◌∙◌, inl, inr}
+use Rattle.std.proofs.Common.{◌≡◌, ◌+◌, ℕ, true, false, Option, Some, None, List, length}
+use Rattle.std.proofs.Common.{refl, sym, ◌∙◌}
 use Rattle.sw_graph.specs.declared.function.Function.{Function}
 use Rattle.sw_graph.specs.declared.graph.Graph.{Graph}
 use Rattle.sw_graph.specs.declared.instr.Instr.{Instr}
@@ -12,28 +12,21 @@ use Rattle.sw_value.specs.declared.state.State.{State}
 use Rattle.sw_value.specs.Effect.{point_effect}
 use Rattle.sw_partition.specs.Regions.{Regions}
 use Rattle.sw_region_ops.specs.Elements.{elements_of}
-use Rattle.sw_owner_facts.specs.Colours.{Colour, OfJob}
-use Rattle.sw_owner_facts.specs.Owned.{IsSound}
-use Rattle.sw_owner_facts.specs.View.{Element, HoldsLive, Frame as Spot}
-use Rattle.sw_owner_facts.proofs.WithinLemmas.{weakened}
+use Rattle.sw_owner_facts.specs.Colours.{Colour}
+use Rattle.sw_owner_facts.specs.View.{Element, Frame as Spot}
 use Rattle.sw_region_facts.specs.Moves.{Gathers}
 use Rattle.sw_region_facts.proofs.Weaker.{weaker_itself}
-use Rattle.sw_view_facts.specs.Changes.{HoldsIn, KeepsReach}
+use Rattle.sw_view_facts.specs.Changes.{KeepsReach}
 use Rattle.sw_view_facts.specs.Effects.{is_inside, next_of, register_of}
 use Rattle.sw_view_facts.specs.Executing.{Executes}
-use Rattle.sw_view_facts.specs.Renaming.{MayUnite, united}
+use Rattle.sw_view_facts.specs.Renaming.{united}
 use Rattle.sw_view_facts.specs.Standing.{StandsAt}
-use Rattle.sw_view_facts.specs.Views.{Colours, annotated, here_at, makes_itself, over, state_with}
-use Rattle.sw_view_facts.specs.Views.{view_of, closes_at, is_return}
-use Rattle.sw_view_facts.specs.Steps.{ChangesFrame}
+use Rattle.sw_view_facts.specs.Views.{Colours, annotated, makes_itself, over}
 use Rattle.sw_view_facts.proofs.EffectLemmas.{over_other, over_there}
-use Rattle.sw_view_facts.proofs.RenameLemmas.{unites_all}
-use Rattle.sw_view_facts.proofs.StepLemmas.{effect_goes_on, regions_weaken}
-use Rattle.sw_view_facts.proofs.ShapeLemmas.{open_here}
-use Rattle.sw_view_facts.proofs.TopLemmas.{untouched}
+use Rattle.sw_view_facts.proofs.StepLemmas.{effect_goes_on}
 use Rattle.sw_store_facts.specs.Sound.{HasSoundView, HaveHeres, IsColoured, MayBecomeOne}
-use Rattle.sw_store_facts.proofs.Holding.{holds_live, one_region}
-use Rattle.sw_store_facts.proofs.Stepping.{Row, frame_is, keeps_shape, next_state, row}
+use Rattle.sw_store_facts.proofs.Gathering.{united_between}
+use Rattle.sw_store_facts.proofs.Stepping.{Row, keeps_shape, next_state, row}
 use Rattle.sw_store_facts.proofs.Stepping.{stands_behind, steps}
 
 module _ (graph : Graph) (states : ℕ → List (Option Regions)) (state : State) (colours : Colours)
@@ -52,50 +45,8 @@ module _ (graph : Graph) (states : ℕ → List (Option Regions)) (state : State
   abbrev between : Spot → Option Regions
   between = over (annotated states state) q here.c
 
-  same : ChangesFrame state state q f f
-  same = untouched state q job f x.top
-
-  goes_on : closes_at graph function f.point ≡ false
-  goes_on = open_here graph function f.point (ap is_return x.here)
-
   module _ (xs : List Element) (gathers : Gathers elements xs here.a here.c) (kept : Colour)
       (numbers : List ℕ) (one : MayBecomeOne state colours q f xs kept numbers) where
-    -- the regions have come together
-    gathered : IsSound (view_of graph between state colours)
-    gathered = weakened (view_of graph (annotated states state) state colours)
-        (view_of graph between state colours) s.sound
-        (regions_weaken graph (annotated states state) between state colours q job f x.top function
-        x.is here.a here.c before (over_there (annotated states state) q here.c)
-        (λ p differ. over_other (annotated states state) q here.c p differ) gathers.uses.weaker)
-      where
-        before : annotated states state q ≡ Some here.a
-        before = ap (state_with states) (frame_is graph states state colours s q job f function instr x)
-            ∙ here.at
-
-    held : (y : Element) (colour : Colour) → Contains xs y
-        → HoldsIn state colours f (here_at colours q) y colour
-        → HoldsLive (view_of graph between state colours) q y colour
-    held y colour has holds = holds_live graph state colours q f function same.was x.is
-        same.alone same.top goes_on between here.c (over_there (annotated states state) q here.c) y colour (gathers.still y has) holds
-
-    may_unite : (n : ℕ) → Contains numbers n
-        → MayUnite (view_of graph between state colours) q one.holder kept n
-    may_unite n has = elim (one.others n has) [
-      | inl same ↦ inl same
-      | inr (y, among, holds) ↦ inr (inr (
-        y,
-        held y (OfJob q.job n) among holds,
-        one_region graph state colours q f function same.was x.is same.alone same.top goes_on between
-            here.c (over_there (annotated states state) q here.c) y one.holder (gathers.together y one.holder among one.among),
-      ))
-    ]
-
-    -- and then the colours have
-    coloured : IsSound (view_of graph between state (united q.job numbers kept colours))
-    coloured = unites_all graph between state q one.holder kept numbers colours heres
-        same.top
-        (held one.holder kept one.among one.holds) may_unite gathered
-
     -- the effect sets no register, and no frame's reach changes
     pub stored : (e : Effect) → is_inside e ≡ true → next_of e ≡ Some (f.point + 1)
         → point_effect graph state (length job.frames) f (Middle instr) ≡ e → register_of e ≡ None
@@ -109,7 +60,9 @@ module _ (graph : Graph) (states : ℕ → List (Option Regions)) (state : State
         executing
         (keeps_shape graph states state colours s q job f function instr x e inside goes gives ordinary
         (λ r sets. absurd (let both : None ≡ Some r = sym none ∙ sets in
-        let clash : ⊥ = cc in clash))) none (weaker_itself elements here.c) coloured
+        let clash : ⊥ = cc in clash))) none (weaker_itself elements here.c)
+        (united_between graph states state colours s q job f function instr x xs gathers heres kept
+        numbers one)
       where
         executing : Executes graph states state next q f function e between (annotated states next)
             (united q.job numbers kept colours) (united q.job numbers kept colours) here.c here.c
