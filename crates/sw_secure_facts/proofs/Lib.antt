@@ -1,0 +1,9 @@
+pub mod Belonging
+pub mod Bounds
+pub mod Heres
+pub mod Kept
+pub mod Numbers
+pub mod Recoloured
+pub mod Secured
+pub mod Staying
+pub mod Uniting

@@ -1,0 +1,4 @@
+pub mod Memory
+pub mod Secure
+pub mod Painting
+pub mod Executing
