@@ -1,0 +1,16 @@
+pub mod Actors
+pub mod Adding
+pub mod Annotated
+pub mod Bare
+pub mod Boxes
+pub mod Closing
+pub mod Closures
+pub mod Coloured
+pub mod Made
+pub mod Makers
+pub mod Objects
+pub mod Operands
+pub mod Sendable
+pub mod Shapes
+pub mod Stays
+pub mod Whole
