@@ -1,0 +1,113 @@
+-- A frame above another returns: what its value reaches has to be handed only where a register of
+-- the frame below gets the value.
+use Rattle.std.specs.Option.{option_and_then, option_map_or}
+use Rattle.std.specs.List.{slice_get}
+use Rattle.std.proofs.Common.{◌≡◌, ◌≢◌, ◌≤◌, ◌==◌, ℕ, suc, Bool, true, false, Option, Some, None}
+use Rattle.std.proofs.Common.{List, [], ◌∷◌, ◌++◌, length, Contains, refl, sym, subst, ap, ◌∙◌}
+use Rattle.std.proofs.Common.{arith, cond}
+use Rattle.std.proofs.lemmas.Bool.{eq-eqb, eqb-true}
+use Rattle.std.proofs.lemmas.Option.{slice_get_past}
+use Rattle.sw_list.proofs.ListLemmas.{slice_get_first}
+use Rattle.sw_graph.specs.declared.function.Function.{Function}
+use Rattle.sw_graph.specs.declared.graph.Graph.{Graph}
+use Rattle.sw_value.specs.declared.effect.Effect.TheVariants.{Leave}
+use Rattle.sw_value.specs.declared.frame.Frame.{Frame}
+use Rattle.sw_value.specs.declared.frame.TheConstants.{NO_REGISTER}
+use Rattle.sw_value.specs.declared.job.Job.{Job}
+use Rattle.sw_value.specs.declared.state.State.{State}
+use Rattle.sw_value.specs.declared.value.Value.{Value}
+use Rattle.sw_value.specs.Frame.{set_register, take_result}
+use Rattle.sw_value.specs.Job.{leave}
+use Rattle.sw_value.specs.Reach.{step_of}
+use Rattle.sw_value.specs.State.{in_job}
+use Rattle.sw_value.specs.Value.{value_at}
+use Rattle.sw_partition.specs.Regions.{Regions}
+use Rattle.sw_owner_facts.specs.Calls.{Handed, Returned}
+use Rattle.sw_owner_facts.specs.Colours.{Colour}
+use Rattle.sw_owner_facts.specs.View.{View, above, Frame as Spot}
+use Rattle.sw_reach_facts.specs.Reached.{colours_of}
+use Rattle.sw_reach_facts.proofs.ListLemmas.{none_in}
+use Rattle.sw_view_facts.specs.Changes.{KeepsShape}
+use Rattle.sw_view_facts.specs.Returning.{Leaves}
+use Rattle.sw_view_facts.specs.Views.{Colours, closes_at, view_at}
+use Rattle.sw_view_facts.proofs.EffectLemmas.{step_is}
+use Rattle.sw_view_facts.proofs.LeaveLemmas.{set_has}
+use Rattle.sw_view_facts.proofs.ReturnLemmas.{others_keep, returns_to, same_call, same_point}
+use Rattle.sw_view_facts.proofs.ShapeLemmas.{isolation_kept, shape_kept}
+use Rattle.sw_view_facts.proofs.TopLemmas.{ends_with}
+
+-- a register that has a value where a result was taken has the result, and is the one that waited
+gets_result : (f : Frame) (r : ℕ) (v w : Value) → length f.regs ≤ NO_REGISTER
+    → value_at (take_result r v f).regs r ≡ Some w → (r ≢ NO_REGISTER) × (w ≡ v)
+unfolding take_result set_register
+gets_result f r v w few = by (r == NO_REGISTER) refl where
+  by : (b : Bool) → (r == NO_REGISTER) ≡ b
+      → value_at (cond b f (set_register r v f)).regs r ≡ Some w → (r ≢ NO_REGISTER) × (w ≡ v)
+  by true e has =
+      let past = slice_get_past f.regs r (let same = eqb-true r NO_REGISTER e in
+      omega (arith, few, same)) in
+      let none : None ≡ Some w =
+      sym (ap (option_and_then (λ (o : Option Value). o)) past) ∙ has in
+      absurd (let wrong : ⊥ = cc in wrong)
+  by false e has = (
+    λ same. let wrong : false ≡ true = sym e ∙ eq-eqb r NO_REGISTER same in let w : ⊥ = cc in w,
+    set_has f.regs r v w has,
+  )
+
+module _ (graph : Graph) (states : ℕ → List (Option Regions)) (state : State) (p : Spot)
+    (f t : Frame) (function callee : Function) (v : Value) (colours after : Colours)
+    (x : Leaves graph state p f t function callee v colours after) where
+  abbrev old : View
+  old = view_at graph states state colours
+
+  abbrev next : State
+  next = step_of graph state p.job
+
+  keeps : KeepsShape graph f (take_result t.result v f)
+  keeps = shape_kept graph function f (take_result t.result v f) (same_call t.result v f) x.is
+      (isolation_kept function f.regs (take_result t.result v f).regs
+      (λ has. others_keep t.result v f 0 (λ e. x.self has (sym e))))
+      (ap (closes_at graph function) (same_point t.result v f))
+
+  pub stepped : next ≡ in_job (leave v) p.job state
+  stepped = step_is graph state (above p) x.job t callee x.point (Leave v) x.stands x.gives refl
+
+  -- the frames of the job
+  pub top : (rest : List Frame) × (x.job.frames ≡ rest ++ t ∷ []) × (length rest ≡ suc p.depth)
+  top = ends_with x.job.frames (suc p.depth) t x.stands.top.top x.stands.top.height
+
+  below : slice_get top.0 p.depth ≡ Some f
+  below = sym (slice_get_first top.0 (t ∷ []) p.depth (let e = top.2 in omega (arith, e)))
+      ∙ ap (λ l. slice_get l p.depth) (sym top.1)
+      ∙ sym (ap (option_and_then (λ (j : Job). slice_get j.frames p.depth)) x.stands.top.there)
+      ∙ x.below
+
+  pub rest : (rest : List Frame) × (top.0 ≡ rest ++ f ∷ []) × (length rest ≡ p.depth)
+  rest = ends_with top.0 p.depth f below top.2
+
+  pub frames_are : x.job.frames ≡ (rest.0 ++ f ∷ []) ++ t ∷ []
+  frames_are = top.1 ∙ ap (λ l. l ++ t ∷ []) rest.1
+
+  pub returns_below : ((c : Colour) → t.result ≢ NO_REGISTER
+      → Contains (colours_of state.cells colours.cells v) c → Handed old p t.result c)
+      → Returned old (view_at graph states next after) p t.result
+  unfolding in_job
+  returns_below handed =
+      subst (λ s. Returned old (view_at graph states s after) p t.result) (sym stepped)
+      (returns_to graph states state colours after p x.job rest.0 f t callee v x.stands.top.there
+      frames_are rest.2 x.stands.running x.stands.is keeps x.cells x.heres
+      (λ c has. shown c (value_at (take_result t.result v f).regs t.result) refl has))
+    where
+      later : State
+      later = in_job (leave v) p.job state
+
+      shown : (c : Colour) (o : Option Value)
+          → value_at (take_result t.result v f).regs t.result ≡ o
+          → Contains (option_map_or (colours_of state.cells after.cells) o []) c
+          → Handed old p t.result c
+      shown c None is has = absurd (none_in c has)
+      shown c (Some w) is has =
+          let gets = gets_result f t.result v w x.few is in
+          handed c gets.0 (subst (λ l. Contains l c)
+          (ap (λ cs. colours_of state.cells cs w) x.cells
+          ∙ ap (colours_of state.cells colours.cells) gets.1) has)
