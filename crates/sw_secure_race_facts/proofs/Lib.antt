@@ -1,0 +1,4 @@
+pub mod Accessing
+pub mod Claims
+pub mod Insiders
+pub mod Excluding
