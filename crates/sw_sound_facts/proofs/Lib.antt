@@ -1,0 +1,4 @@
+pub mod Acting
+pub mod Chosen
+pub mod Steps
+pub mod Theorem
