@@ -1,0 +1,9 @@
+//! A graph whose machine never races: one that is clean and supplied and that has no region breach.
+//! The crate knows nothing of texts, or of how such a graph is made.
+#![tactic(auto)]
+
+mod checked;
+mod laws;
+
+pub use checked::{CertifyFault, Checked};
+pub use laws::checked_graphs_never_race;
