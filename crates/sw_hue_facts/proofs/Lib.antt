@@ -1,0 +1,15 @@
+pub mod Lists
+pub mod Made
+pub mod Colours
+pub mod Counts
+pub mod Meeting
+pub mod Merging
+pub mod Uniting
+pub mod Handing
+pub mod Same
+pub mod Tinted
+pub mod Passed
+pub mod Retinted
+pub mod TintedCells
+pub mod Ordered
+pub mod NewTints

@@ -1,0 +1,2 @@
+pub mod Hued
+pub mod Tinted
