@@ -79,3 +79,10 @@ pub fn texts_race_by_their_last_step()
         → (Racing graph (step_of graph (reach graph items) j)
         ↔ HasRival graph (step_of graph (reach graph items) j) j) }
 {}
+
+/// No state that the machine of an accepted text reaches is racing, under each default and for every
+/// list of items, of any length.
+pub fn accepted_texts_never_race()
+    ensures { (rule : AsyncDefault) (text : List ℕ) (graph : Graph) → Accepts rule text
+        → IsGraphOf rule text graph → (items : List ℕ) → ¬ Racing graph (reach graph items) }
+{}
