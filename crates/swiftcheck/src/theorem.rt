@@ -209,6 +209,26 @@ pub fn texts_race_by_their_last_step()
     sw_text_facts::texts_race_by_their_last_step()
 }
 
+/// **Soundness.** No state that the machine of an accepted text reaches has two running jobs about to
+/// access one location of which one writes: a `var` part of an object or an actor, a global `var`, or
+/// a captured variable. It holds under each default and for every list of items, of any length; so
+/// over all interleavings of the jobs.
+pub fn accepted_texts_never_race()
+    ensures { (rule : AsyncDefault) (text : List ℕ) (graph : Graph) → Accepts rule text
+        → IsGraphOf rule text graph → (items : List ℕ) → ¬ Racing graph (reach graph items) }
+{
+    sw_text_facts::accepted_texts_never_race()
+}
+
+/// What soundness rests on, without any text: the machine of a graph that is clean and supplied and
+/// in which each test of the regions passes never races.
+pub fn passed_graphs_never_race()
+    ensures { (graph : Graph) → IsClean graph → IsSupplied graph → IsPassed graph
+        → (items : List ℕ) → ¬ Racing graph (reach graph items) }
+{
+    sw_sound_facts::passed_graphs_never_race()
+}
+
 /// No list of items, of any length, leads a runnable graph to a state that is racing.
 pub fn runnable_graphs_never_race()
     ensures never_races { (graph : Graph) → IsRunnable graph → (items : List ℕ) →
