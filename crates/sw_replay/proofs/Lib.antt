@@ -5,4 +5,5 @@ pub mod ReplayLemmas
 pub mod RunSteps
 pub mod ScheduleLaws
 pub mod ScheduleSteps
+pub mod TurnLemmas
 pub mod WatchLemmas

@@ -1,4 +1,4 @@
--- One item more of a replay.
+-- One item more of those that were taken, and what comes of them.
 use Rattle.std.proofs.Common.{◌≡◌, ℕ, ◌<◌, ◌≤◌, List, [], ◌∷◌, ◌++◌, length}
 use Rattle.std.proofs.Common.{refl, sym, ap, ◌∙◌, arith, append-nil}
 use Rattle.std.specs.List.{fold}
@@ -10,7 +10,7 @@ use Rattle.sw_value.specs.Reach.{step_of, reach}
 use Rattle.sw_value.proofs.ReachLemmas.{reach_push}
 use Rattle.sw_value.proofs.StaysInBounds as bounds
 use Rattle.sw_step.specs.Event.{event_of}
-use Rattle.sw_replay.specs.Output.{IsPlayed, line_of, lines_from, lines_of}
+use Rattle.sw_replay.specs.Output.{IsPlayed, line_of, lines_from, lines_of, output_by, output_of}
 
 lines_from_push : (graph : Graph) (state : State) (items : List ℕ) (item : ℕ)
     → lines_from graph state (items ++ item ∷ []) ≡ lines_from graph state items
@@ -36,9 +36,10 @@ played_push graph items item state after lines more is steps prints = record {
 }
 
 -- no item at all
-pub played_none : (graph : Graph) → IsPlayed graph [] (start_of graph) []
+pub played_none : (graph : Graph) (state : State) (lines : List ℕ) → state ≡ start_of graph
+    → lines ≡ [] → IsPlayed graph [] state lines
 unfolding lines_of reach
-played_none graph = record { state_is = refl; lines_are = refl }
+played_none graph state lines starts none = record { state_is = starts; lines_are = none }
 
 -- a played list has one cell for each item at most
 pub played_cells : (graph : Graph) (items : List ℕ) (state : State) (lines : List ℕ)
@@ -47,3 +48,8 @@ played_cells graph items state lines is = rw is.state_is (bounds.few_cells graph
 
 pub few_jobs : (graph : Graph) (items : List ℕ) → length (reach graph items).jobs < 4294967296
 few_jobs graph items = let few = bounds.few_jobs graph items in omega (arith, few)
+
+-- what comes of items that were taken
+pub output_is : (graph : Graph) (items : List ℕ) (state : State) (lines : List ℕ)
+    → IsPlayed graph items state lines → output_by state lines ≡ output_of graph items
+output_is graph items state lines is = rw (is.state_is, is.lines_are) refl

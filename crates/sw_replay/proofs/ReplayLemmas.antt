@@ -1,20 +1,15 @@
--- Every list of items has one replay, and that of a runnable graph meets no race.
-use Rattle.std.proofs.Common.{◌≡◌, ℕ, suc, ◌<◌, None, List, length, take, refl, ap, sym}
+-- Every list of items has one replay.
+use Rattle.std.proofs.Common.{◌≡◌, ℕ, suc, ◌<◌, List, length, take, refl, ap, sym}
 use Rattle.std.proofs.Common.{subst, ◌∙◌, arith, inl, inr, ◌⊎◌}
 use Rattle.std.proofs.lemmas.Bool.{cases_order, cases_lt}
 use Rattle.std.proofs.lemmas.List.{take_all}
 use Rattle.sw_graph.specs.declared.graph.Graph.{Graph}
 use Rattle.sw_value.specs.declared.race.Race.{Race}
-use Rattle.sw_value.specs.declared.state.State.{State}
-use Rattle.sw_value.specs.Access.{next_access}
 use Rattle.sw_value.specs.Racing.{Racing, IsLeastRace}
 use Rattle.sw_value.specs.Reach.{reach}
-use Rattle.sw_value.specs.Runnable.{IsRunnable}
-use Rattle.sw_value.proofs.NeverRaces.{never_races}
 use Rattle.sw_value.proofs.RaceLemmas.{Decided, IsLeast, find_least, least_race, one_least_race}
-use Rattle.sw_replay.specs.declared.output.End.TheVariants.{Raced}
 use Rattle.sw_replay.specs.declared.output.Replay.{Replay}
-use Rattle.sw_replay.specs.Replay.{IsRacingAt, replay_with, whole_replay, IsReplay}
+use Rattle.sw_replay.specs.Replay.{IsRacingAt, whole_replay, stopped_replay, IsReplay}
 use Rattle.sw_replay.specs.Replay as replays
 
 -- the least prefix that is racing is one
@@ -30,13 +25,13 @@ same_stop graph items n m race first other least = elim (cases_order n m) [
 same_raced : (graph : Graph) (items : List ℕ) (n m : ℕ) (race other : Race) → n ≡ m
     → IsLeastRace graph (reach graph (take n items)) race
     → IsLeastRace graph (reach graph (take m items)) other
-    → replay_with (Raced race) graph (take n items) ≡ replay_with (Raced other) graph (take m items)
+    → stopped_replay graph (take n items) race ≡ stopped_replay graph (take m items) other
 same_raced graph items n m race other e one two =
     let same : race ≡ other =
     one_least_race graph (reach graph (take m items)) race other
     (subst (λ k. IsLeastRace graph (reach graph (take k items)) race) e one) two in
-    ap (λ k. replay_with (Raced race) graph (take k items)) e
-    ∙ ap (λ r. replay_with (Raced r) graph (take m items)) same
+    ap (λ k. stopped_replay graph (take k items) race) e
+    ∙ ap (λ r. stopped_replay graph (take m items) r) same
 
 pub one_replay : (graph : Graph) (items : List ℕ) (a b : Replay) → IsReplay graph items a
     → IsReplay graph items b → a ≡ b
@@ -67,7 +62,7 @@ some_replay graph items =
           × IsReplay graph items replay
       stop n least (inl (race, is)) =
           let within = least.within in (
-            replay_with (Raced race) graph (take n items),
+            stopped_replay graph (take n items) race,
             replays.raced n race (omega (arith, within)) least.first is,
           )
       stop n least (inr none) = absurd (none least.holds)
@@ -90,24 +85,8 @@ some_replay graph items =
       by (inl (n, least)) = stop n least (least_race graph (reach graph (take n items)))
       by (inr none) = (whole_replay graph items, replays.whole (free none))
 
--- a graph whose jobs access no location in any state never races
-accessless_never_racing : (graph : Graph)
-    → ((state : State) (job : ℕ) → next_access graph state job ≡ None) → (state : State)
-    → Racing graph state → ⊥
-accessless_never_racing graph none state (race, is) =
-    let some = sym is.first_next ∙ none state race.first.job in cc
-
-pub accessless_whole : (graph : Graph)
-    → ((state : State) (job : ℕ) → next_access graph state job ≡ None) → (items : List ℕ)
-    → IsReplay graph items (whole_replay graph items)
-accessless_whole graph none items =
-    replays.whole (λ n race. accessless_never_racing graph none (reach graph (take n items)) race)
-
--- no prefix of items leads a runnable graph to a race
-pub never_racing : (graph : Graph) → IsRunnable graph → (items : List ℕ) (n : ℕ)
-    → IsRacingAt graph items n → ⊥
-never_racing graph runs items n race = never_races graph runs (reach graph (take n items)) race
-
-pub runnable_whole : (graph : Graph) → IsRunnable graph → (items : List ℕ)
-    → IsReplay graph items (whole_replay graph items)
-runnable_whole graph runs items = replays.whole (never_racing graph runs items)
+pub unraced : (graph : Graph) (items : List ℕ) (replay : Replay)
+    → ((n : ℕ) → IsRacingAt graph items n → ⊥) → IsReplay graph items replay
+    → replay ≡ whole_replay graph items
+unraced graph items replay free is =
+    one_replay graph items replay (whole_replay graph items) is (replays.whole free)

@@ -1,10 +1,8 @@
 -- The laws of schedule texts, and what a call's answer says.
 use Rattle.std.proofs.Common.{◌≡◌, ◌≢◌, ℕ, ◌+◌, ◌^◌, ◌<◌, ◌≤◌, zero, suc, List, [], ◌∷◌, ◌++◌}
-use Rattle.std.proofs.Common.{length, replicate, take, drop, get_or, Result, Ok, Err, refl, sym, ap}
+use Rattle.std.proofs.Common.{length, replicate, Result, Ok, Err, refl, sym, ap}
 use Rattle.std.proofs.Common.{◌∙◌, arith, length-append}
-use Rattle.std.proofs.lemmas.List.{length-replicate, append-nil, append_assoc, take-append-drop}
-use Rattle.std.proofs.lemmas.Option.{slice_get-get_or}
-use Rattle.sw_value.proofs.ListLemmas.{take_next}
+use Rattle.std.proofs.lemmas.List.{length-replicate, append-nil, append_assoc}
 use Rattle.std.specs.List.{All}
 use Rattle.std.specs.Result.{IfOk, IfErr}
 use Rattle.std.proofs.lemmas.List.Elements.{All-nil, All-cons}
@@ -136,7 +134,7 @@ IsItems-few bytes items h =
     rw h.written (omega (arith, few))
 
 -- one run more
-pub written_out-append : (runs : List (ℕ × ℕ)) (run : ℕ × ℕ)
+written_out-append : (runs : List (ℕ × ℕ)) (run : ℕ × ℕ)
     → written_out (runs ++ run ∷ []) ≡ written_out runs ++ replicate run.1 run.0
 written_out-append [] run = append-nil (replicate run.1 run.0)
 written_out-append (first ∷ runs) run =
@@ -151,38 +149,6 @@ written_out-push runs job count =
       ap length (written_out-append runs (job, count)),
       length-append (written_out runs) (replicate count job),
       length-replicate count job,
-    )
-
-pub written_out-both : (runs more : List (ℕ × ℕ))
-    → written_out (runs ++ more) ≡ written_out runs ++ written_out more
-written_out-both [] more = refl
-written_out-both (first ∷ runs) more =
-    ap (λ rest. replicate first.1 first.0 ++ rest) (written_out-both runs more)
-    ∙ sym (append_assoc (replicate first.1 first.0) (written_out runs) (written_out more))
-
--- the items of the first runs, and of the run after them
-pub written_out-next : (runs : List (ℕ × ℕ)) (i : ℕ) → i < length runs
-    → written_out (take (i + 1) runs)
-    ≡ written_out (take i runs) ++ replicate (get_or runs i (0, 0)).1 (get_or runs i (0, 0)).0
-written_out-next runs i inside =
-    ap written_out (take_next runs i (get_or runs i (0, 0)) (slice_get-get_or runs i (0, 0) inside))
-    ∙ written_out-append (take i runs) (get_or runs i (0, 0))
-
--- they are no more than all items
-pub written_out-within : (runs : List (ℕ × ℕ)) (i : ℕ) → i < length runs
-    → length (written_out (take i runs)) + (get_or runs i (0, 0)).1 ≤ length (written_out runs)
-written_out-within runs i inside =
-    let next = written_out-next runs i inside in
-    let all = written_out-both (take (i + 1) runs) (drop (i + 1) runs) in
-    omega (
-      arith,
-      ap length next,
-      ap length all,
-      ap (λ xs. length (written_out xs)) (take-append-drop (i + 1) runs),
-      length-append (written_out (take i runs))
-          (replicate (get_or runs i (0, 0)).1 (get_or runs i (0, 0)).0),
-      length-append (written_out (take (i + 1) runs)) (written_out (drop (i + 1) runs)),
-      length-replicate (get_or runs i (0, 0)).1 (get_or runs i (0, 0)).0,
     )
 
 -- what a call answered

@@ -1,5 +1,5 @@
 pub mod Items
+pub mod Left
 pub mod Output
 pub mod Reading
 pub mod Replay
-pub mod Watch

@@ -13,6 +13,7 @@ use Rattle.sw_step.specs.declared.event.Event.TheVariants.{Printed}
 use Rattle.sw_step.specs.Event.{event_of}
 use Rattle.sw_replay.specs.declared.output.End.{End}
 use Rattle.sw_replay.specs.declared.output.End.TheVariants.{Ran, Trapped}
+use Rattle.sw_replay.specs.declared.output.Output.{Output}
 
 -- the line of an event: that of a Print, or none
 abbrev pub line_of : Event → List ℕ
@@ -53,3 +54,16 @@ ended_in state = count_by has_ended state.jobs
 -- how many jobs there are
 abbrev pub jobs_in : State → ℕ
 jobs_in state = length state.jobs
+
+-- what comes of items that led to a state and printed these lines
+abbrev pub output_by : State → List ℕ → Output
+output_by state lines = record {
+  lines = lines;
+  end = end_of state;
+  ended = ended_in state;
+  jobs = jobs_in state;
+}
+
+-- what comes of a list of items, all of which are taken
+abbrev pub output_of : Graph → List ℕ → Output
+output_of graph items = output_by (reach graph items) (lines_of graph items)

@@ -1,6 +1,8 @@
 ghost use Rattle.std.specs.Prelude.{◌≡◌, ◌≤◌, length};
 ghost use Rattle.sw_replay.specs.Items.{written_out};
+ghost use Rattle.sw_replay.specs.Left.{items_left};
 
+use crate::iter::Iter;
 use std::marker::Model;
 use sw_list::ListOf;
 
@@ -43,5 +45,13 @@ impl Schedule {
         ensures few { length self.now ≤ MAX_ITEMS }
     {
         self.runs.as_slice()
+    }
+
+    /// The items, one after the other.
+    pub fn iter(&self) -> Iter<'_>
+        ensures value { items_left result ≡ self.now }
+        ensures few { length self.now ≤ MAX_ITEMS }
+    {
+        Iter::new(self.runs())
     }
 }

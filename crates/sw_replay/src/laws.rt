@@ -2,11 +2,9 @@ ghost use Rattle.std.specs.Prelude.{ℕ, ◌≡◌, ◌<◌, ◌≤◌, ◌^◌,
 ghost use Rattle.sw_graph.specs.declared.graph.Graph.{Graph};
 ghost use Rattle.sw_replay.specs.declared.text.SchedFault.{SchedFault};
 ghost use Rattle.sw_replay.specs.Items.{IsItems, IsFirstFault, HasItems, position_of};
-ghost use Rattle.sw_value.specs.declared.state.State.{State};
-ghost use Rattle.sw_value.specs.Access.{next_access};
-ghost use Rattle.sw_value.specs.Runnable.{IsRunnable};
 ghost use Rattle.sw_replay.specs.declared.output.Replay.{Replay};
-ghost use Rattle.sw_replay.specs.Replay.{whole_replay, IsReplay};
+ghost use Rattle.sw_replay.specs.Output.{output_of};
+ghost use Rattle.sw_replay.specs.Replay.{IsRacingAt, IsReplay};
 
 use crate::items::MAX_ITEMS;
 use crate::text::SCHEDULE_LIMIT;
@@ -31,19 +29,17 @@ pub fn items_of_texts()
     ensures few { (bytes items : List ℕ) → IsItems bytes items → length items ≤ MAX_ITEMS }
 {}
 
-/// Every list of items has one replay, for every graph. That of a graph whose jobs access no
-/// location in any state takes all items. A runnable graph is one of these: it has no instructions
-/// but literals, prints, starts of tasks and returns, and the isolation of each function is `Free`.
+/// Every list of items has one replay, for every graph. Where no prefix of the items leads to a
+/// state that is racing, it takes all of them and finds no race, and what comes of it is the output
+/// of the items.
 pub fn items_have_one_replay()
     ensures some { (graph : Graph) (items : List ℕ) →
         (replay : Replay) × IsReplay graph items replay }
     ensures one { (graph : Graph) (items : List ℕ) (a b : Replay) →
         IsReplay graph items a → IsReplay graph items b → a ≡ b }
-    ensures accesses_nothing { (graph : Graph) →
-        ((state : State) (job : ℕ) → next_access graph state job ≡ None) → (items : List ℕ) →
-        IsReplay graph items (whole_replay graph items) }
-    ensures runnable { (graph : Graph) → IsRunnable graph → (items : List ℕ) →
-        IsReplay graph items (whole_replay graph items) }
+    ensures unraced { (graph : Graph) (items : List ℕ) (replay : Replay)
+        → ((n : ℕ) → ¬ IsRacingAt graph items n) → IsReplay graph items replay
+        → replay ≡ record { output = output_of graph items; race = None } }
 {}
 
 /// The limits that the definitions of schedules take from here.

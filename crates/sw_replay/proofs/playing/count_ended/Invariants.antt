@@ -1,6 +1,6 @@
 use Rattle.std.proofs.Common.{◌≡◌, ◌≤◌, count_by, take}
 use Rattle.sw_replay.specs.Output.{has_ended}
-use Rattle.sw_replay.proofs.replaying.count_ended.Given as goal
+use Rattle.sw_replay.proofs.playing.count_ended.Given as goal
 
 abbrev pub invariant-loop-job : goal.invariant-loop-job
 invariant-loop-job l =
