@@ -4,22 +4,23 @@ use Rattle.std.specs.Prelude.{String, string_bytes, map}
 use Rattle.std.specs.declared.alloc.Global.{Global}
 use Rattle.sw_graph.specs.declared.graph.Graph.{Graph}
 use Rattle.sw_outside.specs.Shelf.{KnownShelf, file_of}
-use Rattle.sw_value.specs.Runnable.{IsRunnable}
 use Rattle.sw_check_parts.specs.declared.TheConstants.{PROGRAM_LIMIT}
 use Rattle.sw_check_parts.specs.declared.exit.Exit.{Exit}
 use Rattle.sw_check_parts.specs.declared.exit.Exit.TheVariants.{Done, Breached, Raced}
 use Rattle.sw_check_parts.specs.declared.outcome.Outcome.{Outcome}
 use Rattle.sw_check_parts.specs.Course.{Read, AreOf}
+use Rattle.sw_check_parts.specs.Exit.{IsOneOf}
 use Rattle.sw_decls.specs.declared.signature.AsyncDefault.{AsyncDefault}
 use Rattle.sw_verdict.specs.Phases.{all_phases, IsGraphOf}
 use Rattle.sw_verdict.specs.Verdict.{Accepts, Refuses}
 use Rattle.sw_check.specs.Call.{Answered}
 use Rattle.sw_check.specs.Claims.{NeverRaces, ExitSays, ProgramFits, default_of, phases_of}
 use Rattle.sw_check.specs.Claims.{program_of}
-use Rattle.sw_check.specs.Reply.{Reply}
+use Rattle.sw_check.specs.Reply.{Reply, exits_of}
 use Rattle.sw_check_words.specs.Words.{Command, Check, OnFile, command_of, command_in}
-use Rattle.sw_check.proofs.ClaimLemmas.{reply_says, says_no_race, says_not_raced}
+use Rattle.sw_check.proofs.ClaimLemmas.{reply_says, says_no_race}
 use Rattle.sw_check.proofs.Courses.{one_reply}
+use Rattle.sw_check.proofs.ExitLemmas.{exits_unraced}
 use Rattle.sw_check.proofs.OneExit.{one_exit, says_accepted, says_breached}
 
 -- the words as the call has them
@@ -29,6 +30,12 @@ pub of_words : (words lent : List (String Global)) {before after : Option KnownS
     → Answered (command_in words) before outcome after
 of_words words lent {before} {after} {outcome} same answered =
     subst (λ words. Answered (command_in words) before outcome after) same answered
+
+pub exits_of_words : (words lent : List (String Global)) (exit : Exit) → lent ≡ words
+    → IsOneOf (exits_of (command_of (map string_bytes lent))) exit
+    → IsOneOf (exits_of (command_in words)) exit
+exits_of_words words lent exit same exits =
+    subst (λ words. IsOneOf (exits_of (command_in words)) exit) same exits
 
 -- where the files are known, the reply is one over them
 reads_of : {command : Option Command} {before after : Option KnownShelf} {outcome : Outcome}
@@ -73,20 +80,18 @@ pub answer_no_race : {command : Option Command} {before after : Option KnownShel
     → before ≡ Some known → command ≡ Some given → phases_of given ≡ all_phases
     → ProgramFits (file_of known.files) given → outcome.exit ≢ Breached
     → (graph : Graph) × IsGraphOf (default_of given) (program_of (file_of known.files) given) graph
-    × (IsRunnable graph → NeverRaces graph)
+    × NeverRaces graph
 answer_no_race {outcome = outcome} answered known given is same all =
     says_no_race (file_of known.files) given outcome.exit
     (answer_says_of answered known given is same) all
 
-pub answer_not_raced : {command : Option Command} {before after : Option KnownShelf}
-    {outcome : Outcome}
-    → Answered command before outcome after → (known : KnownShelf) (given : Command) (graph : Graph)
-    → before ≡ Some known → command ≡ Some given
-    → IsGraphOf (default_of given) (program_of (file_of known.files) given) graph → IsRunnable graph
-    → outcome.exit ≢ Raced
-answer_not_raced {outcome = outcome} answered known given graph is same of_text runs =
-    says_not_raced (file_of known.files) given graph outcome.exit of_text runs
-    (answer_says_of answered known given is same)
+-- a command for which all phases count has no exit of a race
+pub answer_not_raced : (command : Option Command) (exit : Exit)
+    → IsOneOf (exits_of command) exit → (given : Command) → command ≡ Some given
+    → phases_of given ≡ all_phases → exit ≢ Raced
+answer_not_raced command exit exits given same all raced =
+    exits_unraced given all (subst (λ exit. IsOneOf (exits_of (Some given)) exit) raced
+    (subst (λ command. IsOneOf (exits_of command) exit) same exits))
 
 pub answer_exact : {command : Option Command} {before after : Option KnownShelf} {outcome : Outcome}
     → Answered command before outcome after → (known : KnownShelf) (reads : List Read)

@@ -1,18 +1,13 @@
 -- What the exit of a reply says.
 use Rattle.std.proofs.Common.{◌≡◌, ◌≢◌, ℕ, ◌<◌, ◌≤◌, inl, inr, List, [], length, Option, Some, None}
-use Rattle.std.proofs.Common.{Result, Ok, Err, refl, sym, ap, ◌∙◌, subst, arith}
+use Rattle.std.proofs.Common.{Result, Ok, Err, refl, sym, ap, subst, arith}
 use Rattle.sw_graph.specs.declared.graph.Graph.{Graph}
-use Rattle.sw_value.proofs.NeverRaces.{never_races}
 use Rattle.sw_value.specs.declared.race.Race.{Race}
-use Rattle.sw_value.specs.declared.state.TrapKind.{TrapKind}
-use Rattle.sw_value.specs.Reach.{reach}
-use Rattle.sw_value.specs.Runnable.{IsRunnable}
 use Rattle.sw_replay.specs.declared.text.TheConstants.{SCHEDULE_LIMIT}
 use Rattle.sw_replay.specs.declared.output.End.{End}
 use Rattle.sw_replay.specs.declared.output.End.TheVariants as ends
 use Rattle.sw_replay.specs.Items.{IsItems, IsFirstFault}
 use Rattle.sw_replay.specs.declared.text.SchedFault.{SchedFault}
-use Rattle.sw_replay.proofs.ScheduleLaws.{one_list as one_items}
 use Rattle.sw_check_parts.specs.declared.TheConstants.{PROGRAM_LIMIT}
 use Rattle.sw_check_parts.specs.declared.exit.Exit.{Exit}
 use Rattle.sw_check_parts.specs.declared.exit.Exit.TheVariants.{Done, Breached, Usage, NotRead}
@@ -21,30 +16,31 @@ use Rattle.sw_check_parts.specs.declared.exit.Exit.TheVariants.{NotWritten, Memo
 use Rattle.sw_check_parts.specs.declared.exit.Exit.TheVariants.{BadSchedule}
 use Rattle.sw_check_parts.specs.declared.exit.Exit.TheVariants.{Raced}
 use Rattle.sw_check_parts.specs.declared.outcome.Outcome.{Outcome}
-use Rattle.sw_check_parts.specs.Course.{Read, AreOf, Ended, Part, Alone, ◌>>=◌}
+use Rattle.sw_check_parts.specs.Course.{Read, AreOf, Ended, Part, Alone, Then, refused, goes_on}
+use Rattle.sw_check_parts.specs.Course.{too_long_file, ◌>>=◌}
 use Rattle.sw_check_parts.proofs.Inversions.{EndsAfterFetch, too_long, fetched, after_fetch}
+use Rattle.sw_check_parts.proofs.ReadLemmas.{AreOf-prefix}
 use Rattle.sw_check_parts.proofs.Inversions.{EndsAfterRule, refuses, gives, after_rule, by_rule}
 use Rattle.sw_decls.specs.declared.signature.AsyncDefault.{AsyncDefault}
 use Rattle.sw_decls.specs.declared.signature.AsyncDefault.TheVariants.{Concurrent}
 use Rattle.sw_verdict.specs.Phases.{all_phases, IsGraphOf}
 use Rattle.sw_verdict.specs.Verdict.{Breaches}
 use Rattle.sw_verdict.proofs.LoweredTexts.{some_graph_of}
-use Rattle.sw_verdict.proofs.OneLowered.{one_graph_of}
-use Rattle.sw_check.specs.Claims.{NeverRaces, EndsSo, Ends, ProgramPasses, ExitSays, ExitSaysOf}
-use Rattle.sw_check.specs.Claims.{FileEnds, Fits, IsLong, ProgramFits, SecondFits, SecondIsLong}
-use Rattle.sw_check.specs.Claims.{ScheduleIsBad, default_of, phases_of, program_file_of, program_of}
+use Rattle.sw_text_facts.proofs.Sound.{accepted_never_races}
+use Rattle.sw_check.specs.Claims.{NeverRaces, Ends, ProgramPasses, ExitSays, ExitSaysOf}
+use Rattle.sw_check.specs.Claims.{Fits, IsLong, ProgramFits, SecondFits, SecondIsLong, Stands}
+use Rattle.sw_check.specs.Claims.{ScheduleIsBad, default_of, ending_by, phases_of, program_file_of}
+use Rattle.sw_check.specs.Claims.{program_of}
 use Rattle.sw_check.proofs.Pieces.{program_then}
-use Rattle.sw_replay.specs.declared.output.Replay.{Replay}
-use Rattle.sw_replay.specs.Output.{end_by, end_of}
-use Rattle.sw_replay.specs.Replay.{IsReplay, whole_replay}
+use Rattle.sw_replay.specs.declared.output.Output.{Output}
+use Rattle.sw_replay.specs.Output.{output_of}
 use Rattle.sw_check.specs.Reply.{usage, accepted, end_outcome, EndsWithReply, IsJudgement, passes}
-use Rattle.sw_check.specs.Reply.{breached}
-use Rattle.sw_check.specs.Reply.{Scheduled, has_items, has_fault, Replayed, ends, course_of, Reply}
-use Rattle.sw_check.specs.Reply.{at_end, before_end, demo_end, demo_items, demo_outcome, phases_for}
-use Rattle.sw_check.specs.Reply.{replay_by, replay_outcome, schedule_file_in}
+use Rattle.sw_check.specs.Reply.{bad_schedule_outcome, breached, by_items, items_in, run_outcome}
+use Rattle.sw_check.specs.Reply.{Scheduled, has_items, has_fault, Runs, Traces, ends, course_of}
+use Rattle.sw_check.specs.Reply.{Reply, at_end, before_end, demo_end, demo_items, demo_outcome}
+use Rattle.sw_check.specs.Reply.{phases_for, watched_outcome}
 use Rattle.sw_gen.specs.Program.{program}
 use Rattle.sw_check_words.specs.Words.{Action, Check, Run, Trace, Command, OnFile, Demo}
-use Rattle.sw_replay.proofs.ReplayLemmas.{one_replay, runnable_whole}
 
 -- the reply with which a command ends
 abbrev outcome_of : Result Outcome Outcome → Outcome
@@ -56,6 +52,57 @@ pub fits_or_long : (files : List ℕ → List ℕ) (limit : ℕ) (file : Option 
     → Fits files limit file → IsLong files limit file → ⊥
 fits_or_long files limit None fits long = long
 fits_or_long files limit (Some name) fits long = omega (arith, fits, long)
+
+-- how a part ends that begins with a schedule
+data EndsAfterItems (files : List ℕ → List ℕ) (file : List ℕ) (second : List ℕ → Part Outcome)
+    : Result Outcome Outcome → Type 0 where
+  long_schedule : SCHEDULE_LIMIT < length (files file)
+      → EndsAfterItems files file second (Err too_long_file)
+  bad_schedule : length (files file) ≤ SCHEDULE_LIMIT → (fault : SchedFault)
+      → IsFirstFault (files file) fault
+      → EndsAfterItems files file second (Err (bad_schedule_outcome (files file) fault))
+  has_schedule : (others : List Read) (result : Result Outcome Outcome) (items : List ℕ)
+      → length (files file) ≤ SCHEDULE_LIMIT → IsItems (files file) items
+      → second items others (Ended result) → EndsAfterItems files file second result
+
+module _ (files : List ℕ → List ℕ) (file : List ℕ) (second : List ℕ → Part Outcome) where
+  items_refused : (result : Result (List ℕ) Outcome) (outcome : Outcome)
+      → EndsAfterFetch files file SCHEDULE_LIMIT (λ schedule. Alone (Scheduled schedule)) result
+      → result ≡ Err outcome → EndsAfterItems files file second (Err outcome)
+  items_refused _ outcome (too_long long) e =
+      subst (λ outcome. EndsAfterItems files file second (Err outcome)) (cc e) (long_schedule long)
+  items_refused _ outcome (fetched others result short of_files ended) e =
+      by result (by_rule (Scheduled (files file)) others result ended) e where
+        by : (result : Result (List ℕ) Outcome) → Scheduled (files file) result
+            → result ≡ Err outcome → EndsAfterItems files file second (Err outcome)
+        by _ (has_items items are) e = cc
+        by _ (has_fault fault is) e =
+            subst (λ outcome. EndsAfterItems files file second (Err outcome)) (cc e)
+            (bad_schedule short fault is)
+
+  items_given : (result : Result (List ℕ) Outcome) (items : List ℕ)
+      → EndsAfterFetch files file SCHEDULE_LIMIT (λ schedule. Alone (Scheduled schedule)) result
+      → result ≡ Ok items → (length (files file) ≤ SCHEDULE_LIMIT) × IsItems (files file) items
+  items_given _ items (too_long long) e = cc
+  items_given _ items (fetched others result short of_files ended) e =
+      (short, by result (by_rule (Scheduled (files file)) others result ended) e) where
+        by : (result : Result (List ℕ) Outcome) → Scheduled (files file) result
+            → result ≡ Ok items → IsItems (files file) items
+        by _ (has_items others are) e = subst (IsItems (files file)) (cc e) are
+        by _ (has_fault fault is) e = cc
+
+  after_items : (reads : List Read) (result : Result Outcome Outcome) → AreOf files reads
+      → Then (items_in file) second reads (Ended result)
+      → EndsAfterItems files file second result
+  after_items _ _ of_files (refused reads outcome first) =
+      items_refused (Err outcome) outcome
+      (after_fetch files file SCHEDULE_LIMIT (λ schedule. Alone (Scheduled schedule)) reads
+      (Err outcome) of_files first) refl
+  after_items _ result of_files (goes_on reads others items _ first rest) =
+      let (short, are) = items_given (Ok items) items
+      (after_fetch files file SCHEDULE_LIMIT (λ schedule. Alone (Scheduled schedule)) reads
+      (Ok items) (AreOf-prefix files reads others of_files) first) refl in
+      has_schedule others result items short are rest
 
 module _ (files : List ℕ → List ℕ) (rule : AsyncDefault) (file : List ℕ) (action : Action) where
   abbrev on_file : Command
@@ -71,7 +118,7 @@ module _ (files : List ℕ → List ℕ) (rule : AsyncDefault) (file : List ℕ)
 
   -- The command begins with its program: it is too long, or refused, or the rest ended.
   module _ (rest : List ℕ → Graph → Part Outcome)
-      (goes_on : (graph : Graph) (reads : List Read) (result : Result Outcome Outcome)
+      (continues : (graph : Graph) (reads : List Read) (result : Result Outcome Outcome)
       → AreOf files reads → ProgramPasses files on_file → IsGraphOf rule (files file) graph
       → rest (files file) graph reads (Ended result) → SaysSo result) where
     says_judged : (reads : List Read) (result : Result Outcome Outcome) → AreOf files reads
@@ -80,7 +127,7 @@ module _ (files : List ℕ → List ℕ) (rule : AsyncDefault) (file : List ℕ)
     says_judged reads _ of_files short (refuses _ (breached list judges)) =
         record { short = short; breaches = (list, judges.0, judges.1) }
     says_judged reads _ of_files short (gives _ result (passes graph judges) ended) =
-        goes_on graph reads result of_files (record { short = short; no_breach = judges.0 })
+        continues graph reads result of_files (record { short = short; no_breach = judges.0 })
         judges.1 ended
 
     says_fetched : (result : Result Outcome Outcome)
@@ -98,66 +145,30 @@ module _ (files : List ℕ → List ℕ) (rule : AsyncDefault) (file : List ℕ)
         (after_fetch files file PROGRAM_LIMIT (λ text. Alone (JudgedSo text) >>= rest text) reads
         result of_files ended)
 
-  -- The command ends with a replay of its program by a schedule.
-  module _ (schedule_file : List ℕ) (graph : Graph) (whole : ProgramPasses files on_file)
-      (of_text : IsGraphOf rule (files file) graph)
-      (replays : (end : End) → EndsSo rule end (files file) (IsItems (files schedule_file))
-      → Ends end files on_file)
+  -- The command goes on with the items of a schedule.
+  module _ (schedule_file : List ℕ) (whole : ProgramPasses files on_file)
+      (Answers : List ℕ → Result Outcome Outcome → Type 0)
       (fits : length (files schedule_file) ≤ SCHEDULE_LIMIT → SecondFits files on_file)
       (bad : (fault : SchedFault) → IsFirstFault (files schedule_file) fault
       → ScheduleIsBad files on_file)
-      (long : SCHEDULE_LIMIT < length (files schedule_file) → SecondIsLong files on_file) where
-    says_end : (lines : List ℕ) (ended jobs : ℕ) (end : End) → SecondFits files on_file
-        → EndsSo rule end (files file) (IsItems (files schedule_file))
-        → ExitSaysOf files on_file (end_outcome (files file) lines ended jobs end).exit
-    says_end lines ended jobs ends.Ran fitting so = (whole, fitting, replays ends.Ran so)
-    says_end lines ended jobs (ends.Trapped kind at) fitting so =
-        (whole, fitting, kind, at, replays (ends.Trapped kind at) so)
-    says_end lines ended jobs (ends.Raced race) fitting so =
-        (whole, fitting, race, replays (ends.Raced race) so)
+      (long : SCHEDULE_LIMIT < length (files schedule_file) → SecondIsLong files on_file)
+      (answers : (items : List ℕ) (result : Result Outcome Outcome)
+      → SecondFits files on_file → IsItems (files schedule_file) items → Answers items result
+      → SaysSo result) where
+    says_items : (result : Result Outcome Outcome)
+        → EndsAfterItems files schedule_file (λ items. Alone (Answers items)) result
+        → SaysSo result
+    says_items _ (long_schedule is_long) = inr (whole, long is_long)
+    says_items _ (bad_schedule short fault is) = (whole, fits short, bad fault is)
+    says_items _ (has_schedule others result items short are ended) =
+        answers items result (fits short) are (by_rule (Answers items) others result ended)
 
-    -- the replay by items
-    abbrev ReplayedBy : List ℕ → Result Outcome Outcome → Type 0
-    ReplayedBy items = Replayed (replay_outcome (files file)) graph items
-
-    says_replayed : (items : List ℕ) (result : Result Outcome Outcome) → SecondFits files on_file
-        → IsItems (files schedule_file) items → ReplayedBy items result → SaysSo result
-    says_replayed items _ fitting are (ends replay is) =
-        says_end replay.lines replay.ended replay.jobs replay.end fitting
-        (record {
-          graph = graph;
-          of_text = of_text;
-          items = items;
-          are_items = are;
-          replay = replay;
-          is_replay = is;
-          ends = refl;
-        })
-
-    says_scheduled : (reads : List Read) (result : Result Outcome Outcome)
-        → SecondFits files on_file → EndsAfterRule (Scheduled (files schedule_file))
-        (λ items. Alone (ReplayedBy items)) reads result → SaysSo result
-    says_scheduled reads _ fitting (refuses _ (has_fault fault is)) = (whole, fitting, bad fault is)
-    says_scheduled reads _ fitting (gives _ result (has_items items are) ended) =
-        says_replayed items result fitting are (by_rule (ReplayedBy items) reads result ended)
-
-    says_fetched_schedule : (result : Result Outcome Outcome)
-        → EndsAfterFetch files schedule_file SCHEDULE_LIMIT
-        (λ schedule. Alone (Scheduled schedule) >>= (λ items. Alone (ReplayedBy items)))
-        result → SaysSo result
-    says_fetched_schedule _ (too_long is_long) = inr (whole, long is_long)
-    says_fetched_schedule _ (fetched others result short of_files ended) =
-        says_scheduled others result (fits short)
-        (after_rule (Scheduled (files schedule_file)) (λ items. Alone (ReplayedBy items))
-        others result ended)
-
-    says_replay : (reads : List Read) (result : Result Outcome Outcome) → AreOf files reads
-        → replay_by schedule_file (files file) graph reads (Ended result) → SaysSo result
-    says_replay reads result of_files ended =
-        says_fetched_schedule result
-        (after_fetch files schedule_file SCHEDULE_LIMIT
-        (λ schedule. Alone (Scheduled schedule) >>= (λ items. Alone (ReplayedBy items)))
-        reads result of_files ended)
+    says_by : (reads : List Read) (result : Result Outcome Outcome) → AreOf files reads
+        → by_items schedule_file Answers reads (Ended result) → SaysSo result
+    says_by reads result of_files ended =
+        says_items result
+        (after_items files schedule_file (λ items. Alone (Answers items)) reads result of_files
+        ended)
 
 answers_exit : (outcome : Outcome) (reads : List Read) (result : Result Outcome Outcome)
     → Alone (EndsWithReply outcome) reads (Ended result) → outcome_of result ≡ outcome
@@ -174,41 +185,93 @@ says_accepted_at files rule file reads result whole ended =
     subst (λ outcome. ExitSaysOf files (OnFile rule file Check) outcome.exit)
     (sym (answers_exit accepted reads result ended)) (whole, tt, refl)
 
--- a generated program, which was judged, is replayed
-module _ (files : List ℕ → List ℕ) (actors : ℕ) where
-  says_demo_end : (lines : List ℕ) (ended jobs : ℕ) (end : End)
-      → ProgramPasses files (Demo actors) → Ends end files (Demo actors)
-      → ExitSaysOf files (Demo actors) (demo_end actors lines ended jobs end).exit
-  says_demo_end lines ended jobs ends.Ran whole so = (whole, tt, so)
-  says_demo_end lines ended jobs (ends.Trapped kind at) whole so = (whole, tt, kind, at, so)
-  says_demo_end lines ended jobs (ends.Raced race) whole so = (whole, tt, race, so)
+-- what the reply to a run says, where the program passes
+module _ (files : List ℕ → List ℕ) (command : Command) (whole : ProgramPasses files command)
+    (fits : SecondFits files command) where
+  says_run : (text lines : List ℕ) (ended jobs : ℕ) (end : End)
+      → Ends (Stands end) files command
+      → ExitSaysOf files command (end_outcome text lines ended jobs end).exit
+  says_run text lines ended jobs ends.Ran so = (whole, fits, so)
+  says_run text lines ended jobs (ends.Trapped kind at) so = (whole, fits, kind, at, so)
 
-  abbrev DemoReplayed : Graph → Result Outcome Outcome → Type 0
-  DemoReplayed graph = Replayed (demo_outcome actors) graph (demo_items actors)
+  says_watched : (text : List ℕ) (output : Output) (race : Option Race)
+      → Ends (ending_by output race) files command
+      → ExitSaysOf files command (watched_outcome text output race).exit
+  says_watched text output None so =
+      says_run text output.lines output.ended output.jobs output.end so
+  says_watched text output (Some race) so = (whole, fits, race, so)
 
-  says_demo_replayed : (graph : Graph) (result : Result Outcome Outcome)
-      → ProgramPasses files (Demo actors) → IsGraphOf Concurrent (program actors) graph
-      → DemoReplayed graph result → ExitSaysOf files (Demo actors) (outcome_of result).exit
-  says_demo_replayed graph _ whole of_text (ends replay is) =
-      says_demo_end replay.lines replay.ended replay.jobs replay.end whole (record {
+  says_demo_end : (actors : ℕ) (lines : List ℕ) (ended jobs : ℕ) (end : End)
+      → Ends (Stands end) files command
+      → ExitSaysOf files command (demo_end actors lines ended jobs end).exit
+  says_demo_end actors lines ended jobs ends.Ran so = (whole, fits, so)
+  says_demo_end actors lines ended jobs (ends.Trapped kind at) so = (whole, fits, kind, at, so)
+
+-- the reply with which one ends
+replied : (files : List ℕ → List ℕ) (command : Command) (outcome : Outcome)
+    (result : Result Outcome Outcome) → EndsWithReply outcome result
+    → ExitSaysOf files command outcome.exit → ExitSaysOf files command (outcome_of result).exit
+replied files command outcome result is says =
+    subst (λ o. ExitSaysOf files command o.exit) (sym (ap outcome_of is)) says
+
+-- a program is run, or replayed and watched, by a schedule
+module _ (files : List ℕ → List ℕ) (rule : AsyncDefault) (file schedule_file : List ℕ)
+    (graph : Graph) (of_text : IsGraphOf rule (files file) graph) where
+  runs_say : ProgramPasses files (OnFile rule file (Run schedule_file)) → (items : List ℕ)
+      (result : Result Outcome Outcome) → length (files schedule_file) ≤ SCHEDULE_LIMIT
+      → IsItems (files schedule_file) items → Runs (files file) graph items result
+      → ExitSaysOf files (OnFile rule file (Run schedule_file)) (outcome_of result).exit
+  runs_say whole items result fits are is =
+      let output = output_of graph items in
+      replied files (OnFile rule file (Run schedule_file)) (run_outcome (files file) output) result
+      is
+      (says_run files (OnFile rule file (Run schedule_file)) whole fits (files file) output.lines
+      output.ended output.jobs output.end (record {
         graph = graph;
         of_text = of_text;
-        items = demo_items actors;
-        are_items = refl;
-        replay = replay;
-        is_replay = is;
+        items = items;
+        are_items = are;
         ends = refl;
+      }))
+
+  traces_say : ProgramPasses files (OnFile rule file (Trace schedule_file)) → (items : List ℕ)
+      (result : Result Outcome Outcome) → length (files schedule_file) ≤ SCHEDULE_LIMIT
+      → IsItems (files schedule_file) items → Traces (files file) graph items result
+      → ExitSaysOf files (OnFile rule file (Trace schedule_file)) (outcome_of result).exit
+  traces_say whole items _ fits are (ends replay is) =
+      says_watched files (OnFile rule file (Trace schedule_file)) whole fits (files file)
+      replay.output replay.race (record {
+        graph = graph;
+        of_text = of_text;
+        items = items;
+        are_items = are;
+        ends = (replay, is, refl);
       })
+
+-- a generated program, which was judged, is run
+module _ (files : List ℕ → List ℕ) (actors : ℕ) where
+  -- what is answered of its graph
+  abbrev demo_answer : Graph → Outcome
+  demo_answer graph = demo_outcome actors (output_of graph (demo_items actors))
 
   says_demo : (reads : List Read) (result : Result Outcome Outcome)
       → EndsAfterRule (IsJudgement Concurrent all_phases (program actors))
-      (λ graph. Alone (DemoReplayed graph)) reads result
+      (λ graph. Alone (EndsWithReply (demo_answer graph))) reads result
       → ExitSaysOf files (Demo actors) (outcome_of result).exit
   says_demo reads _ (refuses _ (breached list judges)) =
       record { short = tt; breaches = (list, judges.0, judges.1) }
   says_demo reads _ (gives _ result (passes graph judges) ended) =
-      says_demo_replayed graph result (record { short = tt; no_breach = judges.0 }) judges.1
-      (by_rule (DemoReplayed graph) reads result ended)
+      let output = output_of graph (demo_items actors) in
+      replied files (Demo actors) (demo_answer graph) result
+      (by_rule (EndsWithReply (demo_answer graph)) reads result ended)
+      (says_demo_end files (Demo actors) (record { short = tt; no_breach = judges.0 }) tt actors
+      output.lines output.ended output.jobs output.end (record {
+        graph = graph;
+        of_text = judges.1;
+        items = demo_items actors;
+        are_items = refl;
+        ends = refl;
+      }))
 
 says : (files : List ℕ → List ℕ) (command : Option Command) (reads : List Read)
     (result : Result Outcome Outcome) → AreOf files reads → course_of command reads (Ended result)
@@ -220,19 +283,25 @@ says files (Some (OnFile rule file Check)) reads result of_files ended =
     (λ graph reads result _ whole _. says_accepted_at files rule file reads result whole) reads
     result of_files ended
 says files (Some (OnFile rule file (Run schedule_file))) reads result of_files ended =
-    says_program files rule file (Run schedule_file) (replay_by schedule_file)
-    (λ graph reads result of_files whole of_text. says_replay files rule file (Run schedule_file)
-    schedule_file graph whole of_text (λ end so. so) (λ fits. fits) (λ fault is. (fault, is))
-    (λ long. long) reads result of_files) reads result of_files ended
+    says_program files rule file (Run schedule_file)
+    (λ text graph. by_items schedule_file (Runs text graph))
+    (λ graph reads result of_files whole of_text.
+    says_by files rule file (Run schedule_file) schedule_file whole (Runs (files file) graph)
+    (λ fits. fits) (λ fault is. (fault, is)) (λ long. long)
+    (runs_say files rule file schedule_file graph of_text whole) reads result of_files) reads
+    result of_files ended
 says files (Some (OnFile rule file (Trace schedule_file))) reads result of_files ended =
-    says_program files rule file (Trace schedule_file) (replay_by schedule_file)
-    (λ graph reads result of_files whole of_text. says_replay files rule file (Trace schedule_file)
-    schedule_file graph whole of_text (λ end so. so) (λ fits. fits) (λ fault is. (fault, is))
-    (λ long. long) reads result of_files) reads result of_files ended
+    says_program files rule file (Trace schedule_file)
+    (λ text graph. by_items schedule_file (Traces text graph))
+    (λ graph reads result of_files whole of_text.
+    says_by files rule file (Trace schedule_file) schedule_file whole (Traces (files file) graph)
+    (λ fits. fits) (λ fault is. (fault, is)) (λ long. long)
+    (traces_say files rule file schedule_file graph of_text whole) reads result of_files) reads
+    result of_files ended
 says files (Some (Demo actors)) reads result of_files ended =
     says_demo files actors reads result
     (after_rule (IsJudgement Concurrent all_phases (program actors))
-    (λ graph. Alone (DemoReplayed files actors graph)) reads result ended)
+    (λ graph. Alone (EndsWithReply (demo_answer files actors graph))) reads result ended)
 
 pub reply_says : (files : List ℕ → List ℕ) (command : Option Command) (reads : List Read)
     (outcome : Outcome) → AreOf files reads → Reply command reads outcome
@@ -262,77 +331,13 @@ passes_at files command Memory says _ _ = absurd says
 pub says_no_race : (files : List ℕ → List ℕ) (command : Command) (exit : Exit)
     → ExitSays files (Some command) exit → phases_of command ≡ all_phases
     → ProgramFits files command → exit ≢ Breached → (graph : Graph)
-    × IsGraphOf (default_of command) (program_of files command) graph
-    × (IsRunnable graph → NeverRaces graph)
+    × IsGraphOf (default_of command) (program_of files command) graph × NeverRaces graph
 says_no_race files command exit says all short not_breached =
     let it = passes_at files command exit says short not_breached in
-    let (graph, of_text) = some_graph_of (default_of command) (program_of files command)
-    (subst (λ phases. Breaches (default_of command) phases (program_of files command) []) all
-    it.no_breach) in
-    (graph, of_text, λ runs items. never_races graph runs (reach graph items))
-
--- no race stops a replay of a runnable graph
-never_raced : (graph : Graph) (items : List ℕ) (replay : Replay) → IsRunnable graph
-    → IsReplay graph items replay → (race : Race) → replay.end ≡ ends.Raced race → ⊥
-never_raced graph items replay runs is race raced =
-    by (reach graph items).halted (sym same ∙ raced) where
-      same : replay.end ≡ end_of (reach graph items)
-      same = ap (λ replay. replay.end)
-          (one_replay graph items replay (whole_replay graph items) is
-          (runnable_whole graph runs items))
-
-      by : (halted : Option (TrapKind × ℕ)) → end_by halted ≡ ends.Raced race → ⊥
-      by None e = cc
-      by (Some trap) e = cc
-
-never_raced_so : (rule : AsyncDefault) (text : List ℕ) (AreItems : List ℕ → Type 0) (graph : Graph)
-    → IsGraphOf rule text graph → IsRunnable graph
-    → (race : Race) → EndsSo rule (ends.Raced race) text AreItems → ⊥
-never_raced_so rule text AreItems graph of_text runs race so =
-    never_raced so.graph so.items so.replay
-    (subst IsRunnable (one_graph_of rule text graph so.graph of_text so.of_text) runs) so.is_replay
-    race
-    so.ends
-
-never_raced_at : (files : List ℕ → List ℕ) (command : Command) (graph : Graph)
-    → IsGraphOf (default_of command) (program_of files command) graph → IsRunnable graph
-    → (race : Race)
-    → Ends (ends.Raced race) files command → ⊥
-never_raced_at files (OnFile rule file action) graph of_text runs race raced =
-    by (schedule_file_in action) raced where
-      by : (schedule_file : Option (List ℕ))
-          → FileEnds (ends.Raced race) files rule file schedule_file → ⊥
-      by None raced = cc
-      by (Some schedule_file) raced =
-          never_raced_so rule (files file) (IsItems (files schedule_file)) graph of_text runs race
-          raced
-never_raced_at files (Demo actors) graph of_text runs race raced =
-    never_raced_so Concurrent (program actors) (λ items. items ≡ demo_items actors) graph of_text
-    runs race raced
-
--- so no such program has the exit of a race
-pub says_not_raced : (files : List ℕ → List ℕ) (command : Command) (graph : Graph) (exit : Exit)
-    → IsGraphOf (default_of command) (program_of files command) graph → IsRunnable graph
-    → ExitSays files (Some command) exit → exit ≢ Raced
-says_not_raced files command graph exit of_text runs says raced =
-    let (_, _, race, ends_so) = subst (ExitSaysOf files command) raced says in
-    never_raced_at files command graph of_text runs race ends_so
-
--- a replay of a program ends in one way by items of which there is one list
-pub one_end_by : (AreItems : List ℕ → Type 0)
-    → ((a b : List ℕ) → AreItems a → AreItems b → a ≡ b) → (rule : AsyncDefault) (text : List ℕ)
-    (a b : End) → EndsSo rule a text AreItems → EndsSo rule b text AreItems → a ≡ b
-one_end_by AreItems one rule text a b is_a is_b =
-    let graph : is_a.graph ≡ is_b.graph =
-    one_graph_of rule text is_a.graph is_b.graph is_a.of_text is_b.of_text in
-    let items : is_a.items ≡ is_b.items =
-    one is_a.items is_b.items is_a.are_items is_b.are_items in
-    let replay = subst (λ graph. IsReplay graph is_b.items is_a.replay) graph
-    (subst (λ items. IsReplay is_a.graph items is_a.replay) items is_a.is_replay) in
-    sym is_a.ends ∙ ap (λ replay. replay.end)
-    (one_replay is_b.graph is_b.items is_a.replay is_b.replay replay is_b.is_replay) ∙ is_b.ends
-
--- so by the items of a schedule
-pub one_end : (rule : AsyncDefault) (text schedule : List ℕ) (a b : End)
-    → EndsSo rule a text (IsItems schedule) → EndsSo rule b text (IsItems schedule) → a ≡ b
-one_end rule text schedule = one_end_by (IsItems schedule) (one_items schedule) rule text
+    let accepts = subst (λ phases. Breaches (default_of command) phases (program_of files command)
+    []) all it.no_breach in
+    let (graph, of_text) = some_graph_of (default_of command) (program_of files command) accepts in (
+      graph,
+      of_text,
+      accepted_never_races (default_of command) (program_of files command) graph accepts of_text,
+    )

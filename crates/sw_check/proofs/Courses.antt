@@ -2,10 +2,11 @@
 use Rattle.std.proofs.Common.{◌≡◌, ◌⊎◌, ℕ, List, [], ◌++◌, Option, Some, None, Result, Ok, Err}
 use Rattle.sw_graph.specs.declared.graph.Graph.{Graph}
 use Rattle.sw_replay.specs.declared.text.TheConstants.{SCHEDULE_LIMIT}
+use Rattle.sw_replay.specs.Output.{output_of}
 use Rattle.sw_check_parts.specs.declared.TheConstants.{PROGRAM_LIMIT}
 use Rattle.sw_check_parts.specs.declared.outcome.Outcome.{Outcome}
 use Rattle.sw_check_parts.specs.Course.{Read, AreOf, Underway, Ended, Part, Alone, Fetched, ◌>>=◌}
-use Rattle.sw_check_parts.specs.Lawful.{CanEnd, IsLawful, IsPrefixOf}
+use Rattle.sw_check_parts.specs.Lawful.{CanEnd, HasOneResult, HasResult, IsLawful, IsPrefixOf}
 use Rattle.sw_check_parts.proofs.LawfulParts.{can_end_alone, can_end_fetched, can_end_then}
 use Rattle.sw_check_parts.proofs.LawfulParts.{lawful_alone, lawful_fetched, lawful_then}
 use Rattle.sw_decls.specs.declared.signature.AsyncDefault.{AsyncDefault}
@@ -15,15 +16,15 @@ use Rattle.sw_verdict.specs.Verdict.{Breaches, Refuses}
 use Rattle.sw_verdict.proofs.GraphsExist.{some_graph}
 use Rattle.sw_verdict.proofs.LoweredTexts.{decided_to_size, some_graph_of}
 use Rattle.sw_verdict.proofs.Verdicts.{decided}
-use Rattle.sw_check.specs.Reply.{usage, accepted, EndsWithReply, IsJudgement, Scheduled, Replayed}
-use Rattle.sw_check.specs.Reply.{after_verdict, course_of, demo_course, demo_items, demo_outcome}
-use Rattle.sw_check.specs.Reply.{phases_for, replay_outcome, schedule_file_in}
-use Rattle.sw_check.specs.Reply.{Reply, at_end, before_end, replay_by}
+use Rattle.sw_check.specs.Reply.{usage, accepted, EndsWithReply, IsJudgement, Runs, Scheduled}
+use Rattle.sw_check.specs.Reply.{Traces, after_verdict, by_items, course_of, demo_course, demo_items}
+use Rattle.sw_check.specs.Reply.{demo_outcome, items_in, phases_for, run_outcome}
+use Rattle.sw_check.specs.Reply.{Reply, at_end, before_end}
 use Rattle.sw_gen.specs.Program.{program}
 use Rattle.sw_check_words.specs.Words.{Action, Check, Run, Trace, Command, OnFile, Demo}
 use Rattle.sw_check.proofs.Pieces.{program_then}
 use Rattle.sw_check.proofs.RuleLemmas.{answers_one, answers_some, judged_one, judged_some}
-use Rattle.sw_check.proofs.RuleLemmas.{replayed_one, replayed_some, scheduled_one, scheduled_some}
+use Rattle.sw_check.proofs.RuleLemmas.{scheduled_one, scheduled_some, traces_one, traces_some}
 
 -- a program is fetched and judged, and something goes on from its text and its graph
 module _ (rule : AsyncDefault) (phases : List Phase) (file : List ℕ)
@@ -51,40 +52,47 @@ module _ (rule : AsyncDefault) (phases : List Phase) (file : List ℕ)
       (judged_some rule phases text (have text) (either text)))
       (each text))
 
--- a schedule is fetched, and its items replay a graph
-module _ (file text : List ℕ) (graph : Graph) where
-  abbrev replayed_by : List ℕ → Part Outcome
-  replayed_by items = Alone (Replayed (replay_outcome text) graph items)
+-- a schedule is fetched, and what is answered follows from its items
+module _ (file : List ℕ) where
+  lawful_items : IsLawful (items_in file)
+  lawful_items =
+      lawful_then (Fetched file SCHEDULE_LIMIT) (λ schedule. Alone (Scheduled schedule))
+      (lawful_fetched file SCHEDULE_LIMIT)
+      (λ schedule. lawful_alone (Scheduled schedule) (scheduled_one schedule))
 
-  abbrev by_items : List ℕ → Part Outcome
-  by_items schedule = Alone (Scheduled schedule) >>= replayed_by
+  can_end_items : CanEnd (items_in file)
+  can_end_items =
+      can_end_then (Fetched file SCHEDULE_LIMIT) (λ schedule. Alone (Scheduled schedule))
+      (can_end_fetched file SCHEDULE_LIMIT)
+      (λ schedule. can_end_alone (Scheduled schedule) (scheduled_some schedule))
 
-  lawful_replay : IsLawful (replay_by file text graph)
-  lawful_replay =
-      lawful_then (Fetched file SCHEDULE_LIMIT) by_items (lawful_fetched file SCHEDULE_LIMIT)
-      (λ schedule. lawful_then (Alone (Scheduled schedule)) replayed_by
-      (lawful_alone (Scheduled schedule) (scheduled_one schedule))
-      (λ items. lawful_alone (Replayed (replay_outcome text) graph items)
-      (replayed_one (replay_outcome text) graph items)))
+  module _ (Answers : List ℕ → Result Outcome Outcome → Type 0) where
+    lawful_by : ((items : List ℕ) → HasOneResult (Answers items)) → IsLawful (by_items file Answers)
+    lawful_by one =
+        lawful_then (items_in file) (λ items. Alone (Answers items)) lawful_items
+        (λ items. lawful_alone (Answers items) (one items))
 
-  can_end_replay : CanEnd (replay_by file text graph)
-  can_end_replay =
-      can_end_then (Fetched file SCHEDULE_LIMIT) by_items (can_end_fetched file SCHEDULE_LIMIT)
-      (λ schedule. can_end_then (Alone (Scheduled schedule)) replayed_by
-      (can_end_alone (Scheduled schedule) (scheduled_some schedule))
-      (λ items. can_end_alone (Replayed (replay_outcome text) graph items)
-      (replayed_some (replay_outcome text) graph items)))
+    can_end_by : ((items : List ℕ) → HasResult (Answers items)) → CanEnd (by_items file Answers)
+    can_end_by some =
+        can_end_then (items_in file) (λ items. Alone (Answers items)) can_end_items
+        (λ items. can_end_alone (Answers items) (some items))
 
 -- what follows the verdict
-lawful_after : (schedule_file : Option (List ℕ)) (text : List ℕ) (graph : Graph)
-    → IsLawful (after_verdict schedule_file text graph)
-lawful_after None text graph = lawful_alone (EndsWithReply accepted) (answers_one accepted)
-lawful_after (Some file) text graph = lawful_replay file text graph
+lawful_after : (action : Action) (text : List ℕ) (graph : Graph)
+    → IsLawful (after_verdict action text graph)
+lawful_after Check text graph = lawful_alone (EndsWithReply accepted) (answers_one accepted)
+lawful_after (Run file) text graph =
+    lawful_by file (Runs text graph)
+    (λ items. answers_one (run_outcome text (output_of graph items)))
+lawful_after (Trace file) text graph = lawful_by file (Traces text graph) (traces_one text graph)
 
-can_end_after : (schedule_file : Option (List ℕ)) (text : List ℕ) (graph : Graph)
-    → CanEnd (after_verdict schedule_file text graph)
-can_end_after None text graph = can_end_alone (EndsWithReply accepted) (answers_some accepted)
-can_end_after (Some file) text graph = can_end_replay file text graph
+can_end_after : (action : Action) (text : List ℕ) (graph : Graph)
+    → CanEnd (after_verdict action text graph)
+can_end_after Check text graph = can_end_alone (EndsWithReply accepted) (answers_some accepted)
+can_end_after (Run file) text graph =
+    can_end_by file (Runs text graph)
+    (λ items. answers_some (run_outcome text (output_of graph items)))
+can_end_after (Trace file) text graph = can_end_by file (Traces text graph) (traces_some text graph)
 
 -- the phases of an action accept or refuse a text, and one that they accept has a graph
 decided_for : (rule : AsyncDefault) (action : Action) (text : List ℕ)
@@ -99,41 +107,40 @@ graph_for rule Check = some_graph_of rule
 graph_for rule (Run schedule_file) = some_graph_of rule
 graph_for rule (Trace schedule_file) = some_graph rule
 
--- a program is generated, judged and replayed
+-- a program is generated, judged and run
 module _ (actors : ℕ) where
   abbrev demo_judged : Result Graph Outcome → Type 0
   demo_judged = IsJudgement Concurrent all_phases (program actors)
 
-  abbrev demo_replayed : Graph → Result Outcome Outcome → Type 0
-  demo_replayed graph = Replayed (demo_outcome actors) graph (demo_items actors)
+  -- what is answered of its graph
+  abbrev demo_answer : Graph → Outcome
+  demo_answer graph = demo_outcome actors (output_of graph (demo_items actors))
 
   lawful_demo : IsLawful (demo_course actors)
   lawful_demo =
-      lawful_then (Alone demo_judged) (λ graph. Alone (demo_replayed graph))
+      lawful_then (Alone demo_judged) (λ graph. Alone (EndsWithReply (demo_answer graph)))
       (lawful_alone demo_judged (judged_one Concurrent all_phases (program actors)))
-      (λ graph. lawful_alone (demo_replayed graph)
-      (replayed_one (demo_outcome actors) graph (demo_items actors)))
+      (λ graph. lawful_alone (EndsWithReply (demo_answer graph)) (answers_one (demo_answer graph)))
 
   can_end_demo : CanEnd (demo_course actors)
   can_end_demo =
-      can_end_then (Alone demo_judged) (λ graph. Alone (demo_replayed graph))
+      can_end_then (Alone demo_judged) (λ graph. Alone (EndsWithReply (demo_answer graph)))
       (can_end_alone demo_judged (judged_some Concurrent all_phases (program actors)
       (some_graph_of Concurrent (program actors)) (decided Concurrent (program actors))))
-      (λ graph. can_end_alone (demo_replayed graph)
-      (replayed_some (demo_outcome actors) graph (demo_items actors)))
+      (λ graph. can_end_alone (EndsWithReply (demo_answer graph))
+      (answers_some (demo_answer graph)))
 
 pub lawful : (command : Option Command) → IsLawful (course_of command)
 lawful None = lawful_alone (EndsWithReply usage) (answers_one usage)
 lawful (Some (OnFile rule file action)) =
-    lawful_program rule (phases_for action) file (after_verdict (schedule_file_in action))
-    (lawful_after (schedule_file_in action))
+    lawful_program rule (phases_for action) file (after_verdict action) (lawful_after action)
 lawful (Some (Demo actors)) = lawful_demo actors
 
 pub can_end : (command : Option Command) → CanEnd (course_of command)
 can_end None = can_end_alone (EndsWithReply usage) (answers_some usage)
 can_end (Some (OnFile rule file action)) =
-    can_end_program rule (phases_for action) file (after_verdict (schedule_file_in action))
-    (graph_for rule action) (decided_for rule action) (can_end_after (schedule_file_in action))
+    can_end_program rule (phases_for action) file (after_verdict action)
+    (graph_for rule action) (decided_for rule action) (can_end_after action)
 can_end (Some (Demo actors)) = can_end_demo actors
 
 reply_of : (command : Option Command) (reads : List Read) (result : Result Outcome Outcome)

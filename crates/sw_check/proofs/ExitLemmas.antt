@@ -1,12 +1,16 @@
 -- The exits of replies.
 use Rattle.std.proofs.Common.{◌≡◌, ◌≢◌, inl, inr, true, false, ℕ, List, [], ◌++◌}
 use Rattle.std.proofs.Common.{Option, Some, None, option_map, Ok, Err, refl, ap, ◌∙◌, subst}
-use Rattle.std.proofs.Common.{append-nil}
+use Rattle.std.proofs.Common.{◌∷◌, Result, append-nil, arith, length}
+use Rattle.std.specs.List.{AllByRecursion}
 use Rattle.sw_graph.specs.declared.graph.Graph.{Graph}
 use Rattle.sw_replay.specs.declared.output.End.{End}
-use Rattle.sw_replay.specs.declared.output.End.TheVariants.{Ran, Trapped, Raced}
+use Rattle.sw_replay.specs.declared.output.End.TheVariants.{Ran, Trapped}
+use Rattle.sw_replay.specs.declared.output.Output.{Output}
 use Rattle.sw_replay.specs.declared.output.Replay.{Replay}
 use Rattle.sw_replay.specs.declared.text.TheConstants.{SCHEDULE_LIMIT}
+use Rattle.sw_replay.specs.Output.{output_of}
+use Rattle.sw_value.specs.declared.race.Race.{Race}
 use Rattle.sw_check_parts.specs.declared.TheConstants.{PROGRAM_LIMIT}
 use Rattle.sw_check_parts.specs.declared.exit.Exit.{Exit}
 use Rattle.sw_check_parts.specs.declared.exit.Exit.TheVariants as exits
@@ -19,15 +23,15 @@ use Rattle.sw_check_parts.proofs.Inversions.{EndsBy, refuses_alone}
 use Rattle.sw_check_parts.proofs.Inversions.{refuses_fetched, refuses_then, ends_alone, ends_then}
 use Rattle.sw_decls.specs.declared.signature.AsyncDefault.{AsyncDefault}
 use Rattle.sw_decls.specs.declared.signature.AsyncDefault.TheVariants.{Concurrent}
-use Rattle.sw_verdict.specs.Phases.{Phase, all_phases}
+use Rattle.sw_verdict.specs.Phases.{Phase, all_phases, phases_to_size}
+use Rattle.sw_check.specs.Claims.{phases_of}
 use Rattle.sw_check.specs.Reply.{usage, accepted, end_outcome, EndsWithReply, IsJudgement, breached}
-use Rattle.sw_check.specs.Reply.{Scheduled, has_fault, Replayed, ends, course_of, Reply, at_end}
-use Rattle.sw_check.specs.Reply.{before_end, demo_course, demo_end, demo_exits, demo_items}
-use Rattle.sw_check.specs.Reply.{demo_outcome}
-use Rattle.sw_check.specs.Reply.{exits_of, file_course, file_exits, phases_for, replay_by}
-use Rattle.sw_check.specs.Reply.{replay_outcome, schedule_file_in}
+use Rattle.sw_check.specs.Reply.{Scheduled, has_fault, Runs, Traces, ends, course_of, Reply, at_end}
+use Rattle.sw_check.specs.Reply.{before_end, by_items, demo_course, demo_end, demo_exits, demo_items}
+use Rattle.sw_check.specs.Reply.{demo_outcome, exits_of, file_course, file_exits, items_in}
+use Rattle.sw_check.specs.Reply.{replay_outcome, run_outcome, watched_outcome}
 use Rattle.sw_gen.specs.Program.{program}
-use Rattle.sw_check_words.specs.Words.{Command, OnFile, Demo}
+use Rattle.sw_check_words.specs.Words.{Action, Check, Run, Trace, Command, OnFile, Demo}
 use Rattle.sw_check.proofs.Pieces.{program_then}
 
 -- a reply that has one of these exits: it reports no failure, and nothing is written where the exit
@@ -64,9 +68,9 @@ answers_nothing_else : (Q : Outcome → Type 0) (outcome other : Outcome)
     → EndsWithReply outcome (Err other) → Q other
 answers_nothing_else Q outcome other is = cc
 
-replayed_nothing_else : (Q : Outcome → Type 0) (answer : Replay → Outcome) (graph : Graph)
-    (items : List ℕ) (other : Outcome) → Replayed answer graph items (Err other) → Q other
-replayed_nothing_else Q answer graph items other is = elim is [ ]
+traces_nothing_else : (Q : Outcome → Type 0) (text : List ℕ) (graph : Graph) (items : List ℕ)
+    (other : Outcome) → Traces text graph items (Err other) → Q other
+traces_nothing_else Q text graph items other is = elim is [ ]
 
 -- a program that is fetched and judged, and the rest
 program_refusals : (among : List Exit) (rule : AsyncDefault) (phases : List Phase) (file : List ℕ)
@@ -82,28 +86,35 @@ program_refusals among rule phases file rest long refused others =
     (judged_exit among rule phases text refused))
     (others text))
 
--- a schedule that is fetched, and its replay
-replay_refusals : (among : List Exit) (file text : List ℕ) (graph : Graph)
+-- a schedule that is fetched, and what is answered
+items_refusals : (among : List Exit) (file : List ℕ)
+    (Answers : List ℕ → Result Outcome Outcome → Type 0)
     → IsOneOf among exits.TooLong → IsOneOf among exits.BadSchedule
-    → RefusesBy (HasExit among) (replay_by file text graph)
-replay_refusals among file text graph long bad =
-    refuses_then (HasExit among) (Fetched file SCHEDULE_LIMIT) _
+    → ((items : List ℕ) (other : Outcome) → Answers items (Err other) → HasExit among other)
+    → RefusesBy (HasExit among) (by_items file Answers)
+items_refusals among file Answers long bad nothing_else =
+    refuses_then (HasExit among) (items_in file) _
+    (refuses_then (HasExit among) (Fetched file SCHEDULE_LIMIT) _
     (refuses_fetched (HasExit among) file SCHEDULE_LIMIT (too_long_exit among long))
-    (λ schedule. refuses_then (HasExit among) (Alone (Scheduled schedule)) _
-    (refuses_alone (HasExit among) (Scheduled schedule) (scheduled_exit among schedule bad))
-    (λ items. refuses_alone (HasExit among) (Replayed (replay_outcome text) graph items)
-    (replayed_nothing_else (HasExit among) (replay_outcome text) graph items)))
+    (λ schedule. refuses_alone (HasExit among) (Scheduled schedule)
+    (scheduled_exit among schedule bad)))
+    (λ items. refuses_alone (HasExit among) (Answers items) (nothing_else items))
 
--- the refusals of a command on a file, which may have a schedule
-file_refusals : (rule : AsyncDefault) (phases : List Phase) (file : List ℕ)
-    (schedule_file : Option (List ℕ))
-    → RefusesBy (HasExit (file_exits schedule_file)) (file_course rule phases file schedule_file)
-file_refusals rule phases file None =
-    program_refusals _ rule phases file _ (inl refl) (inr (inl refl))
+-- the refusals of a command on a file
+file_refusals : (rule : AsyncDefault) (file : List ℕ) (action : Action)
+    → RefusesBy (HasExit (file_exits action)) (file_course rule file action)
+file_refusals rule file Check =
+    program_refusals _ rule all_phases file _ (inl refl) (inr (inl refl))
     (λ text graph. refuses_alone _ (EndsWithReply accepted) (answers_nothing_else _ accepted))
-file_refusals rule phases file (Some schedule_file) =
-    program_refusals _ rule phases file _ (inl refl) (inr (inl refl))
-    (λ text graph. replay_refusals _ schedule_file text graph (inl refl) (inr (inr (inl refl))))
+file_refusals rule file (Run schedule_file) =
+    program_refusals _ rule all_phases file _ (inl refl) (inr (inl refl))
+    (λ text graph. items_refusals _ schedule_file (Runs text graph) (inl refl)
+    (inr (inr (inl refl)))
+    (λ items. answers_nothing_else _ (run_outcome text (output_of graph items))))
+file_refusals rule file (Trace schedule_file) =
+    program_refusals _ rule phases_to_size file _ (inl refl) (inr (inl refl))
+    (λ text graph. items_refusals _ schedule_file (Traces text graph) (inl refl)
+    (inr (inr (inl refl))) (traces_nothing_else _ text graph))
 
 demo_refusals : (actors : ℕ) → RefusesBy (HasExit demo_exits) (demo_course actors)
 demo_refusals actors =
@@ -111,13 +122,12 @@ demo_refusals actors =
     (refuses_alone (HasExit demo_exits) (IsJudgement Concurrent all_phases (program actors))
     (judged_exit demo_exits Concurrent all_phases (program actors) (inl refl)))
     (λ graph. refuses_alone (HasExit demo_exits)
-    (Replayed (demo_outcome actors) graph (demo_items actors))
-    (replayed_nothing_else (HasExit demo_exits) (demo_outcome actors) graph (demo_items actors)))
+    (EndsWithReply (demo_outcome actors (output_of graph (demo_items actors))))
+    (answers_nothing_else _ (demo_outcome actors (output_of graph (demo_items actors)))))
 
 refusals : (command : Option Command) → RefusesBy (HasExit (exits_of command)) (course_of command)
 refusals None = refuses_alone _ (EndsWithReply usage) (answers_nothing_else _ usage)
-refusals (Some (OnFile rule file action)) =
-    file_refusals rule (phases_for action) file (schedule_file_in action)
+refusals (Some (OnFile rule file action)) = file_refusals rule file action
 refusals (Some (Demo actors)) = demo_refusals actors
 
 -- the replies at the end
@@ -127,28 +137,35 @@ answers_end among outcome other end is =
     let same : outcome ≡ other = cc (is) in
     subst (HasEndExit among) same end
 
-abbrev replay_exits : List Exit
-replay_exits = file_exits (Some [])
-
-replayed_end : (text : List ℕ) (graph : Graph) (items : List ℕ) (outcome : Outcome)
-    → Replayed (replay_outcome text) graph items (Ok outcome) → HasEndExit replay_exits outcome
-replayed_end text graph items _ (ends replay is) = by replay.end where
+run_ends : (among : List Exit) → IsOneOf among exits.Done → IsOneOf among exits.Trapped
+    → (text : List ℕ) (output : Output) → HasEndExit among (run_outcome text output)
+run_ends among done trapped text output = by output.end where
   by : (end : End)
-      → HasEndExit replay_exits (end_outcome text replay.lines replay.ended replay.jobs end)
-  by Ran = record { exit = inr (inr (inr (inl refl))); plain = refl; speaks = refl }
-  by (Trapped kind at) =
-      record { exit = inr (inr (inr (inr (inl refl)))); plain = refl; speaks = refl }
-  by (Raced race) =
+      → HasEndExit among (end_outcome text output.lines output.ended output.jobs end)
+  by Ran = record { exit = done; plain = refl; speaks = refl }
+  by (Trapped kind at) = record { exit = trapped; plain = refl; speaks = refl }
+
+replay_end : (text schedule_file : List ℕ) (replay : Replay)
+    → HasEndExit (file_exits (Trace schedule_file)) (replay_outcome text replay)
+replay_end text schedule_file replay = by replay.race where
+  by : (race : Option Race) → HasEndExit (file_exits (Trace schedule_file))
+      (watched_outcome text replay.output race)
+  by None = run_ends _ (inr (inr (inr (inl refl)))) (inr (inr (inr (inr (inl refl))))) text
+      replay.output
+  by (Some race) =
       record { exit = inr (inr (inr (inr (inr (inl refl))))); plain = refl; speaks = refl }
 
-demo_ends : (actors : ℕ) (graph : Graph) (items : List ℕ) (outcome : Outcome)
-    → Replayed (demo_outcome actors) graph items (Ok outcome) → HasEndExit demo_exits outcome
-demo_ends actors graph items _ (ends replay is) = by replay.end where
+trace_ends : (schedule_file text : List ℕ) (graph : Graph) (items : List ℕ) (outcome : Outcome)
+    → Traces text graph items (Ok outcome)
+    → HasEndExit (file_exits (Trace schedule_file)) outcome
+trace_ends schedule_file text graph items _ (ends replay is) = replay_end text schedule_file replay
+
+demo_ends : (actors : ℕ) (output : Output) → HasEndExit demo_exits (demo_outcome actors output)
+demo_ends actors output = by output.end where
   by : (end : End)
-      → HasEndExit demo_exits (demo_end actors replay.lines replay.ended replay.jobs end)
+      → HasEndExit demo_exits (demo_end actors output.lines output.ended output.jobs end)
   by Ran = record { exit = inr (inl refl); plain = refl; speaks = refl }
   by (Trapped kind at) = record { exit = inr (inr (inl refl)); plain = refl; speaks = refl }
-  by (Raced race) = record { exit = inr (inr (inr (inl refl))); plain = refl; speaks = refl }
 
 program_ends : (among : List Exit) (rule : AsyncDefault) (phases : List Phase) (file : List ℕ)
     (rest : List ℕ → Graph → Part Outcome)
@@ -159,35 +176,61 @@ program_ends among rule phases file rest others =
     (λ _ text _. ends_then (HasEndExit among) (Alone (IsJudgement rule phases text)) (rest text)
     (λ _ graph _. others text graph))
 
-replay_ends : (file text : List ℕ) (graph : Graph)
-    → EndsBy (HasEndExit replay_exits) (replay_by file text graph)
-replay_ends file text graph =
-    ends_then (HasEndExit replay_exits) (Fetched file SCHEDULE_LIMIT) _
-    (λ _ schedule _. ends_then (HasEndExit replay_exits) (Alone (Scheduled schedule)) _
-    (λ _ items _. ends_alone (HasEndExit replay_exits) (Replayed (replay_outcome text) graph items)
-    (replayed_end text graph items)))
+items_end : (among : List Exit) (file : List ℕ)
+    (Answers : List ℕ → Result Outcome Outcome → Type 0)
+    → ((items : List ℕ) (outcome : Outcome) → Answers items (Ok outcome) → HasEndExit among outcome)
+    → EndsBy (HasEndExit among) (by_items file Answers)
+items_end among file Answers each =
+    ends_then (HasEndExit among) (items_in file) _
+    (λ _ items _. ends_alone (HasEndExit among) (Answers items) (each items))
 
-file_ends : (rule : AsyncDefault) (phases : List Phase) (file : List ℕ)
-    (schedule_file : Option (List ℕ))
-    → EndsBy (HasEndExit (file_exits schedule_file)) (file_course rule phases file schedule_file)
-file_ends rule phases file None =
-    program_ends _ rule phases file _ (λ text graph. ends_alone _ (EndsWithReply accepted)
+file_ends : (rule : AsyncDefault) (file : List ℕ) (action : Action)
+    → EndsBy (HasEndExit (file_exits action)) (file_course rule file action)
+file_ends rule file Check =
+    program_ends _ rule all_phases file _ (λ text graph. ends_alone _ (EndsWithReply accepted)
     (λ outcome is. answers_end _ accepted outcome
     (record { exit = inr (inr (inl refl)); plain = refl; speaks = refl }) is))
-file_ends rule phases file (Some schedule_file) =
-    program_ends _ rule phases file (replay_by schedule_file) (replay_ends schedule_file)
+file_ends rule file (Run schedule_file) =
+    program_ends _ rule all_phases file (λ text graph. by_items schedule_file (Runs text graph))
+    (λ text graph. items_end _ schedule_file (Runs text graph)
+    (λ items outcome is. answers_end _ (run_outcome text (output_of graph items)) outcome
+    (run_ends _ (inr (inr (inr (inl refl)))) (inr (inr (inr (inr (inl refl))))) text
+    (output_of graph items)) is))
+file_ends rule file (Trace schedule_file) =
+    program_ends _ rule phases_to_size file
+    (λ text graph. by_items schedule_file (Traces text graph))
+    (λ text graph. items_end _ schedule_file (Traces text graph)
+    (trace_ends schedule_file text graph))
 
 at_ends : (command : Option Command) → EndsBy (HasEndExit (exits_of command)) (course_of command)
 at_ends None = ends_alone _ (EndsWithReply usage)
     (λ outcome is. answers_end _ usage outcome
     (record { exit = inl refl; plain = refl; speaks = refl }) is)
-at_ends (Some (OnFile rule file action)) =
-    file_ends rule (phases_for action) file (schedule_file_in action)
+at_ends (Some (OnFile rule file action)) = file_ends rule file action
 at_ends (Some (Demo actors)) =
     ends_then (HasEndExit demo_exits) (Alone (IsJudgement Concurrent all_phases (program actors))) _
     (λ _ graph _. ends_alone (HasEndExit demo_exits)
-    (Replayed (demo_outcome actors) graph (demo_items actors))
-    (demo_ends actors graph (demo_items actors)))
+    (EndsWithReply (demo_outcome actors (output_of graph (demo_items actors))))
+    (λ outcome is. answers_end _ (demo_outcome actors (output_of graph (demo_items actors))) outcome
+    (demo_ends actors (output_of graph (demo_items actors))) is))
+
+-- a race is none of these exits
+unraced : (among : List Exit) → AllByRecursion (λ exit. exits.Raced ≢ exit) among
+    → IsOneOf among exits.Raced → ⊥
+unraced [] tt is = is
+unraced (exit ∷ among) (not, others) (inl is) = not is
+unraced (exit ∷ among) (not, others) (inr is) = unraced among others is
+
+-- nor is it one of a command for which all phases count
+pub exits_unraced : (command : Command) → phases_of command ≡ all_phases
+    → IsOneOf (exits_of (Some command)) exits.Raced → ⊥
+exits_unraced (OnFile rule file Check) all is =
+    unraced (file_exits Check) (λ e. cc, (λ e. cc, (λ e. cc, tt))) is
+exits_unraced (OnFile rule file (Run schedule_file)) all is =
+    unraced (file_exits (Run schedule_file))
+    (λ e. cc, (λ e. cc, (λ e. cc, (λ e. cc, (λ e. cc, tt))))) is
+exits_unraced (OnFile rule file (Trace schedule_file)) all is = omega (arith, ap length all)
+exits_unraced (Demo actors) all is = unraced demo_exits (λ e. cc, (λ e. cc, (λ e. cc, tt))) is
 
 pub end_exit : (command : Option Command) (reads : List Read) (outcome : Outcome)
     → course_of command reads (Ended (Ok outcome)) → IsOneOf (exits_of command) outcome.exit

@@ -1,9 +1,13 @@
 -- No two exits say what holds of the same words and files.
 use Rattle.std.proofs.Common.{◌≡◌, ℕ, ◌≤◌, inl, inr, List, length, Option, Some, None, refl}
 use Rattle.std.proofs.Common.{sym}
-use Rattle.std.proofs.Common.{ap, ◌∙◌}
-use Rattle.sw_replay.specs.declared.output.End.{End}
+use Rattle.std.proofs.Common.{ap, ◌∙◌, subst}
+use Rattle.sw_graph.specs.declared.graph.Graph.{Graph}
 use Rattle.sw_replay.specs.declared.output.End.TheVariants as ends
+use Rattle.sw_replay.specs.Items.{IsItems}
+use Rattle.sw_replay.proofs.ReplayLemmas.{one_replay}
+use Rattle.sw_replay.proofs.ScheduleLaws.{one_list as one_items}
+use Rattle.sw_verdict.proofs.OneLowered.{one_graph_of}
 use Rattle.sw_replay.specs.declared.text.TheConstants.{SCHEDULE_LIMIT}
 use Rattle.sw_replay.proofs.ScheduleLaws.{never_both as items_and_fault}
 use Rattle.sw_check_parts.specs.declared.TheConstants.{PROGRAM_LIMIT}
@@ -17,46 +21,70 @@ use Rattle.sw_decls.specs.declared.signature.AsyncDefault.{AsyncDefault}
 use Rattle.sw_decls.specs.declared.signature.AsyncDefault.TheVariants.{Concurrent}
 use Rattle.sw_verdict.specs.Verdict.{Accepts, Refuses}
 use Rattle.sw_verdict.proofs.Verdicts.{never_both}
-use Rattle.sw_check.specs.Claims.{Ends, ProgramIsRefused, ProgramPasses, ExitSays, ExitSaysOf}
-use Rattle.sw_check.specs.Claims.{FileEnds, HasFault, IsLong, ProgramFits, ScheduleIsBad}
-use Rattle.sw_check.specs.Claims.{SecondFits, SecondIsLong, default_of, phases_of, program_of}
-use Rattle.sw_check.specs.Claims.{program_file_of, schedule_file_of}
+use Rattle.sw_check.specs.Claims.{Ending, Ends, EndsSo, ProgramIsRefused, ProgramPasses, Races}
+use Rattle.sw_check.specs.Claims.{ExitSays, ExitSaysOf, IsLong, ProgramFits, RunsTo, ScheduleIsBad}
+use Rattle.sw_check.specs.Claims.{SecondFits, SecondIsLong, Stands, TracesTo, default_of, ending_by}
+use Rattle.sw_check.specs.Claims.{phases_of, program_of, program_file_of, schedule_file_of}
 use Rattle.sw_gen.specs.Program.{program}
-use Rattle.sw_check_words.specs.Words.{Command, Check, OnFile, Demo}
-use Rattle.sw_check.specs.Reply.{demo_items, schedule_file_in}
-use Rattle.sw_check.proofs.ClaimLemmas.{fits_or_long, one_end, one_end_by}
+use Rattle.sw_check_words.specs.Words.{Command, Check, Run, Trace, OnFile, Demo}
+use Rattle.sw_check.specs.Reply.{demo_items}
+use Rattle.sw_check.proofs.ClaimLemmas.{fits_or_long}
+
+-- by items of which there is one list, so it is with one graph and one list of them
+both_so : (AreItems : List ℕ → Type 0)
+    → ((a b : List ℕ) → AreItems a → AreItems b → a ≡ b) → (A B : Graph → List ℕ → Type 0)
+    (P : Type 0) → ((graph : Graph) (items : List ℕ) → A graph items → B graph items → P)
+    → (rule : AsyncDefault) (text : List ℕ) → EndsSo rule text AreItems A
+    → EndsSo rule text AreItems B → P
+both_so AreItems one A B P both rule text is_a is_b =
+    let graph : is_a.graph ≡ is_b.graph =
+    one_graph_of rule text is_a.graph is_b.graph is_a.of_text is_b.of_text in
+    let items : is_a.items ≡ is_b.items =
+    one is_a.items is_b.items is_a.are_items is_b.are_items in
+    both is_b.graph is_b.items
+    (subst (λ graph. A graph is_b.items) graph (subst (λ items. A is_a.graph items) items is_a.ends))
+    is_b.ends
+
+runs_to_one : (a b : Ending) (graph : Graph) (items : List ℕ) → RunsTo a graph items
+    → RunsTo b graph items → a ≡ b
+runs_to_one a b graph items is_a is_b = is_a ∙ sym is_b
+
+traces_to_one : (a b : Ending) (graph : Graph) (items : List ℕ) → TracesTo a graph items
+    → TracesTo b graph items → a ≡ b
+traces_to_one a b graph items (replay, is, ends_a) (other, is_other, ends_b) =
+    ends_a ∙ ap (λ replay. ending_by replay.output replay.race)
+    (one_replay graph items replay other is is_other)
+    ∙ sym ends_b
 
 -- a command ends in one way
-one_end_of : (files : List ℕ → List ℕ) (command : Command) (a b : End) → Ends a files command
-    → Ends b files command → a ≡ b
-one_end_of files (OnFile rule file action) a b is_a is_b =
-    by (schedule_file_in action) is_a is_b where
-      by : (schedule_file : Option (List ℕ)) → FileEnds a files rule file schedule_file
-          → FileEnds b files rule file schedule_file → a ≡ b
-      by None is_a is_b = is_a ∙ sym is_b
-      by (Some schedule_file) is_a is_b =
-          one_end rule (files file) (files schedule_file) a b is_a is_b
-one_end_of files (Demo actors) a b is_a is_b =
-    one_end_by (λ items. items ≡ demo_items actors)
-    (λ items others is_those are. is_those ∙ sym are) Concurrent (program actors) a b is_a is_b
+pub one_ending : (files : List ℕ → List ℕ) (command : Command) (a b : Ending)
+    → Ends a files command → Ends b files command → a ≡ b
+one_ending files (OnFile rule file Check) a b is_a is_b = is_a ∙ sym is_b
+one_ending files (OnFile rule file (Run schedule_file)) a b is_a is_b =
+    both_so (IsItems (files schedule_file)) (one_items (files schedule_file)) (RunsTo a) (RunsTo b)
+    (a ≡ b) (runs_to_one a b) rule (files file) is_a is_b
+one_ending files (OnFile rule file (Trace schedule_file)) a b is_a is_b =
+    both_so (IsItems (files schedule_file)) (one_items (files schedule_file)) (TracesTo a)
+    (TracesTo b) (a ≡ b) (traces_to_one a b) rule (files file) is_a is_b
+one_ending files (Demo actors) a b is_a is_b =
+    both_so (λ items. items ≡ demo_items actors) (λ items others is_those are. is_those ∙ sym are)
+    (RunsTo a) (RunsTo b) (a ≡ b) (runs_to_one a b) Concurrent (program actors) is_a is_b
 
 -- a command whose schedule has a fault doesn't come to its end
-ends_or_bad : (files : List ℕ → List ℕ) (command : Command) (end : End) → Ends end files command
-    → ScheduleIsBad files command → ⊥
-ends_or_bad files (OnFile rule file action) end ends_so bad =
-    by (schedule_file_in action) ends_so bad where
-      by : (schedule_file : Option (List ℕ)) → FileEnds end files rule file schedule_file
-          → HasFault files schedule_file → ⊥
-      by None ends_so bad = bad
-      by (Some schedule_file) ends_so (fault, is) =
-          items_and_fault (files schedule_file) ends_so.items fault ends_so.are_items is
-ends_or_bad files (Demo actors) end ends_so bad = bad
+ends_or_bad : (files : List ℕ → List ℕ) (command : Command) (ending : Ending)
+    → Ends ending files command → ScheduleIsBad files command → ⊥
+ends_or_bad files (OnFile rule file Check) ending so bad = bad
+ends_or_bad files (OnFile rule file (Run schedule_file)) ending so (fault, is) =
+    items_and_fault (files schedule_file) so.items fault so.are_items is
+ends_or_bad files (OnFile rule file (Trace schedule_file)) ending so (fault, is) =
+    items_and_fault (files schedule_file) so.items fault so.are_items is
+ends_or_bad files (Demo actors) ending so bad = bad
 
--- the exit of each end
-abbrev exit_of : End → Exit
-exit_of ends.Ran = Done
-exit_of (ends.Trapped kind at) = Trapped
-exit_of (ends.Raced race) = Raced
+-- the exit of each ending
+abbrev exit_of : Ending → Exit
+exit_of (Stands ends.Ran) = Done
+exit_of (Stands (ends.Trapped kind at)) = Trapped
+exit_of (Races race) = Raced
 
 -- why a command has an exit over these files
 data Cause (files : List ℕ → List ℕ) (command : Command) : Exit → Type 0 where
@@ -66,18 +94,19 @@ data Cause (files : List ℕ → List ℕ) (command : Command) : Exit → Type 0
       → Cause files command TooLong
   bad : ProgramPasses files command → SecondFits files command → ScheduleIsBad files command
       → Cause files command BadSchedule
-  ended : (end : End) → ProgramPasses files command → SecondFits files command
-      → Ends end files command → Cause files command (exit_of end)
+  ended : (ending : Ending) → ProgramPasses files command → SecondFits files command
+      → Ends ending files command → Cause files command (exit_of ending)
 
 module _ (files : List ℕ → List ℕ) (command : Command) where
   cause_of : (exit : Exit) → ExitSaysOf files command exit → Cause files command exit
-  cause_of Done (passes, fits, is) = ended ends.Ran passes fits is
+  cause_of Done (passes, fits, is) = ended (Stands ends.Ran) passes fits is
   cause_of Breached it = refused it
   cause_of TooLong (inl long) = first_long long
   cause_of TooLong (inr (passes, long)) = second_long passes long
-  cause_of Trapped (passes, fits, kind, at, is) = ended (ends.Trapped kind at) passes fits is
+  cause_of Trapped (passes, fits, kind, at, is) =
+      ended (Stands (ends.Trapped kind at)) passes fits is
   cause_of BadSchedule (passes, fits, is_bad) = bad passes fits is_bad
-  cause_of Raced (passes, fits, race, is) = ended (ends.Raced race) passes fits is
+  cause_of Raced (passes, fits, race, is) = ended (Races race) passes fits is
   cause_of Usage says = absurd says
   cause_of NotRead says = absurd says
   cause_of NotWritten says = absurd says
@@ -128,7 +157,7 @@ module _ (files : List ℕ → List ℕ) (command : Command) where
   one_cause _ _ (ended end _ _ is) (bad _ _ is_bad) =
       absurd (ends_or_bad files command end is is_bad)
   one_cause _ _ (ended a _ _ is_a) (ended b _ _ is_b) =
-      ap exit_of (one_end_of files command a b is_a is_b)
+      ap exit_of (one_ending files command a b is_a is_b)
 
   one_exit_of : (a b : Exit) → ExitSaysOf files command a → ExitSaysOf files command b → a ≡ b
   one_exit_of a b says_a says_b = one_cause a b (cause_of a says_a) (cause_of b says_b)

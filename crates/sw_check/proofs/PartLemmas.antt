@@ -20,11 +20,10 @@ use Rattle.sw_decls.specs.declared.signature.AsyncDefault.{AsyncDefault}
 use Rattle.sw_verdict.specs.Phases.{Phase}
 use Rattle.sw_verdict.specs.Verdict.{IsVerdict}
 use Rattle.sw_replay.specs.Replay.{IsReplay}
-use Rattle.sw_check_words.specs.Words.{Command}
+use Rattle.sw_check_words.specs.Words.{Action, Command}
 use Rattle.sw_check.specs.Reply.{usage, course_of, EndsWithReply, refusal, bad_schedule_outcome}
 use Rattle.sw_check.specs.Reply.{IsJudgement, breached, Scheduled, has_fault}
-use Rattle.sw_check.specs.Reply.{Replayed}
-use Rattle.sw_check.specs.Reply.{ends, replay_by}
+use Rattle.sw_check.specs.Reply.{Traces, after_verdict, ends, replay_outcome}
 
 pub judged_refused : (rule : AsyncDefault) (phases : List Phase) (text : List ℕ)
     (breaches : List Breach)
@@ -43,21 +42,21 @@ scheduled_refused text fault outcome (not, is) bad =
     subst (λ outcome. Scheduled text (Err outcome) × (outcome.exit ≢ TooLong)) (sym is)
     (has_fault fault (bad not), λ e. cc)
 
-pub replay_answered : (answer : Replay → Outcome) (graph : Graph) (items : List ℕ)
-    (replay : Replay) (result : Result Outcome AllocError) → IsReplay graph items replay
-    → IfOk result (λ outcome. outcome ≡ answer replay)
-    → IfOk result (λ outcome. Replayed answer graph items (Ok outcome))
-replay_answered answer graph items replay (Ok outcome) is same =
-    subst (λ outcome. Replayed answer graph items (Ok outcome)) (sym same) (ends replay is)
-replay_answered answer graph items replay (Err error) is same = tt
+pub trace_answered : (text : List ℕ) (graph : Graph) (items : List ℕ) (replay : Replay)
+    (result : Result Outcome AllocError) → IsReplay graph items replay
+    → IfOk result (λ outcome. outcome ≡ replay_outcome text replay)
+    → IfOk result (λ outcome. Traces text graph items (Ok outcome))
+trace_answered text graph items replay (Ok outcome) is same =
+    subst (λ outcome. Traces text graph items (Ok outcome)) (sym same) (ends replay is)
+trace_answered text graph items replay (Err error) is same = tt
 
--- the last parts, for a text that was lent
-pub replays_lent : {text lent : List ℕ} {before after : SeenShelf} {result : Result Outcome Stop}
-    (file : List ℕ) (graph : Graph) → lent ≡ text
-    → Does (replay_by file lent graph) before result after
-    → Does (replay_by file text graph) before result after
-replays_lent {before = before} {after} {result} file graph same does =
-    subst (λ text. Does (replay_by file text graph) before result after) same does
+-- what follows the verdict, for a text that was lent
+pub follows_lent : {text lent : List ℕ} {before after : SeenShelf} {result : Result Outcome Stop}
+    (action : Action) (graph : Graph) → lent ≡ text
+    → Does (after_verdict action lent graph) before result after
+    → Does (after_verdict action text graph) before result after
+follows_lent {before = before} {after} {result} action graph same does =
+    subst (λ text. Does (after_verdict action text graph) before result after) same does
 
 -- words of no form
 pub no_form : {command : Option Command} {shelf : SeenShelf} → None ≡ command

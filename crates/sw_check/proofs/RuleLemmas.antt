@@ -1,7 +1,6 @@
 -- The parts that read no file have a result, and no two.
 use Rattle.std.proofs.Common.{◌⊎◌, inl, inr, ℕ, List, [], Result, Ok, Err, refl, sym, ap, ◌∙◌}
 use Rattle.sw_graph.specs.declared.graph.Graph.{Graph}
-use Rattle.sw_replay.specs.declared.output.Replay.{Replay}
 use Rattle.sw_replay.specs.declared.text.SchedFault.{SchedFault}
 use Rattle.sw_replay.specs.Items.{HasItems}
 use Rattle.sw_replay.specs.Reading.{items_or_fault}
@@ -17,7 +16,8 @@ use Rattle.sw_verdict.proofs.OneLowered.{one_graph_of}
 use Rattle.sw_verdict.proofs.Verdicts.{never_both, one_list as one_verdict}
 use Rattle.sw_check.specs.Reply.{refusal, bad_schedule_outcome, EndsWithReply}
 use Rattle.sw_check.specs.Reply.{IsJudgement}
-use Rattle.sw_check.specs.Reply.{passes, breached, Scheduled, has_items, has_fault, Replayed, ends}
+use Rattle.sw_check.specs.Reply.{passes, breached, Scheduled, has_items, has_fault, Traces, ends}
+use Rattle.sw_check.specs.Reply.{replay_outcome}
 
 pub answers_one : (outcome : Outcome) → HasOneResult (EndsWithReply outcome)
 answers_one outcome a b is_a is_b = is_a ∙ sym is_b
@@ -59,11 +59,11 @@ module _ (schedule : List ℕ) where
     some (Ok items) are = (Ok items, has_items items are)
     some (Err fault) is = (Err (bad_schedule_outcome schedule fault), has_fault fault is)
 
-module _ (answer : Replay → Outcome) (graph : Graph) (items : List ℕ) where
-  pub replayed_one : HasOneResult (Replayed answer graph items)
-  replayed_one _ _ (ends a is_a) (ends b is_b) =
-      ap (λ replay. Ok (answer replay)) (one_replay graph items a b is_a is_b)
+module _ (text : List ℕ) (graph : Graph) (items : List ℕ) where
+  pub traces_one : HasOneResult (Traces text graph items)
+  traces_one _ _ (ends a is_a) (ends b is_b) =
+      ap (λ replay. Ok (replay_outcome text replay)) (one_replay graph items a b is_a is_b)
 
-  pub replayed_some : HasResult (Replayed answer graph items)
-  replayed_some =
-      let (replay, is) = some_replay graph items in (Ok (answer replay), ends replay is)
+  pub traces_some : HasResult (Traces text graph items)
+  traces_some =
+      let (replay, is) = some_replay graph items in (Ok (replay_outcome text replay), ends replay is)

@@ -10,7 +10,9 @@ use Rattle.sw_replay.specs.declared.text.SchedFault.{SchedFault}
 use Rattle.sw_replay.specs.declared.output.End.{End}
 use Rattle.sw_replay.specs.declared.output.End.TheVariants as ends
 use Rattle.sw_replay.specs.declared.output.Replay.{Replay}
+use Rattle.sw_replay.specs.declared.output.Output.{Output}
 use Rattle.sw_replay.specs.Items.{IsItems, IsFirstFault}
+use Rattle.sw_replay.specs.Output.{output_of}
 use Rattle.sw_check_parts.specs.declared.exit.Exit.{Exit}
 use Rattle.sw_check_parts.specs.declared.exit.Exit.TheVariants.{Done, Breached, Usage, NotRead}
 use Rattle.sw_check_parts.specs.declared.exit.Exit.TheVariants.{TooLong}
@@ -24,8 +26,8 @@ use Rattle.sw_verdict.specs.Phases.{Phase, all_phases, IsGraphOf}
 use Rattle.sw_verdict.specs.Verdict.{Breaches, Refuses}
 use Rattle.sw_replay.specs.Replay.{IsReplay}
 use Rattle.sw_gen.specs.Program.{program}
-use Rattle.sw_check_words.specs.Words.{Command, OnFile, Demo}
-use Rattle.sw_check.specs.Reply.{demo_items, phases_for, schedule_file_in}
+use Rattle.sw_check_words.specs.Words.{Action, Check, Run, Trace, Command, OnFile, Demo}
+use Rattle.sw_check.specs.Reply.{demo_items, phases_for}
 
 -- The machine of the graph isn't racing after any list of items, of any length.
 abbrev pub NeverRaces : Graph → Type 0
@@ -51,7 +53,13 @@ abbrev pub phases_of : Command → List Phase
 phases_of (OnFile rule file action) = phases_for action
 phases_of (Demo actors) = all_phases
 
--- the schedule's file of a command, where it has one
+-- the schedule's file of an action, where it has one
+abbrev pub schedule_file_in : Action → Option (List ℕ)
+schedule_file_in Check = None
+schedule_file_in (Run schedule_file) = Some schedule_file
+schedule_file_in (Trace schedule_file) = Some schedule_file
+
+-- that of a command
 abbrev pub schedule_file_of : Command → Option (List ℕ)
 schedule_file_of (OnFile rule file action) = schedule_file_in action
 schedule_file_of (Demo actors) = None
@@ -79,29 +87,48 @@ pub record ProgramIsRefused (files : List ℕ → List ℕ) (command : Command) 
   pub short : ProgramFits files command
   pub breaches : Refuses (default_of command) (phases_of command) (program_of files command)
 
--- under a default, the replay of a program's graph by such items ends so
-pub record EndsSo (rule : AsyncDefault) (end : End) (text : List ℕ) (AreItems : List ℕ → Type 0)
-    : Type 0 where
+-- How a command ends that goes to its end.
+pub data Ending : Type 0 where
+  -- the machine stands so after all items
+  Stands : (end : End) → Ending
+  -- two jobs are about to race
+  Races : (race : Race) → Ending
+
+-- how a replay ends that is watched
+abbrev pub ending_by : Output → Option Race → Ending
+ending_by output None = Stands output.end
+ending_by output (Some race) = Races race
+
+-- the run of a graph by items, and its replay that is watched, end so
+abbrev pub RunsTo : Ending → Graph → List ℕ → Type 0
+RunsTo ending graph items = ending ≡ Stands (output_of graph items).end
+
+abbrev pub TracesTo : Ending → Graph → List ℕ → Type 0
+TracesTo ending graph items =
+    (replay : Replay) × IsReplay graph items replay × (ending ≡ ending_by replay.output replay.race)
+
+-- under a default, so it is with a program's graph and such items
+pub record EndsSo (rule : AsyncDefault) (text : List ℕ) (AreItems : List ℕ → Type 0)
+    (EndsBy : Graph → List ℕ → Type 0) : Type 0 where
   pub graph : Graph
   pub of_text : IsGraphOf rule text graph
   pub items : List ℕ
   pub are_items : AreItems items
-  pub replay : Replay
-  pub is_replay : IsReplay graph items replay
-  pub ends : replay.end ≡ end
+  pub ends : EndsBy graph items
 
--- How a command on a file ends that goes to its end: by its schedule, if it has one. `check` has no
--- replay, and ends in one way.
-abbrev pub FileEnds : End → (List ℕ → List ℕ) → AsyncDefault → List ℕ → Option (List ℕ) → Type 0
-FileEnds end files rule file None = end ≡ ends.Ran
-FileEnds end files rule file (Some schedule_file) =
-    EndsSo rule end (files file) (IsItems (files schedule_file))
+-- How a command on a file ends that goes to its end. `check` has no schedule, and ends in one way.
+abbrev pub FileEnds : Ending → (List ℕ → List ℕ) → AsyncDefault → List ℕ → Action → Type 0
+FileEnds ending files rule file Check = ending ≡ Stands ends.Ran
+FileEnds ending files rule file (Run schedule_file) =
+    EndsSo rule (files file) (IsItems (files schedule_file)) (RunsTo ending)
+FileEnds ending files rule file (Trace schedule_file) =
+    EndsSo rule (files file) (IsItems (files schedule_file)) (TracesTo ending)
 
 -- how a command ends that goes to its end
-abbrev pub Ends : End → (List ℕ → List ℕ) → Command → Type 0
-Ends end files (OnFile rule file action) = FileEnds end files rule file (schedule_file_in action)
-Ends end files (Demo actors) =
-    EndsSo Concurrent end (program actors) (λ items. items ≡ demo_items actors)
+abbrev pub Ends : Ending → (List ℕ → List ℕ) → Command → Type 0
+Ends ending files (OnFile rule file action) = FileEnds ending files rule file action
+Ends ending files (Demo actors) =
+    EndsSo Concurrent (program actors) (λ items. items ≡ demo_items actors) (RunsTo ending)
 
 -- the second file of a command, where it has one, is within its limit
 abbrev pub SecondFits : (List ℕ → List ℕ) → Command → Type 0
@@ -124,22 +151,22 @@ ScheduleIsBad files command = HasFault files (schedule_file_of command)
 -- what holds of the same command and files. Those that report a failure say nothing of them; they
 -- are no exits of a reply.
 abbrev pub ExitSaysOf : (List ℕ → List ℕ) → Command → Exit → Type 0
--- the program passes, and `check` accepts it, or its replay takes all items and no trap halts it
+-- the program passes, and `check` accepts it, or all items are taken and no trap halts it
 ExitSaysOf files command Done =
-    ProgramPasses files command × SecondFits files command × Ends ends.Ran files command
+    ProgramPasses files command × SecondFits files command × Ends (Stands ends.Ran) files command
 ExitSaysOf files command Breached = ProgramIsRefused files command
 -- the program's file is too long, or the program passes and the schedule's file is too long
 ExitSaysOf files command TooLong = IsLong files PROGRAM_LIMIT (program_file_of command)
     ⊎ (ProgramPasses files command × SecondIsLong files command)
--- the program passes, and its replay ends with a trap
+-- the program passes, all items are taken, and a trap halts it
 ExitSaysOf files command Trapped = ProgramPasses files command × SecondFits files command
-    × (kind : TrapKind) × (at : ℕ) × Ends (ends.Trapped kind at) files command
+    × (kind : TrapKind) × (at : ℕ) × Ends (Stands (ends.Trapped kind at)) files command
 -- the program passes, and the schedule's text has a fault
 ExitSaysOf files command BadSchedule =
     ProgramPasses files command × SecondFits files command × ScheduleIsBad files command
--- the program passes, and its replay ends with a race
+-- the program passes, and its replay, which is watched, ends with a race
 ExitSaysOf files command Raced = ProgramPasses files command × SecondFits files command
-    × (race : Race) × Ends (ends.Raced race) files command
+    × (race : Race) × Ends (Races race) files command
 ExitSaysOf files command Usage = ⊥
 ExitSaysOf files command NotRead = ⊥
 ExitSaysOf files command NotWritten = ⊥

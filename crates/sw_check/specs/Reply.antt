@@ -2,10 +2,12 @@
 use Rattle.std.specs.Prelude.{◌≡◌, ℕ, List, [], ◌∷◌, ◌++◌, Option, Some, None, Result, Ok, Err}
 use Rattle.std.specs.Prelude.{codes}
 use Rattle.sw_graph.specs.declared.graph.Graph.{Graph}
+use Rattle.sw_value.specs.declared.race.Race.{Race}
 use Rattle.sw_replay.specs.declared.text.TheConstants.{SCHEDULE_LIMIT}
 use Rattle.sw_replay.specs.declared.text.SchedFault.{SchedFault}
 use Rattle.sw_replay.specs.declared.output.End.{End}
-use Rattle.sw_replay.specs.declared.output.End.TheVariants.{Ran, Trapped, Raced}
+use Rattle.sw_replay.specs.declared.output.End.TheVariants.{Ran, Trapped}
+use Rattle.sw_replay.specs.declared.output.Output.{Output}
 use Rattle.sw_replay.specs.declared.output.Replay.{Replay}
 use Rattle.sw_replay.specs.Items.{IsItems, IsFirstFault, written_out}
 use Rattle.sw_breach.specs.declared.Breach.{Breach}
@@ -19,6 +21,7 @@ use Rattle.sw_decls.specs.declared.signature.AsyncDefault.{AsyncDefault}
 use Rattle.sw_decls.specs.declared.signature.AsyncDefault.TheVariants.{Concurrent}
 use Rattle.sw_verdict.specs.Phases.{Phase, all_phases, phases_to_size}
 use Rattle.sw_verdict.specs.Verdict.{IsVerdict}
+use Rattle.sw_replay.specs.Output.{output_of}
 use Rattle.sw_replay.specs.Replay.{IsReplay}
 use Rattle.sw_check.specs.Lines.{demo_line, summary, trap_line, race_lines, schedule_line}
 use Rattle.sw_gen.specs.Program.{program}
@@ -46,31 +49,37 @@ abbrev pub bad_schedule_outcome : List ℕ → SchedFault → Outcome
 bad_schedule_outcome schedule fault =
     record { exit = exits.BadSchedule; bytes = schedule_line schedule fault }
 
--- how a replay ends, after these lines were printed, `ended` of `jobs` jobs have ended
+-- how the machine stands after items, by which these lines were printed, `ended` of `jobs` jobs have
+-- ended
 abbrev pub end_outcome : List ℕ → List ℕ → ℕ → ℕ → End → Outcome
 end_outcome text lines ended jobs Ran =
     record { exit = exits.Done; bytes = lines ++ summary ended jobs }
 end_outcome text lines ended jobs (Trapped kind at) =
     record { exit = exits.Trapped; bytes = lines ++ trap_line text kind at }
-end_outcome text lines ended jobs (Raced race) =
-    record { exit = exits.Raced; bytes = lines ++ race_lines text race }
 
--- the lines that are printed, and then how the replay ends
-abbrev pub replay_outcome : List ℕ → Replay → Outcome
-replay_outcome text replay = end_outcome text replay.lines replay.ended replay.jobs replay.end
+-- the lines that are printed, and then how the machine stands
+abbrev pub run_outcome : List ℕ → Output → Outcome
+run_outcome text output = end_outcome text output.lines output.ended output.jobs output.end
 
--- The same of a program that was generated for a number of actors: where its replay takes all
--- items, the reply is one line.
+-- The same of a program that was generated for a number of actors: where nothing halts the machine,
+-- the reply is one line.
 abbrev pub demo_end : ℕ → List ℕ → ℕ → ℕ → End → Outcome
 demo_end actors lines ended jobs Ran =
     record { exit = exits.Done; bytes = demo_line actors (program actors) lines ended jobs }
 demo_end actors lines ended jobs (Trapped kind at) =
     end_outcome (program actors) lines ended jobs (Trapped kind at)
-demo_end actors lines ended jobs (Raced race) =
-    end_outcome (program actors) lines ended jobs (Raced race)
 
-abbrev pub demo_outcome : ℕ → Replay → Outcome
-demo_outcome actors replay = demo_end actors replay.lines replay.ended replay.jobs replay.end
+abbrev pub demo_outcome : ℕ → Output → Outcome
+demo_outcome actors output = demo_end actors output.lines output.ended output.jobs output.end
+
+-- a replay that was watched: where it met a race, the lines about that race are the last
+abbrev pub watched_outcome : List ℕ → Output → Option Race → Outcome
+watched_outcome text output None = run_outcome text output
+watched_outcome text output (Some race) =
+    record { exit = exits.Raced; bytes = output.lines ++ race_lines text race }
+
+abbrev pub replay_outcome : List ℕ → Replay → Outcome
+replay_outcome text replay = watched_outcome text replay.output replay.race
 
 -- The part ends with this reply.
 abbrev pub EndsWithReply : Outcome → Result Outcome Outcome → Type 0
@@ -90,18 +99,27 @@ pub data Scheduled (schedule : List ℕ) : Result (List ℕ) Outcome → Type 0 
   has_fault : (fault : SchedFault) → IsFirstFault schedule fault
       → Scheduled schedule (Err (bad_schedule_outcome schedule fault))
 
--- The graph of a program is replayed by items, and this is answered.
-pub data Replayed (answer : Replay → Outcome) (graph : Graph) (items : List ℕ)
+-- The machine of a program's graph takes the items, all of them, and this is answered.
+abbrev pub Runs : List ℕ → Graph → List ℕ → Result Outcome Outcome → Type 0
+Runs text graph items = EndsWithReply (run_outcome text (output_of graph items))
+
+-- It takes them up to the first state that is racing, and this is answered.
+pub data Traces (text : List ℕ) (graph : Graph) (items : List ℕ)
     : Result Outcome Outcome → Type 0 where
   ends : (replay : Replay) → IsReplay graph items replay
-      → Replayed answer graph items (Ok (answer replay))
+      → Traces text graph items (Ok (replay_outcome text replay))
 
--- A schedule is fetched, and its items replay the graph of the text.
-abbrev pub replay_by : List ℕ → List ℕ → Graph → Part Outcome
-replay_by schedule_file text graph = do
+-- A schedule is fetched, and has these items.
+abbrev pub items_in : List ℕ → Part (List ℕ)
+items_in schedule_file = do
   schedule ← Fetched schedule_file SCHEDULE_LIMIT
-  items ← Alone (Scheduled schedule)
-  Alone (Replayed (replay_outcome text) graph items)
+  Alone (Scheduled schedule)
+
+-- A schedule is fetched, and what is answered follows from its items.
+abbrev pub by_items : List ℕ → (List ℕ → Result Outcome Outcome → Type 0) → Part Outcome
+by_items schedule_file Answers = do
+  items ← items_in schedule_file
+  Alone (Answers items)
 
 -- the phases that count: an action refuses a program in which one of them finds a breach
 abbrev pub phases_for : Action → List Phase
@@ -109,39 +127,34 @@ phases_for Check = all_phases
 phases_for (Run schedule_file) = all_phases
 phases_for (Trace schedule_file) = phases_to_size
 
--- the schedule's file of an action
-abbrev pub schedule_file_in : Action → Option (List ℕ)
-schedule_file_in Check = None
-schedule_file_in (Run schedule_file) = Some schedule_file
-schedule_file_in (Trace schedule_file) = Some schedule_file
+-- What follows the verdict on a text that has a graph. A program of which all phases find nothing
+-- never races, and its run isn't watched.
+abbrev pub after_verdict : Action → List ℕ → Graph → Part Outcome
+after_verdict Check text graph = Alone (EndsWithReply accepted)
+after_verdict (Run schedule_file) text graph = by_items schedule_file (Runs text graph)
+after_verdict (Trace schedule_file) text graph = by_items schedule_file (Traces text graph)
 
--- what follows the verdict on a text that has a graph: a replay by the schedule, if there is one
-abbrev pub after_verdict : Option (List ℕ) → List ℕ → Graph → Part Outcome
-after_verdict None text graph = Alone (EndsWithReply accepted)
-after_verdict (Some schedule_file) text graph = replay_by schedule_file text graph
-
--- A program is fetched and judged by these phases, and then comes what follows the verdict.
-abbrev pub file_course : AsyncDefault → List Phase → List ℕ → Option (List ℕ) → Part Outcome
-file_course rule phases file schedule_file = do
+-- A program is fetched and judged by the phases that count, and then comes what follows the verdict.
+abbrev pub file_course : AsyncDefault → List ℕ → Action → Part Outcome
+file_course rule file action = do
   text ← Fetched file PROGRAM_LIMIT
-  graph ← Alone (IsJudgement rule phases text)
-  after_verdict schedule_file text graph
+  graph ← Alone (IsJudgement rule (phases_for action) text)
+  after_verdict action text graph
 
--- the items by which a generated program is replayed
+-- the items by which a generated program is run
 abbrev pub demo_items : ℕ → List ℕ
 demo_items actors = written_out (runs actors)
 
--- The program that is generated for a number of actors is judged, and replayed by its own schedule.
+-- The program that is generated for a number of actors is judged, and run by its own schedule.
 abbrev pub demo_course : ℕ → Part Outcome
 demo_course actors = do
   graph ← Alone (IsJudgement Concurrent all_phases (program actors))
-  Alone (Replayed (demo_outcome actors) graph (demo_items actors))
+  Alone (EndsWithReply (demo_outcome actors (output_of graph (demo_items actors))))
 
 -- the parts of each command
 abbrev pub course_of : Option Command → Part Outcome
 course_of None = Alone (EndsWithReply usage)
-course_of (Some (OnFile rule file action)) =
-    file_course rule (phases_for action) file (schedule_file_in action)
+course_of (Some (OnFile rule file action)) = file_course rule file action
 course_of (Some (Demo actors)) = demo_course actors
 
 -- `Reply command reads outcome`: this is answered to the words, where exactly these files are read
@@ -150,19 +163,21 @@ pub data Reply (command : Option Command) (reads : List Read) (outcome : Outcome
   at_end : course_of command reads (Ended (Ok outcome)) → Reply command reads outcome
   before_end : course_of command reads (Ended (Err outcome)) → Reply command reads outcome
 
--- the exits of the replies to a command on a file, which may have a schedule
-abbrev pub file_exits : Option (List ℕ) → List Exit
-file_exits None = exits.TooLong ∷ exits.Breached ∷ exits.Done ∷ []
-file_exits (Some schedule_file) =
+-- the exits of the replies to a command on a file
+abbrev pub file_exits : Action → List Exit
+file_exits Check = exits.TooLong ∷ exits.Breached ∷ exits.Done ∷ []
+file_exits (Run schedule_file) =
+    exits.TooLong ∷ exits.Breached ∷ exits.BadSchedule ∷ exits.Done ∷ exits.Trapped ∷ []
+file_exits (Trace schedule_file) =
     exits.TooLong ∷ exits.Breached ∷ exits.BadSchedule ∷ exits.Done ∷ exits.Trapped ∷ exits.Raced
     ∷ []
 
 -- the exits of the replies to `demo`
 abbrev pub demo_exits : List Exit
-demo_exits = exits.Breached ∷ exits.Done ∷ exits.Trapped ∷ exits.Raced ∷ []
+demo_exits = exits.Breached ∷ exits.Done ∷ exits.Trapped ∷ []
 
 -- the exits of the replies to a command
 abbrev pub exits_of : Option Command → List Exit
 exits_of None = exits.Usage ∷ []
-exits_of (Some (OnFile rule file action)) = file_exits (schedule_file_in action)
+exits_of (Some (OnFile rule file action)) = file_exits action
 exits_of (Some (Demo actors)) = demo_exits

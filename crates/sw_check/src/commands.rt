@@ -1,12 +1,14 @@
 //! The commands. Each does its parts in order.
 
-ghost use Rattle.std.specs.Prelude.{◌≤◌, Some, length, map, string_bytes};
+ghost use Rattle.std.specs.Prelude.{◌≡◌, ◌≤◌, length, map, string_bytes};
 ghost use Rattle.sw_check_parts.specs.Leaves.{Does, SeenShelf, seen};
-ghost use Rattle.sw_check_words.specs.Words.{Check, OnFile, command_of};
+ghost use Rattle.sw_check_words.specs.Given.{lent_action};
+ghost use Rattle.sw_check_words.specs.Words.{command_of};
 ghost use Rattle.sw_check.specs.Phases.{list_of};
-ghost use Rattle.sw_check.specs.Reply.{course_of, demo_course, file_course, replay_by};
+ghost use Rattle.sw_check.specs.Reply.{after_verdict, course_of, demo_course, file_course, items_in};
+ghost use Rattle.sw_check.specs.Reply.{phases_for};
 
-use crate::parts::{Phases, demonstrated, judged, replayed, scheduled};
+use crate::parts::{Phases, demonstrate, judged, run, scheduled, trace};
 use std::alloc::Global;
 use sw_check_parts::{Exit, Outcome, PROGRAM_LIMIT, Stop, fetch, lines};
 use sw_check_words::{Action, Command, read};
@@ -17,61 +19,70 @@ use sw_list::ListOf;
 use sw_outside::Shelf;
 use sw_replay::{SCHEDULE_LIMIT, Schedule};
 
-/// `check FILE`, under a default.
-fn check<S: Shelf>(
-    alloc: Global,
-    default: AsyncDefault,
-    file: &str,
-    shelf: &mut S,
-) -> Result<Outcome, Stop>
-    ensures { Does (course_of (Some (OnFile default file.now Check)))
-        (seen S.known S.received S.faults shelf.old) result
-        (seen S.known S.received S.faults shelf.new) }
+/// The phases by which an action judges its program.
+fn phases_for(action: Action<'_>) -> Phases
+    ensures { list_of result ≡ phases_for (lent_action action.entry) }
 {
-    let text = fetch(alloc, file, PROGRAM_LIMIT, shelf)?;
-    let _graph = judged(alloc, default, text.as_slice(), Phases::All)?;
-    Ok(lines(alloc, Exit::Done, "accepted\n")?)
+    match action {
+        Action::Check | Action::Run { .. } => Phases::All,
+        Action::Trace { .. } => Phases::ToSize,
+    }
 }
 
-/// The last parts of commands that replay the graph of a text: they need the schedule.
-fn by_schedule<S: Shelf>(
+/// The items of a schedule in a file.
+fn items_in<S: Shelf>(alloc: Global, schedule_file: &str, shelf: &mut S) -> Result<Schedule, Stop>
+    ensures { Does (items_in schedule_file.now) (seen S.known S.received S.faults shelf.old) result
+        (seen S.known S.received S.faults shelf.new) }
+{
+    let text = fetch(alloc, schedule_file, SCHEDULE_LIMIT, shelf)?;
+    scheduled(alloc, text.as_slice())
+}
+
+/// What follows the verdict on a text that has a graph.
+fn after_verdict<S: Shelf>(
     alloc: Global,
-    schedule_file: &str,
+    action: Action<'_>,
     text: &[u8],
     graph: &Graph,
     shelf: &mut S,
 ) -> Result<Outcome, Stop>
     requires { length text.now ≤ PROGRAM_LIMIT }
-    ensures { Does (replay_by schedule_file.now text.now graph.now)
+    ensures { Does (after_verdict (lent_action action.entry) text.now graph.now)
         (seen S.known S.received S.faults shelf.old) result
         (seen S.known S.received S.faults shelf.new) }
 {
-    let schedule = fetch(alloc, schedule_file, SCHEDULE_LIMIT, shelf)?;
-    let items = scheduled(alloc, schedule.as_slice())?;
-    Ok(replayed(alloc, text, graph, &items)?)
+    match action {
+        Action::Check => Ok(lines(alloc, Exit::Done, "accepted\n")?),
+        Action::Run { schedule_file } => {
+            let items = items_in(alloc, schedule_file, shelf)?;
+            Ok(run(alloc, text, graph, &items)?)
+        }
+        Action::Trace { schedule_file } => {
+            let items = items_in(alloc, schedule_file, shelf)?;
+            Ok(trace(alloc, text, graph, &items)?)
+        }
+    }
 }
 
-/// `run FILE SCHEDULE` and `trace FILE SCHEDULE`, which judge the program by these phases under a
-/// default.
-fn replay<S: Shelf>(
+/// A command on a file, under a default.
+fn on_file<S: Shelf>(
     alloc: Global,
     default: AsyncDefault,
-    phases: Phases,
     file: &str,
-    schedule_file: &str,
+    action: Action<'_>,
     shelf: &mut S,
 ) -> Result<Outcome, Stop>
-    ensures { Does (file_course default (list_of phases) file.now (Some schedule_file.now))
+    ensures { Does (file_course default file.now (lent_action action.entry))
         (seen S.known S.received S.faults shelf.old) result
         (seen S.known S.received S.faults shelf.new) }
 {
     let text = fetch(alloc, file, PROGRAM_LIMIT, shelf)?;
-    let graph = judged(alloc, default, text.as_slice(), phases)?;
-    by_schedule(alloc, schedule_file, text.as_slice(), &graph, shelf)
+    let graph = judged(alloc, default, text.as_slice(), phases_for(action))?;
+    after_verdict(alloc, action, text.as_slice(), &graph, shelf)
 }
 
-/// `demo N`: the program that is generated for a number of actors is judged and replayed. It
-/// fetches nothing.
+/// `demo N`: the program that is generated for a number of actors is judged and run. It fetches
+/// nothing.
 fn demo(alloc: Global, actors: u32) -> Result<Outcome, Stop>
     requires { actors ≤ MAX_ACTORS }
     ensures { (shelf : SeenShelf) → Does (demo_course actors) shelf result shelf }
@@ -85,7 +96,7 @@ fn demo(alloc: Global, actors: u32) -> Result<Outcome, Stop>
     )?;
     let runs = make_schedule(alloc, actors)?;
     let items = Schedule::new(ListOf::from_vec(runs));
-    Ok(demonstrated(alloc, actors, text.as_slice(), &graph, &items)?)
+    Ok(demonstrate(alloc, actors, text.as_slice(), &graph, &items)?)
 }
 
 /// The command of the words after the program's name.
@@ -104,23 +115,9 @@ pub fn answer<S: Shelf>(alloc: Global, words: &[String], shelf: &mut S) -> Resul
             Command::OnFile {
                 default,
                 file,
-                action: Action::Check,
+                action,
             },
-        ) => check(alloc, default, file, shelf),
-        Some(
-            Command::OnFile {
-                default,
-                file,
-                action: Action::Run { schedule_file },
-            },
-        ) => replay(alloc, default, Phases::All, file, schedule_file, shelf),
-        Some(
-            Command::OnFile {
-                default,
-                file,
-                action: Action::Trace { schedule_file },
-            },
-        ) => replay(alloc, default, Phases::ToSize, file, schedule_file, shelf),
+        ) => on_file(alloc, default, file, action, shelf),
         Some(Command::Demo { actors }) => demo(alloc, actors),
     }
 }

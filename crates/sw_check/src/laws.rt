@@ -1,11 +1,8 @@
 ghost use Rattle.std.specs.Prelude.{◌≡◌, ℕ, List, ◌++◌, Option};
-ghost use Rattle.sw_replay.specs.declared.output.End.{End};
-ghost use Rattle.sw_replay.specs.Items.{IsItems};
 ghost use Rattle.sw_check_parts.specs.declared.outcome.Outcome.{Outcome};
-ghost use Rattle.sw_decls.specs.declared.signature.AsyncDefault.{AsyncDefault};
 ghost use Rattle.sw_check_parts.specs.Course.{AreOf, Read, Underway};
 ghost use Rattle.sw_check_parts.specs.Lawful.{IsPrefixOf};
-ghost use Rattle.sw_check.specs.Claims.{EndsSo};
+ghost use Rattle.sw_check.specs.Claims.{Ending, Ends};
 ghost use Rattle.sw_check.specs.Reply.{Reply, course_of};
 ghost use Rattle.sw_check_words.specs.Words.{Command};
 
@@ -30,10 +27,9 @@ pub fn words_have_one_reply()
     ensures goes_on { (command : Option Command) (reads : List Read)
         → course_of command reads Underway
         → (others : List Read) × (outcome : Outcome) × Reply command (reads ++ others) outcome }
-    // Under a default a replay of a program by a schedule ends in one way.
-    ensures one_end { (rule : AsyncDefault) (text schedule : List ℕ) (a b : End)
-        → EndsSo rule a text (IsItems schedule) → EndsSo rule b text (IsItems schedule)
-        → a ≡ b }
+    // Over any files a command that goes to its end ends in one way.
+    ensures one_end { (files : List ℕ → List ℕ) (command : Command) (a b : Ending)
+        → Ends a files command → Ends b files command → a ≡ b }
 {}
 
 /// The limit that the definitions of replies take from here.

@@ -13,7 +13,6 @@ ghost use Rattle.sw_check_parts.specs.Course.{AreOf, Read};
 ghost use Rattle.sw_check_parts.specs.Exit.{IsOneOf, is_failure, is_silent};
 ghost use Rattle.sw_decls.specs.declared.signature.AsyncDefault.{AsyncDefault};
 ghost use Rattle.sw_graph.specs.declared.graph.Graph.{Graph};
-ghost use Rattle.sw_value.specs.Runnable.{IsRunnable};
 ghost use Rattle.sw_verdict.specs.Phases.{IsGraphOf, all_phases};
 ghost use Rattle.sw_verdict.specs.Verdict.{Accepts, Refuses};
 ghost use Rattle.sw_check.specs.Call.{Interrupted, Replied, Unanswered};
@@ -91,19 +90,17 @@ pub fn run_words<S: Shelf, K: Sink>(
         → result ≡ Exit.Done }
 
     // Where all phases count for a command and don't refuse its program, which is within the limit,
-    // the program has a graph, and if that is runnable, no schedule leads it to a race. A program
-    // that is longer isn't judged, and nothing is said of it.
+    // the program has a graph, and no schedule, of any length, leads that to a race. A program that
+    // is longer isn't judged, and nothing is said of it.
     ensures no_race { (known : KnownShelf) (command : Command) → S.known shelf.old ≡ Some known
         → command_in words.now.items ≡ Some command → phases_of command ≡ all_phases
         → ProgramFits (file_of known.files) command
         → IsFalse (is_failure result) → result ≢ Exit.Breached → (graph : Graph)
         × IsGraphOf (default_of command) (program_of (file_of known.files) command) graph
-        × (IsRunnable graph → NeverRaces graph) }
-    // Where a program has a runnable graph, a race stops no replay of it.
-    ensures not_raced { (known : KnownShelf) (command : Command) (graph : Graph)
-        → S.known shelf.old ≡ Some known → command_in words.now.items ≡ Some command
-        → IsGraphOf (default_of command) (program_of (file_of known.files) command) graph
-        → IsRunnable graph → result ≢ Exit.Raced }
+        × NeverRaces graph }
+    // No command for which all phases count stops at a race, whatever the files hold.
+    ensures not_raced { (command : Command) → command_in words.now.items ≡ Some command
+        → phases_of command ≡ all_phases → result ≢ Exit.Raced }
 
     // After a failed fetch the command is under way, and the file whose fetch failed was requested.
     ensures not_read { result ≡ Exit.NotRead

@@ -7,7 +7,7 @@ ghost use Rattle.sw_check.specs.Lines.{schedule_line, schedule_text};
 ghost use Rattle.sw_check.specs.Lines.{summary, trap_line, trap_text};
 
 use std::alloc::{AllocError, Global};
-use sw_replay::{Replay, SchedFault};
+use sw_replay::{Output, SchedFault};
 use sw_text::shown_position;
 use sw_value::{Access, Race, TrapKind};
 
@@ -26,21 +26,21 @@ fn line_count(bytes: &[u8]) -> usize
     bytes.iter().filter(|byte| **byte == b'\n').count()
 }
 
-/// The line about a generated program with the text `bytes` that was replayed to the end.
+/// The line about a generated program with the text `bytes` of which all items were taken.
 #[tactic(auto, unfolding(crate::specs::Lines::demo_line))]
 pub fn demo_line(
     alloc: Global,
     actors: u32,
     bytes: &[u8],
-    replay: &Replay,
+    output: &Output,
 ) -> Result<String, AllocError>
     ensures { IfOk result (λ text.
         string_bytes text
-        ≡ demo_line actors bytes.now replay.now.lines replay.now.ended replay.now.jobs) }
+        ≡ demo_line actors bytes.now output.now.lines output.now.ended output.now.jobs) }
 {
     let length = bytes.len();
-    let count = line_count(replay.lines.as_slice());
-    let end = summary(alloc, replay.ended, replay.jobs)?;
+    let count = line_count(output.lines.as_slice());
+    let end = summary(alloc, output.ended, output.jobs)?;
     format!(in alloc; "demo {actors}: {length} bytes, {count} lines, {end}")
 }
 

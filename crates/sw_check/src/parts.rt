@@ -8,8 +8,9 @@ ghost use Rattle.sw_check_parts.specs.Leaves.{Decides};
 ghost use Rattle.sw_verdict.specs.Verdict.{IsVerdict};
 ghost use Rattle.sw_check.specs.Lines.{schedule_line};
 ghost use Rattle.sw_check.specs.Phases.{list_of};
-ghost use Rattle.sw_check.specs.Reply.{IsJudgement, Replayed, Scheduled, bad_schedule_outcome};
-ghost use Rattle.sw_check.specs.Reply.{demo_outcome, refusal, replay_outcome};
+ghost use Rattle.sw_check.specs.Reply.{IsJudgement, Runs, Scheduled, Traces, bad_schedule_outcome};
+ghost use Rattle.sw_check.specs.Reply.{demo_outcome, refusal, replay_outcome, run_outcome};
+ghost use Rattle.sw_replay.specs.Output.{output_of};
 ghost use Rattle.sw_gen.specs.Program.{program};
 
 use crate::lines::{demo_line, race_lines, schedule_line, summary, trap_line};
@@ -19,7 +20,9 @@ use sw_check_parts::{Exit, Outcome, PROGRAM_LIMIT, Stop, lines, with_last_line};
 use sw_decls::AsyncDefault;
 use sw_graph::Graph;
 use sw_list::ListOf;
-use sw_replay::{End, Replay, SCHEDULE_LIMIT, SchedFault, Schedule, replay, schedule};
+use sw_replay::{
+    End, Output, Replay, SCHEDULE_LIMIT, SchedFault, Schedule, output_of, replay, schedule,
+};
 use sw_verdict::{Refusal, judge, lower_text};
 
 /// The reply about a program that is refused.
@@ -108,17 +111,17 @@ pub fn scheduled(alloc: Global, text: &[u8]) -> Result<Schedule, Stop>
     }
 }
 
-/// The reply about a replay.
-fn ending(alloc: Global, text: &[u8], replay: Replay) -> Result<Outcome, AllocError>
+/// The reply about items that were taken, all of them.
+fn run_ending(alloc: Global, text: &[u8], output: Output) -> Result<Outcome, AllocError>
     requires { length text.now ≤ PROGRAM_LIMIT }
-    ensures { IfOk result (λ outcome. outcome ≡ replay_outcome text.now replay) }
+    ensures { IfOk result (λ outcome. outcome ≡ run_outcome text.now output) }
 {
-    let Replay {
+    let Output {
         lines: printed,
         end,
         ended,
         jobs,
-    } = replay;
+    } = output;
     match end {
         End::Ran => {
             let last = summary(alloc, ended, jobs)?;
@@ -128,50 +131,54 @@ fn ending(alloc: Global, text: &[u8], replay: Replay) -> Result<Outcome, AllocEr
             let last = trap_line(alloc, text, kind, at)?;
             with_last_line(Exit::Trapped, printed, last.as_str())
         }
-        End::Raced { race } => {
-            let last = race_lines(alloc, text, race)?;
-            with_last_line(Exit::Raced, printed, last.as_str())
-        }
     }
 }
 
-/// The reply to a replay of a graph by items.
-pub fn replayed(
+/// The reply to a run of a graph by items: they are all taken, whatever races there are.
+pub fn run(
     alloc: Global,
     text: &[u8],
     graph: &Graph,
     items: &Schedule,
 ) -> Result<Outcome, AllocError>
     requires { length text.now ≤ PROGRAM_LIMIT }
-    ensures { IfOk result (λ outcome.
-        Replayed (replay_outcome text.now) graph.now items.now (Ok outcome)) }
+    ensures { IfOk result (λ outcome. Runs text.now graph.now items.now (Ok outcome)) }
 {
-    let replay = replay(alloc, graph, items)?;
-    ending(alloc, text, replay)
+    let output = output_of(alloc, graph, items)?;
+    run_ending(alloc, text, output)
 }
 
-/// The reply to the replay of the program that was generated for a number of actors.
-fn demo_ending(
-    alloc: Global,
-    actors: u32,
-    text: &[u8],
-    replay: Replay,
-) -> Result<Outcome, AllocError>
-    requires short { length text.now ≤ PROGRAM_LIMIT }
-    requires generated { text.now ≡ program actors }
-    ensures { IfOk result (λ outcome. outcome ≡ demo_outcome actors replay) }
+/// The reply about a replay that was watched for races.
+fn trace_ending(alloc: Global, text: &[u8], replay: Replay) -> Result<Outcome, AllocError>
+    requires { length text.now ≤ PROGRAM_LIMIT }
+    ensures { IfOk result (λ outcome. outcome ≡ replay_outcome text.now replay) }
 {
-    match replay.end {
-        End::Ran => {
-            let line = demo_line(alloc, actors, text, &replay)?;
-            lines(alloc, Exit::Done, line.as_str())
+    let Replay { output, race } = replay;
+    match race {
+        None => run_ending(alloc, text, output),
+        Some(race) => {
+            let last = race_lines(alloc, text, race)?;
+            with_last_line(Exit::Raced, output.lines, last.as_str())
         }
-        End::Trapped { .. } | End::Raced { .. } => ending(alloc, text, replay),
     }
 }
 
-/// The reply to a replay of its graph by items.
-pub fn demonstrated(
+/// The reply to a replay of a graph by items that stops where two jobs are about to race.
+pub fn trace(
+    alloc: Global,
+    text: &[u8],
+    graph: &Graph,
+    items: &Schedule,
+) -> Result<Outcome, AllocError>
+    requires { length text.now ≤ PROGRAM_LIMIT }
+    ensures { IfOk result (λ outcome. Traces text.now graph.now items.now (Ok outcome)) }
+{
+    let replay = replay(alloc, graph, items)?;
+    trace_ending(alloc, text, replay)
+}
+
+/// The reply to a run of the program that was generated for a number of actors, by its graph.
+pub fn demonstrate(
     alloc: Global,
     actors: u32,
     text: &[u8],
@@ -181,8 +188,14 @@ pub fn demonstrated(
     requires short { length text.now ≤ PROGRAM_LIMIT }
     requires generated { text.now ≡ program actors }
     ensures { IfOk result (λ outcome.
-        Replayed (demo_outcome actors) graph.now items.now (Ok outcome)) }
+        outcome ≡ demo_outcome actors (output_of graph.now items.now)) }
 {
-    let replay = replay(alloc, graph, items)?;
-    demo_ending(alloc, actors, text, replay)
+    let output = output_of(alloc, graph, items)?;
+    match output.end {
+        End::Ran => {
+            let line = demo_line(alloc, actors, text, &output)?;
+            lines(alloc, Exit::Done, line.as_str())
+        }
+        End::Trapped { .. } => run_ending(alloc, text, output),
+    }
 }

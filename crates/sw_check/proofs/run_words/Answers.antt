@@ -1,8 +1,9 @@
 use Rattle.std.proofs.Common.{subst}
 use Rattle.sw_check_parts.specs.Written.{Appended}
+use Rattle.sw_check_words.specs.Words.{command_in}
 use Rattle.sw_check.proofs.CallLemmas.{of_words, answer_says, answer_no_race, answer_exact}
 use Rattle.sw_check.proofs.CallLemmas.{answer_breached, answer_accepted, answer_not_raced}
-use Rattle.sw_check.proofs.CallLemmas.{answer_only}
+use Rattle.sw_check.proofs.CallLemmas.{answer_only, exits_of_words}
 use Rattle.sw_check.proofs.ExitLemmas.{silent_written}
 use Rattle.sw_check.proofs.run_words.Goals as goal
 
@@ -30,9 +31,10 @@ returns-in-Ok-write_all-clause-no_race g c known command is same all short _ not
     c.in-Ok.ensures.answered) known command is same all short not_breached
 
 pub returns-in-Ok-write_all-clause-not_raced : goal.returns-in-Ok-write_all-clause-not_raced
-returns-in-Ok-write_all-clause-not_raced g c known command graph is same of_text runs =
-    answer_not_raced (of_words c.args.words.now.items c.deref.result.now c.deref.ensures.value
-    c.in-Ok.ensures.answered) known command graph is same of_text runs
+returns-in-Ok-write_all-clause-not_raced g c command same all =
+    answer_not_raced (command_in c.args.words.now.items) c.in-Ok.outcome.exit
+    (exits_of_words c.args.words.now.items c.deref.result.now c.in-Ok.outcome.exit
+    c.deref.ensures.value c.in-Ok.ensures.exits) command same all
 
 pub returns-in-Ok-write_all-clause-exact : goal.returns-in-Ok-write_all-clause-exact
 returns-in-Ok-write_all-clause-exact g c known reads outcome is of_files reply _ =

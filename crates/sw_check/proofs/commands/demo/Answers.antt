@@ -1,4 +1,4 @@
-use Rattle.std.proofs.Common.{◌≡◌, Ok, Err, rules, subst}
+use Rattle.std.proofs.Common.{◌≡◌, Ok, Err, ap, rules, subst}
 use Rattle.std.proofs.lemmas.Result.{err_from_is_err_and}
 use Rattle.sw_graph.specs.declared.graph.Graph.{Graph}
 use Rattle.sw_gen.specs.Program.{program}
@@ -7,7 +7,8 @@ use Rattle.sw_check_parts.specs.Leaves.{Decides}
 use Rattle.sw_check_parts.proofs.Doing.{does_alone, decides_on, decides_stop}
 use Rattle.sw_decls.specs.declared.signature.AsyncDefault.TheVariants.{Concurrent}
 use Rattle.sw_verdict.specs.Phases.{all_phases}
-use Rattle.sw_check.specs.Reply.{IsJudgement, Replayed, demo_items, demo_outcome}
+use Rattle.sw_check.specs.Reply.{EndsWithReply, IsJudgement, demo_items, demo_outcome}
+use Rattle.sw_replay.specs.Output.{output_of}
 use Rattle.std.proofs.Common.{◌≤◌, ◌∙◌, length, sym}
 use Rattle.sw_replay.specs.declared.items.TheConstants.{MAX_ITEMS}
 use Rattle.sw_replay.specs.Items.{written_out}
@@ -41,7 +42,8 @@ returns-in_err-runs c shelf =
     (decides_on (IsJudgement Concurrent all_phases (program c.args.actors))
     (subst (λ text. IsJudgement Concurrent all_phases text (Ok graph)) text_is
     c.in_ok-graph.ensures)
-    (does_alone (Replayed (demo_outcome c.args.actors) graph (demo_items c.args.actors))
+    (does_alone
+    (EndsWithReply (demo_outcome c.args.actors (output_of graph (demo_items c.args.actors))))
     (Err Memory) tt))
 
 pub new-items-requires : goal.new-items-requires
@@ -49,29 +51,31 @@ new-items-requires c =
     subst (λ runs. length (written_out runs) ≤ MAX_ITEMS)
     (sym (c.from_vec.ensures ∙ c.in_ok-runs.ensures)) (few_items c.args.actors c.requires)
 
-pub returns-in_err-demonstrated : goal.returns-in_err-demonstrated
-returns-in_err-demonstrated c shelf =
-    let p = err_from_is_err_and c.from_residual-in_err-demonstrated.result
-    c.from_residual-in_err-demonstrated.ensures.1 in
+pub returns-in_err-demonstrate : goal.returns-in_err-demonstrate
+returns-in_err-demonstrate c shelf =
+    let p = err_from_is_err_and c.from_residual-in_err-demonstrate.result
+    c.from_residual-in_err-demonstrate.ensures.1 in
     let graph = c.in_ok-graph.graph in
     let text_is : c.as_slice.result.now ≡ program c.args.actors = search rules in
     rw (p.1, p.2)
     (decides_on (IsJudgement Concurrent all_phases (program c.args.actors))
     (subst (λ text. IsJudgement Concurrent all_phases text (Ok graph)) text_is
     c.in_ok-graph.ensures)
-    (does_alone (Replayed (demo_outcome c.args.actors) graph (demo_items c.args.actors))
+    (does_alone
+    (EndsWithReply (demo_outcome c.args.actors (output_of graph (demo_items c.args.actors))))
     (Err Memory) tt))
 
 pub returns : goal.returns
 returns c shelf =
     let graph = c.in_ok-graph.graph in
-    let outcome = c.in_ok-demonstrated.field-0 in
+    let outcome = c.in_ok-demonstrate.field-0 in
     let text_is : c.as_slice.result.now ≡ program c.args.actors = search rules in
     let items_are : c.new-items.result ≡ demo_items c.args.actors = search rules in
     decides_on (IsJudgement Concurrent all_phases (program c.args.actors))
     (subst (λ text. IsJudgement Concurrent all_phases text (Ok graph)) text_is
     c.in_ok-graph.ensures)
-    (does_alone (Replayed (demo_outcome c.args.actors) graph (demo_items c.args.actors))
-    (Ok outcome)
-    (subst (λ items. Replayed (demo_outcome c.args.actors) graph items (Ok outcome)) items_are
-    c.in_ok-demonstrated.ensures))
+    (does_alone
+    (EndsWithReply (demo_outcome c.args.actors (output_of graph (demo_items c.args.actors))))
+    (Ok outcome) (ap Ok
+    (c.in_ok-demonstrate.ensures
+    ∙ ap (λ items. demo_outcome c.args.actors (output_of graph items)) items_are)))

@@ -1,5 +1,5 @@
-use Rattle.sw_check.proofs.ClaimLemmas as claims
 use Rattle.sw_check.proofs.Courses as courses
+use Rattle.sw_check.proofs.OneExit.{one_ending}
 use Rattle.sw_check.proofs.laws.words_have_one_reply.Goals as goal
 
 pub returns-clause-some_reply : goal.returns-clause-some_reply
@@ -15,4 +15,4 @@ pub returns-clause-goes_on : goal.returns-clause-goes_on
 returns-clause-goes_on c = courses.goes_on
 
 pub returns-clause-one_end : goal.returns-clause-one_end
-returns-clause-one_end c = claims.one_end
+returns-clause-one_end c = one_ending

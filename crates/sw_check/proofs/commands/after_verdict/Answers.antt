@@ -1,0 +1,61 @@
+use Rattle.std.proofs.Common.{Ok, Err, ap}
+use Rattle.std.proofs.lemmas.Result.{err_from_is_err_and}
+use Rattle.sw_check_parts.specs.declared.stop.Stop.TheVariants.{Memory}
+use Rattle.sw_check_parts.proofs.Doing.{does_on, does_stop, does_alone}
+use Rattle.sw_check.specs.Reply.{EndsWithReply, Runs, Traces, accepted}
+use Rattle.sw_check.proofs.commands.after_verdict.Goals as goal
+
+pub returns-in_err-lines-in-Check : goal.returns-in_err-lines-in-Check
+returns-in_err-lines-in-Check g c =
+    let p = err_from_is_err_and c.from_residual.result c.from_residual.ensures.1 in
+    rw (p.1, p.2, c.in-Check.is) (does_alone (EndsWithReply accepted) (Err Memory) tt)
+
+pub returns-in_ok-lines-in-Check : goal.returns-in_ok-lines-in-Check
+returns-in_ok-lines-in-Check g c =
+    rw c.in-Check.is
+    (does_alone (EndsWithReply accepted) (Ok c.in_ok-lines-in-Check.field-0)
+    (ap Ok c.in_ok-lines-in-Check.ensures))
+
+pub returns-in_err-items-in-Run : goal.returns-in_err-items-in-Run
+returns-in_err-items-in-Run g c =
+    let p = err_from_is_err_and c.from_residual-in_err-items-in-Run.result
+    c.from_residual-in_err-items-in-Run.ensures.1 in
+    rw (p.1, p.2, c.in-Run.is)
+    (does_stop _ c.in_err-items-in-Run.field-0.0 c.in_err-items-in-Run.ensures)
+
+pub returns-in_err-run-in-Run : goal.returns-in_err-run-in-Run
+returns-in_err-run-in-Run g c =
+    let p = err_from_is_err_and c.from_residual-in_err-run-in-Run.result
+    c.from_residual-in_err-run-in-Run.ensures.1 in
+    let Answers = Runs c.args.text.now c.args.graph.now c.in_ok-items-in-Run.items in
+    rw (p.1, p.2, c.in-Run.is)
+    (does_on c.in_ok-items-in-Run.ensures (does_alone Answers (Err Memory) tt))
+
+pub returns-in_ok-run-in-Run : goal.returns-in_ok-run-in-Run
+returns-in_ok-run-in-Run g c =
+    let Answers = Runs c.args.text.now c.args.graph.now c.in_ok-items-in-Run.items in
+    rw c.in-Run.is
+    (does_on c.in_ok-items-in-Run.ensures
+    (does_alone Answers (Ok c.in_ok-run-in-Run.field-0) c.in_ok-run-in-Run.ensures))
+
+pub returns-in_err-items-in-Trace : goal.returns-in_err-items-in-Trace
+returns-in_err-items-in-Trace g c =
+    let p = err_from_is_err_and c.from_residual-in_err-items-in-Trace.result
+    c.from_residual-in_err-items-in-Trace.ensures.1 in
+    rw (p.1, p.2, c.in-Trace.is)
+    (does_stop _ c.in_err-items-in-Trace.field-0.0 c.in_err-items-in-Trace.ensures)
+
+pub returns-in_err-trace-in-Trace : goal.returns-in_err-trace-in-Trace
+returns-in_err-trace-in-Trace g c =
+    let p = err_from_is_err_and c.from_residual-in_err-trace-in-Trace.result
+    c.from_residual-in_err-trace-in-Trace.ensures.1 in
+    let Answers = Traces c.args.text.now c.args.graph.now c.in_ok-items-in-Trace.items in
+    rw (p.1, p.2, c.in-Trace.is)
+    (does_on c.in_ok-items-in-Trace.ensures (does_alone Answers (Err Memory) tt))
+
+pub returns-in_ok-trace-in-Trace : goal.returns-in_ok-trace-in-Trace
+returns-in_ok-trace-in-Trace g c =
+    let Answers = Traces c.args.text.now c.args.graph.now c.in_ok-items-in-Trace.items in
+    rw c.in-Trace.is
+    (does_on c.in_ok-items-in-Trace.ensures
+    (does_alone Answers (Ok c.in_ok-trace-in-Trace.field-0) c.in_ok-trace-in-Trace.ensures))
