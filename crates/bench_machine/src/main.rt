@@ -15,12 +15,12 @@ use std::{env, io};
 use sw_color::{color_start, color_step, owner_of};
 use sw_color_rules::Colored;
 use sw_graph::Graph;
-use sw_replay::{replay, schedule};
+use sw_replay::{output_of, schedule};
 
 /// How many cells there may be: their numbers have 32 bits.
 const MAX_CELLS: usize = 4_294_967_295;
 
-/// Replays a schedule, and prints what comes of it.
+/// Lets the machine take a schedule, and prints what comes of it.
 fn run<R: Print + AllocGlobal>(rt: &R, name: &str, graph: &Graph, text: &str) -> io::Result<()> {
     if text.len() > 64 {
         return println!(rt; "{name}: the schedule is too long");
@@ -28,9 +28,9 @@ fn run<R: Print + AllocGlobal>(rt: &R, name: &str, graph: &Graph, text: &str) ->
     let Ok(items) = schedule(rt.alloc(), text.as_bytes()) else {
         return println!(rt; "{name}: no schedule");
     };
-    let replay = replay(rt.alloc(), graph, &items)?;
-    let ended = replay.ended;
-    let jobs = replay.jobs;
+    let output = output_of(rt.alloc(), graph, &items)?;
+    let ended = output.ended;
+    let jobs = output.jobs;
     println!(rt; "{name}: {ended} of {jobs} jobs have ended")
 }
 
