@@ -30,7 +30,6 @@ ghost use Rattle.sw_value.specs.Effect.{effect_of, is_stuck};
 ghost use Rattle.sw_value.specs.Job.{is_running, top_frame};
 ghost use Rattle.sw_value.specs.Racing.{Racing};
 ghost use Rattle.sw_value.specs.Reach.{reach, step_of};
-ghost use Rattle.sw_value.specs.Runnable.{IsRunnable};
 ghost use Rattle.sw_value.specs.declared.cell.HeapCell.TheVariants as cell;
 ghost use Rattle.sw_value.specs.declared.frame.Frame.{Frame};
 ghost use Rattle.sw_value.specs.declared.job.Job.{Job};
@@ -44,8 +43,8 @@ ghost use Rattle.sw_machine_access_facts.specs.Location.{IsLocation, content_of,
 ghost use Rattle.sw_machine_access_facts.specs.Location.{IsVar};
 ghost use Rattle.sw_race.specs.Step.{BringsInItsOwn, HasRival};
 ghost use Rattle.sw_replay.specs.Items.{IsItems, IsFirstFault, HasItems, position_of};
-ghost use Rattle.sw_replay.specs.Replay.{whole_replay, IsReplay};
-ghost use Rattle.sw_replay.specs.declared.output.End.{End};
+ghost use Rattle.sw_replay.specs.Output.{output_of};
+ghost use Rattle.sw_replay.specs.Replay.{IsRacingAt, IsReplay};
 ghost use Rattle.sw_replay.specs.declared.output.Replay.{Replay};
 ghost use Rattle.sw_replay.specs.declared.text.SchedFault.{SchedFault};
 ghost use Rattle.sw_region_ops.specs.declared.op.TheConstants.{ISOLATED_TO_ACTOR, ISOLATED_TO_TASK};
@@ -60,7 +59,7 @@ ghost use Rattle.sw_verdict.specs.Verdict.{Accepts, Breaches, Refuses};
 ghost use Rattle.sw_check_parts.specs.Course.{AreOf, Read, Underway};
 ghost use Rattle.sw_check_parts.specs.Lawful.{IsPrefixOf};
 ghost use Rattle.sw_check_parts.specs.declared.outcome.Outcome.{Outcome};
-ghost use Rattle.sw_check.specs.Claims.{EndsSo};
+ghost use Rattle.sw_check.specs.Claims.{Ending, Ends};
 ghost use Rattle.sw_check.specs.Reply.{Reply, course_of};
 ghost use Rattle.sw_check_words.specs.Words.{Command};
 
@@ -229,14 +228,6 @@ pub fn passed_graphs_never_race()
     sw_sound_facts::passed_graphs_never_race()
 }
 
-/// No list of items, of any length, leads a runnable graph to a state that is racing.
-pub fn runnable_graphs_never_race()
-    ensures never_races { (graph : Graph) → IsRunnable graph → (items : List ℕ) →
-        ¬ Racing graph (reach graph items) }
-{
-    sw_value::runnable_graphs_never_race()
-}
-
 // What the definition of a race stands for: a step touches no location except that of its access.
 
 /// The write footprint of a step: it changes no location but the one that the next access of its
@@ -378,19 +369,17 @@ pub fn items_of_texts()
     sw_replay::items_of_texts()
 }
 
-/// Every list of items has one replay, for every graph. That of a graph whose jobs access no
-/// location in any state takes all items. A runnable graph is one of these: it has no instructions
-/// but literals, prints, starts of tasks and returns, and the isolation of each function is `Free`.
+/// Every list of items has one replay, for every graph. Where no prefix of the items leads to a
+/// state that is racing, it takes all of them and finds no race, and what comes of it is the output
+/// of the items.
 pub fn items_have_one_replay()
     ensures some { (graph : Graph) (items : List ℕ) →
         (replay : Replay) × IsReplay graph items replay }
     ensures one { (graph : Graph) (items : List ℕ) (a b : Replay) →
         IsReplay graph items a → IsReplay graph items b → a ≡ b }
-    ensures accesses_nothing { (graph : Graph) →
-        ((state : State) (job : ℕ) → next_access graph state job ≡ None) → (items : List ℕ) →
-        IsReplay graph items (whole_replay graph items) }
-    ensures runnable { (graph : Graph) → IsRunnable graph → (items : List ℕ) →
-        IsReplay graph items (whole_replay graph items) }
+    ensures unraced { (graph : Graph) (items : List ℕ) (replay : Replay)
+        → ((n : ℕ) → ¬ IsRacingAt graph items n) → IsReplay graph items replay
+        → replay ≡ record { output = output_of graph items; race = None } }
 {
     sw_replay::items_have_one_replay()
 }
@@ -414,10 +403,9 @@ pub fn words_have_one_reply()
     ensures goes_on { (command : Option Command) (reads : List Read)
         → course_of command reads Underway
         → (others : List Read) × (outcome : Outcome) × Reply command (reads ++ others) outcome }
-    // Under a default a replay of a program by a schedule ends in one way.
-    ensures one_end { (rule : AsyncDefault) (text schedule : List ℕ) (a b : End)
-        → EndsSo rule a text (IsItems schedule) → EndsSo rule b text (IsItems schedule)
-        → a ≡ b }
+    // Over any files a command that goes to its end ends in one way.
+    ensures one_end { (files : List ℕ → List ℕ) (command : Command) (a b : Ending)
+        → Ends a files command → Ends b files command → a ≡ b }
 {
     sw_check::words_have_one_reply()
 }
