@@ -6,4 +6,4 @@ mod checked;
 mod laws;
 
 pub use checked::{CertifyFault, Checked};
-pub use laws::checked_graphs_never_race;
+pub use laws::{checked_graphs_never_race, checked_graphs_own_their_memory};
