@@ -28,7 +28,7 @@ use Rattle.sw_secure_job_facts.proofs.Changed.{have_changed, memory_changed, wai
 use Rattle.sw_secure_job_facts.proofs.Next.{WaitsAs, secure_after}
 use Rattle.sw_secure_job_facts.proofs.Returns.{returns_above}
 use Rattle.sw_secure_job_facts.proofs.Rows.{here_elsewhere, heres_popped, memory_uncoloured}
-use Rattle.sw_secure_job_facts.proofs.Traps.{nothing_unites}
+use Rattle.sw_secure_facts.proofs.Uniting.{nothing_unites}
 
 alone : (frames : List Frame) → length frames ≡ zero → frames ≡ []
 alone [] is = refl

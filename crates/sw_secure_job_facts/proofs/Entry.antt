@@ -1,13 +1,9 @@
 -- A frame that begins with values none of which is sent to it: it holds what they reach, all of it
 -- with `Here`.
-use Rattle.std.specs.Option.{option_and_then, option_map, option_map_or}
+use Rattle.std.specs.Option.{option_map_or}
 use Rattle.std.specs.List.{slice_get}
-use Rattle.std.proofs.Common.{◌≡◌, ◌⊎◌, ◌-◌, ℕ, zero, suc, Option, Some, None, List, [], length}
-use Rattle.std.proofs.Common.{map, replicate, Contains, refl, sym, subst, ap, ◌∙◌, arith, inl, inr}
-use Rattle.std.proofs.lemmas.Bool.{cases_lt}
-use Rattle.std.proofs.lemmas.List.{length-map}
-use Rattle.std.proofs.lemmas.Option.{slice_get-map}
-use Rattle.sw_list.proofs.ListLemmas.{slice_get_first, slice_get_second}
+use Rattle.std.proofs.Common.{◌≡◌, ◌⊎◌, ℕ, Option, Some, None, List, [], length}
+use Rattle.std.proofs.Common.{Contains, refl, sym, subst, ap, ◌∙◌, inl, inr}
 use Rattle.sw_graph.specs.declared.function.Function.{Function}
 use Rattle.sw_graph.specs.declared.graph.Graph.{Graph}
 use Rattle.sw_value.specs.declared.frame.Frame.{Frame}
@@ -24,33 +20,7 @@ use Rattle.sw_reach_facts.specs.Reached.{colours_of}
 use Rattle.sw_reach_facts.proofs.ListLemmas.{member_at, none_in}
 use Rattle.sw_view_facts.specs.Views.{Colours, colours_by, elements_in, elements_with, frame_at}
 use Rattle.sw_view_facts.specs.Views.{here_at, region_by, view_of}
-
--- the value of a register at the start is one of those that are given
-none_there : (n k : ℕ) (v : Value)
-    → option_and_then (λ (o : Option Value). o) (slice_get (replicate n None) k) ≡ Some v → ⊥
-none_there zero k v e = cc
-none_there (suc n) zero v e = cc
-none_there (suc n) (suc k) v e = none_there n k v e
-
-pub given_value : (n : ℕ) (values : List Value) (r : ℕ) (v : Value)
-    → value_at (registers n values) r ≡ Some v → slice_get values r ≡ Some v
-unfolding registers
-given_value n values r v e = elim (cases_lt r (length values)) [
-  | inl lt ↦ by (slice_get values r) refl
-      (sym (ap (option_and_then (λ (o : Option Value). o))
-      (slice_get_first (map Some values) (replicate (n - length values) None) r
-      (let m = length-map values Some in omega (arith, m, lt)) ∙ slice_get-map Some values r)) ∙ e)
-  | inr past ↦ absurd (none_there (n - length values) (r - length (map Some values)) v
-      (sym (ap (option_and_then (λ (o : Option Value). o))
-      (slice_get_second (map Some values) (replicate (n - length values) None) r
-      (let m = length-map values Some in omega (arith, m, past)))) ∙ e))
-]
-  where
-    by : (o : Option Value) → slice_get values r ≡ o
-        → option_and_then (λ (o : Option Value). o) (option_map Some o) ≡ Some v
-        → slice_get values r ≡ Some v
-    by None is e = cc
-    by (Some w) is e = is ∙ e
+use Rattle.sw_view_facts.proofs.EntryLemmas.{given_value}
 
 -- Frame t at q begins with these values, and its parameters are in the region of `Here`.
 pub record BeginsLent (graph : Graph) (regions : Spot → Option Regions) (state : State)

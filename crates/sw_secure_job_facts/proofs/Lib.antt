@@ -11,7 +11,6 @@ pub mod Giving
 pub mod Rows
 pub mod Returns
 pub mod Endings
-pub mod Firsts
 pub mod Begun
 pub mod Starts
 pub mod Handing

@@ -47,7 +47,7 @@ use Rattle.sw_late_facts.specs.Late.{goes_away}
 use Rattle.sw_secure_facts.specs.Painting.{actor_on}
 use Rattle.sw_secure_facts.specs.Secure.{IsSecure}
 use Rattle.sw_secure_job_facts.proofs.Begun.{IsBegun}
-use Rattle.sw_secure_job_facts.proofs.Entry.{given_value}
+use Rattle.sw_view_facts.proofs.EntryLemmas.{given_value}
 
 -- The top frame f of a running job stands at an instruction that makes a task, which begins with
 -- this frame.

@@ -67,7 +67,7 @@ use Rattle.sw_secure_job_facts.proofs.Leaving.{frames_are, rest, returns_below, 
 use Rattle.sw_secure_job_facts.proofs.Next.{WaitsAs, secure_after}
 use Rattle.sw_secure_job_facts.proofs.Rows.{here_below, here_elsewhere, heres_popped}
 use Rattle.sw_secure_job_facts.proofs.Rows.{memory_uncoloured}
-use Rattle.sw_secure_job_facts.proofs.Traps.{nothing_unites}
+use Rattle.sw_secure_facts.proofs.Uniting.{nothing_unites}
 
 -- what the top frame gives goes to the one below
 linked : (graph : Graph) (cells : List RegKind) (below : List Frame) (top : Frame)

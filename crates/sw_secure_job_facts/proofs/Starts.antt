@@ -52,7 +52,7 @@ use Rattle.sw_secure_facts.specs.Painting.{actor_on, begun_here}
 use Rattle.sw_secure_facts.specs.Secure.{HeresFit, IsSecure, WaitsFit}
 use Rattle.sw_secure_job_facts.specs.Begins.{AreAnnotated, HeresBegin}
 use Rattle.sw_secure_job_facts.proofs.Begun.{IsBegun, begun_from}
-use Rattle.sw_secure_job_facts.proofs.Firsts.{IsFirstOf, firsts_sound}
+use Rattle.sw_view_facts.proofs.FirstLemmas.{IsFirstOf, firsts_sound}
 use Rattle.sw_secure_job_facts.proofs.Frames.{few_registers}
 
 -- ---- lists

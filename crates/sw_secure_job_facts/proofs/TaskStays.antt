@@ -59,7 +59,7 @@ use Rattle.sw_secure_facts.proofs.Staying.{memory_stays}
 use Rattle.sw_secure_job_facts.proofs.Captured.{of_each}
 use Rattle.sw_secure_job_facts.proofs.Carried.{top_there}
 use Rattle.sw_secure_job_facts.proofs.Changed.{heres_changed, job_was, waits_turned}
-use Rattle.sw_secure_job_facts.proofs.Entry.{given_value}
+use Rattle.sw_view_facts.proofs.EntryLemmas.{given_value}
 use Rattle.sw_secure_job_facts.proofs.Making.{MakesTask, elements, here, instr}
 use Rattle.sw_secure_job_facts.proofs.Next.{IsIdle, WaitsAs, WaitsOn, secure_after, waits_itself}
 use Rattle.sw_secure_job_facts.proofs.Rows.{memory_uncoloured}

@@ -1,6 +1,6 @@
 -- A trap halts the machine, and changes nothing that a secure state speaks of.
-use Rattle.std.proofs.Common.{◌≡◌, ℕ, Option, Some, List, [], ◌∷◌, length, Contains, refl, sym}
-use Rattle.std.proofs.Common.{subst, ap, ◌∙◌, arith, inl}
+use Rattle.std.proofs.Common.{◌≡◌, ℕ, Option, Some, List, length, refl, sym}
+use Rattle.std.proofs.Common.{subst, ap, ◌∙◌, inl}
 use Rattle.std.specs.List.{slice_get}
 use Rattle.sw_graph.specs.declared.function.Function.{Function}
 use Rattle.sw_graph.specs.declared.graph.Graph.{Graph}
@@ -13,31 +13,18 @@ use Rattle.sw_value.specs.declared.state.TrapKind.{TrapKind}
 use Rattle.sw_value.specs.Reach.{step_of}
 use Rattle.sw_value.specs.State.{halt}
 use Rattle.sw_partition.specs.Regions.{Regions}
-use Rattle.sw_owner_facts.specs.Colours.{OfJob}
 use Rattle.sw_owner_facts.specs.Owned.{IsSound}
 use Rattle.sw_owner_facts.specs.View.{Frame as Spot}
 use Rattle.sw_reach_facts.specs.Coloured.{HaveColours}
-use Rattle.sw_reach_facts.proofs.ListLemmas.{none_in}
-use Rattle.sw_view_facts.specs.Renaming.{united}
 use Rattle.sw_view_facts.specs.Views.{Colours}
 use Rattle.sw_view_facts.proofs.EffectLemmas.{step_is}
 use Rattle.sw_view_facts.proofs.HaltLemmas.{halt_same}
 use Rattle.sw_store_facts.specs.Sound.{HasSoundView}
 use Rattle.sw_secure_facts.specs.Executing.{Executing, StaysSecure}
-use Rattle.sw_secure_facts.specs.Painting.{Unites}
 use Rattle.sw_secure_facts.specs.Secure.{IsSecure}
 use Rattle.sw_secure_facts.proofs.Staying.{memory_stays}
+use Rattle.sw_secure_facts.proofs.Uniting.{nothing_unites}
 use Rattle.sw_secure_job_facts.proofs.Next.{heres_stay, secure_after, waits_itself}
-
--- where nothing becomes one, the colours are those that were made
-pub nothing_unites : (job : ℕ) (colours after : Colours) → Unites job [] colours after
-    → after ≡ colours
-nothing_unites job colours after u =
-    u.is ∙ ap (λ (ns : List ℕ). united job ns u.kept colours) (none u.numbers u.only)
-  where
-    none : (ns : List ℕ) → ((n : ℕ) → Contains ns n → Contains [] (OfJob job n)) → ns ≡ []
-    none [] only = refl
-    none (n ∷ ns) only = absurd (none_in (OfJob job n) (only n (0, omega arith, refl)))
 
 pub traps_stay : (graph : Graph) (states : ℕ → List (Option Regions)) (state : State)
     (colours : Colours) (q : Spot) (number : ℕ) (job : Job) (f : Frame) (function : Function)
