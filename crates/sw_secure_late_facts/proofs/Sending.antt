@@ -54,7 +54,7 @@ use Rattle.sw_secure_call_facts.proofs.Functions.{DirectCall, set}
 use Rattle.sw_secure_call_facts.proofs.Holds.{called}
 use Rattle.sw_secure_call_facts.proofs.Pushing as pushing
 use Rattle.sw_secure_call_facts.proofs.Setup.{Setup, begun, elements, lent_colours}
-use Rattle.sw_secure_job_facts.proofs.Entry.{given_value}
+use Rattle.sw_view_facts.proofs.EntryLemmas.{given_value}
 use Rattle.sw_hue_facts.specs.Hued.{hued}
 use Rattle.sw_hue_facts.proofs.Made.{frame_made}
 use Rattle.sw_secure_late_facts.specs.LateSecure.{CargoFits, IsLateSecure}

@@ -43,7 +43,7 @@ use Rattle.sw_late_facts.proofs.HueLemmas.{handed_goes, handed_stays}
 use Rattle.sw_secure_facts.specs.Painting.{actor_on}
 use Rattle.sw_secure_facts.specs.Secure.{IsSecure}
 use Rattle.sw_secure_job_facts.proofs.Carried.{given_held, sent}
-use Rattle.sw_secure_job_facts.proofs.Entry.{given_value}
+use Rattle.sw_view_facts.proofs.EntryLemmas.{given_value}
 use Rattle.sw_secure_job_facts.proofs.Making.{MakesTask, shares_or_sends}
 use Rattle.sw_secure_job_facts.proofs.TaskEntry as entry
 use Rattle.sw_hue_facts.specs.Hued.{hued}
