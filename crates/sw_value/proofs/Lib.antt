@@ -2,7 +2,6 @@ pub mod AccessLemmas
 pub mod BusyLemmas
 pub mod JobLemmas
 pub mod ListLemmas
-pub mod NeverRaces
 pub mod RaceLemmas
 pub mod ReachLemmas
 pub mod StaysInBounds

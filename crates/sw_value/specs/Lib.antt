@@ -13,7 +13,6 @@ pub mod Machine
 pub mod Printed
 pub mod Racing
 pub mod Reach
-pub mod Runnable
 pub mod Start
 pub mod State
 pub mod Transition

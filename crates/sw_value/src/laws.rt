@@ -7,18 +7,11 @@ ghost use Rattle.sw_value.specs.Access.{next_access};
 ghost use Rattle.sw_value.specs.Act.{act_of};
 ghost use Rattle.sw_value.specs.Racing.{Racing, IsLeastRace};
 ghost use Rattle.sw_value.specs.Reach.{step_of, reach, Reached};
-ghost use Rattle.sw_value.specs.Runnable.{IsRunnable};
 ghost use Rattle.sw_value.specs.Start.{start_of};
 ghost use Rattle.sw_value.specs.Transition.{Transition, transition_of, Describes};
 
 use crate::frame::{MAX_FRAMES, NO_REGISTER};
 use crate::job::MAX_JOBS;
-
-/// No list of items, of any length, leads a runnable graph to a state that is racing.
-pub fn runnable_graphs_never_race()
-    ensures never_races { (graph : Graph) → IsRunnable graph → (items : List ℕ) →
-        ¬ Racing graph (reach graph items) }
-{}
 
 /// However long the items are, there are never more jobs than the machine allows, and no more cells
 /// than items.

@@ -23,8 +23,8 @@ pub use executor::Executor;
 pub use frame::{Frame, FrameList, MAX_FRAMES, NO_REGISTER};
 pub use job::{Job, JobList, MAX_JOBS, Status};
 pub use laws::{
-    idle_jobs_access_nothing, machine_numbers, races_are_decided, runnable_graphs_never_race,
-    states_stay_in_bounds, steps_reach, transitions_describe,
+    idle_jobs_access_nothing, machine_numbers, races_are_decided, states_stay_in_bounds,
+    steps_reach, transitions_describe,
 };
 pub use race::{Access, Place, Race};
 pub use state::{State, TrapKind};
