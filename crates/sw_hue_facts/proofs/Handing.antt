@@ -3,6 +3,7 @@ use Rattle.std.proofs.Common.{◌≡◌, ◌⊎◌, ◌<◌, ℕ, Some, List, []
 use Rattle.std.proofs.Common.{refl, sym, subst, ap, ◌∙◌, inl, inr}
 use Rattle.std.proofs.lemmas.Bool.{cases_eq}
 use Rattle.std.proofs.lemmas.List.Elements.{All-head, All-tail}
+use Rattle.sw_list.proofs.Members.{first_or_later, none_in}
 use Rattle.sw_color_rules.specs.declared.colors.Colors.{Colors}
 use Rattle.sw_color_rules.specs.declared.colors.Palette.{Palette}
 use Rattle.sw_color_rules.specs.Changes.{after_changes, on_palette}
@@ -13,7 +14,6 @@ use Rattle.sw_late_facts.specs.Late.{givings}
 use Rattle.sw_late_facts.proofs.HueLemmas.{handed_goes, handed_stays}
 use Rattle.sw_owner_facts.specs.Colours.{Actor, Colour, OfActor, OfJob}
 use Rattle.sw_owner_facts.specs.Within.{Becomes}
-use Rattle.sw_reach_facts.proofs.ListLemmas.{head_cases, none_in}
 use Rattle.sw_secure_facts.specs.Painting.{handed}
 use Rattle.sw_view_facts.specs.Renaming.{renames}
 use Rattle.sw_view_facts.specs.Views.{Colours}
@@ -78,7 +78,7 @@ module _ (job heir : ℕ) where
     given = gives.given;
     only = λ m has. later_in c cs (OfJob job m)
         (subst (λ l. Contains l (OfJob job m)) (sym same) (gives.only m has));
-    each = λ m has. elim (head_cases c cs (OfJob job m) has) [
+    each = λ m has. elim (first_or_later c cs (OfJob job m) has) [
       | inl is ↦ absurd (differs m is)
       | inr later ↦ gives.each m (subst (λ l. Contains l (OfJob job m)) same later)
     ];
@@ -105,7 +105,7 @@ module _ (job heir : ℕ) where
 
     each_after : (ns : List ℕ) (m : ℕ) → Contains (hues_of p (n ∷ ns)) (OfJob job m)
         → (l ≡ m) ⊎ Contains (hues_of q ns) (OfJob job m)
-    each_after ns m has = elim (head_cases (hue p n) (hues_of p ns) (OfJob job m) has) [
+    each_after ns m has = elim (first_or_later (hue p n) (hues_of p ns) (OfJob job m) has) [
       | inl here ↦ inl (same (sym is ∙ here))
       | inr later ↦
           let old = of_map (hue p) ns (OfJob job m) later in by old.0 old.1 old.2 (turns old.0)
@@ -127,7 +127,7 @@ module _ (job heir : ℕ) where
         → Gives (hues_of q ns) middle after → Gives (hues_of p (n ∷ ns)) before after
     goes ns before middle after turned gives = record {
       given = l ∷ gives.given;
-      only = λ m has. elim (head_cases l gives.given m has) [
+      only = λ m has. elim (first_or_later l gives.given m has) [
         | inl same ↦ subst (λ c. Contains (hues_of p (n ∷ ns)) c) (is ∙ ap (OfJob job) same)
             (first_in (hue p n) (hues_of p ns))
         | inr later ↦ only_before ns m (gives.only m later)

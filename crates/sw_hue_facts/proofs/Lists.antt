@@ -7,8 +7,8 @@ use Rattle.std.proofs.lemmas.List.{map-set}
 use Rattle.std.proofs.lemmas.List.Elements.{All-cons, All-head, All-nil, All-tail}
 use Rattle.std.proofs.lemmas.List.Elements.{Contains-append_left, Contains-append_right}
 use Rattle.std.proofs.lemmas.Option.{slice_get-map}
+use Rattle.sw_list.proofs.Members.{first_or_later, in_one, none_in}
 use Rattle.sw_value.specs.Lists.{changed_at, changed_by}
-use Rattle.sw_reach_facts.proofs.ListLemmas.{head_cases, in_one, none_in}
 
 -- two maps that agree on what holds of each
 pub map_all : {X Y : Type 0} (P : X → Type 0) (f g : X → Y) (xs : List X)
@@ -35,7 +35,7 @@ later_in x xs y has = Contains-append_right (x ∷ []) xs y has
 pub in_map : {X Y : Type 0} (f : X → Y) (xs : List X) (x : X) → Contains xs x
     → Contains (map f xs) (f x)
 in_map f [] x has = absurd (none_in x has)
-in_map f (y ∷ ys) x has = elim (head_cases y ys x has) [
+in_map f (y ∷ ys) x has = elim (first_or_later y ys x has) [
   | inl same ↦ subst (λ z. Contains (map f (y ∷ ys)) (f z)) same (first_in (f y) (map f ys))
   | inr later ↦ later_in (f y) (map f ys) (f x) (in_map f ys x later)
 ]
@@ -68,7 +68,7 @@ is_among x (y ∷ ys) tells = by (tells y) (is_among x ys tells) where
   by (inl same) _ = inl (subst (λ z. Contains (y ∷ ys) z) same
       (first_in y ys))
   by (inr differs) (inl later) = inl (later_in y ys x later)
-  by (inr differs) (inr nowhere) = inr (λ has. elim (head_cases y ys x has) [
+  by (inr differs) (inr nowhere) = inr (λ has. elim (first_or_later y ys x has) [
     | inl same ↦ differs same
     | inr later ↦ nowhere later
   ])

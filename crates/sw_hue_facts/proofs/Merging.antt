@@ -5,12 +5,12 @@ use Rattle.std.specs.List.{All}
 use Rattle.std.proofs.lemmas.List.{append-nil}
 use Rattle.std.proofs.lemmas.List.Elements.{All-head, All-tail, Contains-append_cases}
 use Rattle.std.proofs.lemmas.List.Elements.{Contains-append_left, Contains-append_right}
+use Rattle.sw_list.proofs.Members.{in_one, one_in}
 use Rattle.sw_color_rules.specs.declared.colors.Palette.{Palette}
 use Rattle.sw_color_rules.specs.Palette.{IsWhole, merge}
 use Rattle.sw_late_facts.specs.Hues.{hue}
 use Rattle.sw_late_facts.proofs.HueLemmas.{merge_same}
 use Rattle.sw_owner_facts.specs.Colours.{Actor, Colour, OfJob}
-use Rattle.sw_reach_facts.proofs.ListLemmas.{in_one, one_in}
 use Rattle.sw_hue_facts.proofs.Colours.{cases_among}
 use Rattle.sw_hue_facts.proofs.Counts.{merged_count, merged_whole}
 use Rattle.sw_hue_facts.proofs.Meeting.{IsKept, IsOneOf, Meets, meets}

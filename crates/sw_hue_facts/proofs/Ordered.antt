@@ -2,12 +2,12 @@
 use Rattle.std.proofs.Common.{◌≡◌, ◌⊎◌, ℕ, Bool, true, false, cond, eqb, ltb, List, [], ◌∷◌, fold}
 use Rattle.std.proofs.Common.{Contains, refl, sym, subst, ◌∙◌, inl, inr}
 use Rattle.std.proofs.lemmas.Bool.Decides.{eqb_tells}
+use Rattle.sw_list.proofs.Members.{first_or_later, none_in}
 use Rattle.sw_color_rules.specs.declared.colors.Palette.{Palette}
 use Rattle.sw_color_rules.specs.Tints.{in_order, inserted}
 use Rattle.sw_late_facts.specs.Hues.{hue}
 use Rattle.sw_owner_facts.specs.Colours.{Colour, OfJob}
 use Rattle.sw_owner_facts.specs.View.{Frame as Spot}
-use Rattle.sw_reach_facts.proofs.ListLemmas.{head_cases, none_in}
 use Rattle.sw_secure_facts.specs.Painting.{MayUnite, Unites}
 use Rattle.sw_view_facts.specs.Views.{Colours}
 use Rattle.sw_view_facts.proofs.RenameLemmas.{of_map}
@@ -18,7 +18,7 @@ use Rattle.sw_hue_facts.proofs.Lists.{first_in, in_map, later_in}
 inserted_has : (n : ℕ) (ns : List ℕ) (m : ℕ) → Contains (n ∷ ns) m → Contains (inserted n ns) m
 inserted_has n [] m has = has
 inserted_has n (k ∷ ks) m has =
-    by (ltb n k) (eqb n k) (eqb_tells n k) (head_cases n (k ∷ ks) m has)
+    by (ltb n k) (eqb n k) (eqb_tells n k) (first_or_later n (k ∷ ks) m has)
     (λ rest. inserted_has n ks m rest) where
       by : (low same : Bool) → ((same ≡ true) × (n ≡ k)) ⊎ ((same ≡ false) × (n ≡ k → ⊥))
           → (n ≡ m) ⊎ Contains (k ∷ ks) m
@@ -33,7 +33,7 @@ inserted_has n (k ∷ ks) m has =
       by false true (inr t) has more = cc
       by false false tells (inl e) more =
           later_in k (inserted n ks) m (more (subst (λ x. Contains (n ∷ ks) x) e (first_in n ks)))
-      by false false tells (inr old) more = elim (head_cases k ks m old) [
+      by false false tells (inr old) more = elim (first_or_later k ks m old) [
         | inl e ↦ subst (λ x. Contains (k ∷ inserted n ks) x) e (first_in k (inserted n ks))
         | inr rest ↦ later_in k (inserted n ks) m (more (later_in n ks m rest))
       ]
@@ -47,9 +47,9 @@ had_inserted n (k ∷ ks) m has =
           → Contains (n ∷ k ∷ ks) m
       by true same less has = has
       by false true less has = later_in n (k ∷ ks) m has
-      by false false less has = elim (head_cases k (inserted n ks) m has) [
+      by false false less has = elim (first_or_later k (inserted n ks) m has) [
         | inl e ↦ later_in n (k ∷ ks) m (subst (λ x. Contains (k ∷ ks) x) e (first_in k ks))
-        | inr rest ↦ elim (head_cases n ks m (less rest)) [
+        | inr rest ↦ elim (first_or_later n ks m (less rest)) [
           | inl e ↦ subst (λ x. Contains (n ∷ k ∷ ks) x) e (first_in n (k ∷ ks))
           | inr old ↦ later_in n (k ∷ ks) m (later_in k ks m old)
         ]
@@ -62,7 +62,7 @@ folded_has done [] m (inl has) = has
 folded_has done [] m (inr has) = absurd (none_in m has)
 folded_has done (n ∷ ns) m (inl has) =
     folded_has (inserted n done) ns m (inl (inserted_has n done m (later_in n done m has)))
-folded_has done (n ∷ ns) m (inr has) = elim (head_cases n ns m has) [
+folded_has done (n ∷ ns) m (inr has) = elim (first_or_later n ns m has) [
   | inl e ↦ folded_has (inserted n done) ns m
       (inl (inserted_has n done m (subst (λ x. Contains (n ∷ done) x) e (first_in n done))))
   | inr rest ↦ folded_has (inserted n done) ns m (inr rest)
@@ -72,7 +72,7 @@ had_folded : (done ns : List ℕ) (m : ℕ) → Contains (fold (λ ms n. inserte
     → Contains done m ⊎ Contains ns m
 had_folded done [] m has = inl has
 had_folded done (n ∷ ns) m has = elim (had_folded (inserted n done) ns m has) [
-  | inl before ↦ elim (head_cases n done m (had_inserted n done m before)) [
+  | inl before ↦ elim (first_or_later n done m (had_inserted n done m before)) [
     | inl e ↦ inr (subst (λ x. Contains (n ∷ ns) x) e (first_in n ns))
     | inr old ↦ inl old
   ]

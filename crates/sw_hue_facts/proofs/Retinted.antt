@@ -2,6 +2,7 @@
 use Rattle.std.proofs.Common.{◌≡◌, ◌⊎◌, ◌<◌, ℕ, Some, List, [], ◌∷◌, length, map, flat_map}
 use Rattle.std.proofs.Common.{Contains, refl, sym, subst, ap, ◌∙◌}
 use Rattle.std.proofs.lemmas.List.Elements.{All-head, All-tail}
+use Rattle.sw_list.proofs.Members.{flat_map_same, map-flat_map}
 use Rattle.sw_graph.specs.declared.graph.Graph.{Graph}
 use Rattle.sw_value.specs.declared.cell.HeapCell.{HeapCell}
 use Rattle.sw_value.specs.declared.value.Value.{Value}
@@ -22,7 +23,6 @@ use Rattle.sw_late_facts.proofs.HueLemmas.{fresh_stays, handed_goes, handed_stay
 use Rattle.sw_owner_facts.specs.Colours.{Actor, Colour, Instance, OfActor, OfJob}
 use Rattle.sw_owner_facts.specs.View.{Frame as Spot}
 use Rattle.sw_reach_facts.specs.Reached.{colours_of}
-use Rattle.sw_reach_facts.proofs.ListLemmas.{flat_map_same, map-flat_map}
 use Rattle.sw_reach_facts.proofs.RenamedLemmas.{colours_renamed}
 use Rattle.sw_secure_facts.specs.Painting.{MayUnite}
 use Rattle.sw_view_facts.specs.Renaming.{renames}

@@ -6,6 +6,8 @@ use Rattle.std.specs.List.{slice_get}
 use Rattle.std.proofs.lemmas.Bool.{cases_eq}
 use Rattle.std.proofs.lemmas.List.{length-map, map-append}
 use Rattle.std.proofs.lemmas.Option.{slice_get_within}
+use Rattle.sw_list.proofs.ListLemmas.{some_injective}
+use Rattle.sw_list.proofs.Members.{flat_map_same}
 use Rattle.sw_graph.specs.declared.graph.Graph.{Graph}
 use Rattle.sw_value.specs.declared.cell.HeapCell.{HeapCell}
 use Rattle.sw_value.specs.declared.cell.HeapCell.TheVariants.{Object, Actor, BoxOf, Closure, TaskOf}
@@ -15,7 +17,7 @@ use Rattle.sw_value.specs.declared.value.Value.{Value}
 use Rattle.sw_value.specs.Cell.{with_slot}
 use Rattle.sw_value.specs.Lists.{changed_at}
 use Rattle.sw_value.proofs.ListLemmas.{changed_at_found, changed_at_none, get_before}
-use Rattle.sw_value.proofs.ListLemmas.{length-changed_at, some_injective}
+use Rattle.sw_value.proofs.ListLemmas.{length-changed_at}
 use Rattle.sw_machine_kind_facts.proofs.ItemLemmas.{at_end, changed_other}
 use Rattle.sw_color_rules.specs.declared.colors.Colors.{Colors}
 use Rattle.sw_color_rules.specs.declared.colors.Tint.{Tint}
@@ -24,7 +26,6 @@ use Rattle.sw_reach_facts.specs.Coloured.{CaptureEarlier, may_have_colour}
 use Rattle.sw_reach_facts.specs.Named.{NamesCells, values_in}
 use Rattle.sw_reach_facts.specs.Reached.{colours_of}
 use Rattle.sw_reach_facts.proofs.ChangeLemmas.{colours_before, colours_written}
-use Rattle.sw_reach_facts.proofs.ListLemmas.{flat_map_same}
 use Rattle.sw_hue_facts.specs.Hued.{SameColours, cell_hue, hued, hues_of}
 use Rattle.sw_hue_facts.specs.Tinted.{TintFits, TintsFit, is_bare}
 use Rattle.sw_hue_facts.proofs.Same.{same_lists, same_through}

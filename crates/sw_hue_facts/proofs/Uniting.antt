@@ -3,6 +3,7 @@ use Rattle.std.proofs.Common.{◌≡◌, ◌⊎◌, ◌<◌, ℕ, List, [], ◌�
 use Rattle.std.proofs.Common.{sym, subst, ap, ◌∙◌, inl, inr}
 use Rattle.std.proofs.lemmas.List.Elements.{All-head, All-tail}
 use Rattle.std.proofs.lemmas.List.Elements.{Contains-append_left}
+use Rattle.sw_list.proofs.Members.{in_one, none_in}
 use Rattle.sw_color_rules.specs.declared.colors.Colors.{Colors}
 use Rattle.sw_color_rules.specs.declared.colors.Palette.{Palette}
 use Rattle.sw_color_rules.specs.Changes.{Merge, after_changes, on_palette}
@@ -12,7 +13,6 @@ use Rattle.sw_color_rules.specs.Ranges.{AreBelow}
 use Rattle.sw_late_facts.specs.Hues.{hue}
 use Rattle.sw_owner_facts.specs.Colours.{Actor, Colour, Instance, OfActor, OfJob}
 use Rattle.sw_owner_facts.specs.View.{Frame as Spot}
-use Rattle.sw_reach_facts.proofs.ListLemmas.{in_one, none_in}
 use Rattle.sw_secure_facts.specs.Painting.{MayUnite, Unites}
 use Rattle.sw_secure_facts.proofs.Uniting.{actors_stay}
 use Rattle.sw_secure_facts.proofs.Uniting.{joins_kept, numbered, numbers_are, numbers_of}

@@ -4,8 +4,8 @@ use Rattle.std.proofs.Common.{Some, None, Contains, ap, arith, refl, inl, inr}
 use Rattle.std.proofs.lemmas.Grind.{common_steps}
 use Rattle.std.proofs.lemmas.List.Elements.{Contains-append_cases, Contains-append_right}
 use Rattle.std.specs.Prelude.{◌==◌, MatchOption}
+use Rattle.sw_list.proofs.Members.{none_in}
 use Rattle.sw_types.specs.declared.isolation.CallKind.{CallKind}
-use Rattle.sw_typing_rules.proofs.Saying.{none_in}
 use Rattle.sw_isolation_rules.specs.Lists.{kind_with}
 use Rattle.sw_isolation_rules.specs.declared.note.Kinded.{Kinded}
 

@@ -6,7 +6,7 @@ use Rattle.std.specs.Prelude.{nat_lt, Contains}
 use Rattle.std.specs.List.{All, AllPairs}
 use Rattle.std.proofs.lemmas.Bool.{cases_eq, cases_lt}
 use Rattle.std.proofs.lemmas.List.Elements.{All-head, All-tail, All-weaker}
-use Rattle.sw_value.proofs.ListLemmas.{some_injective}
+use Rattle.sw_list.proofs.ListLemmas.{some_injective}
 use Rattle.sw_color_rules.specs.declared.colors.Owner.{Owner}
 use Rattle.sw_color_rules.specs.declared.colors.Owner.TheVariants as owner
 use Rattle.sw_color_rules.specs.declared.colors.Colors.{Colors}

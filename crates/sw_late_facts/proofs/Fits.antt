@@ -2,7 +2,7 @@
 use Rattle.std.proofs.Common.{◌≡◌, ℕ, zero, suc, ◌+◌, ◌<◌, ◌≤◌, max, arith, refl, ap, sym, ◌∙◌, Bool, true, false, cond}
 use Rattle.std.proofs.Common.{Option, Some, None, List, [], ◌∷◌, ◌++◌, length, fold, slice_get, subst}
 use Rattle.std.specs.Prelude.{option_map, option_and_then, nat_le, Result, Ok, Err, is_some}
-use Rattle.sw_value.proofs.ListLemmas.{some_injective}
+use Rattle.sw_list.proofs.ListLemmas.{some_injective}
 use Rattle.sw_types.specs.declared.isolation.Iso.{Iso}
 use Rattle.sw_types.specs.declared.isolation.Iso.TheVariants as iso
 use Rattle.sw_types.specs.declared.isolation.CallKind.{CallKind}

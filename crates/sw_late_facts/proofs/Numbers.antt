@@ -4,7 +4,8 @@ use Rattle.std.proofs.Common.{Bool, true, false, cond, eqb, Option, Some, None, 
 use Rattle.std.proofs.Common.{length}
 use Rattle.std.specs.Prelude.{option_map, option_and_then, nat_lt}
 use Rattle.std.proofs.lemmas.Bool.{cases_eq, cases_lt}
-use Rattle.sw_value.proofs.ListLemmas.{slice_get_end, some_injective}
+use Rattle.sw_list.proofs.ListLemmas.{some_injective}
+use Rattle.sw_value.proofs.ListLemmas.{slice_get_end}
 use Rattle.sw_color_rules.specs.declared.colors.Owner.{Owner}
 use Rattle.sw_color_rules.specs.declared.colors.Owner.TheVariants as owner
 use Rattle.sw_color_rules.specs.declared.colors.Tint.{Tint}

@@ -5,7 +5,7 @@ use Rattle.std.proofs.Common.{slice_get}
 use Rattle.std.specs.Prelude.{option_and_then, is_some}
 use Rattle.std.proofs.lemmas.Bool.{ltb-true}
 use Rattle.std.proofs.lemmas.Option.{cond_some}
-use Rattle.sw_list.proofs.ListLemmas.{slice_get_before}
+use Rattle.sw_list.proofs.ListLemmas.{some_injective, slice_get_before}
 use Rattle.sw_graph.specs.declared.graph.Graph.{Graph}
 use Rattle.sw_value.specs.declared.executor.Executor.{Executor}
 use Rattle.sw_value.specs.declared.executor.Executor.TheVariants as executor
@@ -21,7 +21,6 @@ use Rattle.sw_value.specs.Act.{act_of, act_by, dispatch_of}
 use Rattle.sw_value.specs.Job.{top_frame, new_job}
 use Rattle.sw_value.specs.Reach.{after_act, after_effect}
 use Rattle.sw_value.specs.State.{in_job, add_job, add_cell, in_cell, set_global, halt, is_free}
-use Rattle.sw_value.proofs.ListLemmas.{some_injective}
 use Rattle.sw_machine_access_facts.proofs.CellLemmas.{changed_other}
 use Rattle.sw_color_rules.specs.declared.colors.Tint.{Tint}
 use Rattle.sw_color_rules.specs.declared.colors.Colors.{Colors}

@@ -5,6 +5,9 @@ use Rattle.std.specs.Prelude.{slice_get}
 use Rattle.std.specs.List.{All}
 use Rattle.std.proofs.lemmas.Option.{slice_get_within, get_or_from_slice_get}
 
+pub some_injective : {X : Type 0} {x y : X} → Some x ≡ Some y → x ≡ y
+some_injective e = cc
+
 -- what holds of each element holds of the one at an index
 pub at_index : {X : Type 0} (P : X → Type 0) (xs : List X) (k : ℕ) (x : X) → All P xs
     → slice_get xs k ≡ Some x → P x

@@ -4,6 +4,7 @@ use Rattle.std.proofs.Common.{refl, ap, sym, subst, ◌∙◌}
 use Rattle.std.specs.Prelude.{option_and_then, IsSome}
 use Rattle.std.specs.Option.{option_map}
 use Rattle.std.specs.List.{slice_get}
+use Rattle.sw_list.proofs.ListLemmas.{some_injective}
 use Rattle.sw_graph.specs.declared.function.GlobalKind.{GlobalKind}
 use Rattle.sw_graph.specs.declared.graph.Graph.{Graph}
 use Rattle.sw_graph.specs.declared.instr.Instr.{Instr}
@@ -26,7 +27,6 @@ use Rattle.sw_value.specs.Act.{act_of}
 use Rattle.sw_value.specs.Cell.{slot_of}
 use Rattle.sw_value.specs.Effect.{is_stuck, set_of, instr_effect, point_effect}
 use Rattle.sw_value.specs.Value.{reference_at, value_at}
-use Rattle.sw_value.proofs.ListLemmas.{some_injective}
 use Rattle.sw_machine_access_facts.specs.Location.{location_at, IsLocation, content_of}
 use Rattle.sw_machine_access_facts.proofs.CellLemmas.{slot_place}
 use Rattle.sw_machine_access_facts.proofs.ContentLemmas.{slot_content}

@@ -4,6 +4,7 @@ use Rattle.std.proofs.Common.{refl, ap, sym, subst, ◌∙◌, nat_le}
 use Rattle.std.specs.Prelude.{option_and_then, Result, Ok, Err}
 use Rattle.std.specs.Option.{option_map}
 use Rattle.std.specs.List.{slice_get}
+use Rattle.sw_list.proofs.ListLemmas.{some_injective}
 use Rattle.sw_graph.specs.declared.graph.Graph.{Graph}
 use Rattle.sw_graph.specs.declared.instr.Instr.{Instr}
 use Rattle.sw_graph.specs.declared.instr.Instr.TheVariants as instr
@@ -43,7 +44,6 @@ use Rattle.sw_value.specs.Reach.{after_effect, step_of}
 use Rattle.sw_value.specs.State.{in_job, add_job, add_cell, in_cell, set_global, halt}
 use Rattle.sw_value.specs.Value.{operand_value, reference_at, value_at, values_at, field_of}
 use Rattle.sw_value.specs.Value.{payload_of, made, truth_of, tag_of}
-use Rattle.sw_value.proofs.ListLemmas.{some_injective}
 use Rattle.sw_value.proofs.ReachLemmas.{after_acts, step_by_act}
 use Rattle.sw_machine_access_facts.specs.Footprint.{IsWriteOf, Writes}
 use Rattle.sw_machine_access_facts.specs.Location.{location_at, IsLocation, content_of}

@@ -5,6 +5,7 @@ use Rattle.std.proofs.Common.{sym, ◌∙◌, subst, arith, length-append}
 use Rattle.std.specs.List.{slice_get, slice_set}
 use Rattle.std.proofs.lemmas.Bool.{cases_eq}
 use Rattle.std.proofs.lemmas.Option.{slice_get_within}
+use Rattle.sw_list.proofs.ListLemmas.{some_injective, slice_get_before}
 use Rattle.sw_graph.specs.declared.function.Function.{Function}
 use Rattle.sw_graph.specs.declared.graph.Graph.{Graph}
 use Rattle.sw_graph.specs.declared.instr.Last.TheVariants as last
@@ -12,7 +13,6 @@ use Rattle.sw_graph.specs.declared.instr.Operand.{Operand}
 use Rattle.sw_graph.specs.Placed.{GivesFirst}
 use Rattle.sw_graph.specs.Points.{End, point_in}
 use Rattle.sw_graph.specs.Ways.{Way, further}
-use Rattle.sw_list.proofs.ListLemmas.{slice_get_before}
 use Rattle.sw_value.specs.declared.cell.HeapCell.{HeapCell}
 use Rattle.sw_value.specs.declared.cell.HeapCell.TheVariants as cell
 use Rattle.sw_value.specs.declared.cell.Slot.{Slot}
@@ -33,7 +33,7 @@ use Rattle.sw_value.specs.Reach.{after_effect}
 use Rattle.sw_value.specs.State.{in_job, add_cell, in_cell, set_global, halt}
 use Rattle.sw_value.specs.Value.{value_at}
 use Rattle.sw_value.proofs.JobLemmas.{leave_some, return_to_there}
-use Rattle.sw_value.proofs.ListLemmas.{some_injective, changed_at_found, changed_at_none}
+use Rattle.sw_value.proofs.ListLemmas.{changed_at_found, changed_at_none}
 use Rattle.sw_machine_kind_facts.specs.FirstValues.{IsDue, IsBeginning, HasValue}
 use Rattle.sw_graph.specs.Stores.{has_stored}
 use Rattle.sw_machine_kind_facts.proofs.FirstLemmas.{Steps, FirstFits}

@@ -7,6 +7,7 @@ use Rattle.std.specs.Prelude.{option_and_then}
 use Rattle.std.specs.Option.{option_map}
 use Rattle.std.specs.List.{slice_get}
 use Rattle.std.proofs.lemmas.List.{take-append-drop}
+use Rattle.sw_list.proofs.ListLemmas.{some_injective}
 use Rattle.sw_types.specs.declared.isolation.CallKind.{CallKind}
 use Rattle.sw_types.specs.declared.isolation.CallKind.TheVariants as kind
 use Rattle.sw_types.specs.declared.isolation.Iso.TheVariants.{Own}
@@ -39,7 +40,6 @@ use Rattle.sw_value.specs.Cell.{task_of}
 use Rattle.sw_value.specs.Effect.{needs, instr_effect, new_of, cell_at, enter_of, spawn_of}
 use Rattle.sw_value.specs.Frame.{first_frame}
 use Rattle.sw_value.specs.Value.{values_at}
-use Rattle.sw_value.proofs.ListLemmas.{some_injective}
 use Rattle.sw_machine_kind_facts.specs.Kinds.{HaveKinds, Referents, CellFits, ClosureFits, TaskFits}
 use Rattle.sw_machine_kind_facts.specs.Operands.{HasOperand}
 use Rattle.sw_machine_kind_facts.specs.Standing.{ResultGoes}

@@ -5,6 +5,7 @@ use Rattle.std.specs.Prelude.{option_and_then}
 use Rattle.std.specs.Option.{option_map}
 use Rattle.std.specs.List.{slice_get, slice_set}
 use Rattle.std.proofs.lemmas.Option.{slice_get_within, slice_get-map}
+use Rattle.sw_list.proofs.ListLemmas.{some_injective}
 use Rattle.sw_types.specs.declared.shape.Shape.{Shape}
 use Rattle.sw_types.specs.declared.ty.Ty.TheOpen as type
 use Rattle.sw_types.specs.declared.ty.Ty.TheVariants.{Named, outs-Named}
@@ -38,7 +39,6 @@ use Rattle.sw_value.specs.Cell.{slot_of, with_slot}
 use Rattle.sw_value.specs.Effect.{needs, instr_effect, new_of, cell_at, loaded, slot_at, slot_write}
 use Rattle.sw_value.specs.Value.{values_at, value_at, operand_value, reference_at, reference_of}
 use Rattle.sw_value.specs.Value.{layer_reference}
-use Rattle.sw_value.proofs.ListLemmas.{some_injective}
 use Rattle.sw_machine_kind_facts.specs.FirstValues.{HasValue}
 use Rattle.sw_machine_kind_facts.specs.Kinded.{global_kinds}
 use Rattle.sw_machine_kind_facts.specs.Kinds.{HavePlaces, HasKind, refers, Reference, sort_of, Referents}

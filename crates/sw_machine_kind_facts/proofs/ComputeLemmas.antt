@@ -7,6 +7,7 @@ use Rattle.std.specs.Ordering.{int_eq}
 use Rattle.std.specs.Option.{option_map}
 use Rattle.std.specs.List.{slice_get, slice_set}
 use Rattle.std.proofs.lemmas.Option.{slice_get-map, slice_get_within}
+use Rattle.sw_list.proofs.ListLemmas.{some_injective, at_index}
 use Rattle.sw_types.specs.declared.shape.Shape.{Shape}
 use Rattle.sw_types.specs.declared.ty.Ty.{Ty, out-Ty}
 use Rattle.sw_types.specs.declared.ty.Ty.TheOpen as type
@@ -27,7 +28,6 @@ use Rattle.sw_graph.specs.declared.instr.UnOp.{UnOp}
 use Rattle.sw_graph.specs.declared.instr.UnOp.TheVariants.{Not, Neg}
 use Rattle.sw_graph.specs.Kinds.{value, literal_type, un_type, bin_type, TakesBoth}
 use Rattle.sw_graph.specs.Kinds.{is_printable, form_is_printable, kinds_of}
-use Rattle.sw_list.proofs.ListLemmas.{at_index}
 use Rattle.sw_value.specs.declared.frame.Frame.{Frame}
 use Rattle.sw_value.specs.declared.state.State.{State}
 use Rattle.sw_value.specs.declared.state.TrapKind.{TrapKind}
@@ -42,7 +42,6 @@ use Rattle.sw_value.specs.Effect.{needs, computed_of, instr_effect}
 use Rattle.sw_value.specs.Lists.{each_of}
 use Rattle.sw_value.specs.Printed.{text_of, layer_text, text_at, line_of, printed_line}
 use Rattle.sw_value.specs.Value.{value_of, operand_value}
-use Rattle.sw_value.proofs.ListLemmas.{some_injective}
 use Rattle.sw_machine_kind_facts.specs.Kinds.{HasKind, integer, truth, void, Integer, Truth, sort_of}
 use Rattle.sw_machine_kind_facts.specs.Kinds.{layer_sort}
 use Rattle.sw_machine_kind_facts.specs.Kinds.{Referents}

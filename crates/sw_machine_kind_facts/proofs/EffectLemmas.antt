@@ -4,12 +4,12 @@ use Rattle.std.proofs.Common.{List, [], ◌∷◌, ◌++◌, length, refl, ap, s
 use Rattle.std.specs.Prelude.{option_and_then}
 use Rattle.std.specs.List.{slice_get}
 use Rattle.std.proofs.lemmas.Option.{slice_get_within}
+use Rattle.sw_list.proofs.ListLemmas.{some_injective, slice_get_before}
 use Rattle.sw_types.specs.declared.ty.Ty.{Ty}
 use Rattle.sw_graph.specs.declared.function.Function.{Function}
 use Rattle.sw_graph.specs.declared.function.RegKind.TheVariants.{Plain}
 use Rattle.sw_graph.specs.declared.graph.Graph.{Graph}
 use Rattle.sw_graph.specs.Kinds.{Goes, value}
-use Rattle.sw_list.proofs.ListLemmas.{slice_get_before}
 use Rattle.sw_value.specs.declared.cell.HeapCell.TheVariants.{TaskOf}
 use Rattle.sw_value.specs.declared.effect.Effect.{Effect}
 use Rattle.sw_value.specs.declared.effect.Effect.TheVariants as effect
@@ -26,7 +26,7 @@ use Rattle.sw_value.specs.Job.{dispatch, wake, wait, rest, new_job, ended_with}
 use Rattle.sw_value.specs.Lists.{changed_at}
 use Rattle.sw_value.specs.Reach.{after_effect}
 use Rattle.sw_value.specs.State.{in_job, add_job, add_cell, in_cell, set_global, halt, result_of}
-use Rattle.sw_value.proofs.ListLemmas.{some_injective, slice_get_end}
+use Rattle.sw_value.proofs.ListLemmas.{slice_get_end}
 use Rattle.sw_machine_kind_facts.specs.Kinded.{StateFits}
 use Rattle.sw_machine_kind_facts.specs.Kinds.{Grows}
 use Rattle.sw_machine_kind_facts.specs.Kinds.{HasKind, Referents}

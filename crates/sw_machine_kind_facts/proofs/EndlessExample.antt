@@ -6,6 +6,7 @@ use Rattle.std.specs.Prelude.{pos, nat_lt}
 use Rattle.std.specs.List.{slice_get, All}
 use Rattle.std.proofs.lemmas.Bool.{or_left}
 use Rattle.std.proofs.lemmas.List.Elements.{All-from_recursion, All-nil}
+use Rattle.sw_list.proofs.ListLemmas.{some_injective}
 use Rattle.sw_types.specs.declared.isolation.Iso.TheVariants.{Free}
 use Rattle.sw_types.specs.declared.ty.Ty.{out-Ty}
 use Rattle.sw_types.specs.declared.ty.Ty.TheOpen as type
@@ -37,7 +38,6 @@ use Rattle.sw_graph.specs.WellFormed.{type_in}
 use Rattle.sw_graph.proofs.KindLemmas.{bool_within, int_within, void_within, int_printable}
 use Rattle.sw_graph.proofs.PayloadLemmas.{no_payloads_fit}
 use Rattle.sw_graph.proofs.WayLemmas.{annotated}
-use Rattle.sw_value.proofs.ListLemmas.{some_injective}
 use Rattle.sw_graph.specs.Annotations.{ReachesReturns}
 use Rattle.sw_graph.specs.Supplied.{IsSupplied, ReturnsResult}
 use Rattle.sw_graph.specs.Sure.{SureLeads, on, to, MayTake, MayLackResult, point_before}

@@ -4,6 +4,7 @@ use Rattle.std.proofs.Common.{length}
 use Rattle.std.proofs.Common.{refl, ap, arith, lit≤, sym, ◌∙◌, subst, zero, suc}
 use Rattle.std.specs.List.{slice_get, All}
 use Rattle.std.proofs.lemmas.List.Elements.{All-from_recursion, All-nil}
+use Rattle.sw_list.proofs.ListLemmas.{some_injective}
 use Rattle.sw_types.specs.declared.isolation.CallKind.TheVariants as kind
 use Rattle.sw_types.specs.declared.isolation.Iso.{Iso}
 use Rattle.sw_types.specs.declared.isolation.Iso.TheVariants as iso
@@ -43,7 +44,6 @@ use Rattle.sw_value.specs.Effect.{is_stuck, needs, computed_of}
 use Rattle.sw_value.specs.Frame.{go_on, set_register}
 use Rattle.sw_value.specs.Job.{enter}
 use Rattle.sw_value.specs.declared.value.Value.TheVariants as value
-use Rattle.sw_value.proofs.ListLemmas.{some_injective}
 use Rattle.sw_machine_kind_facts.proofs.PlainLemmas.{free_gives, none_first, no_globals}
 use Rattle.sw_graph.specs.Supplied.{BeginsWell, ReturnsResult, SetsGlobals}
 use Rattle.sw_machine_kind_facts.specs.Stuck.{GetsStuck}

@@ -7,6 +7,7 @@ use Rattle.std.specs.Option.{option_map}
 use Rattle.std.specs.List.{slice_get, Contains}
 use Rattle.std.proofs.lemmas.Bool.{cases_eq}
 use Rattle.std.proofs.lemmas.Bool.Decides.{nat_tests}
+use Rattle.sw_list.proofs.ListLemmas.{some_injective}
 use Rattle.sw_types.specs.declared.isolation.CallKind.{CallKind}
 use Rattle.sw_types.specs.declared.isolation.CallKind.TheVariants as kind
 use Rattle.sw_graph.specs.declared.function.Function.{Function}
@@ -44,7 +45,6 @@ use Rattle.sw_value.specs.Frame.{point_at, start_at}
 use Rattle.sw_value.specs.Printed.{printed_line}
 use Rattle.sw_value.specs.Value.{values_at, operand_value, value_at, field_of, payload_of, made}
 use Rattle.sw_value.specs.Value.{registers, truth_of, tag_of, reference_at}
-use Rattle.sw_value.proofs.ListLemmas.{some_injective}
 use Rattle.sw_graph.specs.Stores.{point_stores}
 use Rattle.sw_graph.specs.Supplied.{IsSupplied}
 

@@ -7,6 +7,7 @@ use Rattle.std.specs.List.{slice_get, slice_set}
 use Rattle.std.proofs.lemmas.Bool.{cases_eq}
 use Rattle.std.proofs.lemmas.List.{length-set}
 use Rattle.std.proofs.lemmas.Map.Views.{exact_unsigned_eq}
+use Rattle.sw_list.proofs.ListLemmas.{some_injective, at_index}
 use Rattle.sw_types.specs.declared.shape.Shape.{Shape}
 use Rattle.sw_graph.specs.declared.function.Function.{Function}
 use Rattle.sw_graph.specs.declared.function.RegKind.{RegKind}
@@ -22,10 +23,8 @@ use Rattle.sw_graph.specs.Payloads.{is_payload, has_payload, in_front, payload_a
 use Rattle.sw_graph.specs.Payloads.{PayloadFits, PayloadsFit}
 use Rattle.sw_graph.specs.Points.{Middle, End, point_in, block_start}
 use Rattle.sw_graph.specs.Ways.{is_number, point_sets, is_set}
-use Rattle.sw_list.proofs.ListLemmas.{at_index}
 use Rattle.sw_value.specs.declared.value.Value.{Value}
 use Rattle.sw_value.specs.Value.{value_at}
-use Rattle.sw_value.proofs.ListLemmas.{some_injective}
 use Rattle.sw_machine_kind_facts.specs.Kinds.{HasKind, SlotsFit}
 use Rattle.sw_machine_kind_facts.specs.Standing.{PlaceOfPoint, Unpacked, Front, HasConst, Stands}
 use Rattle.sw_graph.specs.Sure.{on, to, further, MayTake, point_before}

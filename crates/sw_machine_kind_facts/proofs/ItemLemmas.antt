@@ -5,11 +5,12 @@ use Rattle.std.specs.List.{slice_get, slice_set}
 use Rattle.std.specs.Option.{option_and_then}
 use Rattle.std.proofs.lemmas.Bool.{cases_eq}
 use Rattle.std.proofs.lemmas.Option.{slice_get_within}
+use Rattle.sw_list.proofs.ListLemmas.{some_injective}
 use Rattle.sw_value.specs.declared.value.Value.{Value}
 use Rattle.sw_value.specs.Lists.{changed_at}
 use Rattle.sw_value.specs.Value.{value_at}
 use Rattle.std.proofs.Common.{subst}
-use Rattle.sw_value.proofs.ListLemmas.{changed_at_found, some_injective, changed_at_there}
+use Rattle.sw_value.proofs.ListLemmas.{changed_at_found, changed_at_there}
 use Rattle.sw_value.proofs.ListLemmas.{set_there, slice_get_end}
 use Rattle.sw_value.proofs.ListLemmas.{changed_at_none}
 

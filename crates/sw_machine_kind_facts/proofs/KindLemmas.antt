@@ -3,6 +3,7 @@ use Rattle.std.proofs.Common.{◌≡◌, ℕ, ℤ, ◌⊎◌, inl, inr, Bool, tr
 use Rattle.std.proofs.Common.{None, cond, List, refl, ap, sym, ◌∙◌, subst}
 use Rattle.std.specs.Prelude.{option_and_then, is_some}
 use Rattle.std.specs.List.{slice_get}
+use Rattle.sw_list.proofs.ListLemmas.{some_injective}
 use Rattle.sw_types.specs.declared.shape.Shape.{Shape}
 use Rattle.sw_types.specs.declared.shape.ShapeKind.{ShapeKind}
 use Rattle.sw_types.specs.declared.shape.ShapeKind.TheVariants as shape
@@ -16,7 +17,6 @@ use Rattle.sw_graph.specs.Kinds.{shape_at}
 use Rattle.sw_graph.specs.Kinds.{is_struct, is_enum, is_class, is_cell, is_actor, parts, payload}
 use Rattle.sw_value.specs.declared.value.Value.{Value, out-Value}
 use Rattle.sw_value.specs.declared.value.Value.TheOpen as layer
-use Rattle.sw_value.proofs.ListLemmas.{some_injective}
 use Rattle.sw_machine_kind_facts.specs.Kinds.{Integer, Truth, Struct, Enum, Reference}
 use Rattle.sw_machine_kind_facts.specs.Kinds.{declared_sort, shape_sort, layer_sort, sort_of}
 use Rattle.sw_machine_kind_facts.specs.Kinds.{HasKind, integer, truth, void, refers, group, choice, HaveKinds}

@@ -5,6 +5,7 @@ use Rattle.std.specs.Prelude.{option_and_then}
 use Rattle.std.specs.Option.{option_map}
 use Rattle.std.specs.List.{slice_get}
 use Rattle.std.proofs.lemmas.Option.{slice_get_within}
+use Rattle.sw_list.proofs.ListLemmas.{some_injective, at_index}
 use Rattle.sw_types.specs.declared.shape.Shape.{Shape}
 use Rattle.sw_types.specs.declared.shape.CaseShape.{CaseShape}
 use Rattle.sw_types.specs.declared.ty.Ty.TheVariants.{outs-Bool}
@@ -21,7 +22,6 @@ use Rattle.sw_graph.specs.Kinds.{value, shape_of, is_enum, payload, LastKindsFit
 use Rattle.sw_graph.specs.Mentions.{blocks_of}
 use Rattle.sw_graph.specs.Payloads.{PayloadFits}
 use Rattle.sw_graph.specs.Points.{Point, Middle, End, point_in, block_start}
-use Rattle.sw_list.proofs.ListLemmas.{at_index}
 use Rattle.sw_value.specs.declared.effect.Effect.TheVariants as effect
 use Rattle.sw_value.specs.declared.frame.Frame.{Frame}
 use Rattle.sw_value.specs.declared.state.State.{State}
@@ -31,7 +31,6 @@ use Rattle.sw_value.specs.Effect.{needs, goto_of, last_effect, point_effect, eff
 use Rattle.sw_value.specs.Effect.{instr_effect}
 use Rattle.sw_value.specs.Frame.{point_at, start_at}
 use Rattle.sw_value.specs.Value.{value_at, operand_value, truth_of, layer_truth, tag_of, layer_tag}
-use Rattle.sw_value.proofs.ListLemmas.{some_injective}
 use Rattle.sw_machine_kind_facts.specs.FirstValues.{HasValue}
 use Rattle.sw_machine_kind_facts.specs.Kinds.{HasKind, Referents, sort_of, layer_sort}
 use Rattle.sw_machine_kind_facts.specs.Standing.{Front}

@@ -5,6 +5,7 @@ use Rattle.std.specs.Prelude.{option_and_then, is_some, IsSome}
 use Rattle.std.specs.List.{slice_get, All}
 use Rattle.std.proofs.lemmas.List.{length-map}
 use Rattle.std.proofs.lemmas.Option.{slice_get-map, slice_get-get_or}
+use Rattle.sw_list.proofs.ListLemmas.{some_injective}
 use Rattle.sw_graph.specs.declared.graph.Graph.{Graph}
 use Rattle.sw_graph.specs.declared.instr.Operand.{Operand}
 use Rattle.sw_graph.specs.Mentions.{operands_of, reads, last_registers}
@@ -30,7 +31,6 @@ use Rattle.sw_machine_kind_facts.proofs.NeverStuck.{running_job, reached_kinded}
 use Rattle.sw_machine_kind_facts.proofs.OperandLemmas.{operand_has, last_has}
 use Rattle.sw_machine_kind_facts.proofs.PlaceLemmas.{point_there}
 use Rattle.sw_machine_kind_facts.proofs.TopLemmas.{Executes, TopFits}
-use Rattle.sw_value.proofs.ListLemmas.{some_injective}
 
 runs_by : (s : Status) → IsTrue (is_running_status s) → s ≡ Running
 runs_by Running is = refl

@@ -7,6 +7,7 @@ use Rattle.std.specs.Option.{option_map}
 use Rattle.std.specs.List.{slice_get}
 use Rattle.std.proofs.lemmas.List.{length-map}
 use Rattle.std.proofs.lemmas.Option.{slice_get_within}
+use Rattle.sw_list.proofs.ListLemmas.{some_injective, at_index}
 use Rattle.sw_types.specs.declared.ty.Ty.{Ty}
 use Rattle.sw_graph.specs.declared.function.GlobalKind.{GlobalKind}
 use Rattle.sw_graph.specs.declared.function.RegKind.TheVariants.{Plain}
@@ -14,7 +15,6 @@ use Rattle.sw_graph.specs.declared.graph.Graph.{Graph}
 use Rattle.sw_graph.specs.declared.instr.Instr.TheVariants as instr
 use Rattle.sw_graph.specs.Mentions.{globals_of}
 use Rattle.sw_graph.specs.Points.{Point, point_in}
-use Rattle.sw_list.proofs.ListLemmas.{at_index}
 use Rattle.sw_value.specs.declared.effect.Act.TheVariants.{Dispatch, Wake}
 use Rattle.sw_value.specs.declared.effect.Effect.{Effect}
 use Rattle.sw_value.specs.declared.effect.Effect.TheVariants as effect
@@ -32,7 +32,6 @@ use Rattle.sw_value.specs.Lists.{changed_at}
 use Rattle.sw_value.specs.Reach.{after_effect, reach, step_of}
 use Rattle.sw_value.specs.State.{in_job, add_job, add_cell, in_cell, set_global, halt, result_of}
 use Rattle.sw_value.specs.State.{is_free}
-use Rattle.sw_value.proofs.ListLemmas.{some_injective}
 use Rattle.sw_value.proofs.ReachLemmas.{after_acts, step_by_act, reach_keeps}
 use Rattle.sw_machine_kind_facts.specs.FirstValues.{HasValue}
 use Rattle.sw_machine_kind_facts.proofs.GrowthLemmas.{grows_itself}

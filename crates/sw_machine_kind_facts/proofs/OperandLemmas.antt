@@ -5,6 +5,7 @@ use Rattle.std.specs.Prelude.{option_and_then}
 use Rattle.std.specs.Option.{option_map}
 use Rattle.std.specs.List.{slice_get}
 use Rattle.std.proofs.lemmas.Option.{slice_get-map}
+use Rattle.sw_list.proofs.ListLemmas.{some_injective, at_index}
 use Rattle.sw_types.specs.declared.shape.Shape.{Shape}
 use Rattle.sw_graph.specs.declared.function.Function.{Function}
 use Rattle.sw_graph.specs.declared.function.RegKind.{RegKind}
@@ -18,10 +19,8 @@ use Rattle.sw_graph.specs.Mentions.{last_registers}
 use Rattle.sw_graph.specs.Points.{Middle, End, point_in}
 use Rattle.sw_graph.specs.Ways.{is_set}
 use Rattle.sw_graph.specs.WellFormed.{FunctionFits, BlockFits, InstrFits, LastFits}
-use Rattle.sw_list.proofs.ListLemmas.{at_index}
 use Rattle.sw_value.specs.declared.value.Value.{Value}
 use Rattle.sw_value.specs.Value.{values_at}
-use Rattle.sw_value.proofs.ListLemmas.{some_injective}
 use Rattle.sw_machine_kind_facts.specs.Kinds.{HasKind, HaveKinds}
 use Rattle.sw_machine_kind_facts.specs.Operands.{HasOperand}
 use Rattle.sw_machine_kind_facts.specs.Standing.{PlaceOfPoint, Stands}

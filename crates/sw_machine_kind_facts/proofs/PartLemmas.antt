@@ -6,6 +6,7 @@ use Rattle.std.specs.List.{slice_get, slice_set}
 use Rattle.std.proofs.lemmas.Bool.{cases_eq}
 use Rattle.std.proofs.lemmas.List.{length-set}
 use Rattle.std.proofs.lemmas.Option.{slice_get_within, slice_get-map}
+use Rattle.sw_list.proofs.ListLemmas.{some_injective}
 use Rattle.sw_types.specs.declared.shape.Shape.{Shape}
 use Rattle.sw_types.specs.declared.shape.Part.{Part}
 use Rattle.sw_types.specs.declared.shape.ShapeKind.{ShapeKind}
@@ -28,7 +29,7 @@ use Rattle.sw_value.specs.declared.value.Value.TheVariants.{Group, Case, outs-Gr
 use Rattle.sw_value.specs.Cell.{slot_of, with_slot}
 use Rattle.sw_value.specs.Value.{field_of, layer_field, with_field, layer_with_field, payload_of}
 use Rattle.sw_value.specs.Value.{layer_payload, tag_of, layer_tag, made}
-use Rattle.sw_value.proofs.ListLemmas.{some_injective, set_there}
+use Rattle.sw_value.proofs.ListLemmas.{set_there}
 use Rattle.sw_machine_kind_facts.specs.Kinds.{HasKind, group, choice, HaveKinds, Referents, CellFits}
 use Rattle.sw_machine_kind_facts.specs.Kinds.{sort_of, layer_sort, shape_sort}
 use Rattle.sw_machine_kind_facts.proofs.ItemLemmas.{found_within, set_other}

@@ -5,15 +5,14 @@ use Rattle.std.proofs.Common.{length-append}
 use Rattle.std.specs.List.{slice_get}
 use Rattle.std.specs.Option.{option_map}
 use Rattle.std.proofs.lemmas.Option.{slice_get-map, slice_get_within}
+use Rattle.sw_list.proofs.ListLemmas.{some_injective, slice_get_first, slice_get_after}
 use Rattle.sw_graph.specs.declared.function.Function.{Function}
 use Rattle.sw_graph.specs.declared.instr.Block.{Block}
 use Rattle.sw_graph.specs.declared.instr.Instr.{Instr}
 use Rattle.sw_graph.specs.declared.instr.Last.{Last}
 use Rattle.sw_graph.specs.Points.{Point, Middle, End, points_of_block, points_of, point_in}
 use Rattle.sw_graph.specs.Points.{block_start}
-use Rattle.sw_list.proofs.ListLemmas.{slice_get_first, slice_get_after}
 use Rattle.sw_graph.proofs.PointLemmas.{length-points_of_block}
-use Rattle.sw_value.proofs.ListLemmas.{some_injective}
 use Rattle.sw_machine_kind_facts.specs.Standing.{PlaceOfPoint}
 use Rattle.sw_machine_kind_facts.proofs.ItemLemmas.{at_end, found_within}
 

@@ -5,18 +5,18 @@ use Rattle.std.proofs.Common.{◌∷◌, ◌++◌, length, ap, sym, ◌∙◌, s
 use Rattle.std.specs.List.{slice_get}
 use Rattle.std.proofs.Math.Nat.{eq-or-lt_of_le}
 use Rattle.std.proofs.lemmas.Option.{slice_get_within, slice_get_past}
+use Rattle.sw_list.proofs.ListLemmas.{some_injective, slice_get_first}
 use Rattle.sw_types.specs.declared.ty.Ty.{Ty}
 use Rattle.sw_graph.specs.declared.function.RegKind.{RegKind}
 use Rattle.sw_graph.specs.declared.graph.Graph.{Graph}
 use Rattle.sw_graph.specs.Kinds.{IsCaptured}
-use Rattle.sw_list.proofs.ListLemmas.{slice_get_first}
 use Rattle.sw_value.specs.declared.cell.HeapCell.{HeapCell}
 use Rattle.sw_value.specs.declared.frame.Frame.{Frame}
 use Rattle.sw_value.specs.declared.job.Job.{Job}
 use Rattle.sw_value.specs.declared.state.State.{State}
 use Rattle.sw_value.specs.declared.value.Value.{Value}
 use Rattle.sw_value.specs.Value.{reference_of, layer_reference}
-use Rattle.sw_value.proofs.ListLemmas.{some_injective, slice_get_end}
+use Rattle.sw_value.proofs.ListLemmas.{slice_get_end}
 use Rattle.sw_machine_kind_facts.specs.Kinded.{Kinded}
 use Rattle.sw_machine_kind_facts.specs.Kinds.{HasKind, integer, truth, void, refers, group, choice}
 use Rattle.sw_machine_kind_facts.specs.Kinds.{CellFits}

@@ -7,6 +7,7 @@ use Rattle.std.specs.List.{slice_get, filter_map, cons_option, Contains}
 use Rattle.std.proofs.lemmas.List.{length-map, length-replicate, append-nil, append_assoc}
 use Rattle.std.proofs.lemmas.Option.{slice_get_within, get_or_from_slice_get}
 use mathlib.Core.List.{reverse-cons}
+use Rattle.sw_list.proofs.ListLemmas.{some_injective, at_index, slice_get_before}
 use Rattle.sw_types.specs.declared.isolation.Iso.{Iso}
 use Rattle.sw_types.specs.declared.isolation.Iso.TheVariants as iso
 use Rattle.sw_types.specs.declared.ty.Ty.{Ty}
@@ -24,14 +25,13 @@ use Rattle.sw_value.specs.Frame.{first_frame}
 use Rattle.sw_value.specs.Job.{new_job}
 use Rattle.sw_value.specs.Start.{start_frames, start_of}
 use Rattle.sw_value.specs.Value.{value_at}
-use Rattle.sw_value.proofs.ListLemmas.{some_injective, slice_get_end}
+use Rattle.sw_value.proofs.ListLemmas.{slice_get_end}
 use Rattle.sw_machine_kind_facts.specs.FirstValues.{IsBeginning}
 use Rattle.sw_machine_kind_facts.specs.Kinded.{StateFits, Kinded}
 use Rattle.sw_machine_kind_facts.specs.Standing.{StackFits, bottom, above, JobFits, goes}
 use Rattle.sw_graph.specs.Supplied.{IsSupplied}
 use Rattle.sw_machine_kind_facts.proofs.BeginLemmas.{FirstBegins, first_begins}
 use Rattle.sw_machine_kind_facts.proofs.ItemLemmas.{at_end, found_within}
-use Rattle.sw_list.proofs.ListLemmas.{at_index, slice_get_before}
 
 -- an item of a list, and of the list from its end
 record IsIn {A : Type 0} (xs : List A) (x : A) : Type 0 where

@@ -6,6 +6,7 @@ use Rattle.std.proofs.Common.{◌∙◌, subst, arith, length-append}
 use Rattle.std.specs.List.{slice_get, slice_set}
 use Rattle.std.proofs.lemmas.Bool.Decides.{nat_tests}
 use Rattle.std.proofs.lemmas.Map.Views.{exact_unsigned_eq}
+use Rattle.sw_list.proofs.ListLemmas.{some_injective, at_index}
 use Rattle.sw_types.specs.declared.ty.Ty.{Ty}
 use Rattle.sw_graph.specs.declared.function.Function.{Function}
 use Rattle.sw_graph.specs.declared.function.RegKind.{RegKind}
@@ -13,7 +14,6 @@ use Rattle.sw_graph.specs.declared.function.RegKind.TheVariants.{Plain}
 use Rattle.sw_graph.specs.declared.graph.Graph.{Graph}
 use Rattle.sw_graph.specs.Kinds.{value}
 use Rattle.sw_graph.specs.Limits.{IsWithinLimits}
-use Rattle.sw_list.proofs.ListLemmas.{at_index}
 use Rattle.sw_value.specs.declared.cell.HeapCell.{HeapCell}
 use Rattle.sw_value.specs.declared.frame.Frame.{Frame}
 use Rattle.sw_value.specs.declared.frame.TheConstants.{NO_REGISTER}
@@ -27,7 +27,7 @@ use Rattle.sw_value.specs.Job.{in_top, enter, leave, return_to}
 use Rattle.sw_value.specs.Lists.{changed_at}
 use Rattle.sw_value.specs.State.{in_job, add_job, add_cell, in_cell, set_global}
 use Rattle.sw_value.proofs.JobLemmas.{leave_some, return_to_none, return_to_there}
-use Rattle.sw_value.proofs.ListLemmas.{some_injective, length-changed_at}
+use Rattle.sw_value.proofs.ListLemmas.{length-changed_at}
 use Rattle.sw_machine_kind_facts.specs.Kinded.{global_kinds, StateFits}
 use Rattle.sw_machine_kind_facts.specs.Kinds.{HasKind, Referents, CellFits}
 use Rattle.sw_machine_kind_facts.specs.Standing.{FrameFits, ResultGoes, StackFits, bottom, above, awaited_in}

@@ -4,6 +4,7 @@ use Rattle.std.proofs.Common.{refl, ap, sym, ◌∙◌, subst}
 use Rattle.std.specs.Prelude.{option_and_then}
 use Rattle.std.specs.Option.{option_map}
 use Rattle.std.specs.List.{slice_get, slice_set}
+use Rattle.sw_list.proofs.ListLemmas.{some_injective, at_index}
 use Rattle.sw_types.specs.declared.ty.Ty.TheVariants.{Named}
 use Rattle.sw_graph.specs.declared.function.RegKind.TheVariants.{Plain}
 use Rattle.sw_graph.specs.declared.graph.Graph.{Graph}
@@ -11,7 +12,6 @@ use Rattle.sw_graph.specs.declared.instr.Instr.TheVariants as instr
 use Rattle.sw_graph.specs.declared.instr.Operand.{Operand}
 use Rattle.sw_graph.specs.Kinds.{Goes, value, part, shape_of, is_struct, made_of}
 use Rattle.sw_graph.specs.Payloads.{payload_at, PayloadFits}
-use Rattle.sw_list.proofs.ListLemmas.{at_index}
 use Rattle.sw_value.specs.declared.effect.Effect.TheVariants as effect
 use Rattle.sw_value.specs.declared.frame.Frame.{Frame}
 use Rattle.sw_value.specs.declared.state.State.{State}
@@ -20,7 +20,7 @@ use Rattle.sw_value.specs.Effect.{needs, instr_effect}
 use Rattle.sw_value.specs.Lists.{changed_at}
 use Rattle.sw_value.specs.Value.{value_at, operand_value, field_of, with_field, payload_of, made}
 use Rattle.sw_value.specs.Value.{tag_of}
-use Rattle.sw_value.proofs.ListLemmas.{some_injective, changed_at_there}
+use Rattle.sw_value.proofs.ListLemmas.{changed_at_there}
 use Rattle.sw_machine_kind_facts.specs.Kinds.{HasKind, Referents}
 use Rattle.sw_machine_kind_facts.proofs.FrameLemmas.{moves, front_plain, front_payload, stands_set, slots_set}
 use Rattle.sw_machine_kind_facts.proofs.FrameLemmas.{still_set, switch_of}

@@ -6,6 +6,7 @@ use Rattle.std.proofs.Common.{subst, arith}
 use Rattle.std.specs.Prelude.{◌==◌}
 use Rattle.std.specs.List.{slice_get, Contains}
 use Rattle.std.proofs.lemmas.Bool.{cases_eq}
+use Rattle.sw_list.proofs.ListLemmas.{some_injective}
 use Rattle.sw_graph.specs.declared.graph.Graph.{Graph}
 use Rattle.sw_graph.specs.Placed.{EachInstr, named_by}
 use Rattle.sw_value.specs.declared.cell.HeapCell.{HeapCell}
@@ -29,7 +30,7 @@ use Rattle.sw_value.specs.Job.{return_to, return_from, leave}
 use Rattle.sw_value.specs.Lists.{changed_at}
 use Rattle.sw_value.specs.Reach.{after_effect, step_of}
 use Rattle.sw_value.specs.State.{in_job, add_job, add_cell, in_cell, set_global, halt}
-use Rattle.sw_value.proofs.ListLemmas.{some_injective, changed_at_found, changed_at_none}
+use Rattle.sw_value.proofs.ListLemmas.{changed_at_found, changed_at_none}
 use Rattle.sw_value.proofs.ReachLemmas.{after_acts, step_by_act}
 use Rattle.sw_machine_access_facts.proofs.CellLemmas.{changed_other}
 use Rattle.sw_machine_let_facts.proofs.ActLemmas.{Executes, asked, Does, idle, dispatches, wakes, executes}

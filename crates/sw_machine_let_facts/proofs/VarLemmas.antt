@@ -4,6 +4,7 @@ use Rattle.std.proofs.Common.{◌∙◌, subst, IsTrue}
 use Rattle.std.specs.Prelude.{option_and_then, IsSome}
 use Rattle.std.specs.Option.{option_map_or}
 use Rattle.std.specs.List.{slice_get, All}
+use Rattle.sw_list.proofs.ListLemmas.{some_injective, at_index}
 use Rattle.sw_types.specs.declared.shape.Part.{Part}
 use Rattle.sw_types.specs.declared.shape.Shape.{Shape}
 use Rattle.sw_types.specs.declared.ty.Ty.TheOpen as type
@@ -18,7 +19,6 @@ use Rattle.sw_graph.specs.Mentions.{reads}
 use Rattle.sw_graph.specs.Placed.{IsPlaced, is_var_part}
 use Rattle.sw_graph.specs.Points.{Point, Middle, point_in}
 use Rattle.sw_graph.specs.Ways.{point_reads}
-use Rattle.sw_list.proofs.ListLemmas.{at_index}
 use Rattle.sw_value.specs.declared.cell.HeapCell.{HeapCell}
 use Rattle.sw_value.specs.declared.cell.HeapCell.TheVariants as cell
 use Rattle.sw_value.specs.declared.cell.Slot.TheVariants.{Part as PartSlot, Content}
@@ -30,7 +30,6 @@ use Rattle.sw_value.specs.declared.state.State.{State}
 use Rattle.sw_value.specs.Cell.{slot_of}
 use Rattle.sw_value.specs.Job.{top_frame}
 use Rattle.sw_value.specs.Value.{reference_of}
-use Rattle.sw_value.proofs.ListLemmas.{some_injective}
 use Rattle.sw_machine_kind_facts.specs.Kinded.{Kinded}
 use Rattle.sw_machine_kind_facts.specs.Kinds.{Referents, CellFits}
 use Rattle.sw_machine_kind_facts.specs.Operands.{HasOperand, HasNext}

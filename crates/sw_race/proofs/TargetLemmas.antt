@@ -4,6 +4,7 @@ use Rattle.std.proofs.Common.{refl, ap, sym, ◌∙◌}
 use Rattle.std.specs.Prelude.{option_and_then, is_some}
 use Rattle.std.specs.Option.{option_map}
 use Rattle.std.specs.List.{slice_get}
+use Rattle.sw_list.proofs.ListLemmas.{some_injective}
 use Rattle.sw_graph.specs.declared.graph.Graph.{Graph}
 use Rattle.sw_graph.specs.declared.instr.Instr.{Instr}
 use Rattle.sw_graph.specs.declared.instr.Instr.TheVariants as instr
@@ -24,7 +25,6 @@ use Rattle.sw_value.specs.Access.{frame_access, job_access, next_access}
 use Rattle.sw_value.specs.Effect.{is_stuck, effect_of}
 use Rattle.sw_value.specs.Frame.{point_at}
 use Rattle.sw_value.specs.Job.{top_frame, is_running}
-use Rattle.sw_value.proofs.ListLemmas.{some_injective}
 use Rattle.sw_race.specs.declared.target.Target.{Target}
 use Rattle.sw_race.specs.Target.{read_of, write_of, instr_target, point_target, frame_target}
 use Rattle.sw_race.specs.Target.{job_target, target_at}

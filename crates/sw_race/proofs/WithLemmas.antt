@@ -5,6 +5,7 @@ use Rattle.std.specs.Prelude.{◌&&◌, ◌||◌, is_some, option_and_then}
 use Rattle.std.specs.List.{slice_get}
 use Rattle.std.proofs.lemmas.Option.{slice_get_within}
 use Rattle.std.proofs.lemmas.Bool.Decides.{nat_tests}
+use Rattle.sw_list.proofs.ListLemmas.{some_injective}
 use Rattle.sw_graph.specs.declared.graph.Graph.{Graph}
 use Rattle.sw_value.specs.declared.race.Access.{Access}
 use Rattle.sw_value.specs.declared.race.Place.{Place}
@@ -14,7 +15,6 @@ use Rattle.sw_value.specs.declared.state.State.{State}
 use Rattle.sw_value.specs.declared.job.Job.{Job}
 use Rattle.sw_value.specs.Access.{job_access, next_access}
 use Rattle.sw_value.specs.Racing.{IsConflict}
-use Rattle.sw_value.proofs.ListLemmas.{some_injective}
 use Rattle.sw_value.proofs.AccessLemmas.{next_names_its_job}
 use Rattle.sw_race.specs.With.{IsRaceOf, other_of, IsLeastRaceOf, is_same_place, are_rivals}
 use Rattle.sw_race.specs.With.{IsRival, ordered, IsFound}

@@ -4,6 +4,7 @@ use Rattle.std.proofs.Common.{◌≡◌, ℕ, suc, ◌<◌, Option, Some, None, 
 use Rattle.std.proofs.Common.{flat_map, refl, sym, subst, ap, ◌∙◌, arith, inl, inr}
 use Rattle.std.proofs.lemmas.Bool.{cases_eq}
 use Rattle.std.proofs.lemmas.List.{get_or_append_left, length-append}
+use Rattle.sw_list.proofs.Members.{flat_map_same}
 use Rattle.sw_list.proofs.ListLemmas.{slice_get_before}
 use Rattle.sw_value.specs.declared.cell.HeapCell.{HeapCell}
 use Rattle.sw_value.specs.declared.cell.HeapCell.TheVariants as cell
@@ -17,7 +18,6 @@ use Rattle.sw_machine_kind_facts.proofs.ItemLemmas.{changed_other, found_within}
 use Rattle.sw_reach_facts.specs.Named.{NamesCells}
 use Rattle.sw_reach_facts.specs.Reached.{references, shown, shown_below, colours_of}
 use Rattle.sw_reach_facts.proofs.CellLemmas.{shown_same, shown_next}
-use Rattle.sw_reach_facts.proofs.ListLemmas.{flat_map_same}
 
 module _ {C : Type 0} where
   -- a cell more

@@ -3,6 +3,7 @@ use Rattle.std.specs.List.{slice_get, slice_index_or}
 use Rattle.std.proofs.Common.{◌≡◌, ◌<◌, ℕ, List, Option, Some, None, length, flat_map, Contains}
 use Rattle.std.proofs.Common.{refl, sym, subst, ap, ◌∙◌, arith}
 use Rattle.std.proofs.lemmas.Option.{slice_get_within}
+use Rattle.sw_list.proofs.Members.{flat_map_same, in_flat_map}
 use Rattle.sw_value.specs.declared.cell.HeapCell.{HeapCell}
 use Rattle.sw_value.specs.declared.cell.HeapCell.TheVariants.{Closure}
 use Rattle.sw_value.specs.declared.value.Value.{Value, out-Value}
@@ -12,7 +13,6 @@ use Rattle.sw_reach_facts.specs.Coloured.{CaptureEarlier}
 use Rattle.sw_reach_facts.specs.Reached.{references, shown, shown_below, colours_of}
 use Rattle.sw_reach_facts.proofs.CellLemmas.{shown_at, colours_of_cell}
 use Rattle.sw_reach_facts.proofs.ReferenceLemmas.{cell_of}
-use Rattle.sw_reach_facts.proofs.ListLemmas.{flat_map_same, in_flat_map}
 
 module _ {C : Type 0} (cells : List HeapCell) (colours : List (Option C))
     (earlier : CaptureEarlier cells) where

@@ -6,6 +6,8 @@ use Rattle.std.proofs.Common.{Option, Some, None, refl, sym, subst, ap, ◌∙�
 use Rattle.std.proofs.lemmas.Bool.{and_parts, or_cases}
 use Rattle.std.proofs.lemmas.Option.{slice_get-map}
 use Rattle.std.proofs.lemmas.List.Folds.{list_all-append}
+use Rattle.sw_list.proofs.ListLemmas.{some_injective}
+use Rattle.sw_list.proofs.Members.{all_at}
 use Rattle.sw_types.specs.declared.isolation.Iso.TheVariants.{Free}
 use Rattle.sw_types.specs.declared.shape.CaseShape.{CaseShape}
 use Rattle.sw_types.specs.declared.shape.Part.{Part}
@@ -24,11 +26,9 @@ use Rattle.sw_graph.specs.declared.graph.Graph.{Graph}
 use Rattle.sw_graph.specs.Clean.{may_cross, is_untracked, is_marked_kind}
 use Rattle.sw_graph.specs.Kinds.{IsCaptured, form_of, box_content, is_struct, is_enum, parts}
 use Rattle.sw_graph.specs.Kinds.{payload}
-use Rattle.sw_value.proofs.ListLemmas.{some_injective}
 use Rattle.sw_region_ops.specs.Calls.{is_isolated}
 use Rattle.sw_machine_kind_facts.proofs.KindLemmas.{layers_accept}
 use Rattle.sw_reach_facts.specs.Coloured.{runs_isolated, ConformancesHold}
-use Rattle.sw_reach_facts.proofs.ListLemmas.{all_at}
 use Rattle.sw_reach_facts.proofs.ShapeLemmas.{sends_down}
 
 pub named_crosses : (graph : Graph) (kind : RegKind) (k : ℕ)

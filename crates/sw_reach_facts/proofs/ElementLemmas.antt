@@ -3,6 +3,7 @@ use Rattle.std.proofs.Common.{◌≡◌, ◌+◌, ℕ, zero, suc, Bool, true, fa
 use Rattle.std.proofs.Common.{None, List, [], ◌∷◌, refl, sym, ap, ◌∙◌}
 use Rattle.std.specs.List.{slice_get}
 use Rattle.std.specs.Option.{is_some}
+use Rattle.sw_list.proofs.ListLemmas.{some_injective}
 use Rattle.sw_types.specs.Sendable.{layer_sends, sends_at}
 use Rattle.sw_types.specs.declared.shape.Shape.{Shape}
 use Rattle.sw_types.specs.declared.ty.Ty.TheOpen as type
@@ -11,7 +12,6 @@ use Rattle.sw_graph.specs.declared.function.RegKind.TheVariants.{Plain, BoxOf}
 use Rattle.sw_graph.specs.declared.graph.Graph.{Graph}
 use Rattle.sw_graph.specs.Clean.{is_untracked}
 use Rattle.sw_graph.specs.Kinds.{form_of}
-use Rattle.sw_value.proofs.ListLemmas.{some_injective}
 use Rattle.sw_region_ops.specs.Elements.{element_at, elements_of, is_tracked, numbered}
 
 -- what is no value is nothing

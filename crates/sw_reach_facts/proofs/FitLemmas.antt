@@ -6,6 +6,7 @@ use Rattle.std.proofs.Common.{◌≡◌, ◌||◌, ℕ, true, false, not, List, 
 use Rattle.std.proofs.Common.{sym, ap, ◌∙◌}
 use Rattle.std.proofs.lemmas.Bool.{and_parts}
 use Rattle.std.proofs.lemmas.Option.{slice_get-map}
+use Rattle.sw_list.proofs.Members.{all_at}
 use Rattle.sw_list.proofs.ListLemmas.{at_index}
 use Rattle.sw_types.specs.declared.shape.ShapeKind.{ShapeKind}
 use Rattle.sw_types.specs.declared.shape.ShapeKind.TheVariants.{Class}
@@ -21,7 +22,6 @@ use Rattle.sw_value.specs.declared.value.Value.{Value}
 use Rattle.sw_machine_kind_facts.specs.Kinded.{Kinded}
 use Rattle.sw_machine_kind_facts.specs.Kinds.{ClosureMade}
 use Rattle.sw_reach_facts.specs.Coloured.{ConformancesHold, ClosureCrosses, HaveColours, ColoursFit}
-use Rattle.sw_reach_facts.proofs.ListLemmas.{all_at}
 
 -- a struct or an enum has no global actor
 without_actor : (actor : Option ℕ) (kind : ShapeKind) → (IsSome actor → kind ≡ Class)

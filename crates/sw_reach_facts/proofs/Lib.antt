@@ -6,7 +6,6 @@ pub mod ClosureLemmas
 pub mod CrossingLemmas
 pub mod ElementLemmas
 pub mod FitLemmas
-pub mod ListLemmas
 pub mod MarkedLemmas
 pub mod NamedLemmas
 pub mod PartLemmas

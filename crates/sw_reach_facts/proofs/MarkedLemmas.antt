@@ -2,11 +2,11 @@
 use Rattle.std.proofs.Common.{◌≡◌, ◌==◌, ℕ, zero, suc, Bool, true, false, cond, Option, Some, None}
 use Rattle.std.proofs.Common.{List, length, flat_map, Contains, refl, ap, ◌∙◌}
 use Rattle.std.specs.List.{slice_get, slice_index_or}
+use Rattle.sw_list.proofs.Members.{none_in, of_flat_map, one_in}
 use Rattle.sw_value.specs.declared.cell.HeapCell.{HeapCell}
 use Rattle.sw_value.specs.declared.cell.HeapCell.TheVariants as cell
 use Rattle.sw_value.specs.declared.value.Value.{Value}
 use Rattle.sw_reach_facts.specs.Reached.{colours_of, references, shown, shown_below}
-use Rattle.sw_reach_facts.proofs.ListLemmas.{none_in, of_flat_map, one_in}
 
 module _ {C : Type 0} (cells : List HeapCell) (colours : List (Option C)) (c : C) where
   -- some cell has the colour

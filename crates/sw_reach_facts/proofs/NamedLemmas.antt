@@ -4,6 +4,7 @@ use Rattle.std.specs.List.{slice_get}
 use Rattle.std.proofs.Common.{◌≡◌, ◌<◌, ℕ, List, Option, Some, None, length, Contains, refl, sym}
 use Rattle.std.proofs.Common.{subst, ◌∙◌, arith}
 use Rattle.std.proofs.lemmas.Option.{slice_get_within}
+use Rattle.sw_list.proofs.Members.{none_in, one_in, stands_at}
 use Rattle.sw_types.specs.declared.shape.Shape.{Shape}
 use Rattle.sw_types.specs.declared.ty.Ty.{Ty}
 use Rattle.sw_graph.specs.declared.function.RegKind.{RegKind}
@@ -24,7 +25,6 @@ use Rattle.sw_machine_kind_facts.proofs.ItemLemmas.{found_within}
 use Rattle.sw_machine_kind_facts.proofs.StackLemmas.{frame_at}
 use Rattle.sw_reach_facts.specs.Named.{NamesCells, values_in}
 use Rattle.sw_reach_facts.specs.Reached.{references}
-use Rattle.sw_reach_facts.proofs.ListLemmas.{none_in, one_in, stands_at}
 use Rattle.sw_reach_facts.proofs.ReferentLemmas.{leads_to}
 
 -- a value that has a kind refers to cells that have kinds

@@ -3,6 +3,7 @@ use Rattle.std.specs.List.{slice_get, slice_set}
 use Rattle.std.proofs.Common.{◌≡◌, ◌⊎◌, ℕ, List, Option, Some, None, length, flat_map, Contains}
 use Rattle.std.proofs.Common.{refl, sym, subst, ap, ◌∙◌, inl, inr}
 use Rattle.std.proofs.lemmas.List.Elements.{All-contains, All-contains_itself, All-set, All-weaker}
+use Rattle.sw_list.proofs.Members.{in_flat_map, of_flat_map, flat_map-flat_map, member_at}
 use Rattle.sw_value.specs.declared.cell.HeapCell.{HeapCell}
 use Rattle.sw_value.specs.declared.value.Value.{Value, out-Value}
 use Rattle.sw_value.specs.declared.value.Value.TheOpen.{Value-F}
@@ -11,7 +12,6 @@ use Rattle.sw_value.specs.declared.value.Value.TheVariants as value
 use Rattle.sw_value.specs.Value.{field_of, layer_field, with_field, layer_with_field, payload_of}
 use Rattle.sw_value.specs.Value.{layer_payload, made}
 use Rattle.sw_reach_facts.specs.Reached.{references, shown_below, colours_of}
-use Rattle.sw_reach_facts.proofs.ListLemmas.{in_flat_map, of_flat_map, flat_map-flat_map, member_at}
 use Rattle.sw_reach_facts.proofs.ReferenceLemmas.{references-group, references-case}
 
 -- what is put into a list is in it, beside what was there

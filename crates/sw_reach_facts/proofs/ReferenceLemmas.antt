@@ -1,12 +1,12 @@
 -- The references of a value, by what it is made of.
 use Rattle.std.proofs.Common.{◌≡◌, ℕ, ℤ, Bool, List, [], ◌∷◌, flat_map, Some, sym, ap, ◌∙◌}
+use Rattle.sw_list.proofs.ListLemmas.{some_injective}
+use Rattle.sw_list.proofs.Members.{concat-map}
 use Rattle.sw_value.specs.declared.value.Value.{Value, out-Value, roll-Value, roll-out-Value}
 use Rattle.sw_value.specs.declared.value.Value.{fold-roll-Value}
 use Rattle.sw_value.specs.declared.value.Value.TheOpen as layer
 use Rattle.sw_value.specs.Value.{reference_of, layer_reference}
-use Rattle.sw_value.proofs.ListLemmas.{some_injective}
 use Rattle.sw_reach_facts.specs.Reached.{layer_references, references}
-use Rattle.sw_reach_facts.proofs.ListLemmas.{concat-map}
 
 unrolled : (v : Value) (l : layer.Value-F Value) → out-Value v ≡ l
     → references v ≡ references (roll-Value l)

@@ -2,6 +2,7 @@
 use Rattle.std.specs.List.{slice_get}
 use Rattle.std.proofs.Common.{◌≡◌, ℕ, suc, List, [], Contains, Some, sym, subst, ap, ◌∙◌, ◌≤◌}
 use Rattle.std.proofs.lemmas.Option.{slice_get_within}
+use Rattle.sw_list.proofs.Members.{none_in, one_in, of_flat_map, stands_at}
 use Rattle.sw_types.specs.declared.shape.Shape.{Shape}
 use Rattle.sw_graph.specs.declared.function.RegKind.{RegKind}
 use Rattle.sw_graph.specs.Kinds.{shape_of, is_struct, is_enum, parts, payload}
@@ -10,7 +11,6 @@ use Rattle.sw_machine_kind_facts.specs.Kinds.{HasKind, integer, truth, void, ref
 use Rattle.sw_machine_kind_facts.proofs.ItemLemmas.{found_within}
 use Rattle.sw_reach_facts.specs.Coloured.{GoesTo}
 use Rattle.sw_reach_facts.specs.Reached.{references}
-use Rattle.sw_reach_facts.proofs.ListLemmas.{none_in, one_in, of_flat_map, stands_at}
 use Rattle.sw_reach_facts.proofs.ReferenceLemmas.{references-cell, references-int, references-truth}
 use Rattle.sw_reach_facts.proofs.ReferenceLemmas.{references-void, references-group}
 use Rattle.sw_reach_facts.proofs.ReferenceLemmas.{references-case}

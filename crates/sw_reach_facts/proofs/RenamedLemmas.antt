@@ -3,11 +3,11 @@ use Rattle.std.specs.Option.{option_map}
 use Rattle.std.specs.List.{slice_get, slice_index_or}
 use Rattle.std.proofs.Common.{◌≡◌, ℕ, zero, suc, ◌==◌, Bool, true, false, cond, Option, Some, None}
 use Rattle.std.proofs.Common.{List, [], ◌∷◌, length, map, flat_map, refl, sym, ap, ◌∙◌}
+use Rattle.sw_list.proofs.Members.{flat_map_same, map-flat_map}
 use Rattle.sw_value.specs.declared.cell.HeapCell.{HeapCell}
 use Rattle.sw_value.specs.declared.cell.HeapCell.TheVariants as cell
 use Rattle.sw_value.specs.declared.value.Value.{Value}
 use Rattle.sw_reach_facts.specs.Reached.{references, reached_by, shown, shown_below, colours_of}
-use Rattle.sw_reach_facts.proofs.ListLemmas.{flat_map_same, map-flat_map}
 
 module _ {C D : Type 0} (rename : C → D) where
   pub index_renamed : (colours : List (Option C)) (k : ℕ)

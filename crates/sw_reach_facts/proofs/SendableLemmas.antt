@@ -5,6 +5,7 @@ use Rattle.std.proofs.Common.{flat_map, Contains, Option, Some, None, refl, sym,
 use Rattle.std.proofs.Common.{◌≤◌}
 use Rattle.std.proofs.lemmas.Bool.{eqb-true}
 use Rattle.std.proofs.lemmas.Option.{slice_get_within}
+use Rattle.sw_list.proofs.Members.{none_in, of_flat_map, stands_at}
 use Rattle.sw_graph.specs.declared.function.RegKind.{RegKind}
 use Rattle.sw_graph.specs.declared.graph.Graph.{Graph}
 use Rattle.sw_graph.specs.Clean.{is_untracked}
@@ -19,7 +20,6 @@ use Rattle.sw_machine_kind_facts.proofs.PartLemmas.{parts_shape, payload_shape}
 use Rattle.sw_reach_facts.specs.Coloured.{may_have_colour, ConformancesHold, ClosureCrosses}
 use Rattle.sw_reach_facts.specs.Coloured.{ColoursFit, GoesUntracked}
 use Rattle.sw_reach_facts.specs.Reached.{references, shown, shown_below, colours_of}
-use Rattle.sw_reach_facts.proofs.ListLemmas.{none_in, of_flat_map, stands_at}
 use Rattle.sw_reach_facts.proofs.ReferentLemmas.{leads_to}
 use Rattle.sw_reach_facts.proofs.CrossingLemmas.{named_crosses, value_crosses, struct_is_value}
 use Rattle.sw_reach_facts.proofs.CrossingLemmas.{enum_is_value, part_crosses, payload_crosses}

@@ -1,6 +1,7 @@
 -- What a call of each kind comes to.
 use Rattle.std.proofs.Common.{◌≡◌, ℕ, ◌++◌, Bool, true, false, cond, List, [], ◌∷◌, Option, Some}
 use Rattle.std.proofs.Common.{None, ◌∙◌, length, sym, subst}
+use Rattle.sw_list.proofs.Members.{first_in}
 use Rattle.sw_types.specs.declared.isolation.CallKind.{CallKind}
 use Rattle.sw_types.specs.declared.isolation.CallKind.TheVariants.{Plain, Same, Weak, Strong, Make}
 use Rattle.sw_graph.specs.declared.function.Function.{Function}
@@ -20,7 +21,6 @@ use Rattle.sw_region_facts.specs.Calling.{Lends, result_from, Calls, CallsFuncti
 use Rattle.sw_region_facts.proofs.Comes.{sets_from_all}
 use Rattle.sw_region_facts.proofs.Doing.{Done, parts}
 use Rattle.sw_region_facts.proofs.Gathering.{met, kept, met_apart}
-use Rattle.sw_region_facts.proofs.Lists.{first_in}
 use Rattle.sw_region_facts.proofs.Marked.{AreMarked, passed_marked}
 use Rattle.sw_region_facts.proofs.Sending.{sends_parted, sends_each}
 use Rattle.sw_region_facts.proofs.Setting.{sets_fresh, sets_here, sets_first}

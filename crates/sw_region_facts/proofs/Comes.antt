@@ -2,11 +2,11 @@
 use Rattle.std.proofs.Common.{Some, None, ◌≡◌, ◌≢◌, ℕ, ◌⊎◌, List, [], ◌∷◌, Option, Contains, cond}
 use Rattle.std.proofs.Common.{refl, sym, subst, ap, ◌∙◌, inl, inr}
 use Rattle.std.proofs.lemmas.Bool.{cases_eq, eq-eqb, ne_eqb}
+use Rattle.sw_list.proofs.Members.{none_in, one_in, first_in}
 use Rattle.sw_owner_facts.specs.View.{Element, Here, Register}
 use Rattle.sw_partition.specs.Regions.{Regions}
 use Rattle.sw_region_facts.specs.FrameRegions.{region_in, TogetherIn, LiveIn, IsWeaker}
 use Rattle.sw_region_facts.specs.Moves.{comes, Sets, Gathers, Makes, if_tracked}
-use Rattle.sw_region_facts.proofs.Lists.{none_in, one_in, first_in}
 use Rattle.sw_region_ops.specs.Elements.{element_at}
 
 -- an element comes from the sources if it is register r, and else from itself

@@ -1,5 +1,6 @@
 -- Operations that are done and pass, part by part.
 use Rattle.std.proofs.Common.{◌≡◌, ℕ, List, [], ◌∷◌, ◌++◌, map, refl, subst, Contains, inl, inr}
+use Rattle.sw_list.proofs.Members.{none_in, first_or_later}
 use Rattle.sw_partition.specs.Effects.{IsFree}
 use Rattle.sw_partition.specs.Regions.{Regions}
 use Rattle.sw_region_flow.specs.Passing.{IsNotGivenAway, Passes, AllPass}
@@ -7,7 +8,6 @@ use Rattle.sw_region_ops.specs.Groups.{need_each, free_each}
 use Rattle.sw_region_ops.specs.Runs.{Applies, Runs}
 use Rattle.sw_region_ops.specs.declared.marks.Mark.{Mark}
 use Rattle.sw_region_ops.specs.declared.op.Op.{Op}
-use Rattle.sw_region_facts.proofs.Lists.{none_in, first_or_later}
 
 -- the operations make the second state of the first, and pass on the way
 pub record Done (ops : List Op) (a b : Regions) : Type 0 where

@@ -3,6 +3,7 @@ use Rattle.std.proofs.Common.{◌≡◌, ℕ, zero, suc, ◌+◌, List, [], ◌�
 use Rattle.std.proofs.Common.{subst, ap, ◌∙◌, arith, Bool, false, cond, inr, refl}
 use Rattle.std.specs.List.{slice_get}
 use Rattle.std.proofs.lemmas.List.Elements.{Contains-append_left, Contains-append_right}
+use Rattle.sw_list.proofs.Members.{first_in}
 use Rattle.sw_owner_facts.specs.View.{Here, Register}
 use Rattle.sw_partition.specs.Regions.{Regions, IsWithin}
 use Rattle.sw_region_ops.specs.Elements.{element_at}
@@ -11,7 +12,6 @@ use Rattle.sw_region_ops.specs.Setting.{FunctionSetting}
 use Rattle.sw_region_flow.specs.Least.{IsLeast}
 use Rattle.sw_solve.specs.Annotation.{value_at, IsBelow}
 use Rattle.sw_region_facts.specs.FrameRegions.{TogetherIn}
-use Rattle.sw_region_facts.proofs.Lists.{first_in}
 use Rattle.sw_region_facts.proofs.Numbers.{together_from}
 
 lent_has : (elements : List (Option ℕ)) (k : ℕ) (sending : List Bool) (i x : ℕ)

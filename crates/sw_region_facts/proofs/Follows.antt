@@ -6,7 +6,8 @@ use Rattle.std.specs.List.{slice_get}
 use Rattle.std.proofs.lemmas.Bool.{cases_lt}
 use Rattle.std.proofs.lemmas.List.Elements.{All-contains}
 use Rattle.std.proofs.lemmas.Option.{slice_get-map}
-use Rattle.sw_list.proofs.ListLemmas.{at_index}
+use Rattle.sw_list.proofs.ListLemmas.{some_injective, at_index}
+use Rattle.sw_list.proofs.Members.{none_in, one_in, stands_at, member_at}
 use Rattle.sw_graph.specs.declared.function.Function.{Function}
 use Rattle.sw_graph.specs.declared.graph.Graph.{Graph}
 use Rattle.sw_graph.specs.declared.instr.Block.{Block}
@@ -18,7 +19,6 @@ use Rattle.sw_graph.specs.WellFormed.{BlockFits, FunctionFits}
 use Rattle.sw_graph.proofs.PointLemmas.{length-points_of_block}
 use Rattle.sw_region_flow.specs.Least.{followers, following, first_point}
 use Rattle.sw_region_flow.proofs.Places as places
-use Rattle.sw_region_facts.proofs.Lists.{none_in, one_in, index_of, member_at, some_injective}
 
 -- what ends a block names blocks that are there
 abbrev pub AreThere : Function → Type 0
@@ -76,7 +76,7 @@ module _ (body : Function) (there : AreThere body) (p : ℕ) (instr : Instr)
     last_case : (last : Last) → slice_get (points_of body.blocks) q ≡ Some (End last)
         → Contains (map (first_point body.blocks) (blocks_of last)) (p + 1) → q ≡ p
     last_case last at follows =
-        let stands = index_of (map (first_point body.blocks) (blocks_of last)) (p + 1) follows in
+        let stands = stands_at (map (first_point body.blocks) (blocks_of last)) (p + 1) follows in
         pick stands.0 (slice_get (blocks_of last) stands.0) refl
         (sym (slice_get-map (first_point body.blocks) (blocks_of last) stands.0) ∙ stands.1)
       where

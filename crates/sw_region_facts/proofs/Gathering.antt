@@ -1,6 +1,7 @@
 -- Operands that are used, and operands that come together.
 use Rattle.std.proofs.Common.{◌++◌, ◌≡◌, ℕ, ◌∷◌, List, Option, Some, Contains, refl, ap, ◌∙◌, sym}
 use Rattle.std.proofs.Common.{subst, inl, inr}
+use Rattle.sw_list.proofs.Members.{first_or_later}
 use Rattle.sw_owner_facts.specs.View.{Element, Here}
 use Rattle.sw_partition.specs.Regions.{Regions}
 use Rattle.sw_region_flow.specs.Passing.{IsNotGivenAway}
@@ -11,7 +12,6 @@ use Rattle.sw_region_facts.specs.FrameRegions.{HaveOwnNumbers, IsStateOf}
 use Rattle.sw_region_facts.specs.Moves.{Uses, Gathers, GathersApart}
 use Rattle.sw_region_facts.proofs.Doing.{Done, parts, needed, freed}
 use Rattle.sw_region_facts.proofs.Joining.{Joined, Grown, joined_all, joined_here, here_mark}
-use Rattle.sw_region_facts.proofs.Lists.{first_or_later}
 use Rattle.sw_region_facts.proofs.Marked.{AreMarked, mark_of_element, marks_inside}
 use Rattle.sw_region_facts.proofs.Numbers.{live_from, live_by, together_from, together_tells}
 use Rattle.sw_region_facts.proofs.Weaker.{weaker_itself, weaker_within}

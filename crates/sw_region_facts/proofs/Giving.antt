@@ -1,6 +1,8 @@
 -- Elements that are given away: what has a pair afterwards.
 use Rattle.std.proofs.Common.{◌≡◌, ◌≢◌, ℕ, zero, suc, ◌<◌, List, [], ◌∷◌, length, Contains, refl}
 use Rattle.std.proofs.Common.{sym, subst, inl, inr, ap, Some, slice_get, slice_index}
+use Rattle.sw_list.proofs.ListLemmas.{some_injective}
+use Rattle.sw_list.proofs.Members.{none_in, first_or_later, member_at}
 use Rattle.sw_partition.specs.Effects.{IsGiven, IsFree}
 use Rattle.sw_partition.specs.Regions.{Regions, Together, HasPair}
 use Rattle.sw_region_ops.specs.Groups.{give_each, send_each, part_with, free_each}
@@ -8,7 +10,6 @@ use Rattle.sw_region_ops.specs.declared.marks.Mark.{Mark}
 use Rattle.sw_region_ops.specs.declared.op.Op.TheVariants.{Free, Give}
 use Rattle.sw_region_facts.proofs.Doing.{Done, done_rest, parts, freed}
 use Rattle.sw_region_facts.proofs.Joining.{Grown, grown_itself, grown_on, together_sym}
-use Rattle.sw_region_facts.proofs.Lists.{none_in, first_or_later, member_at, some_injective}
 
 -- What is with one of the marks, except for `Here`, has a pair afterwards.
 pub record Given (marks : List Mark) (a b : Regions) : Type 0 where

@@ -1,6 +1,7 @@
 -- Elements that are joined: what comes together, and what stays apart.
 use Rattle.std.proofs.Common.{◌≡◌, ℕ, ◌<◌, List, [], ◌∷◌, map, length, Contains, refl, sym, subst}
 use Rattle.std.proofs.Common.{◌∙◌, inl, inr}
+use Rattle.sw_list.proofs.Members.{none_in, one_in, first_in, later_in, without_second, second_or_other}
 use Rattle.sw_partition.specs.Effects.{IsJoined}
 use Rattle.sw_partition.specs.Laws.{within_refl, within_trans}
 use Rattle.sw_partition.specs.Regions.{Regions, Together, HasPair, IsWithin}
@@ -10,7 +11,6 @@ use Rattle.sw_region_ops.specs.declared.marks.Mark.{Mark}
 use Rattle.sw_region_ops.specs.declared.op.Op.{Op}
 use Rattle.sw_region_ops.specs.declared.op.Op.TheVariants.{Join}
 use Rattle.sw_region_facts.proofs.Doing.{Done, done_rest}
-use Rattle.sw_region_facts.proofs.Lists.{none_in, one_in, first_in, later_in, without_second, second_or_other}
 
 -- a state of the same size that unites more and gives more away
 pub record Grown (a b : Regions) : Type 0 where

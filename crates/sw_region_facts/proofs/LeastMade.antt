@@ -4,6 +4,7 @@ use Rattle.std.proofs.Common.{Contains, refl, sym, subst, ap, ◌∙◌, arith, 
 use Rattle.std.proofs.Common.{set}
 use Rattle.std.proofs.lemmas.Bool.{cases_eq, cases_lt}
 use Rattle.std.proofs.lemmas.List.{get_or-set_same, get_or-set_other, get_or_past}
+use Rattle.sw_list.proofs.ListLemmas.{some_injective}
 use Rattle.sw_graph.specs.declared.instr.Block.{Block}
 use Rattle.sw_graph.specs.declared.instr.Instr.{Instr}
 use Rattle.sw_graph.specs.Points.{Middle, point_in}
@@ -21,7 +22,6 @@ use Rattle.sw_region_ops.proofs.RangeLemmas.{AreInside}
 use Rattle.sw_region_ops.proofs.RunLemmas.{runs_size}
 use Rattle.sw_solve.specs.Annotation.{value_at, IsBelow, IsPassedOn, IsAtMost}
 use Rattle.sw_region_facts.proofs.Follows.{AreThere, only_before}
-use Rattle.sw_region_facts.proofs.Lists.{some_injective}
 use Rattle.sw_region_facts.proofs.Points.{follows_on, size_at}
 
 below_more : (x y : Regions) (o : Option Regions) → IsWithin x y → IsBelow IsWithin y o

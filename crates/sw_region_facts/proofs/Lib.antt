@@ -1,4 +1,3 @@
-pub mod Lists
 pub mod Live
 pub mod Numbers
 pub mod Weaker

@@ -2,6 +2,7 @@
 use Rattle.std.proofs.Common.{◌≡◌, ℕ, ◌<◌, ◌∷◌, [], ◌++◌, List, Option, Some, None, length, map}
 use Rattle.std.proofs.Common.{Contains, refl, ap, ◌∙◌, sym, subst, inl, inr, Bool, true, false}
 use Rattle.std.proofs.Common.{append-nil, append_assoc}
+use Rattle.sw_list.proofs.Members.{later_in, first_in, one_in}
 use Rattle.sw_region_flow.specs.Passing.{IsNotGivenAway}
 use Rattle.std.proofs.lemmas.List.{map-append}
 use Rattle.std.proofs.lemmas.List.Elements.{Contains-append_cases}
@@ -20,7 +21,6 @@ use Rattle.sw_region_facts.specs.Rows.{captured}
 use Rattle.sw_region_facts.proofs.Doing.{Done, parts, needed}
 use Rattle.sw_region_facts.proofs.Gathering.{weaker_grown, live_marks}
 use Rattle.sw_region_facts.proofs.Joining.{Joined, joined_with, here_mark}
-use Rattle.sw_region_facts.proofs.Lists.{later_in, first_in, one_in}
 use Rattle.sw_region_facts.proofs.Marked.{AreMarked, mark_of_element, marks_inside, marked_append}
 use Rattle.sw_region_facts.proofs.Numbers.{live_from, live_by, together_from, untracked_live}
 use Rattle.sw_region_facts.proofs.Setting.{fresh_together, fresh_live}

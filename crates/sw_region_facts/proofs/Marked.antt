@@ -5,6 +5,8 @@ use Rattle.std.specs.List.{slice_get}
 use Rattle.std.specs.Option.{option_map}
 use Rattle.std.proofs.lemmas.List.{map-append}
 use Rattle.std.proofs.lemmas.Option.{slice_get-map}
+use Rattle.sw_list.proofs.ListLemmas.{some_injective}
+use Rattle.sw_list.proofs.Members.{stands_at, member_at}
 use Rattle.sw_graph.specs.declared.instr.Operand.{Operand}
 use Rattle.sw_owner_facts.specs.View.{Element, Register}
 use Rattle.sw_partition.specs.Regions.{Regions}
@@ -14,7 +16,6 @@ use Rattle.sw_region_ops.specs.declared.marks.Mark.{Mark}
 use Rattle.sw_region_facts.specs.FrameRegions.{element_in, HaveOwnNumbers, IsStateOf}
 use Rattle.sw_region_facts.specs.Moves.{if_tracked, tracked}
 use Rattle.sw_region_facts.specs.Calling.{passed_from}
-use Rattle.sw_region_facts.proofs.Lists.{index_of, member_at, some_injective}
 use Rattle.sw_region_facts.proofs.Numbers.{inside}
 
 abbrev numbers_of : List Mark → List (Option ℕ)
@@ -92,7 +93,7 @@ module _ (elements : List (Option ℕ)) where
       → (x : Element) → Contains xs x
       → (mark : Mark) × Contains marks mark × (element_in elements x ≡ Some mark.x)
   mark_of_element xs marks marked x has =
-      let there = index_of xs x has in
+      let there = stands_at xs x has in
       let found = mark_at_index xs marks marked there.0 x there.1 in
       (found.mark, member_at marks there.0 found.mark found.at, found.is)
 
@@ -101,7 +102,7 @@ module _ (elements : List (Option ℕ)) where
       → (mark : Mark) → Contains marks mark
       → (x : Element) × Contains xs x × (element_in elements x ≡ Some mark.x)
   element_of_mark xs marks marked mark has =
-      let there = index_of marks mark has in
+      let there = stands_at marks mark has in
       by there.0 (slice_get xs there.0) refl
       (sym (slice_get-map (element_in elements) xs there.0)
       ∙ ap (λ l. slice_get l there.0) marked

@@ -5,15 +5,14 @@ use Rattle.std.proofs.Common.{ap, ◌∙◌, arith, inl, inr, slice_index_or}
 use Rattle.std.specs.List.{slice_get}
 use Rattle.std.proofs.lemmas.Bool.{cases_order, not-true}
 use Rattle.std.proofs.lemmas.List.Elements.{Contains-append_cases}
+use Rattle.sw_list.proofs.ListLemmas.{some_injective, slice_get_after}
+use Rattle.sw_list.proofs.Members.{none_in, one_in, first_in, later_in, member_at}
 use Rattle.sw_graph.specs.declared.instr.Operand.{Operand}
-use Rattle.sw_list.proofs.ListLemmas.{slice_get_after}
 use Rattle.sw_owner_facts.specs.View.{Element, Register}
 use Rattle.sw_region_ops.specs.Elements.{element_at}
 use Rattle.sw_region_ops.specs.Marks.{is_wanted}
 use Rattle.sw_region_facts.specs.Calling.{passed_from, IsArgument}
 use Rattle.sw_region_facts.specs.Moves.{if_tracked, tracked}
-use Rattle.sw_region_facts.proofs.Lists.{none_in, one_in, first_in, later_in, some_injective}
-use Rattle.sw_region_facts.proofs.Lists.{member_at}
 
 -- a tracked operand
 record IsTracked (elements : List (Option ℕ)) (operand : Operand) (x : Element) : Type 0 where

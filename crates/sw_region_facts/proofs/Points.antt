@@ -5,6 +5,8 @@ use Rattle.std.proofs.Common.{Bool, true, false, cond}
 use Rattle.std.specs.Option.{option_map, option_map_or}
 use Rattle.std.specs.List.{slice_get}
 use Rattle.std.proofs.lemmas.Option.{slice_get-map}
+use Rattle.sw_list.proofs.ListLemmas.{some_injective}
+use Rattle.sw_list.proofs.Members.{first_in, member_at}
 use Rattle.sw_types.specs.declared.shape.Shape.{Shape}
 use Rattle.sw_graph.specs.declared.function.RegKind.{RegKind}
 use Rattle.sw_graph.specs.declared.function.TheConstants.{MAX_REGISTERS}
@@ -23,7 +25,6 @@ use Rattle.sw_solve.specs.Annotation.{value_at, IsBelow, IsPassedOn}
 use Rattle.sw_region_facts.specs.FrameRegions.{HaveOwnNumbers, IsStateOf}
 use Rattle.sw_region_facts.specs.Annotated.{StandsAt}
 use Rattle.sw_region_flow.specs.Walks.{Walks}
-use Rattle.sw_region_facts.proofs.Lists.{first_in, member_at, some_injective}
 
 -- ---- registers have numbers of their own
 numbers_differ : (shapes : List Shape) (n : ℕ) (kinds : List RegKind) (r s x : ℕ)

@@ -1,6 +1,7 @@
 -- The table of region operations, row by row.
 use Rattle.std.proofs.Common.{◌≡◌, ℕ, ◌++◌, Bool, true, false, List, [], ◌∷◌, Option, Some, None}
 use Rattle.std.proofs.Common.{Contains, refl, ◌∙◌, ap, sym, subst, append-nil, slice_get}
+use Rattle.sw_list.proofs.Members.{one_in, none_in, first_in}
 use Rattle.sw_types.specs.declared.isolation.CallKind.TheVariants.{Plain as PlainCall}
 use Rattle.sw_graph.specs.declared.instr.Instr.{Instr}
 use Rattle.sw_graph.specs.declared.instr.Instr.TheVariants.{Const, Un, Bin, Print, Copy, Field}
@@ -26,7 +27,6 @@ use Rattle.sw_region_facts.specs.Rows.{CopiesFrom, LoadsPart, StoresPart, Starts
 use Rattle.sw_region_facts.proofs.Calling.{calls, calls_function}
 use Rattle.sw_region_facts.proofs.Doing.{Done, parts}
 use Rattle.sw_region_facts.proofs.Gathering.{uses_needed, met, kept}
-use Rattle.sw_region_facts.proofs.Lists.{one_in, none_in, first_in}
 use Rattle.sw_region_facts.proofs.Making.{made_of, closed_over}
 use Rattle.sw_region_facts.proofs.Marked.{tracked_marked}
 use Rattle.sw_region_facts.proofs.Numbers.{untracked_live}

@@ -2,6 +2,7 @@
 use Rattle.std.proofs.Common.{◌≡◌, ◌≢◌, ℕ, List, [], ◌∷◌, Option, Some, None, Contains, cond, refl}
 use Rattle.std.proofs.Common.{sym, subst, ap, ◌∙◌, inl, inr}
 use Rattle.std.proofs.lemmas.Bool.{eq-eqb, ne_eqb}
+use Rattle.sw_list.proofs.Members.{one_in, first_in}
 use Rattle.sw_owner_facts.specs.View.{Element, Here, Register}
 use Rattle.sw_partition.specs.Effects.{IsFreshened, IsPut, stand_in}
 use Rattle.sw_partition.specs.Regions.{Regions, Together, HasPair}
@@ -13,7 +14,6 @@ use Rattle.sw_region_facts.specs.FrameRegions.{IsStateOf}
 use Rattle.sw_region_facts.specs.Moves.{Sets, if_tracked}
 use Rattle.sw_region_facts.proofs.Comes.{sets_by, sets_nothing, sets_weaker, sets_from_all}
 use Rattle.sw_region_facts.proofs.Doing.{Done}
-use Rattle.sw_region_facts.proofs.Lists.{one_in, first_in}
 use Rattle.sw_region_facts.proofs.Marked.{AreMarked}
 use Rattle.sw_region_facts.proofs.Numbers.{together_by, live_by, other_number, together_from}
 use Rattle.sw_region_facts.proofs.Numbers.{together_tells, alone_is, cases_in}

@@ -4,6 +4,7 @@ use Rattle.std.proofs.Common.{◌≡◌, ◌⊎◌, true, false, cond, Some, Non
 use Rattle.std.proofs.Common.{◌+◌, ◌∷◌, Contains, sym, subst, ap, ◌∙◌, inl, inr}
 use Rattle.std.specs.Option.{option_map_or}
 use Rattle.std.specs.List.{slice_get}
+use Rattle.sw_list.proofs.Members.{first_in, first_or_later, later_in, none_in}
 use Rattle.sw_types.specs.declared.isolation.CallKind.TheVariants.{Same, Strong, Make}
 use Rattle.sw_value.specs.declared.job.Status.TheVariants.{Ready}
 use Rattle.sw_value.specs.Job.{enter, is_running, is_running_status}
@@ -17,7 +18,6 @@ use Rattle.sw_owner_facts.specs.View.{IsUnheld, MakesActor}
 use Rattle.sw_owner_facts.proofs.CallLemmas.{called_make, called_same, called_strong}
 use Rattle.sw_region_facts.specs.Calling.{Lends, result_from}
 use Rattle.sw_region_facts.specs.Moves.{Gathers, Sends}
-use Rattle.sw_region_facts.proofs.Lists.{first_in, first_or_later, later_in, none_in}
 use Rattle.sw_view_facts.specs.Views.{Colours, here_at, isolation_in, result_in, shape_with}
 use Rattle.sw_view_facts.specs.Views.{stands_on}
 use Rattle.sw_secure_facts.specs.Painting.{Unites, begun_here}

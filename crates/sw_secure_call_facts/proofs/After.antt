@@ -2,6 +2,7 @@
 use Rattle.std.proofs.Common.{◌≡◌, ℕ, Option, Some, None, List, [], ◌∷◌, Contains, refl, sym}
 use Rattle.std.proofs.Common.{subst, ap, ◌∙◌, inl, inr, true}
 use Rattle.std.specs.List.{slice_get}
+use Rattle.sw_list.proofs.Members.{first_in, first_or_later, none_in}
 use Rattle.sw_value.specs.declared.value.Value.{Value}
 use Rattle.sw_owner_facts.specs.Colours.{Actor as Owner, Colour, OfJob, OfActor}
 use Rattle.sw_owner_facts.specs.Owned.{IsSound}
@@ -9,7 +10,6 @@ use Rattle.sw_owner_facts.specs.View.{Element, HoldsLive, IsDisconnected, IsUnhe
 use Rattle.sw_owner_facts.specs.View.{View, Frame as Spot, Here}
 use Rattle.sw_region_facts.specs.FrameRegions.{TogetherIn}
 use Rattle.sw_region_facts.specs.Moves.{Gathers, Sends}
-use Rattle.sw_region_facts.proofs.Lists.{first_in, first_or_later, none_in}
 use Rattle.sw_reach_facts.specs.Reached.{colours_of}
 use Rattle.sw_view_facts.specs.Renaming.{MayUnite, recoloured_by, united}
 use Rattle.sw_view_facts.specs.Views.{Colours, here_at, view_of}

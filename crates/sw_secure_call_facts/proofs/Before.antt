@@ -1,6 +1,7 @@
 -- The views of a call before the frame begins: arguments are given away, then the others are lent.
 use Rattle.std.proofs.Common.{◌≡◌, ◌≢◌, ℕ, false, Option, Some, List, Contains, sym, ap}
 use Rattle.std.proofs.Common.{◌∙◌}
+use Rattle.sw_list.proofs.Members.{later_in}
 use Rattle.sw_types.specs.declared.isolation.CallKind.{CallKind}
 use Rattle.sw_types.specs.declared.isolation.CallKind.TheVariants.{Plain, Same, Weak, Strong, Make}
 use Rattle.sw_partition.specs.Regions.{Regions}
@@ -14,7 +15,6 @@ use Rattle.sw_owner_facts.proofs.WithinLemmas.{given_is_disconnected, weakened}
 use Rattle.sw_region_facts.specs.Calling.{Lends}
 use Rattle.sw_region_facts.specs.FrameRegions.{IsWeaker, LiveIn, TogetherIn}
 use Rattle.sw_region_facts.specs.Moves.{Sends}
-use Rattle.sw_region_facts.proofs.Lists.{later_in}
 use Rattle.sw_view_facts.specs.Changes.{HoldsIn}
 use Rattle.sw_view_facts.specs.Steps.{ChangesFrame}
 use Rattle.sw_view_facts.specs.Views.{annotated, closes_at, frame_at, here_at, is_return, over}

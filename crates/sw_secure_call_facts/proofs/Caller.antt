@@ -4,6 +4,7 @@ use Rattle.std.proofs.Common.{◌∷◌, length, Contains, refl, sym, ap, ◌∙
 use Rattle.std.specs.Option.{option_and_then, option_map}
 use Rattle.std.specs.List.{slice_get}
 use Rattle.std.proofs.lemmas.Option.{slice_get_within}
+use Rattle.sw_list.proofs.ListLemmas.{some_injective}
 use Rattle.sw_graph.specs.declared.function.Function.{Function}
 use Rattle.sw_graph.specs.declared.graph.Graph.{Graph}
 use Rattle.sw_graph.specs.declared.instr.Instr.{Instr}
@@ -14,7 +15,6 @@ use Rattle.sw_value.specs.declared.job.Job.{Job}
 use Rattle.sw_value.specs.declared.state.State.{State}
 use Rattle.sw_value.specs.declared.value.Value.{Value}
 use Rattle.sw_value.specs.Value.{value_at, values_at}
-use Rattle.sw_value.proofs.ListLemmas.{some_injective}
 use Rattle.sw_partition.specs.Regions.{Regions}
 use Rattle.sw_region_ops.specs.Elements.{element_at, elements_of}
 use Rattle.sw_machine_kind_facts.proofs.ItemLemmas.{found_within}

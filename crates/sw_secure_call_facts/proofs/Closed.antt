@@ -6,7 +6,8 @@ use Rattle.std.specs.Option.{option_map_or}
 use Rattle.std.specs.List.{slice_get, slice_index_or}
 use Rattle.std.proofs.lemmas.List.{length-append, length-map}
 use Rattle.std.proofs.lemmas.Option.{slice_get_within}
-use Rattle.sw_list.proofs.ListLemmas.{at_index}
+use Rattle.sw_list.proofs.ListLemmas.{some_injective, at_index}
+use Rattle.sw_list.proofs.Members.{in_one}
 use Rattle.sw_types.specs.declared.isolation.Iso.{Iso}
 use Rattle.sw_types.specs.declared.isolation.Iso.TheVariants as iso
 use Rattle.sw_types.specs.declared.ty.Ty.{Ty}
@@ -30,7 +31,6 @@ use Rattle.sw_value.specs.declared.job.Job.{Job}
 use Rattle.sw_value.specs.declared.state.State.{State}
 use Rattle.sw_value.specs.declared.value.Value.{Value}
 use Rattle.sw_value.specs.Value.{reference_of, value_at, values_at}
-use Rattle.sw_value.proofs.ListLemmas.{some_injective}
 use Rattle.sw_partition.specs.Regions.{Regions}
 use Rattle.sw_machine_kind_facts.specs.Kinds.{CellFits, ClosureFits, HasKind, Referents}
 use Rattle.sw_machine_kind_facts.proofs.KindLemmas.{forms_captured}
@@ -42,7 +42,6 @@ use Rattle.sw_region_ops.specs.Calls.{is_isolated}
 use Rattle.sw_reach_facts.specs.Reached.{colours_of}
 use Rattle.sw_reach_facts.proofs.CellLemmas.{reference_shows}
 use Rattle.sw_reach_facts.proofs.ClosureLemmas.{capture_within}
-use Rattle.sw_reach_facts.proofs.ListLemmas.{in_one}
 use Rattle.sw_view_facts.specs.Standing.{StandsAt}
 use Rattle.sw_view_facts.specs.Views.{Colours}
 use Rattle.sw_secure_facts.specs.Secure.{IsSecure}

@@ -7,7 +7,8 @@ use Rattle.std.specs.List.{slice_get}
 use Rattle.std.proofs.lemmas.Bool.{cases_lt}
 use Rattle.std.proofs.lemmas.List.Elements.{Contains-append_cases, Contains-append_left}
 use Rattle.std.proofs.lemmas.List.Elements.{Contains-append_right}
-use Rattle.sw_list.proofs.ListLemmas.{slice_get_first, slice_get_second}
+use Rattle.sw_list.proofs.ListLemmas.{some_injective, slice_get_first, slice_get_second}
+use Rattle.sw_list.proofs.Members.{first_in, member_at}
 use Rattle.sw_types.specs.declared.isolation.CallKind.TheVariants.{Plain}
 use Rattle.sw_types.specs.declared.isolation.Iso.{Iso}
 use Rattle.sw_types.specs.declared.isolation.Iso.TheVariants as iso
@@ -27,14 +28,12 @@ use Rattle.sw_value.specs.declared.value.Value.{Value}
 use Rattle.sw_value.specs.Call.{pushed_frame}
 use Rattle.sw_value.specs.Effect.{point_effect}
 use Rattle.sw_value.specs.Value.{reference_of, registers, value_at, values_at}
-use Rattle.sw_value.proofs.ListLemmas.{some_injective}
 use Rattle.sw_partition.specs.Regions.{Regions}
 use Rattle.sw_region_ops.specs.Elements.{element_at, elements_of}
 use Rattle.sw_machine_kind_facts.proofs.BeginLemmas.{register_is}
 use Rattle.sw_owner_facts.specs.Colours.{Actor as Owner, Colour, GlobalActor, Instance, OfActor}
 use Rattle.sw_owner_facts.specs.View.{Element, IsolatedTo, Register, Frame as Spot}
 use Rattle.sw_region_facts.specs.Moves.{if_tracked, tracked}
-use Rattle.sw_region_facts.proofs.Lists.{first_in, member_at}
 use Rattle.sw_reach_facts.specs.Reached.{colours_of}
 use Rattle.sw_color_rules.specs.Plans.{sending_of}
 use Rattle.sw_view_facts.specs.Changes.{HoldsIn}

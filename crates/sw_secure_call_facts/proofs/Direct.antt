@@ -6,6 +6,7 @@ use Rattle.std.specs.Option.{option_map, option_map_or}
 use Rattle.std.specs.List.{slice_get, slice_index_or}
 use Rattle.std.proofs.lemmas.List.{length-map}
 use Rattle.std.proofs.lemmas.Option.{get_or_from_slice_get}
+use Rattle.sw_list.proofs.Members.{member_at}
 use Rattle.sw_types.specs.declared.isolation.CallKind.{CallKind}
 use Rattle.sw_graph.specs.declared.function.Function.{Function}
 use Rattle.sw_graph.specs.declared.function.RegKind.{RegKind}
@@ -31,7 +32,6 @@ use Rattle.sw_machine_kind_facts.proofs.OperandLemmas.{function_fits}
 use Rattle.sw_owner_facts.specs.Colours.{Colour}
 use Rattle.sw_owner_facts.specs.View.{Element, Register, Frame as Spot}
 use Rattle.sw_region_facts.specs.Calling.{Calls, CallsFunction, IsArgument, lent_of, sent_of}
-use Rattle.sw_region_facts.proofs.Lists.{member_at}
 use Rattle.sw_region_facts.proofs.Passed.{argument_in, places_differ}
 use Rattle.sw_reach_facts.specs.Reached.{colours_of}
 use Rattle.sw_color_rules.specs.Plans.{sending_of}

@@ -1,10 +1,10 @@
 -- After a call whose view is sound the state is secure, and the colours that become one may.
 use Rattle.std.proofs.Common.{◌≡◌, Some, None, List, [], ◌∷◌, Contains, refl, sym}
 use Rattle.std.proofs.Common.{subst, ap, ◌∙◌, inl, inr}
+use Rattle.sw_list.proofs.Members.{first_in, first_or_later, later_in, one_in}
 use Rattle.sw_owner_facts.specs.Colours.{Actor as Owner, Colour, OfJob, OfActor}
 use Rattle.sw_owner_facts.specs.Owned.{IsSound}
 use Rattle.sw_owner_facts.specs.View.{Here, Element, HoldsLive}
-use Rattle.sw_region_facts.proofs.Lists.{first_in, first_or_later, later_in, one_in}
 use Rattle.sw_view_facts.specs.Views.{Colours, here_at}
 use Rattle.sw_secure_facts.proofs.Kept.{some_own_kept}
 use Rattle.sw_secure_facts.specs.Painting.{MayUnite, Unites, begun_here}

@@ -3,6 +3,7 @@ use Rattle.std.proofs.Common.{◌≡◌, ◌+◌, ℕ, Bool, true, false, cond, 
 use Rattle.std.proofs.Common.{List, [], length, refl, sym, subst, ap, ◌∙◌, IsTrue, is_some, inl}
 use Rattle.std.specs.Option.{option_and_then, option_map}
 use Rattle.std.specs.List.{slice_get}
+use Rattle.sw_list.proofs.ListLemmas.{some_injective}
 use Rattle.sw_types.specs.declared.isolation.CallKind.{CallKind}
 use Rattle.sw_types.specs.declared.isolation.CallKind.TheVariants.{Plain, Same, Weak, Strong, Make}
 use Rattle.sw_types.specs.declared.isolation.Iso.{Iso}
@@ -26,7 +27,6 @@ use Rattle.sw_value.specs.Call.{call_executor, crosses, pushed_frame}
 use Rattle.sw_value.specs.Effect.{point_effect}
 use Rattle.sw_value.specs.Executor.{executor_of}
 use Rattle.sw_value.specs.Value.{reference_of, registers, value_at, values_at}
-use Rattle.sw_value.proofs.ListLemmas.{some_injective}
 use Rattle.sw_partition.specs.Regions.{Regions}
 use Rattle.sw_region_ops.specs.Elements.{element_at, elements_of}
 use Rattle.sw_machine_kind_facts.proofs.BeginLemmas.{register_is}

@@ -4,6 +4,7 @@ use Rattle.std.proofs.Common.{◌≡◌, ◌⊎◌, ℕ, Bool, true, false, cond
 use Rattle.std.proofs.Common.{length, Contains, refl, sym, subst, ap, ◌∙◌, arith, inl, inr}
 use Rattle.std.specs.List.{slice_get}
 use Rattle.std.specs.Option.{option_map, option_map_or}
+use Rattle.sw_list.proofs.Members.{first_in, later_in, first_or_later, none_in}
 use Rattle.sw_graph.specs.declared.function.Function.{Function}
 use Rattle.std.proofs.lemmas.Bool.{cases_eq}
 use Rattle.std.proofs.lemmas.Option.{slice_get_within}
@@ -21,9 +22,7 @@ use Rattle.sw_region_facts.specs.Calling.{result_from}
 use Rattle.sw_region_facts.specs.FrameRegions.{TogetherIn, region_in}
 use Rattle.sw_region_facts.specs.Moves.{if_tracked}
 use Rattle.sw_region_facts.proofs.Annotated.{lent_here}
-use Rattle.sw_region_facts.proofs.Lists.{first_in, later_in, first_or_later}
 use Rattle.sw_reach_facts.specs.Reached.{colours_of}
-use Rattle.sw_reach_facts.proofs.ListLemmas.{none_in}
 use Rattle.sw_view_facts.specs.Views.{Colours, annotated, colours_by, elements_in, elements_with}
 use Rattle.sw_view_facts.specs.Views.{region_by, shape_with, result_in, tracked_in}
 use Rattle.sw_view_facts.proofs.CallLemmas.{enters_calls, enters_shape, enters_shares}

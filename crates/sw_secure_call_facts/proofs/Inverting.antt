@@ -4,6 +4,7 @@ use Rattle.std.proofs.Common.{List, ◌++◌, length, refl, sym, ap, ◌∙◌}
 use Rattle.std.specs.Option.{option_map, option_and_then}
 use Rattle.std.specs.Prelude.{Result, Ok, Err}
 use Rattle.std.specs.List.{slice_get}
+use Rattle.sw_list.proofs.ListLemmas.{some_injective}
 use Rattle.sw_types.specs.declared.isolation.CallKind.{CallKind}
 use Rattle.sw_types.specs.declared.isolation.CallKind.TheVariants.{Plain}
 use Rattle.sw_graph.specs.declared.function.Function.{Function}
@@ -38,7 +39,6 @@ use Rattle.sw_value.specs.declared.cell.Slot.{Slot}
 use Rattle.sw_value.specs.declared.cell.Slot.TheVariants.{Content, Part}
 use Rattle.sw_value.specs.Value.{field_of, made, operand_value, payload_of, reference_of, registers}
 use Rattle.sw_value.specs.Value.{tag_of, truth_of, value_at, values_at}
-use Rattle.sw_value.proofs.ListLemmas.{some_injective}
 use Rattle.sw_store_facts.proofs.Getting.{from_some}
 use Rattle.sw_secure_facts.specs.Executing.{is_call}
 

@@ -1,12 +1,12 @@
 -- A call whose new frame has the colour of what it is lent.
 use Rattle.std.proofs.Common.{◌≡◌, ◌⊎◌, Some, None, List, Contains}
 use Rattle.std.proofs.Common.{sym, subst, ap, ◌∙◌, inl, inr}
+use Rattle.sw_list.proofs.Members.{first_in, later_in}
 use Rattle.sw_owner_facts.specs.Calls.{Called}
 use Rattle.sw_owner_facts.specs.Colours.{Colour, OfJob}
 use Rattle.sw_owner_facts.specs.View.{above, Element, HoldsLive, IsDisconnected, View, FrameShape}
 use Rattle.sw_owner_facts.specs.View.{IsUnheld}
 use Rattle.sw_region_facts.specs.FrameRegions.{region_in}
-use Rattle.sw_region_facts.proofs.Lists.{first_in, later_in}
 use Rattle.sw_view_facts.specs.Views.{Colours, elements_in, elements_with, frame_under, function_of}
 use Rattle.sw_view_facts.specs.Views.{region_by, shape_by, shape_with, stands_on}
 use Rattle.sw_secure_facts.specs.Painting.{Unites, begun_here}

@@ -2,6 +2,7 @@
 use Rattle.std.proofs.Common.{◌≡◌, ◌≢◌, ◌⊎◌, ℕ, true, false, cond, Option, Some, None, List, []}
 use Rattle.std.proofs.Common.{◌∷◌, Contains, refl, sym, subst, ap, ◌∙◌, inl, inr}
 use Rattle.std.specs.Option.{option_and_then}
+use Rattle.sw_list.proofs.Members.{first_in, later_in, one_in}
 use Rattle.sw_types.specs.declared.isolation.CallKind.TheVariants.{Plain, Weak}
 use Rattle.sw_types.specs.declared.isolation.Iso.{Iso}
 use Rattle.sw_types.specs.declared.isolation.Iso.TheVariants as iso
@@ -18,7 +19,6 @@ use Rattle.sw_owner_facts.specs.View.{Nonisolated}
 use Rattle.sw_owner_facts.proofs.CallLemmas.{called_plain, called_weak}
 use Rattle.sw_region_facts.specs.Calling.{Lends, result_from}
 use Rattle.sw_region_facts.specs.Moves.{Gathers, GathersApart}
-use Rattle.sw_region_facts.proofs.Lists.{first_in, later_in, one_in}
 use Rattle.sw_view_facts.specs.Views.{Colours, isolation_by, isolation_in, on_actor, stands_on}
 use Rattle.sw_secure_facts.specs.Painting.{Unites}
 use Rattle.sw_secure_facts.proofs.Uniting.{actors_stay}

@@ -10,6 +10,7 @@ use Rattle.std.specs.List.{slice_get}
 use Rattle.std.proofs.lemmas.Bool.{cases_eq}
 use Rattle.std.proofs.lemmas.List.{length-append}
 use Rattle.std.proofs.lemmas.Option.{slice_get_past, slice_get_within}
+use Rattle.sw_list.proofs.ListLemmas.{some_injective}
 use Rattle.sw_types.specs.declared.ty.Ty.{Ty}
 use Rattle.sw_graph.specs.declared.function.Function.{Function}
 use Rattle.sw_graph.specs.Bodies.{has_self}
@@ -23,7 +24,7 @@ use Rattle.sw_value.specs.Frame.{go_on}
 use Rattle.sw_value.specs.Job.{enter}
 use Rattle.sw_value.specs.Lists.{changed_at}
 use Rattle.sw_value.specs.State.{in_job}
-use Rattle.sw_value.proofs.ListLemmas.{changed_at_found, length-changed_at, some_injective}
+use Rattle.sw_value.proofs.ListLemmas.{changed_at_found, length-changed_at}
 use Rattle.sw_machine_kind_facts.specs.Kinds.{Referents}
 use Rattle.sw_machine_kind_facts.specs.Standing.{JobFits, awaited_at, awaited_in, or_above}
 use Rattle.sw_machine_kind_facts.specs.Standing.{StatusFits, goes, over}

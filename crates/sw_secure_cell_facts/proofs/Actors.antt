@@ -5,6 +5,7 @@ use Rattle.std.proofs.Common.{◌∙◌}
 use Rattle.std.proofs.Common.{inl, inr}
 use Rattle.std.specs.List.{list_any, slice_get}
 use Rattle.std.proofs.lemmas.Bool.{and_from, and_parts, or_left, or_right}
+use Rattle.sw_list.proofs.Members.{first_in, first_or_later, later_in, in_flat_map}
 use Rattle.sw_graph.specs.declared.function.Function.{Function}
 use Rattle.sw_graph.specs.declared.graph.Graph.{Graph}
 use Rattle.sw_graph.specs.declared.instr.Instr.TheVariants.{NewActor}
@@ -30,10 +31,8 @@ use Rattle.sw_owner_facts.specs.View.{Element, HoldsLive, IsDisconnected, MakesA
 use Rattle.sw_owner_facts.specs.View.{Frame as Spot}
 use Rattle.sw_owner_facts.proofs.WithinLemmas.{closed_is_disconnected}
 use Rattle.sw_region_facts.specs.Moves.{tracked}
-use Rattle.sw_region_facts.proofs.Lists.{first_in, first_or_later, later_in}
 use Rattle.sw_reach_facts.specs.Coloured.{may_have_colour}
 use Rattle.sw_reach_facts.specs.Reached.{colours_of}
-use Rattle.sw_reach_facts.proofs.ListLemmas.{in_flat_map}
 use Rattle.sw_view_facts.specs.Memory.{coloured_more}
 use Rattle.sw_view_facts.specs.Renaming.{united}
 use Rattle.sw_view_facts.specs.Views.{Colours, annotated, here_at, isolation_by, makes_itself}

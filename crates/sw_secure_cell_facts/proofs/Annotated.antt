@@ -3,6 +3,7 @@ use Rattle.std.proofs.Common.{◌≡◌, ◌+◌, ◌&&◌, ℕ, true, false, co
 use Rattle.std.proofs.Common.{List, ◌∷◌, length, Contains, refl, sym, subst, ap, ◌∙◌}
 use Rattle.std.specs.Option.{option_map}
 use Rattle.std.proofs.lemmas.Bool.{and_from, and_parts, or_right}
+use Rattle.sw_list.proofs.Members.{first_in, later_in, in_flat_map}
 use Rattle.sw_types.specs.Sendable.{sends_at}
 use Rattle.sw_graph.specs.declared.function.Function.{Function}
 use Rattle.sw_graph.specs.declared.graph.Graph.{Graph}
@@ -28,10 +29,8 @@ use Rattle.sw_owner_facts.specs.Colours.{Colour, GlobalActor, OfActor, OfJob}
 use Rattle.sw_owner_facts.specs.View.{Element, HoldsLive, IsUnheld, Frame as Spot}
 use Rattle.sw_owner_facts.proofs.WithinLemmas.{closed_class_is_unheld}
 use Rattle.sw_region_facts.specs.Moves.{tracked}
-use Rattle.sw_region_facts.proofs.Lists.{first_in, later_in}
 use Rattle.sw_reach_facts.specs.Coloured.{may_have_colour}
 use Rattle.sw_reach_facts.specs.Reached.{colours_of}
-use Rattle.sw_reach_facts.proofs.ListLemmas.{in_flat_map}
 use Rattle.sw_view_facts.specs.Memory.{coloured_more}
 use Rattle.sw_view_facts.specs.Renaming.{united}
 use Rattle.sw_view_facts.specs.Views.{Colours, here_at, makes_itself, view_at}

@@ -7,6 +7,7 @@ use Rattle.std.specs.Option.{option_map, option_map_or}
 use Rattle.std.proofs.lemmas.Bool.{and_parts, eqb-true}
 use Rattle.std.proofs.lemmas.List.Elements.{Contains-append_cases, Contains-append_left}
 use Rattle.std.proofs.lemmas.List.Elements.{Contains-append_right}
+use Rattle.sw_list.proofs.Members.{first_in, later_in, first_or_later, none_in, one_in, in_flat_map, of_flat_map}
 use Rattle.sw_types.specs.declared.isolation.Iso.TheVariants.{Own, Global}
 use Rattle.sw_graph.specs.declared.function.Function.{Function}
 use Rattle.sw_graph.specs.declared.graph.Graph.{Graph}
@@ -36,11 +37,9 @@ use Rattle.sw_owner_facts.specs.Colours.{OfJob}
 use Rattle.sw_owner_facts.specs.View.{Element, Here, Register, Frame as Spot}
 use Rattle.sw_region_facts.specs.Moves.{Makes, tracked}
 use Rattle.sw_region_facts.specs.Rows.{captured}
-use Rattle.sw_region_facts.proofs.Lists.{first_in, later_in, first_or_later, none_in, one_in}
 use Rattle.sw_reach_facts.specs.Coloured.{CaptureEarlier, may_have_colour, runs_isolated}
 use Rattle.sw_reach_facts.specs.Reached.{colours_of}
 use Rattle.sw_reach_facts.proofs.ClosureLemmas.{reference_captures}
-use Rattle.sw_reach_facts.proofs.ListLemmas.{in_flat_map, of_flat_map}
 use Rattle.sw_view_facts.specs.Changes.{HoldsIn}
 use Rattle.sw_view_facts.specs.Memory.{coloured_more}
 use Rattle.sw_view_facts.specs.Renaming.{united}

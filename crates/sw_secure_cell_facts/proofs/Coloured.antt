@@ -1,6 +1,7 @@
 -- A cell that is made with a new colour, which becomes one with colours of what it is made of.
 use Rattle.std.proofs.Common.{◌≡◌, ◌≢◌, ◌+◌, ℕ, true, false, Option, Some, List, ◌∷◌}
 use Rattle.std.proofs.Common.{length, Contains, refl, sym, subst, ap, inl, inr}
+use Rattle.sw_list.proofs.Members.{first_in, later_in, first_or_later}
 use Rattle.sw_graph.specs.declared.function.Function.{Function}
 use Rattle.sw_graph.specs.declared.graph.Graph.{Graph}
 use Rattle.sw_graph.specs.declared.instr.Instr.{Instr}
@@ -18,7 +19,6 @@ use Rattle.sw_region_ops.specs.Elements.{elements_of}
 use Rattle.sw_owner_facts.specs.Colours.{Colour, OfJob}
 use Rattle.sw_owner_facts.specs.View.{Element, Register, Frame as Spot}
 use Rattle.sw_region_facts.specs.Moves.{Makes}
-use Rattle.sw_region_facts.proofs.Lists.{first_in, later_in, first_or_later}
 use Rattle.sw_reach_facts.specs.Coloured.{may_have_colour}
 use Rattle.sw_view_facts.specs.Changes.{HoldsIn}
 use Rattle.sw_view_facts.specs.Memory.{coloured_more}

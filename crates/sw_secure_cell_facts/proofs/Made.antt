@@ -3,6 +3,7 @@ use Rattle.std.proofs.Common.{◌≡◌, ◌≢◌, ◌+◌, ◌<◌, ℕ, true,
 use Rattle.std.proofs.Common.{length, Contains, refl, sym, subst, ap, ◌∙◌, arith}
 use Rattle.std.specs.List.{slice_get}
 use Rattle.std.specs.Option.{option_map_or}
+use Rattle.sw_list.proofs.Members.{in_one}
 use Rattle.sw_graph.specs.declared.function.Function.{Function}
 use Rattle.sw_graph.specs.declared.graph.Graph.{Graph}
 use Rattle.sw_graph.specs.declared.instr.Instr.{Instr}
@@ -35,7 +36,6 @@ use Rattle.sw_owner_facts.specs.View.{Element, Here, Register, Frame as Spot}
 use Rattle.sw_reach_facts.specs.Coloured.{HaveColours, may_have_colour}
 use Rattle.sw_reach_facts.specs.Named.{NamesCells}
 use Rattle.sw_reach_facts.specs.Reached.{colours_of}
-use Rattle.sw_reach_facts.proofs.ListLemmas.{in_one}
 use Rattle.sw_view_facts.specs.Changes.{HoldsIn, KeepsReach}
 use Rattle.sw_view_facts.specs.Effects.{turn_of}
 use Rattle.sw_view_facts.specs.Memory.{coloured_more}

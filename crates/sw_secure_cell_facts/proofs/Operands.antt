@@ -1,5 +1,6 @@
 -- What the operands of an instruction hold, and that it may become one with `Here` and what is new.
 use Rattle.std.proofs.Common.{◌≡◌, ℕ, Option, Some, List, ◌∷◌, Contains, refl, sym, subst, inl, inr}
+use Rattle.sw_list.proofs.Members.{none_in, first_in, later_in, first_or_later}
 use Rattle.sw_graph.specs.declared.function.Function.{Function}
 use Rattle.sw_graph.specs.declared.graph.Graph.{Graph}
 use Rattle.sw_graph.specs.declared.instr.Instr.{Instr}
@@ -16,7 +17,6 @@ use Rattle.sw_owner_facts.specs.Colours.{Colour, OfJob}
 use Rattle.sw_owner_facts.specs.View.{Element, Here, HoldsLive, Frame as Spot}
 use Rattle.sw_region_facts.specs.FrameRegions.{LiveIn}
 use Rattle.sw_region_facts.specs.Moves.{tracked}
-use Rattle.sw_region_facts.proofs.Lists.{none_in, first_in, later_in, first_or_later}
 use Rattle.sw_view_facts.specs.Standing.{StandsAt}
 use Rattle.sw_view_facts.specs.Views.{Colours, here_at, view_at}
 use Rattle.sw_store_facts.specs.Sound.{IsColoured}

@@ -5,6 +5,7 @@ use Rattle.std.proofs.Common.{inr}
 use Rattle.std.specs.List.{slice_get}
 use Rattle.std.specs.Option.{option_and_then, option_map}
 use Rattle.std.proofs.lemmas.Option.{slice_get_within}
+use Rattle.sw_list.proofs.Members.{first_in, first_or_later, none_in, of_flat_map, stands_at}
 use Rattle.sw_types.specs.declared.shape.Shape.{Shape}
 use Rattle.sw_types.specs.Sendable.{sends_at}
 use Rattle.sw_graph.specs.declared.function.Function.{Function}
@@ -36,13 +37,11 @@ use Rattle.sw_machine_kind_facts.proofs.KindLemmas.{shape_found}
 use Rattle.sw_owner_facts.specs.Colours.{Colour, GlobalActor, OfJob}
 use Rattle.sw_owner_facts.specs.View.{Element, Here, HoldsLive, Frame as Spot}
 use Rattle.sw_region_facts.specs.Moves.{tracked}
-use Rattle.sw_region_facts.proofs.Lists.{first_in, first_or_later, none_in}
 use Rattle.sw_reach_facts.specs.Coloured.{may_have_colour}
 use Rattle.sw_reach_facts.specs.Named.{NamesCells}
 use Rattle.sw_reach_facts.specs.Reached.{colours_of}
 use Rattle.sw_reach_facts.proofs.CrossingLemmas.{part_crosses}
 use Rattle.sw_reach_facts.proofs.FitLemmas.{colours_fit, conformances_hold}
-use Rattle.sw_reach_facts.proofs.ListLemmas.{of_flat_map, stands_at}
 use Rattle.sw_reach_facts.proofs.SendableLemmas.{crosses_nothing}
 use Rattle.sw_view_facts.specs.Changes.{HoldsIn}
 use Rattle.sw_view_facts.specs.Memory.{coloured_more}

@@ -2,8 +2,8 @@
 use Rattle.std.proofs.Common.{◌≡◌, ◌<◌, ℕ, zero, suc, max, Option, Some, None, List, [], ◌∷◌}
 use Rattle.std.proofs.Common.{Contains, arith, subst, sym, inl, inr}
 use Rattle.std.specs.List.{slice_index_or}
+use Rattle.sw_list.proofs.Members.{first_or_later}
 use Rattle.sw_owner_facts.specs.Colours.{Colour, OfJob, OfActor}
-use Rattle.sw_reach_facts.proofs.ListLemmas.{head_cases}
 use Rattle.sw_view_facts.specs.Views.{Colours}
 use Rattle.sw_secure_facts.specs.Secure.{AreNumberedBelow}
 
@@ -45,7 +45,7 @@ in_options (o ∷ os) (suc c) job number is =
 in_row : (row : List Colour) (job number : ℕ) → Contains row (OfJob job number)
     → number < above_row row
 in_row [] job number has = absurd (let inside = has.1 in omega (arith, inside))
-in_row (c ∷ cs) job number has = elim (head_cases c cs (OfJob job number) has) [
+in_row (c ∷ cs) job number has = elim (first_or_later c cs (OfJob job number) has) [
   | inl same ↦ let low = is_above c job number same in omega (arith, low)
   | inr rest ↦ let low = in_row cs job number rest in omega (arith, low)
 ]
@@ -53,7 +53,7 @@ in_row (c ∷ cs) job number has = elim (head_cases c cs (OfJob job number) has)
 in_rows : (rows : List (List Colour)) (row : List Colour) (job number : ℕ) → Contains rows row
     → Contains row (OfJob job number) → number < above_rows rows
 in_rows [] row job number among has = absurd (let inside = among.1 in omega (arith, inside))
-in_rows (r ∷ rs) row job number among has = elim (head_cases r rs row among) [
+in_rows (r ∷ rs) row job number among has = elim (first_or_later r rs row among) [
   | inl same ↦
       let low = in_row r job number
       (subst (λ (l : List Colour). Contains l (OfJob job number)) (sym same) has) in

@@ -4,6 +4,7 @@ use Rattle.std.proofs.Common.{List, [], Contains, sym, subst, ap, ◌∙◌, ari
 use Rattle.std.specs.Option.{option_map_or}
 use Rattle.std.specs.List.{slice_index_or}
 use Rattle.std.proofs.lemmas.Option.{get_or_from_slice_get}
+use Rattle.sw_list.proofs.Members.{member_at, none_in}
 use Rattle.sw_graph.specs.declared.graph.Graph.{Graph}
 use Rattle.sw_value.specs.declared.cell.HeapCell.{HeapCell}
 use Rattle.sw_value.specs.declared.frame.Frame.{Frame}
@@ -15,7 +16,6 @@ use Rattle.sw_owner_facts.specs.Colours.{OfJob}
 use Rattle.sw_owner_facts.specs.View.{Here, Register, IsFrame, IsUnheld}
 use Rattle.sw_owner_facts.specs.View.{Frame as Spot}
 use Rattle.sw_reach_facts.specs.Reached.{colours_of}
-use Rattle.sw_reach_facts.proofs.ListLemmas.{member_at, none_in}
 use Rattle.sw_view_facts.specs.Renaming.{HasHere}
 use Rattle.sw_view_facts.specs.Views.{Colours, colours_by, frame_at, here_at, view_of}
 use Rattle.sw_secure_facts.specs.Secure.{AreNumberedBelow}

@@ -5,11 +5,11 @@ use Rattle.std.specs.Option.{option_map}
 use Rattle.std.specs.List.{slice_get, slice_index_or}
 use Rattle.std.proofs.lemmas.List.{length-map}
 use Rattle.std.proofs.lemmas.Option.{slice_get-map}
+use Rattle.sw_list.proofs.ListLemmas.{some_injective}
 use Rattle.sw_graph.specs.declared.graph.Graph.{Graph}
 use Rattle.sw_value.specs.declared.job.Job.{Job}
 use Rattle.sw_value.specs.declared.state.State.{State}
 use Rattle.sw_value.specs.declared.value.Value.{Value}
-use Rattle.sw_value.proofs.ListLemmas.{some_injective}
 use Rattle.sw_owner_facts.specs.Colours.{Actor, Colour, OfActor}
 use Rattle.sw_reach_facts.specs.Coloured.{HaveColours}
 use Rattle.sw_reach_facts.specs.Reached.{colours_of}

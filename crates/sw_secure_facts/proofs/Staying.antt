@@ -5,6 +5,7 @@ use Rattle.std.specs.Option.{option_and_then, option_map_or}
 use Rattle.std.specs.List.{slice_get}
 use Rattle.std.proofs.lemmas.Option.{slice_get_within}
 use Rattle.std.proofs.lemmas.Bool.{cases_eq}
+use Rattle.sw_list.proofs.ListLemmas.{some_injective}
 use Rattle.sw_types.specs.declared.ty.Ty.{Ty}
 use Rattle.sw_graph.specs.declared.graph.Graph.{Graph}
 use Rattle.sw_value.specs.declared.cell.HeapCell.{HeapCell}
@@ -20,7 +21,7 @@ use Rattle.sw_value.specs.Job.{in_top, rest}
 use Rattle.sw_value.specs.Lists.{changed_at}
 use Rattle.sw_value.specs.Reach.{after_effect}
 use Rattle.sw_value.specs.State.{add_cell, in_cell, in_job, set_global}
-use Rattle.sw_value.proofs.ListLemmas.{changed_at_found, length-changed_at, some_injective}
+use Rattle.sw_value.proofs.ListLemmas.{changed_at_found, length-changed_at}
 use Rattle.sw_machine_kind_facts.specs.Standing.{awaited_at, awaited_in, or_above}
 use Rattle.sw_machine_kind_facts.proofs.ItemLemmas.{changed_other, found_within}
 use Rattle.sw_owner_facts.specs.Colours.{Colour}

@@ -4,9 +4,9 @@ use Rattle.std.proofs.Common.{Option, Some, None, List, [], ◌∷◌, map, Cont
 use Rattle.std.proofs.Common.{sym, subst, ap, ◌∙◌, arith, inl, inr, if◌then◌else◌}
 use Rattle.std.specs.Option.{option_map}
 use Rattle.std.proofs.lemmas.Bool.{cases_eq, eq-eqb, ne_eqb}
+use Rattle.sw_list.proofs.Members.{first_or_later, none_in}
 use Rattle.sw_owner_facts.specs.Colours.{Actor, Colour, OfJob, OfActor}
 use Rattle.sw_owner_facts.specs.View.{Frame as Spot}
-use Rattle.sw_reach_facts.proofs.ListLemmas.{head_cases, none_in}
 use Rattle.sw_view_facts.specs.Renaming.{recoloured_by, renames, united}
 use Rattle.sw_view_facts.specs.Views.{Colours}
 use Rattle.sw_view_facts.proofs.RenameLemmas.{becomes}
@@ -43,7 +43,7 @@ pub joins_kept : (job : ℕ) (ns : List ℕ) (kept : Colour) (n : ℕ) → Conta
 joins_kept job [] kept n has = absurd (let inside = has.1 in omega (arith, inside))
 joins_kept job (m ∷ ns) kept n has = elim (becomes job m kept (OfJob job n)) [
   | inl both ↦ ap (united_colour job ns kept) both.1 ∙ kept_stays job ns kept
-  | inr other ↦ elim (head_cases m ns n has) [
+  | inr other ↦ elim (first_or_later m ns n has) [
     | inl same ↦ absurd (other.0 (sym (ap (OfJob job) same)))
     | inr later ↦ ap (united_colour job ns kept) other.1 ∙ joins_kept job ns kept n later
   ]
@@ -189,11 +189,11 @@ first x xs = (zero, omega arith, refl)
 pub numbered : (job : ℕ) (cs : List Colour) (n : ℕ) → Contains cs (OfJob job n)
     → Contains (numbers_of job cs) n
 numbered job [] n has = absurd (let inside = has.1 in omega (arith, inside))
-numbered job (OfActor a ∷ cs) n has = elim (head_cases (OfActor a) cs (OfJob job n) has) [
+numbered job (OfActor a ∷ cs) n has = elim (first_or_later (OfActor a) cs (OfJob job n) has) [
   | inl same ↦ absurd (let clash : ⊥ = cc in clash)
   | inr rest ↦ numbered job cs n rest
 ]
-numbered job (OfJob j m ∷ cs) n has = elim (head_cases (OfJob j m) cs (OfJob job n) has) [
+numbered job (OfJob j m ∷ cs) n has = elim (first_or_later (OfJob j m) cs (OfJob job n) has) [
   | inl same ↦
       let is_job : j ≡ job = cc in
       let is_number : m ≡ n = cc in
@@ -214,7 +214,7 @@ numbers_are job [] n has = absurd (let inside = has.1 in omega (arith, inside))
 numbers_are job (OfActor a ∷ cs) n has =
     later (OfActor a) cs (OfJob job n) (numbers_are job cs n has)
 numbers_are job (OfJob j m ∷ cs) n has = elim (cases_eq j job) [
-  | inl same ↦ elim (head_cases m (numbers_of job cs) n
+  | inl same ↦ elim (first_or_later m (numbers_of job cs) n
       (subst (λ (l : List ℕ). Contains l n)
       (ap (λ b. cond b (m ∷ numbers_of job cs) (numbers_of job cs)) (eq-eqb j job same)) has)) [
         | inl is ↦ subst (λ (c : Colour). Contains (OfJob j m ∷ cs) c)

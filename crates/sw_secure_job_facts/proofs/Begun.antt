@@ -2,6 +2,7 @@
 use Rattle.std.specs.Option.{option_and_then, option_map}
 use Rattle.std.specs.List.{slice_get}
 use Rattle.std.proofs.Common.{◌≡◌, ℕ, true, Option, Some, None, List, length, refl, subst}
+use Rattle.sw_list.proofs.ListLemmas.{some_injective}
 use Rattle.sw_graph.specs.declared.function.Function.{Function}
 use Rattle.sw_graph.specs.declared.graph.Graph.{Graph}
 use Rattle.sw_value.specs.declared.executor.Executor.{Executor}
@@ -11,7 +12,6 @@ use Rattle.sw_value.specs.declared.value.Value.{Value}
 use Rattle.sw_value.specs.Executor.{executor_of}
 use Rattle.sw_value.specs.Frame.{first_frame, first_frame_of}
 use Rattle.sw_value.specs.Value.{registers}
-use Rattle.sw_value.proofs.ListLemmas.{some_injective}
 
 -- The frame begins the function with this number with these values.
 pub record IsBegun (graph : Graph) (number : ℕ) (values : List Value) (frame : Frame) : Type 0 where

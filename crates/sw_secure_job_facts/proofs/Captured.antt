@@ -7,6 +7,8 @@ use Rattle.std.proofs.Common.{inl}
 use Rattle.std.proofs.Common.{inr}
 use Rattle.std.proofs.lemmas.List.Elements.{Contains-append_left, Contains-append_right}
 use Rattle.std.proofs.lemmas.Option.{slice_get-map}
+use Rattle.sw_list.proofs.ListLemmas.{some_injective}
+use Rattle.sw_list.proofs.Members.{first_or_later, in_one, member_at, none_in, of_flat_map, stands_at}
 use Rattle.sw_graph.specs.declared.function.Function.{Function}
 use Rattle.sw_graph.specs.declared.graph.Graph.{Graph}
 use Rattle.sw_graph.specs.declared.instr.Operand.{Operand}
@@ -15,15 +17,12 @@ use Rattle.sw_value.specs.declared.state.State.{State}
 use Rattle.sw_value.specs.declared.value.Value.{Value}
 use Rattle.sw_value.specs.Lists.{each_of}
 use Rattle.sw_value.specs.Value.{operand_value, registers, values_at}
-use Rattle.sw_value.proofs.ListLemmas.{some_injective}
 use Rattle.sw_partition.specs.Regions.{Regions}
 use Rattle.sw_region_ops.specs.Elements.{element_at, elements_of}
 use Rattle.sw_owner_facts.specs.Colours.{Colour}
 use Rattle.sw_owner_facts.specs.View.{Element, Register, Frame as Spot}
 use Rattle.sw_region_facts.specs.Moves.{if_tracked, tracked}
 use Rattle.sw_reach_facts.specs.Reached.{colours_of}
-use Rattle.sw_reach_facts.proofs.ListLemmas.{head_cases, in_one, member_at, none_in, of_flat_map}
-use Rattle.sw_reach_facts.proofs.ListLemmas.{stands_at}
 use Rattle.sw_view_facts.specs.Changes.{HoldsIn}
 use Rattle.sw_view_facts.specs.Views.{Colours, colours_by, frame_at, here_at}
 use Rattle.sw_store_facts.specs.Sound.{IsColoured}
@@ -59,7 +58,7 @@ of_each {X} {Y} g (x ∷ xs) ys y is has =
     more z gives None rest is on = absurd (let clash : ⊥ = cc in clash)
     more z gives (Some zs) rest is on =
         let are : ys ≡ z ∷ zs = sym (some_injective is) in
-        elim (head_cases z zs y (subst (λ l. Contains l y) are has)) [
+        elim (first_or_later z zs y (subst (λ l. Contains l y) are has)) [
           | inl here ↦ (x, first_in x xs, gives ∙ ap Some here)
           | inr there ↦
               let found = on zs rest there in (found.0, later_in x xs found.0 found.1, found.2)
@@ -96,7 +95,7 @@ pub among_tracked : (elements : List (Option ℕ)) (operands : List Operand) (o 
     → Contains operands o → element_at elements o.reg ≡ Some n
     → Contains (tracked elements operands) (Register o.reg)
 among_tracked elements [] o n has is = absurd (none_in o has)
-among_tracked elements (first ∷ operands) o n has is = elim (head_cases first operands o has) [
+among_tracked elements (first ∷ operands) o n has is = elim (first_or_later first operands o has) [
   | inl same ↦ Contains-append_left
       (if_tracked (element_at elements first.reg) (Register first.reg ∷ []))
       (tracked elements operands) (Register o.reg)

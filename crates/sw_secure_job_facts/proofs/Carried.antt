@@ -2,6 +2,7 @@
 -- maker.
 use Rattle.std.proofs.Common.{◌≡◌, ◌⊎◌, ℕ, false, Option, Some, List, [], length}
 use Rattle.std.proofs.Common.{Contains, refl, sym, subst, ap, ◌∙◌, inl, inr}
+use Rattle.sw_list.proofs.Members.{in_flat_map}
 use Rattle.sw_graph.specs.declared.function.Function.{Function}
 use Rattle.sw_graph.specs.declared.graph.Graph.{Graph}
 use Rattle.sw_value.specs.declared.frame.Frame.{Frame}
@@ -14,7 +15,6 @@ use Rattle.sw_owner_facts.specs.View.{Element, Here, HoldsLive, View, Frame as S
 use Rattle.sw_region_facts.specs.FrameRegions.{LiveIn}
 use Rattle.sw_region_facts.specs.Moves.{IsSent, Sends}
 use Rattle.sw_reach_facts.specs.Reached.{colours_of}
-use Rattle.sw_reach_facts.proofs.ListLemmas.{in_flat_map}
 use Rattle.sw_view_facts.specs.Changes.{HoldsIn}
 use Rattle.sw_view_facts.specs.Views.{Colours, annotated, closes_at, frame_at, here_at, is_return}
 use Rattle.sw_view_facts.specs.Views.{state_with, view_at}

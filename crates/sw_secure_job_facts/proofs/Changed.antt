@@ -4,6 +4,7 @@ use Rattle.std.proofs.Common.{sym, subst}
 use Rattle.std.proofs.Common.{ap, ◌∙◌, inl, inr}
 use Rattle.std.specs.List.{slice_get}
 use Rattle.std.proofs.lemmas.Bool.{cases_eq}
+use Rattle.sw_list.proofs.ListLemmas.{some_injective}
 use Rattle.sw_graph.specs.declared.graph.Graph.{Graph}
 use Rattle.sw_value.specs.declared.frame.Frame.{Frame}
 use Rattle.sw_value.specs.declared.job.Job.{Job}
@@ -12,7 +13,6 @@ use Rattle.sw_value.specs.Job.{in_top}
 use Rattle.sw_value.specs.Lists.{changed_at}
 use Rattle.sw_value.specs.State.{in_job}
 use Rattle.sw_value.proofs.ListLemmas.{changed_at_found, changed_at_none, length-changed_at}
-use Rattle.sw_value.proofs.ListLemmas.{some_injective}
 use Rattle.sw_machine_kind_facts.specs.Standing.{awaited_at, awaited_in, or_above}
 use Rattle.sw_machine_kind_facts.proofs.ItemLemmas.{changed_other}
 use Rattle.sw_reach_facts.specs.Coloured.{HaveColours}

@@ -10,6 +10,7 @@ use Rattle.std.proofs.lemmas.Bool.{and_parts, eqb-true, or_cases, or_right}
 use Rattle.std.proofs.lemmas.List.{get_or-map}
 use Rattle.std.proofs.lemmas.List.Elements.{Contains-append_cases}
 use Rattle.std.proofs.lemmas.Option.{get_or_from_slice_get, slice_get_within}
+use Rattle.sw_list.proofs.Members.{member_at, of_flat_map, one_in, stands_at}
 use Rattle.sw_list.proofs.ListLemmas.{at_index}
 use Rattle.sw_types.specs.declared.isolation.Iso.{Iso}
 use Rattle.sw_types.specs.declared.shape.Shape.{Shape}
@@ -35,7 +36,6 @@ use Rattle.sw_graph.specs.Points.{End, Middle, Point, point_in, points_of, point
 use Rattle.sw_graph.specs.WellFormed.{BlockFits, InstrFits}
 use Rattle.sw_machine_kind_facts.proofs.KindLemmas.{shape_found}
 use Rattle.sw_machine_kind_facts.proofs.OperandLemmas.{function_fits}
-use Rattle.sw_reach_facts.proofs.ListLemmas.{member_at, of_flat_map, one_in, stands_at}
 use Rattle.sw_view_facts.specs.Views.{closes, closes_at, is_return, makes_itself}
 use Rattle.sw_view_facts.proofs.RenameLemmas.{of_map}
 

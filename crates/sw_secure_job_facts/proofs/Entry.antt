@@ -4,6 +4,7 @@ use Rattle.std.specs.Option.{option_map_or}
 use Rattle.std.specs.List.{slice_get}
 use Rattle.std.proofs.Common.{◌≡◌, ◌⊎◌, ℕ, Option, Some, None, List, [], length}
 use Rattle.std.proofs.Common.{Contains, refl, sym, subst, ap, ◌∙◌, inl, inr}
+use Rattle.sw_list.proofs.Members.{member_at, none_in}
 use Rattle.sw_graph.specs.declared.function.Function.{Function}
 use Rattle.sw_graph.specs.declared.graph.Graph.{Graph}
 use Rattle.sw_value.specs.declared.frame.Frame.{Frame}
@@ -17,7 +18,6 @@ use Rattle.sw_owner_facts.specs.View.{Element, Here, HoldsLive, InOneRegion, Reg
 use Rattle.sw_owner_facts.specs.View.{Frame as Spot}
 use Rattle.sw_region_facts.specs.FrameRegions.{TogetherIn, region_in}
 use Rattle.sw_reach_facts.specs.Reached.{colours_of}
-use Rattle.sw_reach_facts.proofs.ListLemmas.{member_at, none_in}
 use Rattle.sw_view_facts.specs.Views.{Colours, colours_by, elements_in, elements_with, frame_at}
 use Rattle.sw_view_facts.specs.Views.{here_at, region_by, view_of}
 use Rattle.sw_view_facts.proofs.EntryLemmas.{given_value}

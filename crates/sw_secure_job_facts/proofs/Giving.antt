@@ -2,6 +2,8 @@
 use Rattle.std.specs.Option.{option_map_or}
 use Rattle.std.proofs.Common.{◌≡◌, ℕ, true, false, Option, Some, None, List, [], ◌∷◌, ◌++◌}
 use Rattle.std.proofs.Common.{Contains, refl, sym, subst, ap}
+use Rattle.sw_list.proofs.ListLemmas.{some_injective}
+use Rattle.sw_list.proofs.Members.{in_one}
 use Rattle.sw_graph.specs.declared.function.Function.{Function}
 use Rattle.sw_graph.specs.declared.function.RegKind.TheVariants.{Plain}
 use Rattle.sw_graph.specs.declared.graph.Graph.{Graph}
@@ -16,7 +18,6 @@ use Rattle.sw_value.specs.declared.state.State.{State}
 use Rattle.sw_value.specs.declared.value.Value.{Value}
 use Rattle.sw_value.specs.Effect.{needs, returned_value}
 use Rattle.sw_value.specs.Value.{value_at}
-use Rattle.sw_value.proofs.ListLemmas.{some_injective}
 use Rattle.sw_partition.specs.Regions.{Regions}
 use Rattle.sw_region_ops.specs.Elements.{element_at, elements_of}
 use Rattle.sw_region_ops.specs.Setting.{setting_of}
@@ -31,7 +32,6 @@ use Rattle.sw_region_facts.specs.Rows.{LastAsks, MayReturn}
 use Rattle.sw_region_facts.proofs.Annotated.{asks_at}
 use Rattle.sw_reach_facts.specs.Reached.{colours_of}
 use Rattle.sw_reach_facts.proofs.FitLemmas.{colours_fit, conformances_hold}
-use Rattle.sw_reach_facts.proofs.ListLemmas.{in_one}
 use Rattle.sw_reach_facts.proofs.SendableLemmas.{crosses_nothing}
 use Rattle.sw_view_facts.specs.Standing.{StandsAt}
 use Rattle.sw_view_facts.specs.Views.{Colours, annotated, closes_at, colours_by, view_at}

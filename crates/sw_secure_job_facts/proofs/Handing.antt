@@ -2,6 +2,7 @@
 use Rattle.std.specs.Option.{option_map}
 use Rattle.std.proofs.Common.{◌≡◌, ◌≢◌, ◌⊎◌, ℕ, zero, suc, Option, List, [], ◌∷◌, map}
 use Rattle.std.proofs.Common.{Contains, refl, sym, subst, ap, ◌∙◌, arith, inl, inr}
+use Rattle.sw_list.proofs.Members.{first_or_later, none_in}
 use Rattle.sw_graph.specs.declared.graph.Graph.{Graph}
 use Rattle.sw_value.specs.declared.state.State.{State}
 use Rattle.sw_partition.specs.Regions.{Regions}
@@ -9,7 +10,6 @@ use Rattle.sw_owner_facts.specs.Colours.{Actor, Colour, OfActor, OfJob}
 use Rattle.sw_owner_facts.specs.Owned.{IsSound}
 use Rattle.sw_owner_facts.specs.View.{HoldsLive, IsFrame, IsUnheld, Frame as Spot}
 use Rattle.sw_owner_facts.proofs.WithinLemmas.{unheld}
-use Rattle.sw_reach_facts.proofs.ListLemmas.{head_cases, none_in}
 use Rattle.sw_view_facts.specs.Renaming.{HasHere, recoloured_by, renames}
 use Rattle.sw_view_facts.specs.Views.{Colours, view_of}
 use Rattle.sw_view_facts.proofs.RenameLemmas.{becomes, here_later, held_from, recoloured}
@@ -52,7 +52,7 @@ handed_given job heir (m ∷ ns) n differ has = elim (becomes job m (OfJob heir 
       let same : n ≡ m = (let is : OfJob job n ≡ OfJob job m = both.0 in number_is job n m is) in
       ap (handed_colour job heir ns) both.1 ∙ handed_heir job heir ns m differ
       ∙ ap (OfJob heir) (sym same)
-  | inr other ↦ elim (head_cases m ns n has) [
+  | inr other ↦ elim (first_or_later m ns n has) [
     | inl same ↦ absurd (other.0 (ap (OfJob job) (sym same)))
     | inr later ↦ ap (handed_colour job heir ns) other.1
         ∙ handed_given job heir ns n differ later

@@ -7,6 +7,7 @@ use Rattle.std.proofs.Common.{List, [], ◌∷◌, ◌++◌, length, Contains, r
 use Rattle.std.proofs.Common.{arith, cond}
 use Rattle.std.proofs.lemmas.Bool.{eq-eqb, eqb-true}
 use Rattle.std.proofs.lemmas.Option.{slice_get_past}
+use Rattle.sw_list.proofs.Members.{none_in}
 use Rattle.sw_list.proofs.ListLemmas.{slice_get_first}
 use Rattle.sw_graph.specs.declared.function.Function.{Function}
 use Rattle.sw_graph.specs.declared.graph.Graph.{Graph}
@@ -26,7 +27,6 @@ use Rattle.sw_owner_facts.specs.Calls.{Handed, Returned}
 use Rattle.sw_owner_facts.specs.Colours.{Colour}
 use Rattle.sw_owner_facts.specs.View.{View, above, Frame as Spot}
 use Rattle.sw_reach_facts.specs.Reached.{colours_of}
-use Rattle.sw_reach_facts.proofs.ListLemmas.{none_in}
 use Rattle.sw_view_facts.specs.Changes.{KeepsShape}
 use Rattle.sw_view_facts.specs.Returning.{Leaves}
 use Rattle.sw_view_facts.specs.Views.{Colours, closes_at, view_at}

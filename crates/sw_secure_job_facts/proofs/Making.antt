@@ -6,6 +6,7 @@ use Rattle.std.proofs.Common.{◌≡◌, ◌⊎◌, ◌==◌, ◌&&◌, ◌+◌,
 use Rattle.std.proofs.Common.{IsTrue, Option, Some, None, List, [], ◌∷◌, length, refl, sym}
 use Rattle.std.proofs.Common.{subst, ap, ◌∙◌, arith, inl, inr}
 use Rattle.std.proofs.lemmas.Bool.{and_parts, eq-eqb, eqb-true}
+use Rattle.sw_list.proofs.ListLemmas.{some_injective}
 use Rattle.sw_types.specs.declared.isolation.Iso.{Iso}
 use Rattle.sw_types.specs.declared.isolation.Iso.TheVariants as iso
 use Rattle.sw_graph.specs.declared.function.Function.{Function}
@@ -28,7 +29,6 @@ use Rattle.sw_value.specs.Effect.{point_effect}
 use Rattle.sw_value.specs.Executor.{executor_of}
 use Rattle.sw_value.specs.Lists.{each_of}
 use Rattle.sw_value.specs.Value.{operand_value, reference_of, registers, value_at, values_at}
-use Rattle.sw_value.proofs.ListLemmas.{some_injective}
 use Rattle.sw_partition.specs.Regions.{Regions}
 use Rattle.sw_region_ops.specs.Elements.{elements_of}
 use Rattle.sw_region_ops.specs.Table.{shares_actor}

@@ -5,14 +5,14 @@ use Rattle.std.proofs.Common.{length, take, get_or, refl, sym, subst, ap, ◌∙
 use Rattle.std.proofs.lemmas.Bool.{cases_eq, cases_lt}
 use Rattle.std.proofs.lemmas.List.{get_or_past, length-append, length-take}
 use Rattle.std.proofs.lemmas.Option.{get_or_from_slice_get, slice_get_past}
-use Rattle.sw_list.proofs.ListLemmas.{slice_get_first}
+use Rattle.sw_list.proofs.ListLemmas.{some_injective, slice_get_first}
 use Rattle.sw_graph.specs.declared.graph.Graph.{Graph}
 use Rattle.sw_value.specs.declared.job.Job.{Job}
 use Rattle.sw_value.specs.declared.state.State.{State}
 use Rattle.sw_value.specs.Lists.{changed_at}
 use Rattle.sw_value.specs.State.{in_job}
 use Rattle.sw_value.proofs.ListLemmas.{changed_at_found, changed_at_none, length-changed_at}
-use Rattle.sw_value.proofs.ListLemmas.{some_injective, take_prefix}
+use Rattle.sw_value.proofs.ListLemmas.{take_prefix}
 use Rattle.sw_machine_kind_facts.proofs.ItemLemmas.{changed_other, found_within}
 use Rattle.sw_owner_facts.specs.Colours.{Colour, OfJob}
 use Rattle.sw_owner_facts.specs.View.{Frame as Spot}

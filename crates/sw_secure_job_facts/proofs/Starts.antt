@@ -10,6 +10,8 @@ use Rattle.std.proofs.lemmas.Option.{get_or_from_slice_get, slice_get_within}
 use mathlib.Core.List.{reverse-cons}
 use Rattle.std.proofs.lemmas.List.Elements.{Contains-append_cases, Contains-append_left}
 use Rattle.std.proofs.lemmas.List.Elements.{Contains-append_right}
+use Rattle.sw_list.proofs.ListLemmas.{some_injective}
+use Rattle.sw_list.proofs.Members.{first_or_later, none_in}
 use Rattle.sw_types.specs.declared.isolation.Iso.{Iso}
 use Rattle.sw_types.specs.declared.isolation.Iso.TheVariants as iso
 use Rattle.sw_types.specs.declared.ty.Ty.{Ty}
@@ -32,7 +34,6 @@ use Rattle.sw_value.specs.declared.job.Status.TheVariants.{Ready, Waiting}
 use Rattle.sw_value.specs.Job.{is_running, new_job}
 use Rattle.sw_value.specs.Start.{start_frames, start_of}
 use Rattle.sw_value.specs.Value.{registers, value_at}
-use Rattle.sw_value.proofs.ListLemmas.{some_injective}
 use Rattle.sw_partition.specs.Regions.{Regions}
 use Rattle.sw_region_ops.specs.Elements.{elements_of}
 use Rattle.sw_region_ops.proofs.ContextLemmas.{length_numbered}
@@ -43,7 +44,6 @@ use Rattle.sw_owner_facts.specs.View.{FrameShape, IsFrame, IsolatedTo, MakesActo
 use Rattle.sw_owner_facts.specs.View.{View}
 use Rattle.sw_owner_facts.specs.View.{Frame as Spot}
 use Rattle.sw_reach_facts.specs.Reached.{colours_of}
-use Rattle.sw_reach_facts.proofs.ListLemmas.{head_cases, none_in}
 use Rattle.sw_view_facts.specs.Views.{Colours, closes, colours_by, frame_at, frame_under}
 use Rattle.sw_view_facts.specs.Views.{function_of, isolation_by, result_in, shape_by, shape_with}
 use Rattle.sw_view_facts.specs.Views.{stands_on, tracked_in, view_at}
@@ -113,7 +113,7 @@ start_frame graph supplied i frame at =
     record {
       number = found.0;
       begun = begun;
-      first = elim (head_cases graph.entry (reverse graph.starts) found.0 found.1) [
+      first = elim (first_or_later graph.entry (reverse graph.starts) found.0 found.1) [
         | inl entry ↦ supplied.begins.entry begun.function
             (ap (slice_get graph.functions) entry ∙ begun.is)
         | inr start ↦ supplied.begins.firsts found.0 (in_reverse graph.starts found.0 start)

@@ -6,6 +6,7 @@ use Rattle.std.proofs.Common.{length, Contains, sym, subst, ap, ◌∙◌, arith
 use Rattle.std.proofs.lemmas.Bool.{cases_lt}
 use Rattle.std.proofs.lemmas.List.{get_or_past, length-append}
 use Rattle.std.proofs.lemmas.Option.{get_or_from_slice_get, slice_get_within}
+use Rattle.sw_list.proofs.Members.{none_in}
 use Rattle.sw_list.proofs.ListLemmas.{slice_get_first}
 use Rattle.sw_graph.specs.declared.graph.Graph.{Graph}
 use Rattle.sw_value.specs.declared.cell.HeapCell.{HeapCell}
@@ -20,7 +21,6 @@ use Rattle.sw_reach_facts.specs.Coloured.{HaveColours, may_have_colour}
 use Rattle.sw_reach_facts.specs.Named.{NamesCells, values_in}
 use Rattle.sw_reach_facts.specs.Reached.{colours_of}
 use Rattle.sw_reach_facts.proofs.ChangeLemmas.{colours_before}
-use Rattle.sw_reach_facts.proofs.ListLemmas.{none_in}
 use Rattle.sw_reach_facts.proofs.NamedLemmas.{contents_named, globals_named}
 use Rattle.sw_view_facts.specs.Memory.{coloured_more}
 use Rattle.sw_view_facts.specs.Views.{Colours}

@@ -5,7 +5,7 @@ use Rattle.std.proofs.Common.{◌≡◌, ◌+◌, ◌-◌, ℕ, suc, false, Opti
 use Rattle.std.proofs.Common.{length, map, replicate, refl, sym, subst, ap, ◌∙◌, arith}
 use Rattle.std.proofs.lemmas.List.{length-map, length-take}
 use Rattle.std.proofs.lemmas.Option.{slice_get-map, slice_get_within}
-use Rattle.sw_list.proofs.ListLemmas.{at_index, slice_get_first}
+use Rattle.sw_list.proofs.ListLemmas.{some_injective, at_index, slice_get_first}
 use Rattle.sw_graph.specs.declared.function.Function.{Function}
 use Rattle.sw_graph.specs.declared.function.RegKind.{RegKind}
 use Rattle.sw_graph.specs.declared.graph.Graph.{Graph}
@@ -19,7 +19,6 @@ use Rattle.sw_value.specs.declared.job.Job.{Job}
 use Rattle.sw_value.specs.declared.state.State.{State}
 use Rattle.sw_value.specs.declared.value.Value.{Value}
 use Rattle.sw_value.specs.Value.{operand_value, registers, value_at}
-use Rattle.sw_value.proofs.ListLemmas.{some_injective}
 use Rattle.sw_solve.specs.Annotation as annotation
 use Rattle.sw_partition.specs.Regions.{Regions}
 use Rattle.sw_machine_kind_facts.specs.Kinds.{HasKind}

@@ -5,7 +5,8 @@ use Rattle.std.proofs.Common.{◌≡◌, ◌≢◌, ◌⊎◌, ◌<◌, ◌==◌
 use Rattle.std.proofs.Common.{Option, Some, None, List, [], ◌∷◌, ◌++◌, length, Contains, refl, sym}
 use Rattle.std.proofs.Common.{subst, ap, ◌∙◌, arith, inl, inr}
 use Rattle.std.proofs.lemmas.Option.{get_or_from_slice_get}
-use Rattle.sw_list.proofs.ListLemmas.{slice_get_first}
+use Rattle.sw_list.proofs.ListLemmas.{some_injective, slice_get_first}
+use Rattle.sw_list.proofs.Members.{first_or_later, none_in}
 use Rattle.sw_types.specs.declared.isolation.Iso.{Iso}
 use Rattle.sw_types.specs.declared.isolation.Iso.TheVariants as iso
 use Rattle.sw_graph.specs.declared.function.Function.{Function}
@@ -18,7 +19,7 @@ use Rattle.sw_value.specs.Executor.{executor_of}
 use Rattle.sw_value.specs.Job.{new_job}
 use Rattle.sw_value.specs.State.{add_job}
 use Rattle.sw_value.specs.Value.{reference_of, registers, value_at}
-use Rattle.sw_value.proofs.ListLemmas.{slice_get_end, some_injective}
+use Rattle.sw_value.proofs.ListLemmas.{slice_get_end}
 use Rattle.sw_partition.specs.Regions.{Regions}
 use Rattle.sw_owner_facts.specs.Calls.{IsOnActor, IsOnNone}
 use Rattle.sw_owner_facts.specs.Colours.{Actor, Colour, GlobalActor, Instance, OfActor, OfJob}
@@ -28,7 +29,6 @@ use Rattle.sw_owner_facts.specs.View.{Element, FrameShape, HoldsLive, IsDisconne
 use Rattle.sw_owner_facts.specs.View.{IsolatedTo, MakesActor, View, bottom, Frame as Spot}
 use Rattle.sw_owner_facts.proofs.CallLemmas.{spawned}
 use Rattle.sw_region_facts.proofs.Annotated.{lent_here}
-use Rattle.sw_reach_facts.proofs.ListLemmas.{head_cases, none_in}
 use Rattle.sw_reach_facts.proofs.FitLemmas.{colours_fit, conformances_hold}
 use Rattle.sw_view_facts.specs.Memory.{coloured_more}
 use Rattle.sw_view_facts.specs.Views.{Colours, annotated, frame_at, here_at, isolation_by, on_actor}
@@ -301,7 +301,7 @@ module _ (graph : Graph) (states : ℕ → List (Option Regions)) (state : State
   -- on none: its `Here` is one of what joins it, and so the job's
   on_none : frame.executor ≡ executor.Generic → (n : ℕ) × (own ≡ OfJob made n)
   on_none generic = by
-      (head_cases first passed_later u.unites.kept
+      (first_or_later first passed_later u.unites.kept
       (subst (λ l. Contains l u.unites.kept) (joined_is stays)
       (u.unites.among first (subst (λ l. Contains l first) (sym (joined_is stays))
       (first_in first passed_later)))))

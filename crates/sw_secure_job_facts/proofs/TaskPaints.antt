@@ -2,6 +2,7 @@
 use Rattle.std.proofs.Common.{None, ◌≡◌, ◌≢◌, ◌⊎◌, ℕ, Bool, true, false, cond, Option, Some, List}
 use Rattle.std.proofs.Common.{[], ◌∷◌, length, Contains, refl, sym, subst, ap, ◌∙◌, arith, inl, inr}
 use Rattle.std.proofs.lemmas.Option.{slice_get_within}
+use Rattle.sw_list.proofs.Members.{first_or_later, in_flat_map, of_flat_map}
 use Rattle.sw_graph.specs.declared.function.Function.{Function}
 use Rattle.sw_graph.specs.declared.graph.Graph.{Graph}
 use Rattle.sw_value.specs.declared.frame.Frame.{Frame}
@@ -11,7 +12,6 @@ use Rattle.sw_partition.specs.Regions.{Regions}
 use Rattle.sw_owner_facts.specs.Colours.{Actor, Colour, OfActor, OfJob}
 use Rattle.sw_owner_facts.specs.View.{Frame as Spot, bottom}
 use Rattle.sw_reach_facts.specs.Reached.{colours_of}
-use Rattle.sw_reach_facts.proofs.ListLemmas.{head_cases, in_flat_map, of_flat_map}
 use Rattle.sw_reach_facts.proofs.RenamedLemmas.{colours_renamed}
 use Rattle.sw_view_facts.specs.Renaming.{recoloured_by}
 use Rattle.sw_view_facts.specs.Views.{Colours}
@@ -115,7 +115,7 @@ module _ (graph : Graph) (states : ℕ → List (Option Regions)) (state : State
     begun,
     first_in begun later,
     λ d has.
-        elim (head_cases begun later d has) [
+        elim (first_or_later begun later d has) [
           | inl same ↦ inl (sym same)
           | inr there ↦
               let old = carried_later (numbers_of q.job carried) d there in

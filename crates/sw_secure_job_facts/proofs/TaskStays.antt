@@ -7,6 +7,8 @@ use Rattle.std.proofs.Common.{◌∙◌}
 use Rattle.std.proofs.Common.{add-one, arith, inl, inr}
 use Rattle.std.proofs.lemmas.List.{length-append}
 use Rattle.std.proofs.lemmas.Option.{slice_get_within}
+use Rattle.sw_list.proofs.ListLemmas.{some_injective}
+use Rattle.sw_list.proofs.Members.{member_at, none_in}
 use Rattle.sw_graph.specs.declared.function.Function.{Function}
 use Rattle.sw_graph.specs.declared.graph.Graph.{Graph}
 use Rattle.sw_graph.specs.Bodies.{has_self, is_own}
@@ -25,7 +27,7 @@ use Rattle.sw_value.specs.Job.{in_top, new_job}
 use Rattle.sw_value.specs.Reach.{after_effect, step_of}
 use Rattle.sw_value.specs.State.{add_cell, add_job, in_job}
 use Rattle.sw_value.specs.Value.{operand_value, value_at}
-use Rattle.sw_value.proofs.ListLemmas.{length-changed_at, some_injective}
+use Rattle.sw_value.proofs.ListLemmas.{length-changed_at}
 use Rattle.sw_partition.specs.Regions.{Regions}
 use Rattle.sw_machine_kind_facts.specs.Standing.{awaited_in, or_above}
 use Rattle.sw_machine_kind_facts.proofs.ItemLemmas.{at_end}
@@ -35,7 +37,6 @@ use Rattle.sw_region_facts.proofs.Comes.{sets_weaker}
 use Rattle.sw_reach_facts.specs.Coloured.{HaveColours}
 use Rattle.sw_reach_facts.specs.Named.{NamesCells}
 use Rattle.sw_reach_facts.specs.Reached.{colours_of}
-use Rattle.sw_reach_facts.proofs.ListLemmas.{member_at, none_in}
 use Rattle.sw_view_facts.specs.Changes.{KeepsReach, KeepsShape}
 use Rattle.sw_view_facts.specs.Effects.{turn_of}
 use Rattle.sw_view_facts.specs.Executing.{Executes}

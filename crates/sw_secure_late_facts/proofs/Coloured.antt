@@ -7,6 +7,7 @@ use Rattle.std.specs.List.{All, slice_get}
 use Rattle.std.specs.Option.{option_and_then}
 use Rattle.std.proofs.lemmas.List.Elements.{All-cons}
 use Rattle.std.proofs.lemmas.Option.{slice_get-get_or, slice_get_within}
+use Rattle.sw_list.proofs.ListLemmas.{some_injective}
 use Rattle.sw_types.specs.Sendable.{sends_at}
 use Rattle.sw_graph.specs.declared.graph.Graph.{Graph}
 use Rattle.sw_graph.specs.Clean.{IsClean}
@@ -14,7 +15,6 @@ use Rattle.sw_graph.specs.Supplied.{IsSupplied}
 use Rattle.sw_value.specs.declared.cell.HeapCell.{HeapCell}
 use Rattle.sw_value.specs.declared.cell.HeapCell.TheVariants.{Object, Actor, BoxOf, Closure, TaskOf}
 use Rattle.sw_value.specs.declared.state.State.{State}
-use Rattle.sw_value.proofs.ListLemmas.{some_injective}
 use Rattle.sw_machine_kind_facts.proofs.ItemLemmas.{found_within}
 use Rattle.sw_color_rules.specs.declared.colored.Colored.{Colored as Machine}
 use Rattle.sw_color_rules.specs.declared.colors.Colors.{Colors}

@@ -6,6 +6,7 @@ use Rattle.std.specs.List.{slice_get}
 use Rattle.std.proofs.lemmas.Bool.{cases_eq}
 use Rattle.std.proofs.lemmas.List.Elements.{Contains-append_left}
 use Rattle.std.proofs.lemmas.Option.{slice_get_within}
+use Rattle.sw_list.proofs.Members.{first_or_later, in_one, none_in}
 use Rattle.sw_graph.specs.declared.function.Function.{Function}
 use Rattle.sw_graph.specs.declared.graph.Graph.{Graph}
 use Rattle.sw_graph.specs.Points.{point_in}
@@ -26,7 +27,6 @@ use Rattle.sw_owner_facts.specs.Owned.{IsSound}
 use Rattle.sw_owner_facts.specs.View.{Element, FrameShape, Here, HoldsLive, IsFrame, IsolatedTo}
 use Rattle.sw_owner_facts.specs.View.{IsTop, Register, View, Frame as Spot}
 use Rattle.sw_owner_facts.proofs.FrameLemmas.{same_frame}
-use Rattle.sw_reach_facts.proofs.ListLemmas.{head_cases, in_one, none_in}
 use Rattle.sw_view_facts.specs.Renaming.{MayUnite, united}
 use Rattle.sw_view_facts.specs.Steps.{TopAt}
 use Rattle.sw_view_facts.specs.Views.{annotated, closes, colours_by, frame_at, frame_under}
@@ -133,7 +133,7 @@ module _ (graph : Graph) (states : ℕ → List (Option Regions)) (state : State
   unfolding IsTaken
   taken c has =
       let number = of_map (hue colors.palette) numbers c has in
-      elim (head_cases cargo.actor cargo.colors number.0 number.1) [
+      elim (first_or_later cargo.actor cargo.colors number.0 number.1) [
         | inl same ↦ inl (sym number.2 ∙ ap (hue colors.palette) (sym same) ∙ fits.is)
         | inr later ↦
             let own = fits.owned number.0 later in

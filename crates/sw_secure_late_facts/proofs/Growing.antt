@@ -4,6 +4,7 @@ use Rattle.std.proofs.Common.{◌++◌}
 use Rattle.std.proofs.Common.{length, Contains, refl, sym, subst, ap, ◌∙◌}
 use Rattle.std.specs.Option.{option_map, option_to_list}
 use Rattle.std.proofs.lemmas.List.Sums.{fold-append}
+use Rattle.sw_list.proofs.Members.{none_in, one_in}
 use Rattle.sw_types.specs.Sendable.{sends_at}
 use Rattle.sw_graph.specs.declared.function.Function.{Function}
 use Rattle.sw_graph.specs.declared.graph.Graph.{Graph}
@@ -42,7 +43,6 @@ use Rattle.sw_color_rules.specs.Tints.{colors_in, colors_of}
 use Rattle.sw_owner_facts.specs.View.{Frame as Spot}
 use Rattle.sw_reach_facts.specs.Coloured.{CaptureEarlier}
 use Rattle.sw_reach_facts.specs.Named.{NamesCells, values_in}
-use Rattle.sw_reach_facts.proofs.ListLemmas.{none_in, one_in}
 use Rattle.sw_machine_kind_facts.specs.Kinded.{Kinded}
 use Rattle.sw_view_facts.specs.Standing.{StandsAt}
 use Rattle.sw_view_facts.specs.Views.{frame_at}

@@ -2,6 +2,7 @@
 use Rattle.std.proofs.Common.{◌≡◌, ℕ, Option, Some, None, List, [], ◌∷◌, ◌++◌}
 use Rattle.std.proofs.Common.{refl, sym, subst, ap, ◌∙◌}
 use Rattle.std.proofs.lemmas.List.Sums.{fold-append}
+use Rattle.sw_list.proofs.Members.{none_in}
 use Rattle.sw_color_rules.specs.declared.colors.Colors.{Colors}
 use Rattle.sw_color_rules.specs.declared.plan.Plan.{Plan}
 use Rattle.sw_color_rules.specs.Changes.{after_change, after_changes}
@@ -13,7 +14,6 @@ use Rattle.sw_late_facts.specs.Hues.{hue}
 use Rattle.sw_late_facts.specs.Late.{givings, late_by, later_of, merges_here}
 use Rattle.sw_owner_facts.specs.Colours.{Colour, OfJob}
 use Rattle.sw_owner_facts.specs.View.{Frame as Spot}
-use Rattle.sw_reach_facts.proofs.ListLemmas.{none_in}
 use Rattle.sw_view_facts.specs.Views.{Colours}
 use Rattle.sw_secure_facts.specs.Painting.{MayUnite, Unites}
 use Rattle.sw_hue_facts.specs.Hued.{SameColours, hued, hues_of}

@@ -6,6 +6,7 @@ use Rattle.std.specs.List.{slice_get}
 use Rattle.std.specs.Option.{option_and_then, option_map, option_map_or}
 use Rattle.std.proofs.lemmas.List.{length-map}
 use Rattle.std.proofs.lemmas.Option.{get_or_from_slice_get, slice_get-map, slice_get_within}
+use Rattle.sw_list.proofs.Members.{flat_map_same, none_in}
 use Rattle.sw_list.proofs.ListLemmas.{slice_get_first}
 use Rattle.sw_graph.specs.declared.graph.Graph.{Graph}
 use Rattle.sw_value.specs.declared.frame.Frame.{Frame}
@@ -26,7 +27,6 @@ use Rattle.sw_owner_facts.specs.View.{Element, FrameShape, Here, HoldsLive, IsFr
 use Rattle.sw_owner_facts.specs.View.{Frame as Spot}
 use Rattle.sw_owner_facts.proofs.FrameLemmas.{same_frame}
 use Rattle.sw_reach_facts.specs.Reached.{colours_of}
-use Rattle.sw_reach_facts.proofs.ListLemmas.{flat_map_same, none_in}
 use Rattle.sw_view_facts.specs.Views.{awaited_by, colours_by, elements_in, frame_at, frame_under}
 use Rattle.sw_view_facts.specs.Views.{function_of, here_at, live_by, region_by, shape_by}
 use Rattle.sw_view_facts.specs.Views.{state_with}

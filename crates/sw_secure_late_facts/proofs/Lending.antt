@@ -6,6 +6,8 @@ use Rattle.std.proofs.Common.{subst}
 use Rattle.std.proofs.Common.{ap, ◌∙◌}
 use Rattle.std.specs.List.{slice_get}
 use Rattle.std.specs.Option.{option_map_or}
+use Rattle.sw_list.proofs.ListLemmas.{some_injective}
+use Rattle.sw_list.proofs.Members.{none_in}
 use Rattle.sw_graph.specs.declared.function.Function.{Function}
 use Rattle.sw_graph.specs.declared.graph.Graph.{Graph}
 use Rattle.sw_value.specs.declared.executor.Executor.{Executor}
@@ -14,7 +16,6 @@ use Rattle.sw_value.specs.declared.frame.Frame.{Frame}
 use Rattle.sw_value.specs.declared.state.State.{State}
 use Rattle.sw_value.specs.declared.value.Value.{Value}
 use Rattle.sw_value.specs.Value.{value_at}
-use Rattle.sw_value.proofs.ListLemmas.{some_injective}
 use Rattle.sw_solve.specs.Annotation as annotation
 use Rattle.sw_color_rules.specs.declared.colors.Colors.{Colors}
 use Rattle.sw_color_rules.specs.Plans.{next_color, number_on}
@@ -25,7 +26,6 @@ use Rattle.sw_owner_facts.specs.View.{Element, Here, InOneRegion, Register, View
 use Rattle.sw_region_facts.specs.FrameRegions.{TogetherIn, region_in}
 use Rattle.sw_region_facts.proofs.Annotated.{lent_here}
 use Rattle.sw_reach_facts.specs.Reached.{colours_of}
-use Rattle.sw_reach_facts.proofs.ListLemmas.{none_in}
 use Rattle.sw_view_facts.specs.Views.{Colours, colours_by, elements_in, elements_with, frame_at}
 use Rattle.sw_view_facts.specs.Views.{region_by, state_with, view_at}
 use Rattle.sw_store_facts.proofs.Bare.{untracked_bare}

@@ -4,6 +4,7 @@ use Rattle.std.proofs.Common.{subst, ◌∙◌, arith}
 use Rattle.std.proofs.Common.{map}
 use Rattle.std.specs.List.{All}
 use Rattle.std.specs.Option.{option_map}
+use Rattle.sw_list.proofs.Members.{stands_at}
 use Rattle.sw_color_rules.specs.declared.colors.Colors.{Colors}
 use Rattle.sw_color_rules.specs.declared.colors.Owner.{Owner}
 use Rattle.sw_color_rules.specs.declared.colors.Owner.TheVariants as owner
@@ -16,7 +17,6 @@ use Rattle.sw_color_rules.specs.Tints.{color_number}
 use Rattle.sw_color_rules.proofs.NumberLemmas.{all_there}
 use Rattle.sw_late_facts.specs.Hues.{hue, hue_by}
 use Rattle.sw_owner_facts.specs.Colours.{Colour, OfJob}
-use Rattle.sw_reach_facts.proofs.ListLemmas.{stands_at}
 use Rattle.sw_view_facts.proofs.RenameLemmas.{of_map}
 use Rattle.sw_secure_facts.specs.Secure.{AreNumberedBelow}
 use Rattle.sw_hue_facts.specs.Hued.{hued}

@@ -8,12 +8,12 @@ use Rattle.std.proofs.lemmas.Bool.{cases_lt}
 use Rattle.std.proofs.lemmas.List.{get_or_past}
 use Rattle.std.proofs.lemmas.List.Elements.{All-head}
 use Rattle.std.proofs.lemmas.Option.{slice_get_past, slice_get_within}
+use Rattle.sw_list.proofs.ListLemmas.{some_injective}
 use Rattle.sw_graph.specs.declared.graph.Graph.{Graph}
 use Rattle.sw_value.specs.declared.cell.HeapCell.TheVariants.{Actor}
 use Rattle.sw_value.specs.declared.executor.Executor.{Executor}
 use Rattle.sw_value.specs.declared.executor.Executor.TheVariants as executor
 use Rattle.sw_value.specs.declared.value.Value.{Value}
-use Rattle.sw_value.proofs.ListLemmas.{some_injective}
 use Rattle.sw_color_rules.specs.declared.colors.Palette.{Palette}
 use Rattle.sw_color_rules.specs.declared.colors.Tint.TheVariants.{Owns}
 use Rattle.sw_color_rules.specs.Palette.{IsWhole}

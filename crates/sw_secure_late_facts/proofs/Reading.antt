@@ -6,6 +6,7 @@ use Rattle.std.specs.Option.{option_map_or}
 use Rattle.std.proofs.lemmas.Bool.{cases_lt, ne_eqb}
 use Rattle.std.proofs.lemmas.List.{append-nil}
 use Rattle.std.proofs.lemmas.Option.{slice_get_past}
+use Rattle.sw_list.proofs.Members.{one_in}
 use Rattle.sw_graph.specs.declared.graph.Graph.{Graph}
 use Rattle.sw_value.specs.declared.cell.HeapCell.{HeapCell}
 use Rattle.sw_value.specs.declared.value.Value.{Value}
@@ -15,7 +16,6 @@ use Rattle.sw_color_rules.specs.Tints.{colors_in, held, held_by, references_in}
 use Rattle.sw_owner_facts.specs.Colours.{Colour}
 use Rattle.sw_reach_facts.specs.Coloured.{CaptureEarlier}
 use Rattle.sw_reach_facts.specs.Reached.{colours_of, references, shown, shown_below}
-use Rattle.sw_reach_facts.proofs.ListLemmas.{one_in}
 use Rattle.sw_reach_facts.proofs.ReferenceLemmas.{references-cell}
 use Rattle.sw_hue_facts.specs.Hued.{SameColours, hued, hues_of}
 use Rattle.sw_hue_facts.specs.Tinted.{TintsFit}

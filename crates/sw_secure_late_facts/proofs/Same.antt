@@ -4,11 +4,11 @@ use Rattle.std.proofs.Common.{subst, inl, inr}
 use Rattle.std.proofs.lemmas.List.{map-append}
 use Rattle.std.proofs.lemmas.List.Elements.{Contains-append_cases}
 use Rattle.std.proofs.lemmas.List.Elements.{Contains-append_left, Contains-append_right}
+use Rattle.sw_list.proofs.Members.{first_or_later, in_one, none_in}
 use Rattle.sw_color_rules.specs.declared.colors.Palette.{Palette}
 use Rattle.sw_late_facts.specs.Hues.{hue}
 use Rattle.sw_owner_facts.specs.Colours.{Colour, OfJob}
 use Rattle.sw_owner_facts.specs.View.{Frame as Spot}
-use Rattle.sw_reach_facts.proofs.ListLemmas.{head_cases, in_one, none_in}
 use Rattle.sw_view_facts.specs.Views.{Colours}
 use Rattle.sw_secure_facts.specs.Painting.{IsOwn, MayUnite, Unites}
 use Rattle.sw_hue_facts.specs.Hued.{SameColours, hues_of}
@@ -79,7 +79,7 @@ same_hues_of p f g (x ∷ xs) same =
 pub in_hues : (p : Palette) (ns : List ℕ) (n : ℕ) → Contains ns n → Contains (hues_of p ns)
     (hue p n)
 in_hues p [] n has = absurd (none_in n has)
-in_hues p (m ∷ ms) n has = elim (head_cases m ms n has) [
+in_hues p (m ∷ ms) n has = elim (first_or_later m ms n has) [
   | inl same ↦ Contains-append_left (hue p m ∷ []) (hues_of p ms) (hue p n)
       (subst (λ k. Contains (hue p m ∷ []) (hue p k)) same (in_one (hue p m)))
   | inr later ↦ Contains-append_right (hue p m ∷ []) (hues_of p ms) (hue p n) (in_hues p ms n later)

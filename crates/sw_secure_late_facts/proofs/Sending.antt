@@ -4,6 +4,7 @@ use Rattle.std.proofs.Common.{List, [], ◌∷◌, ◌++◌, length, length-appe
 use Rattle.std.proofs.Common.{subst, ap, ◌∙◌, arith, inl, inr}
 use Rattle.std.specs.List.{slice_get}
 use Rattle.std.proofs.lemmas.Option.{slice_get_within}
+use Rattle.sw_list.proofs.Members.{later_in, none_in}
 use Rattle.sw_types.specs.declared.isolation.CallKind.TheVariants.{Strong}
 use Rattle.sw_graph.specs.declared.function.Function.{Function}
 use Rattle.sw_graph.specs.declared.graph.Graph.{Graph}
@@ -39,7 +40,6 @@ use Rattle.sw_owner_facts.specs.View.{Register}
 use Rattle.sw_owner_facts.specs.View.{View, above, Frame as Spot}
 use Rattle.sw_owner_facts.proofs.FrameLemmas.{cases_frame, same_frame}
 use Rattle.sw_region_facts.specs.Moves.{Sends}
-use Rattle.sw_region_facts.proofs.Lists.{later_in, none_in}
 use Rattle.sw_reach_facts.specs.Reached.{colours_of}
 use Rattle.sw_view_facts.specs.Standing.{StandsAt}
 use Rattle.sw_view_facts.specs.Views.{Colours, frame_at, view_at}

@@ -8,7 +8,7 @@ use Rattle.std.proofs.lemmas.Bool.{cases_eq}
 use Rattle.std.proofs.lemmas.List.{append-nil, map-append}
 use Rattle.std.proofs.lemmas.List.Elements.{All-append, All-cons, All-head, All-nil, All-weaker}
 use Rattle.std.proofs.lemmas.Option.{slice_get_within}
-use Rattle.sw_list.proofs.ListLemmas.{slice_get_first}
+use Rattle.sw_list.proofs.ListLemmas.{some_injective, slice_get_first}
 use Rattle.sw_types.specs.declared.isolation.Iso.{Iso}
 use Rattle.sw_types.specs.declared.isolation.Iso.TheVariants as iso
 use Rattle.sw_graph.specs.declared.graph.Graph.{Graph}
@@ -22,7 +22,7 @@ use Rattle.sw_value.specs.Executor.{executor_of}
 use Rattle.sw_value.specs.Lists.{changed_at}
 use Rattle.sw_value.specs.Start.{start_frames, start_of}
 use Rattle.sw_value.specs.Value.{registers}
-use Rattle.sw_value.proofs.ListLemmas.{slice_get_end, some_injective}
+use Rattle.sw_value.proofs.ListLemmas.{slice_get_end}
 use Rattle.sw_machine_kind_facts.proofs.ItemLemmas.{at_end}
 use Rattle.sw_color_rules.specs.declared.colors.Colors.{Colors}
 use Rattle.sw_color_rules.specs.declared.colors.Owner.TheVariants as owner

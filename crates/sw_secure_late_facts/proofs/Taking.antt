@@ -7,6 +7,7 @@ use Rattle.std.specs.List.{slice_get}
 use Rattle.std.specs.Option.{option_map_or}
 use Rattle.std.proofs.lemmas.List.Elements.{All-head, All-tail}
 use Rattle.std.proofs.lemmas.Option.{slice_get_within}
+use Rattle.sw_list.proofs.Members.{first_or_later, none_in}
 use Rattle.sw_graph.specs.declared.function.Function.{Function}
 use Rattle.sw_graph.specs.declared.graph.Graph.{Graph}
 use Rattle.sw_graph.specs.Points.{Point}
@@ -33,7 +34,6 @@ use Rattle.sw_owner_facts.specs.Colours.{Colour, OfActor, OfJob}
 use Rattle.sw_owner_facts.specs.View.{Element, Here, HoldsLive, InOneRegion, Register, bottom}
 use Rattle.sw_owner_facts.specs.View.{Frame as Spot}
 use Rattle.sw_owner_facts.proofs.FrameLemmas.{same_frame}
-use Rattle.sw_reach_facts.proofs.ListLemmas.{head_cases, none_in}
 use Rattle.sw_view_facts.specs.Standing.{StandsAt}
 use Rattle.sw_view_facts.specs.Views.{view_at}
 use Rattle.sw_view_facts.proofs.EffectLemmas.{step_is}
@@ -70,7 +70,7 @@ all_given : (job heir : ℕ) (ns : List ℕ) (p : Palette) → IsWhole p → Are
 all_given job heir [] p whole below n l has is = absurd (none_in n has)
 all_given job heir (m ∷ ns) p whole below n l has is =
     by (handed_goes m heir p whole (All-head (λ k. k < length p.names) m ns below))
-    (head_cases m ns n has)
+    (first_or_later m ns n has)
     (λ later was. all_given job heir ns (hand_over m heir p) (handed_whole m heir p whole)
     (subst (λ count. AreBelow count ns) (sym (handed_count m heir p))
     (All-tail (λ k. k < length p.names) m ns below)) n l later was)

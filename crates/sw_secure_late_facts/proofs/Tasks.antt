@@ -5,6 +5,7 @@ use Rattle.std.proofs.Common.{length, Contains, refl, sym, subst, ap, ◌∙◌,
 use Rattle.std.proofs.lemmas.List.Elements.{All-cons}
 use Rattle.std.proofs.lemmas.List.Sums.{fold-append}
 use Rattle.std.proofs.lemmas.Option.{slice_get_within}
+use Rattle.sw_list.proofs.Members.{first_or_later}
 use Rattle.sw_graph.specs.declared.function.Function.{Function}
 use Rattle.sw_graph.specs.declared.graph.Graph.{Graph}
 use Rattle.sw_value.specs.declared.executor.Executor.{Executor}
@@ -29,7 +30,6 @@ use Rattle.sw_late_facts.specs.Hues.{hue}
 use Rattle.sw_late_facts.specs.Late.{givings, goes_away, late_by, later_of, merges_here}
 use Rattle.sw_reach_facts.specs.Coloured.{CaptureEarlier}
 use Rattle.sw_reach_facts.specs.Reached.{colours_of}
-use Rattle.sw_reach_facts.proofs.ListLemmas.{head_cases}
 use Rattle.sw_view_facts.specs.Memory.{coloured_more}
 use Rattle.sw_view_facts.specs.Views.{Colours}
 use Rattle.sw_secure_facts.specs.Painting.{MayUnite, PaintsTask, Unites, actor_on, begun_here}
@@ -219,7 +219,7 @@ module _ (graph : Graph) (states : ℕ → List (Option Regions)) (state : State
   may = inr (
     begun,
     first_in begun taken,
-    (λ d has. elim (head_cases begun taken d has) [
+    (λ d has. elim (first_or_later begun taken d has) [
       | inl same ↦ inl (sym same)
       | inr there ↦
           let old = carried_later graph states state (hued colors) q job f function r frame m

@@ -7,6 +7,7 @@ use Rattle.std.specs.Option.{option_map, option_to_list}
 use Rattle.std.proofs.lemmas.List.Elements.{All-head, All-tail, Contains-append_left}
 use Rattle.std.proofs.lemmas.List.Elements.{Contains-append_right}
 use Rattle.std.proofs.lemmas.List.Sums.{fold-append}
+use Rattle.sw_list.proofs.Members.{in_one, none_in}
 use Rattle.sw_graph.specs.declared.graph.Graph.{Graph}
 use Rattle.sw_value.specs.declared.cell.HeapCell.{HeapCell}
 use Rattle.sw_color_rules.specs.declared.colors.Colors.{Colors}
@@ -28,7 +29,6 @@ use Rattle.sw_late_facts.proofs.HueLemmas.{fresh_stays, handed_goes, handed_stay
 use Rattle.sw_owner_facts.specs.Colours.{Actor, Colour, Instance, OfActor, OfJob}
 use Rattle.sw_owner_facts.specs.Within.{Becomes}
 use Rattle.sw_owner_facts.specs.View.{Frame as Spot}
-use Rattle.sw_reach_facts.proofs.ListLemmas.{in_one, none_in}
 use Rattle.sw_secure_facts.specs.Painting.{MayUnite}
 use Rattle.sw_hue_facts.specs.Hued.{hues_of}
 use Rattle.sw_hue_facts.specs.Tinted.{TintsFit}

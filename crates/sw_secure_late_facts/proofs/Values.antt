@@ -5,7 +5,7 @@ use Rattle.std.proofs.Common.{◌<◌, zero, suc, map, sym, subst}
 use Rattle.std.specs.Prelude.{option_and_then, slice_index_or, unwrap_or}
 use Rattle.std.specs.List.{slice_get}
 use Rattle.std.specs.Option.{option_map}
-use Rattle.sw_value.proofs.ListLemmas.{some_injective}
+use Rattle.sw_list.proofs.ListLemmas.{some_injective}
 use Rattle.sw_color_rules.specs.declared.colors.Palette.{Palette}
 use Rattle.sw_color_rules.specs.declared.colors.Tint.{Tint}
 use Rattle.sw_color_rules.specs.declared.colors.Tint.TheVariants.{Bare, Colored, Owns, Holds}

@@ -3,6 +3,7 @@ use Rattle.std.proofs.Common.{◌≡◌, ◌⊎◌, ℕ, Bool, true, false, cond
 use Rattle.std.proofs.Common.{List, length, refl, sym, ap, ◌∙◌, inl, inr}
 use Rattle.std.specs.Option.{option_map, option_and_then, is_some}
 use Rattle.std.specs.List.{slice_get}
+use Rattle.sw_list.proofs.ListLemmas.{some_injective}
 use Rattle.sw_graph.specs.declared.function.Function.{Function}
 use Rattle.sw_graph.specs.declared.function.GlobalKind.{GlobalKind}
 use Rattle.sw_graph.specs.declared.graph.Graph.{Graph}
@@ -24,7 +25,6 @@ use Rattle.sw_value.specs.Effect.{effect_of, is_stuck}
 use Rattle.sw_value.specs.Frame.{point_at}
 use Rattle.sw_value.specs.Job.{is_running, top_frame}
 use Rattle.sw_value.specs.Value.{reference_at}
-use Rattle.sw_value.proofs.ListLemmas.{some_injective}
 use Rattle.sw_owner_facts.specs.View.{Frame as Spot}
 use Rattle.sw_machine_kind_facts.proofs.LawLemmas.{status_is}
 use Rattle.sw_view_facts.specs.Standing.{StandsAt}

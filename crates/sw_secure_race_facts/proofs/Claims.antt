@@ -3,13 +3,13 @@
 use Rattle.std.proofs.Common.{◌≡◌, ◌⊎◌, ℕ, IsTrue, Option, Some, None}
 use Rattle.std.proofs.Common.{sym, subst, ap, ◌∙◌, inl, inr}
 use Rattle.std.specs.List.{slice_get, slice_index_or}
+use Rattle.sw_list.proofs.ListLemmas.{some_injective}
 use Rattle.sw_graph.specs.declared.function.GlobalKind.{GlobalKind}
 use Rattle.sw_graph.specs.declared.graph.Graph.{Graph}
 use Rattle.sw_value.specs.declared.cell.HeapCell.{HeapCell}
 use Rattle.sw_value.specs.declared.race.Place.{Place}
 use Rattle.sw_value.specs.declared.race.Place.TheVariants.{Prop, Global, BoxOf}
 use Rattle.sw_value.specs.declared.state.State.{State}
-use Rattle.sw_value.proofs.ListLemmas.{some_injective}
 use Rattle.sw_owner_facts.specs.Colours.{Actor, Colour, GlobalActor, On}
 use Rattle.sw_owner_facts.specs.Owned.{IsOwned}
 use Rattle.sw_owner_facts.specs.View.{Element, HoldsLive, IsTop, View, Frame as Spot}

@@ -5,6 +5,7 @@ use Rattle.std.proofs.Common.{Option, Some, None, List, [], ◌∷◌, IsTrue, r
 use Rattle.std.proofs.Common.{sym, subst, ap, ◌∙◌, inl, inr, arith}
 use Rattle.std.specs.Option.{option_and_then, option_map, option_map_or, unwrap_or}
 use Rattle.std.specs.List.{slice_get, slice_index_or}
+use Rattle.sw_list.proofs.Members.{first_in}
 use Rattle.sw_types.specs.declared.shape.Part.{Part}
 use Rattle.sw_types.specs.declared.shape.Shape.{Shape}
 use Rattle.sw_graph.specs.declared.function.Function.{Function}
@@ -36,7 +37,6 @@ use Rattle.sw_owner_facts.specs.View.{IsolatedTo, Register, View}
 use Rattle.sw_owner_facts.specs.View.{Frame as Spot}
 use Rattle.sw_region_facts.specs.FrameRegions.{LiveIn}
 use Rattle.sw_region_facts.specs.Rows.{LoadsPart, StoresPart}
-use Rattle.sw_region_facts.proofs.Lists.{first_in}
 use Rattle.sw_reach_facts.specs.Coloured.{may_have_colour}
 use Rattle.sw_reach_facts.proofs.CellShapeLemmas.{HasShape, has_shape, shape_here}
 use Rattle.sw_view_facts.specs.Standing.{StandsAt}

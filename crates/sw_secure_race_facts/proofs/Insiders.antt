@@ -5,6 +5,7 @@ use Rattle.std.proofs.Common.{None, List, refl, sym, ap, ◌∙◌, inl, inr}
 use Rattle.std.specs.Option.{option_and_then, option_map, option_map_or, unwrap_or}
 use Rattle.std.specs.List.{list_all, slice_get}
 use Rattle.std.proofs.lemmas.Bool.{and_parts}
+use Rattle.sw_list.proofs.Members.{all_at}
 use Rattle.sw_list.proofs.ListLemmas.{at_index}
 use Rattle.sw_types.specs.declared.shape.Part.{Part}
 use Rattle.sw_types.specs.declared.shape.Shape.{Shape}
@@ -26,7 +27,6 @@ use Rattle.sw_value.specs.Value.{reference_at}
 use Rattle.sw_owner_facts.specs.Colours.{Actor, GlobalActor}
 use Rattle.sw_owner_facts.specs.View.{IsolatedTo}
 use Rattle.sw_reach_facts.specs.Coloured.{may_have_colour}
-use Rattle.sw_reach_facts.proofs.ListLemmas.{all_at}
 use Rattle.sw_view_facts.specs.Views.{isolation_in}
 use Rattle.sw_view_facts.proofs.IsolationLemmas.{global_isolation, on_is}
 use Rattle.sw_secure_facts.specs.Memory.{keeper}

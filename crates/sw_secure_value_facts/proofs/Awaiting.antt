@@ -3,6 +3,7 @@ use Rattle.std.proofs.Common.{◌≡◌, ◌≢◌, ◌+◌, ℕ, true, false, I
 use Rattle.std.proofs.Common.{refl, sym, subst, ap, ◌∙◌, inl}
 use Rattle.std.specs.Option.{option_and_then}
 use Rattle.std.specs.List.{slice_get}
+use Rattle.sw_list.proofs.ListLemmas.{some_injective}
 use Rattle.sw_types.specs.declared.ty.Ty.{Ty}
 use Rattle.sw_graph.specs.declared.function.Function.{Function}
 use Rattle.sw_graph.specs.declared.function.RegKind.{RegKind}
@@ -25,7 +26,6 @@ use Rattle.sw_value.specs.Effect.{cell_at, needs, point_effect}
 use Rattle.sw_value.specs.Reach.{step_of}
 use Rattle.sw_value.specs.State.{in_job}
 use Rattle.sw_value.specs.Value.{reference_at}
-use Rattle.sw_value.proofs.ListLemmas.{some_injective}
 use Rattle.sw_partition.specs.Regions.{Regions}
 use Rattle.sw_machine_kind_facts.specs.Kinds.{CellFits, Referents, TaskFits, TaskMade}
 use Rattle.sw_owner_facts.specs.View.{Frame as Spot}

@@ -6,6 +6,7 @@ use Rattle.std.specs.Option.{option_and_then}
 use Rattle.std.specs.List.{slice_get}
 use Rattle.std.proofs.lemmas.Bool.{cases_lt}
 use Rattle.std.proofs.lemmas.Option.{slice_get_within}
+use Rattle.sw_list.proofs.ListLemmas.{some_injective}
 use Rattle.sw_types.specs.declared.ty.Ty.{Ty}
 use Rattle.sw_graph.specs.declared.function.Function.{Function}
 use Rattle.sw_graph.specs.declared.graph.Graph.{Graph}
@@ -18,7 +19,6 @@ use Rattle.sw_value.specs.declared.job.Status.TheVariants.{Waiting}
 use Rattle.sw_value.specs.declared.state.State.{State}
 use Rattle.sw_value.specs.Job.{wait}
 use Rattle.sw_value.specs.Reach.{after_effect}
-use Rattle.sw_value.proofs.ListLemmas.{some_injective}
 use Rattle.sw_machine_kind_facts.specs.Standing.{awaited_at, awaited_in, or_above}
 use Rattle.sw_machine_kind_facts.proofs.ItemLemmas.{found_within}
 use Rattle.sw_owner_facts.specs.View.{Frame as Spot}

@@ -3,6 +3,7 @@ use Rattle.std.proofs.Common.{◌≡◌, ℕ, Some, None, List, ◌∷◌, Conta
 use Rattle.std.proofs.Common.{◌∙◌}
 use Rattle.std.specs.List.{slice_get, slice_index_or}
 use Rattle.std.specs.Option.{unwrap_or}
+use Rattle.sw_list.proofs.Members.{first_in, later_in}
 use Rattle.sw_graph.specs.declared.function.GlobalKind.{GlobalKind}
 use Rattle.sw_graph.specs.declared.graph.Graph.{Graph}
 use Rattle.sw_value.specs.declared.cell.HeapCell.{HeapCell}
@@ -13,7 +14,6 @@ use Rattle.sw_value.specs.Cell.{with_slot}
 use Rattle.sw_value.specs.State.{in_cell, set_global}
 use Rattle.sw_owner_facts.specs.Colours.{Actor as Owner, Colour, GlobalActor, OfActor}
 use Rattle.sw_owner_facts.specs.View.{Frame as Spot}
-use Rattle.sw_region_facts.proofs.Lists.{first_in, later_in}
 use Rattle.sw_reach_facts.specs.Coloured.{HaveColours}
 use Rattle.sw_reach_facts.specs.Reached.{colours_of}
 use Rattle.sw_view_facts.specs.Renaming.{recoloured_by}

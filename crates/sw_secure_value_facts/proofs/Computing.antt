@@ -4,6 +4,8 @@ use Rattle.std.proofs.Common.{length, Contains, refl, subst, flat_map, not, int_
 use Rattle.std.proofs.Common.{int_div, int_rem, ◌+ℤ◌, ◌-ℤ◌, ◌*ℤ◌, neg_ℤ, pos}
 use Rattle.std.specs.Prelude.{Result, Ok, Err}
 use Rattle.std.specs.Option.{option_and_then, option_map}
+use Rattle.sw_list.proofs.ListLemmas.{some_injective}
+use Rattle.sw_list.proofs.Members.{none_in}
 use Rattle.sw_graph.specs.declared.function.Function.{Function}
 use Rattle.sw_graph.specs.declared.graph.Graph.{Graph}
 use Rattle.sw_graph.specs.declared.instr.BinOp.{BinOp}
@@ -27,7 +29,6 @@ use Rattle.sw_value.specs.declared.value.Value.TheVariants as value
 use Rattle.sw_value.specs.Arithmetic.{binary, fits, is_same_truth, layer_binary, layer_unary}
 use Rattle.sw_value.specs.Arithmetic.{of_integers, of_truths, unary, unless_too_large}
 use Rattle.sw_value.specs.Effect.{computed_of, needs, point_effect}
-use Rattle.sw_value.proofs.ListLemmas.{some_injective}
 use Rattle.sw_secure_facts.specs.Executing.{is_of_values}
 use Rattle.sw_value.specs.Reach.{step_of}
 use Rattle.sw_partition.specs.Regions.{Regions}
@@ -36,7 +37,6 @@ use Rattle.sw_owner_facts.specs.View.{Frame as Spot}
 use Rattle.sw_region_facts.specs.FrameRegions.{IsWeaker}
 use Rattle.sw_region_facts.proofs.Comes.{sets_weaker}
 use Rattle.sw_reach_facts.specs.Reached.{colours_of, references, shown_below}
-use Rattle.sw_reach_facts.proofs.ListLemmas.{none_in}
 use Rattle.sw_reach_facts.proofs.ReferenceLemmas.{references-int, references-truth}
 use Rattle.sw_view_facts.specs.Standing.{StandsAt}
 use Rattle.sw_view_facts.specs.Views.{Colours, makes_itself}

@@ -3,6 +3,8 @@ use Rattle.std.proofs.Common.{◌≡◌, ◌+◌, ℕ, cond, Option, Some, None,
 use Rattle.std.proofs.Common.{IsSome, IsTrue, length, Contains, refl, sym, subst, ap, ◌∙◌, inl, inr}
 use Rattle.std.specs.Option.{option_and_then, option_map_or}
 use Rattle.std.specs.List.{slice_get}
+use Rattle.sw_list.proofs.ListLemmas.{some_injective}
+use Rattle.sw_list.proofs.Members.{member_at}
 use Rattle.sw_types.specs.declared.shape.Shape.{Shape}
 use Rattle.sw_types.specs.declared.shape.ShapeKind.{ShapeKind}
 use Rattle.sw_types.specs.declared.shape.ShapeKind.TheVariants.{Struct, Enum, Class, Actor}
@@ -26,7 +28,6 @@ use Rattle.sw_value.specs.declared.value.Value.{Value}
 use Rattle.sw_value.specs.Effect.{point_effect}
 use Rattle.sw_value.specs.State.{in_job}
 use Rattle.sw_value.specs.Value.{operand_value, value_at}
-use Rattle.sw_value.proofs.ListLemmas.{some_injective}
 use Rattle.sw_partition.specs.Regions.{Regions}
 use Rattle.sw_region_ops.specs.Elements.{element_at, elements_of}
 use Rattle.sw_machine_kind_facts.proofs.NeverStuck.{step_kinded}
@@ -38,7 +39,6 @@ use Rattle.sw_region_facts.proofs.Comes.{gathers_sets, sets_weaker}
 use Rattle.sw_region_facts.proofs.Weaker.{weaker_itself}
 use Rattle.sw_reach_facts.specs.Coloured.{HaveColours}
 use Rattle.sw_reach_facts.specs.Reached.{colours_of}
-use Rattle.sw_reach_facts.proofs.ListLemmas.{member_at}
 use Rattle.sw_view_facts.specs.Changes.{HoldsIn, KeepsShape}
 use Rattle.sw_view_facts.specs.Effects.{turn_of}
 use Rattle.sw_view_facts.specs.Executing.{Executes}

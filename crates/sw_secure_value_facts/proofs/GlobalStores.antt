@@ -4,6 +4,7 @@ use Rattle.std.proofs.Common.{length, Contains, refl, sym, subst, ap, ◌∙◌}
 use Rattle.std.specs.Option.{option_map, option_map_or}
 use Rattle.std.specs.List.{slice_get}
 use Rattle.std.proofs.lemmas.Bool.{and_parts}
+use Rattle.sw_list.proofs.Members.{first_in, later_in, member_at, one_in}
 use Rattle.sw_graph.specs.declared.function.Function.{Function}
 use Rattle.sw_graph.specs.declared.function.GlobalKind.{GlobalKind}
 use Rattle.sw_graph.specs.declared.function.RegKind.TheVariants.{Plain}
@@ -31,9 +32,7 @@ use Rattle.sw_machine_kind_facts.proofs.KindLemmas.{captured, goes_captured}
 use Rattle.sw_owner_facts.specs.Colours.{Colour, GlobalActor, OfActor}
 use Rattle.sw_owner_facts.specs.View.{Here, Frame as Spot}
 use Rattle.sw_region_facts.specs.Moves.{tracked}
-use Rattle.sw_region_facts.proofs.Lists.{first_in, later_in}
 use Rattle.sw_reach_facts.specs.Reached.{colours_of}
-use Rattle.sw_reach_facts.proofs.ListLemmas.{member_at, one_in}
 use Rattle.sw_view_facts.specs.Standing.{StandsAt}
 use Rattle.sw_view_facts.specs.Views.{Colours, frame_at, here_at}
 use Rattle.sw_store_facts.proofs.Getting.{unstuck}

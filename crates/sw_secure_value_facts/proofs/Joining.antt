@@ -2,6 +2,7 @@
 use Rattle.std.proofs.Common.{◌≡◌, ◌+◌, ℕ, Option, Some, List, [], ◌∷◌, ◌++◌, length, refl, sym}
 use Rattle.std.proofs.Common.{subst, ap, ◌∙◌}
 use Rattle.std.specs.Option.{option_and_then}
+use Rattle.sw_list.proofs.Members.{member_at}
 use Rattle.sw_graph.specs.declared.function.Function.{Function}
 use Rattle.sw_graph.specs.declared.graph.Graph.{Graph}
 use Rattle.sw_graph.specs.declared.instr.Instr.{Instr}
@@ -23,7 +24,6 @@ use Rattle.sw_owner_facts.specs.Colours.{Colour}
 use Rattle.sw_owner_facts.specs.View.{Element, Frame as Spot}
 use Rattle.sw_region_facts.specs.Moves.{Gathers, tracked}
 use Rattle.sw_reach_facts.specs.Reached.{colours_of}
-use Rattle.sw_reach_facts.proofs.ListLemmas.{member_at}
 use Rattle.sw_view_facts.specs.Standing.{StandsAt}
 use Rattle.sw_view_facts.specs.Views.{Colours, colours_by, frame_at}
 use Rattle.sw_store_facts.proofs.Getting.{unstuck}

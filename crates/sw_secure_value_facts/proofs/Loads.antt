@@ -5,6 +5,8 @@ use Rattle.std.specs.Option.{is_some, option_and_then, option_map, option_map_or
 use Rattle.std.specs.List.{slice_get, slice_index_or}
 use Rattle.std.proofs.lemmas.Bool.{and_parts}
 use Rattle.std.proofs.lemmas.Option.{slice_get-map}
+use Rattle.sw_list.proofs.ListLemmas.{some_injective}
+use Rattle.sw_list.proofs.Members.{in_one, member_at}
 use Rattle.sw_graph.specs.declared.function.Function.{Function}
 use Rattle.sw_graph.specs.declared.function.GlobalKind.{GlobalKind}
 use Rattle.sw_graph.specs.declared.function.RegKind.{RegKind}
@@ -29,7 +31,6 @@ use Rattle.sw_value.specs.declared.value.Value.{Value}
 use Rattle.sw_value.specs.Cell.{slot_of}
 use Rattle.sw_value.specs.Effect.{cell_at, loaded}
 use Rattle.sw_value.specs.Value.{reference_at, value_at}
-use Rattle.sw_value.proofs.ListLemmas.{some_injective}
 use Rattle.sw_partition.specs.Regions.{Regions}
 use Rattle.sw_region_ops.specs.Elements.{element_at, elements_of}
 use Rattle.sw_machine_kind_facts.proofs.PartLemmas.{goes_there}
@@ -38,7 +39,6 @@ use Rattle.sw_owner_facts.specs.Colours.{GlobalActor}
 use Rattle.sw_owner_facts.specs.View.{Frame as Spot}
 use Rattle.sw_reach_facts.specs.Coloured.{may_have_colour}
 use Rattle.sw_reach_facts.specs.Named.{values_in}
-use Rattle.sw_reach_facts.proofs.ListLemmas.{in_one, member_at}
 use Rattle.sw_view_facts.specs.Standing.{StandsAt}
 use Rattle.sw_view_facts.specs.Views.{Colours, here_at}
 use Rattle.sw_store_facts.specs.Sound.{HasSlotColour, IsColoured, IsOfHere}

@@ -4,6 +4,8 @@ use Rattle.std.proofs.Common.{◌≡◌, ◌+◌, ℕ, Bool, true, false, not, O
 use Rattle.std.proofs.Common.{length, Contains, refl, sym, subst, ap, ◌∙◌, inl, inr}
 use Rattle.std.specs.Option.{option_and_then, option_map, unwrap_or}
 use Rattle.std.specs.List.{slice_get, slice_index_or}
+use Rattle.sw_list.proofs.ListLemmas.{some_injective}
+use Rattle.sw_list.proofs.Members.{first_in, later_in, member_at, one_in}
 use Rattle.sw_graph.specs.declared.function.Function.{Function}
 use Rattle.sw_types.specs.Sendable.{sends_at}
 use Rattle.sw_graph.specs.declared.graph.Graph.{Graph}
@@ -25,17 +27,14 @@ use Rattle.sw_value.specs.declared.value.Value.{Value}
 use Rattle.sw_value.specs.Cell.{slot_of}
 use Rattle.sw_value.specs.Effect.{is_stuck, needs, point_effect, slot_at, slot_write}
 use Rattle.sw_value.specs.Value.{operand_value, reference_at}
-use Rattle.sw_value.proofs.ListLemmas.{some_injective}
 use Rattle.sw_partition.specs.Regions.{Regions}
 use Rattle.sw_region_ops.specs.Elements.{element_at, elements_of}
 use Rattle.sw_owner_facts.specs.Colours.{Actor as Owner, Colour, GlobalActor, OfActor}
 use Rattle.sw_owner_facts.specs.View.{Here, Frame as Spot}
 use Rattle.sw_region_facts.specs.Moves.{Gathers, tracked}
 use Rattle.sw_region_facts.specs.Rows.{StoresPart}
-use Rattle.sw_region_facts.proofs.Lists.{first_in, later_in}
 use Rattle.sw_reach_facts.specs.Coloured.{may_have_colour}
 use Rattle.sw_reach_facts.specs.Reached.{colours_of}
-use Rattle.sw_reach_facts.proofs.ListLemmas.{member_at, one_in}
 use Rattle.sw_view_facts.specs.Standing.{StandsAt}
 use Rattle.sw_view_facts.specs.Views.{Colours, frame_at, here_at}
 use Rattle.sw_store_facts.specs.Sound.{MayBecomeOne, stored_with}

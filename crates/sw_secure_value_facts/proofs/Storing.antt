@@ -2,6 +2,7 @@
 use Rattle.std.proofs.Common.{◌≡◌, ◌+◌, ℕ, Option, Some, List, ◌∷◌, length, refl, sym, subst}
 use Rattle.std.proofs.Common.{ap, Contains}
 use Rattle.std.specs.List.{slice_get}
+use Rattle.sw_list.proofs.Members.{first_in}
 use Rattle.sw_graph.specs.declared.function.Function.{Function}
 use Rattle.sw_graph.specs.declared.function.GlobalKind.{GlobalKind}
 use Rattle.sw_graph.specs.declared.graph.Graph.{Graph}
@@ -23,7 +24,6 @@ use Rattle.sw_region_ops.specs.Elements.{elements_of}
 use Rattle.sw_owner_facts.specs.Colours.{Actor as Owner, Colour, GlobalActor, OfActor}
 use Rattle.sw_owner_facts.specs.View.{Element, Frame as Spot}
 use Rattle.sw_region_facts.specs.Moves.{Gathers}
-use Rattle.sw_region_facts.proofs.Lists.{first_in}
 use Rattle.sw_reach_facts.specs.Coloured.{HaveColours}
 use Rattle.sw_reach_facts.specs.Reached.{colours_of}
 use Rattle.sw_view_facts.specs.Renaming.{united}

@@ -5,6 +5,8 @@ use Rattle.std.specs.Option.{option_and_then}
 use Rattle.std.specs.List.{slice_get, slice_index_or, slice_set}
 use Rattle.std.proofs.lemmas.Bool.{cases_eq}
 use Rattle.std.proofs.lemmas.List.Elements.{All-contains, All-contains_itself, All-set, All-weaker}
+use Rattle.sw_list.proofs.ListLemmas.{some_injective}
+use Rattle.sw_list.proofs.Members.{one_in}
 use Rattle.sw_graph.specs.declared.function.GlobalKind.{GlobalKind}
 use Rattle.sw_graph.specs.declared.graph.Graph.{Graph}
 use Rattle.sw_value.specs.declared.cell.HeapCell.{HeapCell}
@@ -18,14 +20,12 @@ use Rattle.sw_value.specs.Lists.{changed_at}
 use Rattle.sw_value.specs.State.{in_cell, set_global}
 use Rattle.sw_value.specs.Value.{value_at}
 use Rattle.sw_value.proofs.ListLemmas.{changed_at_found, changed_at_none, length-changed_at}
-use Rattle.sw_value.proofs.ListLemmas.{some_injective}
 use Rattle.sw_machine_kind_facts.proofs.ItemLemmas.{changed_other, set_other}
 use Rattle.sw_owner_facts.specs.Colours.{Actor as Owner, Colour, GlobalActor, OfActor}
 use Rattle.sw_reach_facts.specs.Coloured.{HaveColours, may_have_colour}
 use Rattle.sw_reach_facts.specs.Named.{values_in}
 use Rattle.sw_reach_facts.specs.Reached.{colours_of}
 use Rattle.sw_reach_facts.proofs.ChangeLemmas.{colours_written}
-use Rattle.sw_reach_facts.proofs.ListLemmas.{one_in}
 use Rattle.sw_view_facts.specs.Views.{Colours}
 use Rattle.sw_secure_facts.specs.Memory.{OwnsMemory, ReachesOnly, keeper}
 

@@ -3,6 +3,7 @@ use Rattle.std.proofs.Common.{ℕ, Option, List, [], ◌∷◌, map, sym, ap, �
 use Rattle.std.specs.Option.{option_map}
 use Rattle.std.proofs.lemmas.List.{length-map}
 use Rattle.std.proofs.lemmas.Option.{slice_get-map}
+use Rattle.sw_list.proofs.ListLemmas.{some_injective}
 use Rattle.sw_graph.specs.declared.graph.Graph.{Graph}
 use Rattle.sw_graph.specs.Clean.{IsClean}
 use Rattle.sw_graph.specs.Supplied.{IsSupplied}
@@ -11,7 +12,6 @@ use Rattle.sw_value.specs.declared.state.State.{State}
 use Rattle.sw_value.specs.Racing.{Racing}
 use Rattle.sw_value.specs.Reach.{reach, step_of}
 use Rattle.sw_value.specs.Start.{start_frames, start_of}
-use Rattle.sw_value.proofs.ListLemmas.{some_injective}
 use Rattle.sw_value.proofs.ReachLemmas.{reach_keeps}
 use Rattle.sw_partition.specs.Regions.{Regions}
 use Rattle.sw_region_flow.specs.Passing.{IsPassed}

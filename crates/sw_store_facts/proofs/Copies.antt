@@ -3,6 +3,7 @@ use Rattle.std.proofs.Common.{◌≡◌, ℕ, Option, Some, List, [], ◌∷◌,
 use Rattle.std.specs.List.{slice_get}
 use Rattle.std.specs.Option.{option_and_then}
 use Rattle.std.proofs.lemmas.Option.{slice_get_within}
+use Rattle.sw_list.proofs.Members.{in_one}
 use Rattle.sw_graph.specs.declared.function.Function.{Function}
 use Rattle.sw_graph.specs.declared.graph.Graph.{Graph}
 use Rattle.sw_graph.specs.declared.instr.Instr.TheVariants.{Copy, Field, Payload, LoadBox, LoadProp}
@@ -26,7 +27,6 @@ use Rattle.sw_owner_facts.specs.View.{Frame as Spot}
 use Rattle.sw_region_facts.specs.Rows.{LoadsPart}
 use Rattle.sw_reach_facts.specs.Reached.{colours_of}
 use Rattle.sw_reach_facts.proofs.CellLemmas.{reference_shows}
-use Rattle.sw_reach_facts.proofs.ListLemmas.{in_one}
 use Rattle.sw_reach_facts.proofs.PartLemmas.{part_within, payload_within}
 use Rattle.sw_view_facts.specs.Standing.{StandsAt}
 use Rattle.sw_view_facts.specs.Views.{Colours}

@@ -3,6 +3,7 @@ use Rattle.std.proofs.Common.{◌≡◌, ◌+◌, ℕ, false, Option, Some, None
 use Rattle.std.proofs.Common.{refl, sym, subst, ap, ◌∙◌}
 use Rattle.std.specs.List.{slice_get}
 use Rattle.std.specs.Option.{option_map_or}
+use Rattle.sw_list.proofs.Members.{in_one}
 use Rattle.sw_graph.specs.declared.function.Function.{Function}
 use Rattle.sw_graph.specs.declared.graph.Graph.{Graph}
 use Rattle.sw_graph.specs.declared.instr.Instr.{Instr}
@@ -26,7 +27,6 @@ use Rattle.sw_region_facts.specs.Moves.{Sets, copied_from}
 use Rattle.sw_region_facts.specs.Rows.{CopiesFrom}
 use Rattle.sw_reach_facts.specs.Reached.{colours_of}
 use Rattle.sw_reach_facts.specs.Coloured.{HaveColours}
-use Rattle.sw_reach_facts.proofs.ListLemmas.{in_one}
 use Rattle.sw_view_facts.specs.Changes.{HoldsIn}
 use Rattle.sw_view_facts.specs.Effects.{turn_of}
 use Rattle.sw_view_facts.specs.Standing.{StandsAt}

@@ -2,6 +2,7 @@
 use Rattle.std.proofs.Common.{◌<◌, ◌≡◌, ◌+◌, ℕ, suc, false, Option, Some, None, List, [], ◌∷◌, ◌++◌}
 use Rattle.std.proofs.Common.{length, Contains, refl, sym, subst, ap, ◌∙◌, inl, inr}
 use Rattle.std.specs.List.{slice_get}
+use Rattle.sw_list.proofs.Members.{first_or_later, one_in}
 use Rattle.sw_graph.specs.declared.function.Function.{Function}
 use Rattle.sw_graph.specs.declared.graph.Graph.{Graph}
 use Rattle.sw_graph.specs.declared.instr.Instr.{Instr}
@@ -24,7 +25,6 @@ use Rattle.sw_owner_facts.specs.View.{Element, IsUnheld, HoldsLive, Register, ab
 use Rattle.sw_owner_facts.proofs.FrameLemmas.{below_above, below_differs}
 use Rattle.sw_region_facts.specs.FrameRegions.{LiveIn, TogetherIn, region_in}
 use Rattle.sw_region_facts.specs.Moves.{Makes}
-use Rattle.sw_region_facts.proofs.Lists.{first_or_later, one_in}
 use Rattle.sw_reach_facts.specs.Reached.{colours_of}
 use Rattle.sw_view_facts.specs.Changes.{HoldsIn, KeepsReach}
 use Rattle.sw_view_facts.specs.Effects.{turn_of}

@@ -1,6 +1,7 @@
 -- What a register gets from the region of the code itself, and literals.
 use Rattle.std.proofs.Common.{false, ◌≡◌, ◌+◌, ℕ, Option, Some, None, List, [], ◌∷◌, length}
 use Rattle.std.proofs.Common.{Contains, refl, subst, flat_map}
+use Rattle.sw_list.proofs.Members.{in_one, none_in}
 use Rattle.sw_graph.specs.declared.function.Function.{Function}
 use Rattle.sw_graph.specs.declared.graph.Graph.{Graph}
 use Rattle.sw_graph.specs.declared.instr.Instr.{Instr}
@@ -29,7 +30,6 @@ use Rattle.sw_region_facts.specs.Moves.{if_tracked}
 use Rattle.sw_region_facts.specs.Rows.{LoadsPart, SetsFromHere}
 use Rattle.sw_region_facts.proofs.Comes.{sets_weaker}
 use Rattle.sw_reach_facts.specs.Reached.{colours_of, shown_below}
-use Rattle.sw_reach_facts.proofs.ListLemmas.{in_one, none_in}
 use Rattle.sw_reach_facts.proofs.ReferenceLemmas.{references-int, references-truth}
 use Rattle.sw_view_facts.specs.Changes.{HoldsIn}
 use Rattle.sw_view_facts.specs.Effects.{turn_of}

@@ -6,6 +6,7 @@ use Rattle.std.specs.List.{slice_get}
 use Rattle.std.specs.Option.{option_map, option_map_or}
 use Rattle.std.proofs.lemmas.List.Elements.{Contains-append_left, Contains-append_right}
 use Rattle.std.proofs.lemmas.List.Elements.{Contains-append_cases}
+use Rattle.sw_list.proofs.Members.{first_in, first_or_later, later_in, none_in, of_flat_map}
 use Rattle.sw_graph.specs.declared.function.Function.{Function}
 use Rattle.sw_graph.specs.declared.graph.Graph.{Graph}
 use Rattle.sw_graph.specs.declared.instr.Operand.{Operand}
@@ -20,11 +21,9 @@ use Rattle.sw_machine_kind_facts.specs.Kinded.{Kinded}
 use Rattle.sw_owner_facts.specs.Colours.{Colour}
 use Rattle.sw_owner_facts.specs.View.{Element, Register, Frame as Spot}
 use Rattle.sw_region_facts.specs.Moves.{if_tracked, tracked}
-use Rattle.sw_region_facts.proofs.Lists.{first_in, first_or_later, later_in, none_in}
 use Rattle.sw_region_facts.proofs.Passed.{tracked_operand}
 use Rattle.sw_reach_facts.specs.Coloured.{HaveColours}
 use Rattle.sw_reach_facts.specs.Reached.{colours_of}
-use Rattle.sw_reach_facts.proofs.ListLemmas.{of_flat_map}
 use Rattle.sw_view_facts.specs.Changes.{HoldsIn}
 use Rattle.sw_view_facts.specs.Views.{Colours, colours_by, frame_at, here_at}
 use Rattle.sw_store_facts.proofs.Bare.{untracked_bare}

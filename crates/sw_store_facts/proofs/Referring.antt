@@ -3,6 +3,8 @@ use Rattle.std.proofs.Common.{◌≡◌, ℕ, Option, Some, None, List, Contains
 use Rattle.std.proofs.Common.{◌∙◌}
 use Rattle.std.specs.List.{slice_get, slice_index_or}
 use Rattle.std.proofs.lemmas.Option.{slice_get_within}
+use Rattle.sw_list.proofs.ListLemmas.{some_injective}
+use Rattle.sw_list.proofs.Members.{in_one}
 use Rattle.sw_graph.specs.declared.function.Function.{Function}
 use Rattle.sw_graph.specs.declared.function.RegKind.{RegKind}
 use Rattle.sw_graph.specs.declared.graph.Graph.{Graph}
@@ -15,14 +17,12 @@ use Rattle.sw_value.specs.declared.job.Job.{Job}
 use Rattle.sw_value.specs.declared.state.State.{State}
 use Rattle.sw_value.specs.declared.value.Value.{Value}
 use Rattle.sw_value.specs.Value.{operand_value, reference_at, reference_of}
-use Rattle.sw_value.proofs.ListLemmas.{some_injective}
 use Rattle.sw_partition.specs.Regions.{Regions}
 use Rattle.sw_machine_kind_facts.specs.Kinds.{CellFits}
 use Rattle.sw_machine_kind_facts.proofs.StackLemmas.{cell_named}
 use Rattle.sw_owner_facts.specs.Colours.{Colour}
 use Rattle.sw_owner_facts.specs.View.{Frame as Spot}
 use Rattle.sw_reach_facts.proofs.CellLemmas.{reference_shows}
-use Rattle.sw_reach_facts.proofs.ListLemmas.{in_one}
 use Rattle.sw_view_facts.specs.Standing.{StandsAt}
 use Rattle.sw_view_facts.specs.Views.{Colours, colours_by}
 use Rattle.sw_store_facts.specs.Sound.{IsColoured}

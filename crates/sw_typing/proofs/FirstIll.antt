@@ -3,10 +3,11 @@ use Rattle.std.proofs.Common.{◌≡◌, false, List, Option, Some, None, Contai
 use Rattle.std.proofs.Common.{subst}
 use Rattle.std.proofs.lemmas.List.Elements.{All-contains}
 use Rattle.std.specs.Ordering.{is_lt}
+use Rattle.sw_list.proofs.Members.{none_in}
 use Rattle.sw_tree.specs.declared.decl.Decl.{Decl}
 use Rattle.sw_decl_words.specs.Placed.{IsFirstPlaced, placed_cmp}
 use Rattle.sw_decl_words.specs.declared.placed.Placed.{Placed}
-use Rattle.sw_typing_rules.proofs.Saying.{ill_is, is_ill, none_in}
+use Rattle.sw_typing_rules.proofs.Saying.{ill_is, is_ill}
 use Rattle.sw_typing_rules.specs.Programs.{IsFirstIll, said}
 use Rattle.sw_typing_rules.specs.Verdicts.{ills_in}
 use Rattle.sw_typing_rules.specs.Worlds.{World}

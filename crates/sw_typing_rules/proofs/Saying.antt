@@ -7,6 +7,7 @@ use Rattle.std.proofs.lemmas.Grind.{common_steps}
 use Rattle.std.proofs.lemmas.List.Elements.{Contains-append_cases}
 use Rattle.std.proofs.lemmas.List.Elements.{Contains-append_left, Contains-append_right}
 use Rattle.std.specs.Ordering.{is_lt}
+use Rattle.sw_list.proofs.Members.{none_in, one_in, in_one, in_flat_map, of_flat_map}
 use Rattle.sw_tree.specs.declared.decl.Decl.{Decl}
 use Rattle.sw_types.specs.Accepts.{is_marked}
 use Rattle.sw_decl_words.specs.Placed.{placed_cmp}
@@ -22,35 +23,6 @@ use Rattle.sw_typing_rules.specs.declared.row.Row.{Row}
 use Rattle.sw_typing_rules.specs.declared.row.Row.TheVariants.{Typed, Means, Ill}
 use Rattle.sw_typing_rules.proofs.Sound.{judges, leaves_block}
 use Rattle.sw_typing_rules.proofs.Unique.{judge_is, leave_block_is}
-
-pub none_in : {X : Type 0} (x : X) → Contains [] x → ⊥
-none_in x has = let lt = has.1 in omega (arith, lt)
-
-one_in : {X : Type 0} (x y : X) → Contains (x ∷ []) y → x ≡ y
-one_in x y (zero, lt, is) = is
-one_in x y (suc k, lt, is) = absurd (omega (arith, lt))
-
-in_one : {X : Type 0} (x : X) → Contains (x ∷ []) x
-in_one x = (0, (omega arith), refl)
-
-module _ {X Y : Type 0} (f : X → List Y) where
-  pub in_flat_map : (xs : List X) (x : X) (y : Y) → Contains xs x → Contains (f x) y
-      → Contains (flat_map f xs) y
-  in_flat_map [] x y has is = absurd (none_in x has)
-  in_flat_map (z ∷ xs) x y has is = elim (Contains-append_cases (z ∷ []) xs x has) [
-    | inl here ↦ Contains-append_left (f z) (flat_map f xs) y
-        (subst (λ w. Contains (f w) y) (sym (one_in z x here)) is)
-    | inr there ↦ Contains-append_right (f z) (flat_map f xs) y (in_flat_map xs x y there is)
-  ]
-
-  pub of_flat_map : (xs : List X) (y : Y) → Contains (flat_map f xs) y
-      → (x : X) × Contains xs x × Contains (f x) y
-  of_flat_map [] y has = absurd (none_in y has)
-  of_flat_map (z ∷ xs) y has = elim (Contains-append_cases (f z) (flat_map f xs) y has) [
-    | inl here ↦ (z, Contains-append_left (z ∷ []) xs z (in_one z), here)
-    | inr there ↦ let more = of_flat_map xs y there in
-        (more.0, Contains-append_right (z ∷ []) xs more.0 more.1, more.2)
-  ]
 
 module _ (world : World) (decls : List Decl) where
   pub said_is : (row : Row) → Says world decls row → Contains (said world decls) row

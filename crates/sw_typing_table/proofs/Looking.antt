@@ -7,9 +7,10 @@ use Rattle.std.proofs.lemmas.Bool.{eqb-true, false≢true}
 use Rattle.std.proofs.lemmas.Grind.{common_steps}
 use Rattle.std.proofs.lemmas.List.Elements.{Contains-append_cases}
 use Rattle.std.proofs.lemmas.List.Elements.{Contains-append_left, Contains-append_right}
+use Rattle.sw_list.proofs.Members.{none_in}
 use Rattle.sw_tree.specs.declared.decl.Decl.{Decl}
 use Rattle.sw_types.specs.declared.ty.Ty.{Ty}
-use Rattle.sw_typing_rules.proofs.Saying.{is_said, none_in, said_is}
+use Rattle.sw_typing_rules.proofs.Saying.{is_said, said_is}
 use Rattle.sw_typing_rules.specs.Programs.{HasMeaning, HasType, said}
 use Rattle.sw_typing_rules.specs.Worlds.{World}
 use Rattle.sw_typing_rules.specs.declared.row.Meaning.{Meaning}

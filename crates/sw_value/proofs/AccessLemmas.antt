@@ -4,6 +4,7 @@ use Rattle.std.proofs.Common.{sym, ◌∙◌}
 use Rattle.std.specs.Prelude.{option_and_then, is_some}
 use Rattle.std.specs.Option.{option_map}
 use Rattle.std.specs.List.{slice_get}
+use Rattle.sw_list.proofs.ListLemmas.{some_injective}
 use Rattle.sw_graph.specs.declared.graph.Graph.{Graph}
 use Rattle.sw_value.specs.declared.effect.Effect.{Effect}
 use Rattle.sw_value.specs.declared.effect.Effect.TheVariants as effect
@@ -21,7 +22,6 @@ use Rattle.sw_graph.specs.declared.instr.Instr.{Instr}
 use Rattle.sw_graph.specs.declared.instr.Instr.TheVariants as instr
 use Rattle.sw_graph.specs.Points.{Point, Middle, End}
 use Rattle.sw_value.specs.declared.race.Place.{Place}
-use Rattle.sw_value.proofs.ListLemmas.{some_injective}
 use Rattle.sw_value.specs.Value.{reference_at}
 use Rattle.sw_value.specs.Access.{box_at, part_at, global_at, read_by, write_by}
 use Rattle.sw_value.specs.Access.{access_of, point_access, frame_access, job_access, next_access}

@@ -9,6 +9,7 @@ use Rattle.std.specs.Option.{option_map, option_map_or, IfSome}
 use Rattle.std.proofs.lemmas.List.Sums.{sum_by-cons, sum_by_push}
 use Rattle.std.proofs.lemmas.Bool.Decides.{nat_tests}
 use Rattle.std.proofs.lemmas.Option.{slice_get-get_or}
+use Rattle.sw_list.proofs.ListLemmas.{some_injective}
 use Rattle.sw_value.specs.declared.executor.Executor.{Executor}
 use Rattle.sw_value.specs.declared.executor.Executor.TheVariants.{Generic, ActorOf, Global}
 use Rattle.sw_value.specs.declared.frame.Frame.{Frame}
@@ -20,7 +21,7 @@ use Rattle.sw_value.specs.Executor.{is_same}
 use Rattle.sw_value.specs.declared.frame.TheConstants.{NO_REGISTER}
 use Rattle.sw_value.specs.Frame.{set_register, finish_instr, set_field, go_on, take_result}
 use Rattle.sw_value.specs.Lists.{changed_at}
-use Rattle.sw_value.proofs.ListLemmas.{some_injective, changed_at_found, changed_at_none}
+use Rattle.sw_value.proofs.ListLemmas.{changed_at_found, changed_at_none}
 use Rattle.sw_value.proofs.ListLemmas.{length-changed_at, slice_get_end, set_there, take_next}
 use Rattle.sw_value.proofs.ListLemmas.{get_before}
 use Rattle.sw_value.specs.Job.{top_frame, is_running_status, is_running, runs_on, in_top, new_job}

@@ -8,11 +8,9 @@ use Rattle.std.proofs.lemmas.List.{length-set, take_all, set-append_left}
 use mathlib.Core.List.{reverse-cons}
 use Rattle.std.proofs.lemmas.List.Elements.{filter_map-append}
 use Rattle.std.proofs.lemmas.Option.{slice_get_past, slice_get-get_or}
+use Rattle.sw_list.proofs.ListLemmas.{some_injective}
 use Rattle.sw_value.specs.Lists.{changed_by, changed_at, each_of}
 use Rattle.std.specs.Option.{option_map, option_and_then}
-
-pub some_injective : {A : Type 0} {x y : A} → Some x ≡ Some y → x ≡ y
-some_injective e = cc
 
 pub changed_at_there : {A : Type 0} (g : A → A) (i : ℕ) (xs : List A) (x : A)
     → slice_get xs i ≡ Some x → changed_at g i xs ≡ slice_set xs i (g x)

@@ -6,6 +6,7 @@ use Rattle.std.specs.Prelude.{option_and_then, is_some}
 use Rattle.std.specs.List.{slice_get}
 use Rattle.std.proofs.lemmas.Bool.{cases_order, cases_lt, cases_eq, cases_Bool}
 use Rattle.std.proofs.lemmas.Option.{slice_get_within}
+use Rattle.sw_list.proofs.ListLemmas.{some_injective}
 use Rattle.sw_graph.specs.declared.graph.Graph.{Graph}
 use Rattle.sw_value.specs.declared.job.Job.{Job}
 use Rattle.sw_value.specs.declared.race.Access.{Access}
@@ -16,7 +17,6 @@ use Rattle.sw_value.specs.declared.state.State.{State}
 use Rattle.sw_value.specs.Access.{job_access, next_access}
 use Rattle.sw_value.specs.Racing.{IsConflict, IsRace, Racing, IsNoLater, IsLeastRace}
 use Rattle.sw_value.proofs.AccessLemmas.{next_names_its_job}
-use Rattle.sw_value.proofs.ListLemmas.{some_injective}
 
 -- a fact holds, or it does not
 abbrev pub Decided : Type 0 → Type 0

@@ -8,6 +8,7 @@ use Rattle.std.specs.List.{slice_get}
 use Rattle.std.proofs.lemmas.Bool.Decides.{nat_tests}
 use Rattle.std.proofs.lemmas.List.{length-take-le}
 use Rattle.std.proofs.lemmas.Option.{slice_get_within, slice_get-get_or}
+use Rattle.sw_list.proofs.ListLemmas.{some_injective, slice_get_before}
 use Rattle.sw_graph.specs.declared.graph.Graph.{Graph}
 use Rattle.sw_value.specs.declared.executor.Executor.{Executor}
 use Rattle.sw_value.specs.declared.value.Value.{Value}
@@ -37,9 +38,8 @@ use Rattle.sw_value.specs.Transition.{followed_by, ends_by, transition_by, trans
 use Rattle.sw_value.specs.Transition.{executor_of_top, executor_in, runs_at, awaited_by, gained}
 use Rattle.sw_value.specs.Transition.{Describes}
 use Rattle.sw_value.specs.Reach.{after_act, step_of}
-use Rattle.sw_value.proofs.ListLemmas.{some_injective, length-changed_at, changed_at_found}
+use Rattle.sw_value.proofs.ListLemmas.{length-changed_at, changed_at_found}
 use Rattle.sw_value.proofs.ListLemmas.{slice_get_end}
-use Rattle.sw_list.proofs.ListLemmas.{slice_get_before}
 use Rattle.sw_value.proofs.ReachLemmas.{after_acts, step_by_act}
 use Rattle.sw_value.proofs.StaysInBounds.{HasRoom, effect_has_room}
 

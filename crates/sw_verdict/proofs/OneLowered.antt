@@ -9,11 +9,11 @@ use Rattle.std.proofs.lemmas.List.{get_or-map, get_or_default, same_lists}
 use Rattle.std.proofs.lemmas.List.Sorted.{Contains-permutation, IsPermutation-sym}
 use Rattle.std.proofs.lemmas.List.Sorted.{IsPermutation-trans, length_permutation}
 use Rattle.std.proofs.lemmas.Option.{slice_get-get_or}
+use Rattle.sw_list.proofs.ListLemmas.{some_injective}
 use Rattle.sw_tree.specs.declared.decl.Decl.{Decl}
 use Rattle.sw_graph.specs.OneProof.{IsWellFormed-prop}
 use Rattle.sw_graph.specs.WellFormed.{IsWellFormed}
 use Rattle.sw_graph.specs.declared.graph.Graph.{Graph}
-use Rattle.sw_value.proofs.ListLemmas.{some_injective}
 use Rattle.sw_decls.specs.declared.signature.AsyncDefault.{AsyncDefault}
 use Rattle.sw_typing_rules.specs.Worlds.{World, and_then}
 use Rattle.sw_isolation_rules.specs.Answers.{Answers}

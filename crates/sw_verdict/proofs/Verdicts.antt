@@ -7,6 +7,7 @@ use Rattle.std.specs.List.{AllByRecursion}
 use Rattle.std.specs.Prelude.{Contains}
 use Rattle.std.specs.Str.{IsUtf8, is_utf8 as test_utf8}
 use Rattle.std.proofs.lemmas.Str.{IsUtf8-from_is_utf8, is_utf8-from_IsUtf8}
+use Rattle.sw_list.proofs.ListLemmas.{some_injective}
 use Rattle.sw_token.specs.declared.Token.{Token}
 use Rattle.sw_token.specs.declared.LexFault.{LexFault}
 use Rattle.sw_token.specs.Tokens.{IsTokens, HasTokens, IsLexicalFault, position_of}
@@ -16,7 +17,6 @@ use Rattle.sw_token.proofs.TokenLaws.{IsTokens-few, one_list as one_tokens, one_
 use Rattle.sw_token.proofs.TokenLaws.{never_both as tokens_and_fault, tokens_or_fault-HasTokens}
 use Rattle.sw_breach.specs.declared.Breach.{Breach}
 use Rattle.sw_breach.specs.Codes.{IsCode, text_of, texts}
-use Rattle.sw_value.proofs.ListLemmas.{some_injective}
 use Rattle.sw_token.specs.Spelling.{Spelled, spelling_of}
 use Rattle.sw_tree.specs.declared.decl.Decl.{Decl}
 use Rattle.sw_parse_decl.specs.declared.fault.ParseFault.{ParseFault}

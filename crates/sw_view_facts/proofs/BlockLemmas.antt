@@ -5,14 +5,14 @@ use Rattle.std.proofs.Common.{◌≡◌, ◌+◌, ◌&&◌, ◌||◌, ◌<◌, �
 use Rattle.std.proofs.Common.{Some, None, List, [], ◌∷◌, ◌++◌, length, map, take, refl, sym, ap}
 use Rattle.std.proofs.Common.{◌∙◌, arith, length-append}
 use Rattle.std.proofs.lemmas.Bool.{and_right}
-use Rattle.sw_list.proofs.ListLemmas.{slice_get_after, slice_get_first}
+use Rattle.sw_list.proofs.ListLemmas.{some_injective, slice_get_after, slice_get_first}
 use Rattle.sw_graph.specs.declared.function.Function.{Function}
 use Rattle.sw_graph.specs.declared.graph.Graph.{Graph}
 use Rattle.sw_graph.specs.declared.instr.Block.{Block}
 use Rattle.sw_graph.specs.declared.instr.Last.{Last}
 use Rattle.sw_graph.specs.Bodies.{is_own}
 use Rattle.sw_graph.specs.Points.{Middle, End, block_start, point_in, points_of, points_of_block}
-use Rattle.sw_value.proofs.ListLemmas.{slice_get_end, some_injective}
+use Rattle.sw_value.proofs.ListLemmas.{slice_get_end}
 use Rattle.sw_view_facts.specs.Views.{closes, closes_at, is_return, makes_itself}
 
 -- directly before what follows some blocks stands the last of a block

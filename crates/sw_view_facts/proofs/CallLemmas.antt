@@ -2,6 +2,7 @@
 use Rattle.std.proofs.Common.{◌≡◌, ◌⊎◌, ◌+◌, ℕ, false, Option, Some, List, refl, sym, subst, ap}
 use Rattle.std.proofs.Common.{◌∙◌, Bool, true, cond, option_map, option_and_then, Contains, None}
 use Rattle.std.proofs.Common.{slice_get, ◌≢◌}
+use Rattle.sw_list.proofs.ListLemmas.{some_injective}
 use Rattle.sw_graph.specs.declared.function.Function.{Function}
 use Rattle.sw_graph.specs.declared.graph.Graph.{Graph}
 use Rattle.sw_graph.specs.Points.{Middle}
@@ -12,7 +13,6 @@ use Rattle.sw_value.specs.Frame.{go_on}
 use Rattle.sw_value.specs.Job.{enter}
 use Rattle.sw_value.specs.Reach.{step_of}
 use Rattle.sw_value.specs.State.{in_job}
-use Rattle.sw_value.proofs.ListLemmas.{some_injective}
 use Rattle.sw_partition.specs.Regions.{Regions}
 use Rattle.sw_region_ops.specs.Elements.{elements_of, element_at}
 use Rattle.sw_owner_facts.specs.Calls.{Called, ResultWith}

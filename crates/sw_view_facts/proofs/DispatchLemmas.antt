@@ -6,6 +6,7 @@ use Rattle.std.proofs.Common.{◌≡◌, ◌≢◌, ◌<◌, ◌-◌, ℕ, zero,
 use Rattle.std.proofs.Common.{Some, None, List, [], ◌∷◌, length, refl, sym, subst, ap, ◌∙◌, arith}
 use Rattle.std.proofs.Common.{inl, inr, cond, is_some}
 use Rattle.std.proofs.lemmas.Bool.{and_from, cases_eq, eq-eqb, or_left, or_right}
+use Rattle.sw_list.proofs.ListLemmas.{some_injective}
 use Rattle.sw_graph.specs.declared.function.Function.{Function}
 use Rattle.sw_graph.specs.declared.graph.Graph.{Graph}
 use Rattle.sw_value.specs.declared.executor.Executor.{Executor}
@@ -25,7 +26,7 @@ use Rattle.sw_value.specs.declared.effect.Act.TheVariants.{Wake, Dispatch}
 use Rattle.sw_value.specs.Reach.{step_of}
 use Rattle.sw_value.specs.Effect.{effect_of}
 use Rattle.sw_value.specs.Act.{act_by, act_of, dispatch_of, execution_of}
-use Rattle.sw_value.proofs.ListLemmas.{changed_at_found, some_injective}
+use Rattle.sw_value.proofs.ListLemmas.{changed_at_found}
 use Rattle.sw_value.proofs.ReachLemmas.{after_acts, step_by_act}
 use Rattle.sw_partition.specs.Regions.{Regions}
 use Rattle.sw_machine_kind_facts.proofs.ItemLemmas.{changed_other}

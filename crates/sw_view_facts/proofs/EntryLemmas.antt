@@ -7,6 +7,7 @@ use Rattle.std.proofs.Common.{Contains, refl, sym, subst, ap, ◌∙◌, arith, 
 use Rattle.std.proofs.lemmas.Bool.{cases_lt}
 use Rattle.std.proofs.lemmas.List.{length-map}
 use Rattle.std.proofs.lemmas.Option.{slice_get-map}
+use Rattle.sw_list.proofs.Members.{none_in, member_at}
 use Rattle.sw_list.proofs.ListLemmas.{slice_get_first, slice_get_second}
 use Rattle.sw_graph.specs.declared.function.Function.{Function}
 use Rattle.sw_graph.specs.declared.graph.Graph.{Graph}
@@ -21,7 +22,6 @@ use Rattle.sw_owner_facts.specs.View.{Element, Here, Register, View, HoldsLive, 
 use Rattle.sw_owner_facts.specs.View.{Frame as Spot}
 use Rattle.sw_region_facts.specs.FrameRegions.{TogetherIn, region_in}
 use Rattle.sw_reach_facts.specs.Reached.{colours_of}
-use Rattle.sw_reach_facts.proofs.ListLemmas.{none_in, member_at}
 use Rattle.sw_view_facts.specs.Views.{Colours, view_of, colours_by, elements_in, elements_with}
 use Rattle.sw_view_facts.specs.Views.{region_by}
 use Rattle.sw_view_facts.specs.Entering.{TakesLent}

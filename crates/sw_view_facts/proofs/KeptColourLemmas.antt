@@ -1,11 +1,11 @@
 -- Of colours that one frame holds, all but one are the job's own.
 use Rattle.std.proofs.Common.{◌≡◌, ℕ, ◌⊎◌, sym, ◌∙◌, inl, inr, refl, List, [], ◌∷◌, Contains, suc}
 use Rattle.std.proofs.Common.{arith}
+use Rattle.sw_list.proofs.Members.{none_in, first_or_later}
 use Rattle.sw_owner_facts.specs.Colours.{Colour, OfJob}
 use Rattle.sw_owner_facts.specs.View.{Frame, Element, View, HoldsLive}
 use Rattle.sw_owner_facts.specs.Owned.{IsOwned}
 use Rattle.sw_owner_facts.proofs.OwnerLemmas.{one_merges}
-use Rattle.sw_reach_facts.proofs.ListLemmas.{none_in, head_cases}
 use Rattle.sw_view_facts.specs.Renaming.{AllButOne}
 
 -- Of colours that are held live by elements of one frame one can be kept.
@@ -15,7 +15,7 @@ pub some_kept : (w : View) (p : Frame) → IsOwned w → (first : Colour) (rest 
 some_kept w p owned first [] held = (
   first,
   (0, omega arith, refl),
-  λ c has. elim (head_cases first [] c has) [
+  λ c has. elim (first_or_later first [] c has) [
     | inl same ↦ inl (sym same)
     | inr none ↦ absurd (none_in c none)
   ],
@@ -37,7 +37,7 @@ some_kept w p owned first (second ∷ rest) held =
     by more (inl same) = (
       more.0,
       later first (second ∷ rest) more.0 more.1,
-      λ c has. elim (head_cases first (second ∷ rest) c has) [
+      λ c has. elim (first_or_later first (second ∷ rest) c has) [
         | inl is ↦ inl (sym is ∙ same)
         | inr there ↦ more.2 c there
       ],
@@ -45,7 +45,7 @@ some_kept w p owned first (second ∷ rest) held =
     by more (inr (n, inl own)) = (
       more.0,
       later first (second ∷ rest) more.0 more.1,
-      λ c has. elim (head_cases first (second ∷ rest) c has) [
+      λ c has. elim (first_or_later first (second ∷ rest) c has) [
         | inl is ↦ inr (n, sym is ∙ own)
         | inr there ↦ more.2 c there
       ],
@@ -53,7 +53,7 @@ some_kept w p owned first (second ∷ rest) held =
     by more (inr (n, inr own)) = (
       first,
       (0, omega arith, refl),
-      λ c has. elim (head_cases first (second ∷ rest) c has) [
+      λ c has. elim (first_or_later first (second ∷ rest) c has) [
         | inl is ↦ inl (sym is)
         | inr there ↦ elim (more.2 c there) [
           | inl is ↦ inr (n, is ∙ own)

@@ -6,7 +6,8 @@ use Rattle.std.proofs.Common.{List, [], ◌∷◌, ◌++◌, length, Contains, r
 use Rattle.std.proofs.Common.{arith, cond}
 use Rattle.std.proofs.lemmas.Bool.{eqb-true}
 use Rattle.std.proofs.lemmas.Option.{slice_get_past}
-use Rattle.sw_list.proofs.ListLemmas.{slice_get_first}
+use Rattle.sw_list.proofs.ListLemmas.{some_injective, slice_get_first}
+use Rattle.sw_list.proofs.Members.{none_in}
 use Rattle.sw_graph.specs.declared.function.Function.{Function}
 use Rattle.sw_graph.specs.declared.graph.Graph.{Graph}
 use Rattle.sw_value.specs.declared.effect.Effect.TheVariants.{Leave}
@@ -20,13 +21,11 @@ use Rattle.sw_value.specs.Job.{leave}
 use Rattle.sw_value.specs.Reach.{step_of}
 use Rattle.sw_value.specs.State.{in_job}
 use Rattle.sw_value.specs.Value.{value_at}
-use Rattle.sw_value.proofs.ListLemmas.{some_injective}
 use Rattle.sw_partition.specs.Regions.{Regions}
 use Rattle.sw_owner_facts.specs.Calls.{Handed, Returned}
 use Rattle.sw_owner_facts.specs.Colours.{Colour}
 use Rattle.sw_owner_facts.specs.View.{View, above, Frame as Spot}
 use Rattle.sw_reach_facts.specs.Reached.{colours_of}
-use Rattle.sw_reach_facts.proofs.ListLemmas.{none_in}
 use Rattle.sw_view_facts.specs.Changes.{KeepsShape}
 use Rattle.sw_view_facts.specs.Returning.{Leaves}
 use Rattle.sw_view_facts.specs.Views.{Colours, annotated, closes_at, colours_by, view_of}

@@ -5,6 +5,7 @@ use Rattle.std.proofs.Common.{◌≡◌, ℕ, suc, ◌⊎◌, ◌==◌, ◌&&◌
 use Rattle.std.proofs.Common.{map, Contains, refl, sym, subst, ap, ◌∙◌, arith, inl, inr}
 use Rattle.std.proofs.lemmas.Bool.{cases_eq, eq-eqb, ne_eqb, and_left, and_right}
 use Rattle.std.proofs.lemmas.Option.{slice_get-map, get_or_from_slice_get}
+use Rattle.sw_list.proofs.Members.{member_at, stands_at}
 use Rattle.sw_graph.specs.declared.graph.Graph.{Graph}
 use Rattle.sw_value.specs.declared.frame.Frame.{Frame}
 use Rattle.sw_value.specs.declared.state.State.{State}
@@ -20,7 +21,6 @@ use Rattle.sw_owner_facts.proofs.MergedLemmas.{merged}
 use Rattle.sw_owner_facts.proofs.WithinLemmas.{unheld}
 use Rattle.sw_reach_facts.specs.Reached.{colours_of}
 use Rattle.sw_reach_facts.proofs.RenamedLemmas.{colours_renamed}
-use Rattle.sw_reach_facts.proofs.ListLemmas.{member_at, stands_at}
 use Rattle.sw_view_facts.specs.Renaming.{renames, recoloured_by, united, HasHere, MayUnite}
 use Rattle.sw_view_facts.specs.Views.{Colours, frame_at, here_at, colours_by, view_of}
 

@@ -2,6 +2,7 @@
 use Rattle.std.specs.Option.{option_map_or}
 use Rattle.std.proofs.Common.{◌≡◌, ℕ, false, Option, Some}
 use Rattle.std.proofs.Common.{[], Contains, refl, subst, ap, ◌∙◌, inl, inr}
+use Rattle.sw_list.proofs.Members.{none_in}
 use Rattle.sw_types.specs.declared.isolation.Iso.TheVariants.{Free}
 use Rattle.sw_graph.specs.declared.graph.Graph.{Graph}
 use Rattle.sw_graph.specs.Points.{point_in}
@@ -14,7 +15,6 @@ use Rattle.sw_owner_facts.specs.View.{FrameShape}
 use Rattle.sw_owner_facts.specs.View.{Frame as Spot}
 use Rattle.sw_owner_facts.specs.Owned.{IsSound}
 use Rattle.sw_reach_facts.specs.Reached.{colours_of}
-use Rattle.sw_reach_facts.proofs.ListLemmas.{none_in}
 use Rattle.sw_view_facts.specs.Views.{Colours, view_of, frame_at}
 use Rattle.sw_view_facts.specs.Views.{colours_by}
 use Rattle.sw_view_facts.specs.Views.{stands_on, closes}

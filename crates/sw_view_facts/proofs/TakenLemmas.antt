@@ -3,6 +3,8 @@ use Rattle.std.specs.Option.{option_map_or}
 use Rattle.std.specs.List.{slice_get}
 use Rattle.std.proofs.Common.{◌≡◌, ◌+◌, ℕ, zero, suc, Bool, true, false, not, cond, Option, Some}
 use Rattle.std.proofs.Common.{None, List, [], ◌∷◌, Contains, refl, sym, subst, ap, ◌∙◌}
+use Rattle.sw_list.proofs.ListLemmas.{some_injective}
+use Rattle.sw_list.proofs.Members.{in_one}
 use Rattle.sw_types.specs.declared.shape.Shape.{Shape}
 use Rattle.sw_graph.specs.declared.function.Function.{Function}
 use Rattle.sw_graph.specs.declared.function.RegKind.{RegKind}
@@ -15,7 +17,6 @@ use Rattle.sw_value.specs.declared.state.State.{State}
 use Rattle.sw_value.specs.declared.value.Value.{Value}
 use Rattle.sw_value.specs.State.{in_job}
 use Rattle.sw_value.specs.Value.{value_at}
-use Rattle.sw_value.proofs.ListLemmas.{some_injective}
 use Rattle.sw_partition.specs.Regions.{Regions}
 use Rattle.sw_region_ops.specs.Elements.{element_at, elements_of, is_tracked, numbered}
 use Rattle.sw_machine_kind_facts.specs.Kinds.{HasKind, Referents}
@@ -25,7 +26,6 @@ use Rattle.sw_owner_facts.specs.View.{Element, Register, Frame as Spot}
 use Rattle.sw_region_facts.specs.Moves.{Sets, copied_from}
 use Rattle.sw_reach_facts.specs.Coloured.{ColoursFit, ConformancesHold}
 use Rattle.sw_reach_facts.specs.Reached.{colours_of}
-use Rattle.sw_reach_facts.proofs.ListLemmas.{in_one}
 use Rattle.sw_reach_facts.proofs.SendableLemmas.{crosses_nothing}
 use Rattle.sw_view_facts.specs.Changes.{HoldsIn, KeepsShape}
 use Rattle.sw_view_facts.specs.Effects.{turn_of}

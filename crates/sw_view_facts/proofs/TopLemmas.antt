@@ -5,6 +5,7 @@ use Rattle.std.proofs.Common.{List, ◌++◌, ◌∷◌, [], ◌≡◌, ◌≢�
 use Rattle.std.proofs.Common.{refl, sym, ap, ◌∙◌, arith, inl, inr, length-append}
 use Rattle.std.proofs.lemmas.Bool.{cases_eq}
 use Rattle.std.proofs.lemmas.Option.{slice_get_past}
+use Rattle.sw_list.proofs.ListLemmas.{some_injective}
 use Rattle.sw_value.specs.declared.frame.Frame.{Frame}
 use Rattle.sw_value.specs.declared.job.Job.{Job}
 use Rattle.sw_value.specs.declared.state.State.{State}
@@ -15,7 +16,6 @@ use Rattle.sw_value.specs.Job.{in_top, is_running, rest, wait, wake}
 use Rattle.sw_value.specs.Lists.{changed_at}
 use Rattle.sw_value.specs.State.{in_job}
 use Rattle.sw_value.proofs.ListLemmas.{changed_at_found, length-changed_at, slice_get_end}
-use Rattle.sw_value.proofs.ListLemmas.{some_injective}
 use Rattle.sw_machine_kind_facts.proofs.ItemLemmas.{changed_other, split_end}
 use Rattle.sw_owner_facts.specs.View.{above, Frame as Spot}
 use Rattle.sw_owner_facts.proofs.FrameLemmas.{same_frame}

@@ -3,6 +3,8 @@ use Rattle.std.specs.Option.{option_and_then, option_map, option_map_or}
 use Rattle.std.specs.List.{slice_get, slice_set}
 use Rattle.std.proofs.Common.{◌≡◌, ◌⊎◌, ℕ, Option, Some, None, List, [], length, Contains, refl}
 use Rattle.std.proofs.Common.{sym, subst, inl, inr, flat_map}
+use Rattle.sw_list.proofs.ListLemmas.{some_injective}
+use Rattle.sw_list.proofs.Members.{none_in}
 use Rattle.sw_value.specs.declared.effect.Effect.{Effect}
 use Rattle.sw_value.specs.declared.effect.Effect.TheVariants as effect
 use Rattle.sw_value.specs.declared.frame.Frame.{Frame}
@@ -11,10 +13,9 @@ use Rattle.sw_value.specs.declared.value.Value.{Value}
 use Rattle.sw_value.specs.declared.value.Value.TheVariants as value
 use Rattle.sw_value.specs.Frame.{finish_instr, set_field}
 use Rattle.sw_value.specs.Value.{value_at, with_field}
-use Rattle.sw_value.proofs.ListLemmas.{changed_at_found, changed_at_none, some_injective}
+use Rattle.sw_value.proofs.ListLemmas.{changed_at_found, changed_at_none}
 use Rattle.sw_owner_facts.specs.Colours.{Colour}
 use Rattle.sw_reach_facts.specs.Reached.{colours_of, shown_below}
-use Rattle.sw_reach_facts.proofs.ListLemmas.{none_in}
 use Rattle.sw_reach_facts.proofs.PartLemmas.{with_field_within}
 use Rattle.sw_reach_facts.proofs.ReferenceLemmas.{references-void}
 use Rattle.sw_view_facts.specs.Effects.{register_of, turn_of, value_by}

@@ -4,6 +4,7 @@ use Rattle.std.specs.Option.{option_and_then, option_map_or}
 use Rattle.std.specs.List.{slice_get}
 use Rattle.std.proofs.Common.{◌≡◌, ◌≢◌, ℕ, Option, Some, None, List, [], Contains, refl, sym, subst}
 use Rattle.std.proofs.Common.{ap, ◌∙◌}
+use Rattle.sw_list.proofs.Members.{none_in}
 use Rattle.sw_graph.specs.declared.function.Function.{Function}
 use Rattle.sw_graph.specs.declared.graph.Graph.{Graph}
 use Rattle.sw_graph.specs.Bodies.{has_self}
@@ -28,7 +29,6 @@ use Rattle.sw_owner_facts.proofs.WithinLemmas.{comes}
 use Rattle.sw_region_facts.specs.Moves as moves
 use Rattle.sw_region_facts.proofs.Comes.{sets_weaker}
 use Rattle.sw_reach_facts.specs.Reached.{colours_of}
-use Rattle.sw_reach_facts.proofs.ListLemmas.{none_in}
 use Rattle.sw_view_facts.specs.Changes.{Changes, KeepsOthers, KeepsShape}
 use Rattle.sw_view_facts.specs.Steps.{ChangesFrame, SameCall, TopAt}
 use Rattle.sw_view_facts.specs.Views.{Colours, annotated, elements_in, view_of, state_with}

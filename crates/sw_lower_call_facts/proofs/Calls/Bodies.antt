@@ -5,6 +5,7 @@ use Rattle.std.proofs.Common.{None, flat_map, Contains, subst, refl}
 use Rattle.std.proofs.lemmas.List.Elements.{All-append, All-cons, All-nil, All-contains, All-tail}
 use Rattle.std.specs.List.{AllByRecursion}
 use Rattle.std.specs.Prelude.{All, ◌&&◌, if◌then◌else◌, slice_get}
+use Rattle.sw_list.proofs.Members.{none_in}
 use Rattle.sw_tree.specs.declared.decl.FuncTree.{FuncTree}
 use Rattle.sw_tree.specs.declared.decl.InitTree.{InitTree}
 use Rattle.sw_tree.specs.declared.decl.ParamTree.{ParamTree}
@@ -22,7 +23,6 @@ use Rattle.sw_decls.specs.declared.signature.Signature.{Signature}
 use Rattle.sw_isolation_rules.specs.Answers.{for_some}
 use Rattle.sw_isolation_rules.specs.Kinds.{is_isolated, shape_iso}
 use Rattle.sw_isolation_rules.specs.Programs.{func_at}
-use Rattle.sw_typing_rules.proofs.Saying.{none_in}
 use Rattle.sw_lower_plans.specs.Plan.{Numbers}
 use Rattle.sw_lower_code.specs.Code.{Code}
 use Rattle.sw_lower_code.specs.Whole.{Body}

@@ -4,6 +4,7 @@ use Rattle.std.proofs.Common.{Some, None, Contains, refl, sym, ap, ◌∙◌, in
 use Rattle.std.proofs.lemmas.List.Elements.{Contains-append_cases}
 use Rattle.std.proofs.lemmas.List.Sorted.{Contains-permutation, IsPermutation-sym}
 use Rattle.std.specs.Prelude.{◌==◌, if◌then◌else◌}
+use Rattle.sw_list.proofs.Members.{none_in}
 use Rattle.sw_tree.specs.declared.decl.Decl.{Decl}
 use Rattle.sw_tree.specs.declared.decl.Decl.TheVariants.{Entry, Struct, Enum, Class, Actor}
 use Rattle.sw_tree.specs.declared.decl.Decl.TheVariants.{GlobalActor, Func, Global}
@@ -26,7 +27,6 @@ use Rattle.sw_decls.specs.Signatures.{init_of, inits_of, with_default}
 use Rattle.sw_decls.specs.declared.signature.AsyncDefault.{AsyncDefault}
 use Rattle.sw_decls.specs.declared.signature.AsyncDefault.TheVariants as default
 use Rattle.sw_decls.specs.declared.signature.Signature.{Signature}
-use Rattle.sw_typing_rules.proofs.Saying.{none_in}
 use Rattle.sw_typing_rules.specs.Worlds.{IsWorldOf, World}
 use Rattle.sw_decl_words.specs.Words.{globals_made}
 use Rattle.sw_typing_facts.proofs.Lists.Listed.{of_map, only_in}

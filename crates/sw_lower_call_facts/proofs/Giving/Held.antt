@@ -4,6 +4,7 @@ use Rattle.std.proofs.Common.{◌≡◌, ℕ, zero, suc, ◌+◌, ◌≤◌, ◌
 use Rattle.std.proofs.Common.{Some}
 use Rattle.std.proofs.Common.{None, flat_map, Contains, refl, sym, ap, ◌∙◌, subst, arith}
 use Rattle.std.proofs.lemmas.List.Elements.{All-contains, Contains-append_left}
+use Rattle.sw_list.proofs.Members.{none_in}
 use Rattle.sw_tree.specs.Keys.{block_keys}
 use Rattle.sw_tree.specs.Order.{block_order}
 use Rattle.sw_tree.specs.declared.decl.Decl.{Decl}
@@ -23,7 +24,6 @@ use Rattle.sw_decls.specs.declared.signature.Signature.{Signature}
 use Rattle.sw_typing_rules.proofs.OneWorld.{distinct_once}
 use Rattle.sw_typing_rules.specs.Programs.{said}
 use Rattle.sw_typing_rules.specs.Worlds.{World}
-use Rattle.sw_typing_rules.proofs.Saying.{none_in}
 use Rattle.sw_isolation_rules.specs.Answers.{Answers, answers_in, for_some}
 use Rattle.sw_isolation_rules.specs.Captures.{self_of}
 use Rattle.sw_isolation_rules.specs.Kinds.{is_own}

@@ -3,6 +3,7 @@
 use Rattle.std.proofs.Common.{◌≡◌, ℕ, ◌+◌, ◌≤◌, List, [], ◌∷◌, ◌++◌, Option, Some, None, flat_map}
 use Rattle.std.proofs.Common.{Contains, refl, ap, subst, arith, inl, inr}
 use Rattle.std.proofs.lemmas.List.Elements.{All-contains, All-from_recursion, Contains-append_cases}
+use Rattle.sw_list.proofs.Members.{none_in}
 use Rattle.sw_tree.specs.Contents.{AreKeyed}
 use Rattle.sw_tree.specs.declared.decl.Decl.{Decl}
 use Rattle.sw_tree.specs.declared.decl.Decl.TheVariants.{Entry, Struct, Enum, Class, Actor}
@@ -20,7 +21,6 @@ use Rattle.sw_types.specs.declared.ty.Ty.{Ty}
 use Rattle.sw_decls.specs.declared.signature.AsyncDefault.{AsyncDefault}
 use Rattle.sw_decls.specs.declared.signature.Signature.{Signature}
 use Rattle.sw_typing_rules.specs.Worlds.{IsWorldOf}
-use Rattle.sw_typing_rules.proofs.Saying.{none_in}
 use Rattle.sw_isolation_rules.specs.Answers.{for_some}
 use Rattle.sw_isolation_rules.specs.Programs.{func_at}
 use Rattle.sw_lower_code.specs.Whole.{Body}

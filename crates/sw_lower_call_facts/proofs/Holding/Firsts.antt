@@ -4,8 +4,8 @@ use Rattle.std.proofs.Common.{flat_map, Contains, refl, ap, sym, ◌∙◌, subs
 use Rattle.std.proofs.lemmas.Bool.{false≢true}
 use Rattle.std.proofs.lemmas.List.Elements.{Contains-append_cases}
 use Rattle.std.specs.List.{filter}
+use Rattle.sw_list.proofs.Members.{none_in}
 use Rattle.sw_typing_rules.specs.Worlds.{World}
-use Rattle.sw_typing_rules.proofs.Saying.{none_in}
 use Rattle.sw_isolation_rules.specs.Captures.{firsts, held_self, is_among, mentioned, outer}
 use Rattle.sw_isolation_rules.specs.Captures.{self_of}
 use Rattle.sw_isolation_rules.specs.Captures.{taken}

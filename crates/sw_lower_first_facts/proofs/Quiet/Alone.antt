@@ -5,6 +5,7 @@ use Rattle.std.proofs.Common.{◌∙◌, subst, slice_get, inl, inr}
 use Rattle.std.proofs.lemmas.List.Elements.{All-contains}
 use Rattle.std.proofs.lemmas.Option.{same_Some, slice_get-map}
 use Rattle.std.specs.Option.{option_map}
+use Rattle.sw_list.proofs.Members.{none_in}
 use Rattle.sw_tree.specs.declared.decl.Decl.{Decl}
 use Rattle.sw_types.specs.declared.ty.Ty.TheVariants as types
 use Rattle.sw_graph.specs.Kinds.{taken}
@@ -24,7 +25,6 @@ use Rattle.sw_graph.specs.declared.instr.Instr.TheVariants.{CallClosure, NewTask
 use Rattle.sw_decls.specs.declared.signature.AsyncDefault.{AsyncDefault}
 use Rattle.sw_decls.specs.declared.signature.Signature.{Signature}
 use Rattle.sw_typing_rules.specs.Worlds.{World, and_then, item}
-use Rattle.sw_typing_rules.proofs.Saying.{none_in}
 use Rattle.sw_isolation_rules.specs.Programs.{func_at}
 use Rattle.sw_isolation_rules.specs.Uses.{maker_at}
 use Rattle.sw_lower_plans.specs.Plan.{Numbers}

@@ -2,6 +2,7 @@
 use Rattle.std.proofs.Common.{◌≡◌, ℕ, true, List, [], ◌∷◌, Option, Some, None, flat_map}
 use Rattle.std.proofs.Common.{Contains, refl, sym, subst, ◌&&◌}
 use Rattle.std.proofs.lemmas.List.Elements.{All-nil}
+use Rattle.sw_list.proofs.Members.{in_flat_map}
 use Rattle.sw_tree.specs.NodeKey.{expr_key}
 use Rattle.sw_tree.specs.declared.decl.Decl.{Decl}
 use Rattle.sw_tree.specs.declared.decl.Decl.TheVariants.{Global}
@@ -19,7 +20,6 @@ use Rattle.sw_typing_rules.specs.Judging.{judge}
 use Rattle.sw_typing_rules.specs.Programs.{ValueOf, first_value, prop_value, value_setting}
 use Rattle.sw_typing_rules.specs.Programs.{values_from, values_of}
 use Rattle.sw_typing_rules.specs.Worlds.{World}
-use Rattle.sw_typing_rules.proofs.Saying.{in_flat_map}
 use Rattle.sw_typing_rules.proofs.Sound.{judges}
 use Rattle.sw_typing_rules.proofs.Steps.{and_left}
 use Rattle.sw_lower_plans.specs.Plan.{Numbers}

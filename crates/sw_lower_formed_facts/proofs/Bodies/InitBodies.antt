@@ -4,6 +4,7 @@ use Rattle.std.proofs.Common.{Contains, refl, ap, sym, ◌∙◌, subst}
 use Rattle.std.proofs.lemmas.List.{map-append}
 use Rattle.std.proofs.lemmas.List.Elements.{All-nil, All-cons, All-head}
 use Rattle.std.specs.Prelude.{All, slice_get}
+use Rattle.sw_list.proofs.Members.{in_flat_map}
 use Rattle.sw_lower_formed_facts.specs.Programs.{tables_in}
 use Rattle.sw_tree.proofs.FoldEquations as eq
 use Rattle.sw_tree.specs.Folds.{fold_stmt}
@@ -30,7 +31,6 @@ use Rattle.sw_decl_values.specs.Values.{set_in}
 use Rattle.sw_decls.specs.Signatures.{funcs_from, init_of}
 use Rattle.sw_decls.specs.declared.signature.AsyncDefault.{AsyncDefault}
 use Rattle.sw_decls.specs.declared.signature.Signature.{Signature}
-use Rattle.sw_typing_rules.proofs.Saying.{in_flat_map}
 use Rattle.sw_typing_rules.proofs.Sound.{judges, leaves_block}
 use Rattle.sw_typing_rules.specs.Expressions.{Judged}
 use Rattle.sw_typing_rules.specs.Judges as is

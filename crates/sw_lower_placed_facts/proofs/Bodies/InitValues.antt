@@ -5,6 +5,7 @@ use Rattle.std.proofs.Common.{◌∙◌, subst}
 use Rattle.std.proofs.lemmas.List.Elements.{All-nil, Contains-append_cases, Contains-append_left}
 use Rattle.std.proofs.lemmas.List.Elements.{Contains-append_right}
 use Rattle.std.specs.Prelude.{slice_get}
+use Rattle.sw_list.proofs.Members.{none_in}
 use Rattle.sw_tree.proofs.FoldEquations as eq
 use Rattle.sw_tree.specs.Folds.{Steps, fold_stmt}
 use Rattle.sw_tree.specs.declared.decl.Decl.{Decl}
@@ -25,7 +26,6 @@ use Rattle.sw_typing_rules.specs.Statements.{Left, State, in_body}
 use Rattle.sw_typing_rules.specs.Statements.{setting_of}
 use Rattle.sw_typing_rules.specs.Words.{Setting}
 use Rattle.sw_typing_rules.specs.Worlds.{World}
-use Rattle.sw_typing_rules.proofs.Saying.{none_in}
 use Rattle.sw_typing_rules.proofs.Sound.{judges}
 use Rattle.sw_isolation_rules.specs.Answers.{Answers}
 use Rattle.sw_isolation_rules.specs.Kinds.{shape_iso}

@@ -6,6 +6,7 @@ use Rattle.std.proofs.Common.{length}
 use Rattle.std.proofs.lemmas.List.Elements.{All-append, All-cons, All-contains_itself, All-head}
 use Rattle.std.proofs.lemmas.List.Elements.{All-map, All-nil, Contains-append_right}
 use Rattle.std.specs.Prelude.{All, IsOk, ◌==◌, if◌then◌else◌, slice_get}
+use Rattle.sw_list.proofs.Members.{none_in, of_flat_map}
 use Rattle.sw_tree.specs.declared.decl.Decl.{Decl}
 use Rattle.sw_tree.specs.declared.decl.InitTree.{InitTree}
 use Rattle.sw_tree.specs.declared.decl.ParamTree.{ParamTree}
@@ -36,7 +37,6 @@ use Rattle.sw_typing_rules.specs.Programs.{ValueOf, bodies_from, bodies_of, body
 use Rattle.sw_typing_rules.specs.Programs.{prop_value, value_setting, values_from}
 use Rattle.sw_typing_rules.specs.Statements.{Left, State, in_body}
 use Rattle.sw_typing_rules.specs.Worlds.{World, and_then, is_object_kind, item}
-use Rattle.sw_typing_rules.proofs.Saying.{none_in, of_flat_map}
 use Rattle.sw_typing_rules.proofs.Sound.{judges, leaves_block}
 use Rattle.sw_isolation_rules.specs.Answers.{Answers, for_some}
 use Rattle.sw_isolation_rules.specs.Kinds.{shape_iso}

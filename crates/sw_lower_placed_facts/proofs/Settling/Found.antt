@@ -5,13 +5,13 @@ use Rattle.std.proofs.Common.{Contains, refl, ap, sym, ◌∙◌, subst, arith, 
 use Rattle.std.proofs.lemmas.Bool.{eqb-true}
 use Rattle.std.proofs.lemmas.List.Elements.{Contains-append_left}
 use Rattle.std.specs.Prelude.{◌==◌, if◌then◌else◌}
+use Rattle.sw_list.proofs.Members.{in_flat_map, none_in, of_flat_map}
 use Rattle.sw_tree.specs.Contents.{AreKeyed}
 use Rattle.sw_tree.specs.declared.decl.Decl.{Decl}
 use Rattle.sw_tree.proofs.Counting.{hits, hits_same}
 use Rattle.sw_decl_words.specs.declared.placed.Placed.{Placed}
 use Rattle.sw_decls.specs.declared.signature.AsyncDefault.{AsyncDefault}
 use Rattle.sw_typing_rules.specs.Worlds.{IsWorldOf, World}
-use Rattle.sw_typing_rules.proofs.Saying.{in_flat_map, none_in, of_flat_map}
 use Rattle.sw_isolation_rules.specs.Answers.{Answers, IsOnePerKey}
 use Rattle.sw_isolation_rules.specs.Lists.{bodies_in, body_in, kind_in, kind_with, kinds_in}
 use Rattle.sw_isolation_rules.specs.Lists.{refusals_in, refused_in}

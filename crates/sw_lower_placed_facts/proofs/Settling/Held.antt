@@ -4,6 +4,7 @@ use Rattle.std.proofs.Common.{map, Contains, refl, sym, ap, ◌∙◌, subst, ar
 use Rattle.std.proofs.lemmas.Option.{none-some, same_Some}
 use Rattle.std.specs.Option.{option_map_or}
 use Rattle.std.specs.Prelude.{slice_get}
+use Rattle.sw_list.proofs.Members.{none_in}
 use Rattle.sw_tree.specs.declared.decl.Decl.{Decl}
 use Rattle.sw_tree.specs.declared.decl.Decl.TheVariants.{Actor}
 use Rattle.sw_tree.specs.declared.decl.FuncTree.{FuncTree}
@@ -20,7 +21,6 @@ use Rattle.sw_decl_words.specs.Shaped.{part_of, shape_of}
 use Rattle.sw_decls.specs.declared.signature.AsyncDefault.{AsyncDefault}
 use Rattle.sw_typing_rules.specs.Programs.{said}
 use Rattle.sw_typing_rules.specs.Worlds.{World, item}
-use Rattle.sw_typing_rules.proofs.Saying.{none_in}
 use Rattle.sw_isolation_rules.specs.Answers.{Answers, answers_in, for_some}
 use Rattle.sw_isolation_rules.specs.Captures.{is_among, self_of}
 use Rattle.sw_isolation_rules.specs.Kinds.{is_own}

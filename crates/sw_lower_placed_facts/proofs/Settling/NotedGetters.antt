@@ -4,6 +4,7 @@ use Rattle.std.proofs.Common.{Contains, refl, ap, sym, ◌∙◌, subst}
 use Rattle.std.proofs.lemmas.List.Elements.{Contains-append_left}
 use Rattle.std.proofs.lemmas.Option.{same_Some}
 use Rattle.std.specs.Prelude.{◌&&◌, if◌then◌else◌, slice_get}
+use Rattle.sw_list.proofs.Members.{in_flat_map}
 use Rattle.sw_tree.specs.declared.decl.Decl.{Decl}
 use Rattle.sw_tree.specs.declared.decl.Decl.TheVariants.{Actor, Class, Entry, Enum, Func, Global}
 use Rattle.sw_tree.specs.declared.decl.Decl.TheVariants.{GlobalActor, Struct}
@@ -16,7 +17,6 @@ use Rattle.sw_decls.specs.Signatures.{actor_iso, global_of}
 use Rattle.sw_decls.specs.declared.signature.AsyncDefault.{AsyncDefault}
 use Rattle.sw_decls.specs.declared.signature.GlobalVar.{GlobalVar}
 use Rattle.sw_typing_rules.specs.Worlds.{IsWorldOf, World}
-use Rattle.sw_typing_rules.proofs.Saying.{in_flat_map}
 use Rattle.sw_isolation_rules.specs.Answers.{Answers}
 use Rattle.sw_isolation_rules.specs.Kinds.{is_isolated, shape_iso}
 use Rattle.sw_isolation_rules.specs.Noting.{body_note}

@@ -8,6 +8,7 @@ use Rattle.std.proofs.lemmas.List.Elements.{All-cons, All-nil}
 use Rattle.std.proofs.lemmas.Option.{slice_get_within}
 use Rattle.std.specs.Option.{option_map_or}
 use Rattle.std.specs.Prelude.{All, Contains, if◌then◌else◌, slice_get, ◌==◌}
+use Rattle.sw_list.proofs.Members.{in_flat_map, none_in}
 use Rattle.sw_types.specs.Sendable.{is_sendable}
 use Rattle.sw_types.specs.declared.shape.Shape.{Shape}
 use Rattle.sw_types.specs.declared.ty.Ty.{Ty}
@@ -20,7 +21,6 @@ use Rattle.sw_graph.specs.declared.instr.Operand.{Operand}
 use Rattle.sw_decl_words.specs.Words.{or_else}
 use Rattle.sw_decl_words.specs.declared.placed.Placed.{Placed}
 use Rattle.sw_typing_rules.specs.Statements.{marked_type}
-use Rattle.sw_typing_rules.proofs.Saying.{in_flat_map, none_in}
 use Rattle.sw_typing_rules.proofs.Steps.{not_false}
 use Rattle.sw_isolation_rules.specs.Lists.{captures_in}
 use Rattle.sw_isolation_rules.specs.Noting.{placed}

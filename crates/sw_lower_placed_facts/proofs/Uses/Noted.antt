@@ -4,9 +4,9 @@ use Rattle.std.proofs.Common.{Some, None, refl, ap, sym, ◌∙◌, subst}
 use Rattle.std.proofs.lemmas.Bool.{false≢true}
 use Rattle.std.proofs.lemmas.List.Elements.{Contains-append_left, Contains-append_right}
 use Rattle.std.specs.Prelude.{Contains, if◌then◌else◌}
+use Rattle.sw_list.proofs.Members.{in_flat_map, none_in}
 use Rattle.sw_types.specs.declared.isolation.CallKind.{CallKind}
 use Rattle.sw_graph.specs.declared.function.RegKind.{RegKind}
-use Rattle.sw_typing_rules.proofs.Saying.{in_flat_map, none_in}
 use Rattle.sw_typing_rules.proofs.Steps.{not_false}
 use Rattle.sw_isolation_rules.specs.Kinds.{accessor, is_outside, is_strong, kind_of, needs_await}
 use Rattle.sw_isolation_rules.specs.Lists.{race_in}

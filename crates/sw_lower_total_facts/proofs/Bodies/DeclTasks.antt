@@ -1,6 +1,7 @@
 -- Where no body of a task in a program has a parameter, none in a declaration has one.
 use Rattle.std.proofs.Common.{◌≡◌, ℕ, List, [], ◌++◌, flat_map, Option, Some, Contains, subst}
 use Rattle.std.proofs.Common.{option_map, unwrap_or}
+use Rattle.sw_list.proofs.Members.{none_in}
 use Rattle.sw_tree.specs.declared.decl.Decl.{Decl}
 use Rattle.sw_tree.specs.declared.decl.Decl.TheVariants.{Entry, Struct, Enum, Class, Actor}
 use Rattle.sw_tree.specs.declared.decl.Decl.TheVariants.{GlobalActor, Func, Global}
@@ -11,7 +12,6 @@ use Rattle.sw_tree.specs.declared.expr.Expr.{Expr}
 use Rattle.sw_tree_facts.specs.Unwritten.{AreWritten, block_unwritten, decl_unwritten}
 use Rattle.sw_tree_facts.specs.Unwritten.{expr_unwritten, func_unwritten, init_unwritten}
 use Rattle.sw_tree_facts.specs.Unwritten.{prop_unwritten}
-use Rattle.sw_typing_rules.proofs.Saying.{none_in}
 use Rattle.sw_typing_facts.proofs.Lists.Listed.{only_in}
 use Rattle.sw_typing_facts.proofs.Programs.DeclParts.{funcs_in, inits_in, props_in}
 use Rattle.sw_typing_facts.proofs.Programs.DeclStands.{none_left, none_right}

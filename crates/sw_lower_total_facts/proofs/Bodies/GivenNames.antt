@@ -5,6 +5,7 @@ use Rattle.std.proofs.Common.{◌∙◌, subst, fold, true≢false}
 use Rattle.std.proofs.lemmas.Grind.{common_steps}
 use Rattle.std.proofs.lemmas.List.Elements.{Contains-append_left, Contains-append_right}
 use Rattle.std.specs.Prelude.{if◌then◌else◌, ◌||◌}
+use Rattle.sw_list.proofs.Members.{in_flat_map}
 use Rattle.sw_tree.specs.declared.decl.InitTree.{InitTree}
 use Rattle.sw_tree.specs.declared.decl.ParamTree.{ParamTree}
 use Rattle.sw_tree.specs.declared.decl.PropTree.{PropTree}
@@ -21,7 +22,6 @@ use Rattle.sw_typing_rules.specs.Programs.{param_var}
 use Rattle.sw_typing_rules.specs.Words.{local}
 use Rattle.sw_typing_rules.specs.Worlds.{World}
 use Rattle.sw_typing_rules.specs.declared.scope.Var.{Var}
-use Rattle.sw_typing_rules.proofs.Saying.{in_flat_map}
 use Rattle.sw_lower_rules.specs.Bodies.{first_values, prop_given}
 use Rattle.sw_lower_rules.specs.Carriers.{Given}
 use Rattle.sw_lower_rules.specs.Statements.{expr_code}

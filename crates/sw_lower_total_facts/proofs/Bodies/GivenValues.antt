@@ -4,6 +4,7 @@ use Rattle.std.proofs.Common.{◌≡◌, ℕ, Bool, List, [], ◌∷◌, Option,
 use Rattle.std.proofs.Common.{sym, ◌∙◌, subst, arith, zero, suc, true}
 use Rattle.std.proofs.lemmas.List.Elements.{All-nil}
 use Rattle.std.specs.Prelude.{All, flat_map}
+use Rattle.sw_list.proofs.Members.{none_in, of_flat_map}
 use Rattle.sw_tree.specs.declared.decl.Decl.{Decl}
 use Rattle.sw_tree.specs.declared.expr.Expr.{Expr}
 use Rattle.sw_tree_facts.specs.Unwritten.{expr_unwritten}
@@ -15,7 +16,6 @@ use Rattle.sw_typing_rules.specs.Judges.{Judges}
 use Rattle.sw_typing_rules.specs.Words.{Setting, local}
 use Rattle.sw_typing_rules.specs.Worlds.{World}
 use Rattle.sw_typing_rules.specs.declared.scope.Var.{Var}
-use Rattle.sw_typing_rules.proofs.Saying.{none_in, of_flat_map}
 use Rattle.sw_isolation_rules.specs.Captures.{mentioned}
 use Rattle.sw_isolation_rules.specs.declared.note.Mention.{Mention}
 use Rattle.sw_isolation_rules.specs.declared.note.Note.{Note}

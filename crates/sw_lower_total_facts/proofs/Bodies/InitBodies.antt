@@ -4,6 +4,7 @@ use Rattle.std.proofs.Common.{flat_map, Contains, refl, ap, sym, ◌∙◌, subs
 use Rattle.std.proofs.lemmas.List.Elements.{All-nil, All-cons, Contains-append_cases}
 use Rattle.std.proofs.lemmas.List.Sorted.{Contains-permutation}
 use Rattle.std.specs.Prelude.{slice_get}
+use Rattle.sw_list.proofs.Members.{none_in, of_flat_map}
 use Rattle.sw_tree.specs.declared.decl.Decl.{Decl}
 use Rattle.sw_tree.specs.declared.decl.InitTree.{InitTree}
 use Rattle.sw_tree.specs.declared.decl.ParamTree.{ParamTree}
@@ -33,7 +34,6 @@ use Rattle.sw_typing_rules.specs.Statements.{Left, State, in_body}
 use Rattle.sw_typing_rules.specs.Worlds.{World}
 use Rattle.sw_typing_rules.specs.declared.scope.Inside.{Inside}
 use Rattle.sw_typing_rules.specs.declared.scope.Var.{Var}
-use Rattle.sw_typing_rules.proofs.Saying.{none_in, of_flat_map}
 use Rattle.sw_typing_rules.proofs.Sound.{judges, leaves_block}
 use Rattle.sw_isolation_rules.specs.Answers.{for_some}
 use Rattle.sw_isolation_rules.specs.Kinds.{shape_iso}

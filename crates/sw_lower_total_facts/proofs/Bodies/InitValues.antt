@@ -6,6 +6,7 @@ use Rattle.std.proofs.Common.{true≢false, inl, inr, ◌⊎◌}
 use Rattle.std.proofs.lemmas.List.{map-append}
 use Rattle.std.proofs.lemmas.List.Elements.{Contains-append_cases}
 use Rattle.std.specs.Prelude.{if◌then◌else◌, option_to_list}
+use Rattle.sw_list.proofs.Members.{none_in}
 use Rattle.sw_tree.specs.Folds.{Steps, fold_expr, fold_stmt}
 use Rattle.sw_tree.specs.declared.decl.Decl.{Decl}
 use Rattle.sw_tree.specs.declared.expr.Expr.{Expr}
@@ -31,7 +32,6 @@ use Rattle.sw_typing_rules.specs.Words.{local}
 use Rattle.sw_typing_rules.specs.Worlds.{World}
 use Rattle.sw_typing_rules.specs.declared.scope.Inside.{Inside}
 use Rattle.sw_typing_rules.specs.declared.scope.Var.{Var}
-use Rattle.sw_typing_rules.proofs.Saying.{none_in}
 use Rattle.sw_isolation_rules.specs.declared.note.Note.{Note}
 use Rattle.sw_isolation_rules.specs.declared.uses.Context.{Context}
 use Rattle.sw_lower_plans.specs.Plan.{Numbers}

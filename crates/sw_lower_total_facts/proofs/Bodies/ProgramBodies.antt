@@ -1,5 +1,6 @@
 -- Each body of a program proceeds.
 use Rattle.std.proofs.Common.{◌≡◌, ℕ, List, [], Some, Contains, subst, sym, false, ◌∙◌}
+use Rattle.sw_list.proofs.Members.{none_in}
 use Rattle.sw_tree.specs.declared.decl.Decl.{Decl}
 use Rattle.sw_tree.specs.declared.decl.Decl.TheVariants.{Entry, Global}
 use Rattle.sw_tree.specs.declared.decl.InitTree.{InitTree}
@@ -8,7 +9,6 @@ use Rattle.sw_tree.specs.declared.expr.Expr.{Expr}
 use Rattle.sw_tree_facts.specs.Unwritten.{AreWritten, decl_unwritten, expr_unwritten}
 use Rattle.sw_decls.specs.declared.signature.AsyncDefault.{AsyncDefault}
 use Rattle.sw_typing_rules.specs.Worlds.{World}
-use Rattle.sw_typing_rules.proofs.Saying.{none_in}
 use Rattle.sw_isolation_rules.specs.Kinds.{shape_iso}
 use Rattle.sw_isolation_rules.specs.Programs.{context_of}
 use Rattle.sw_lower_plans.specs.Plan.{Numbers}

@@ -1,6 +1,7 @@
 -- The trees of a program stand, where its keys are its nodes' own and rise in the order of its
 -- text.
 use Rattle.std.proofs.Common.{◌≡◌, ℕ, Some, List, Contains, refl}
+use Rattle.sw_list.proofs.Members.{none_in}
 use Rattle.sw_tree.specs.Contents.{AreKeyed}
 use Rattle.sw_tree.specs.Order.{AreInOrder}
 use Rattle.sw_tree.specs.declared.decl.Decl.{Decl}
@@ -10,7 +11,6 @@ use Rattle.sw_tree.specs.declared.decl.PropTree.{PropTree}
 use Rattle.sw_decls.specs.declared.signature.AsyncDefault.{AsyncDefault}
 use Rattle.sw_typing_rules.specs.Programs.{said}
 use Rattle.sw_typing_rules.specs.Worlds.{IsWorldOf, World}
-use Rattle.sw_typing_rules.proofs.Saying.{none_in}
 use Rattle.sw_isolation_rules.specs.Answers.{Answers, answers_in}
 use Rattle.sw_lower_plans.specs.Plan.{Numbers}
 use Rattle.sw_typing_facts.proofs.Programs.DeclParts.{props_in}

@@ -2,12 +2,12 @@
 use Rattle.std.proofs.Common.{◌≡◌, ℕ, List, [], ◌∷◌, Option, Some, ap, sym, subst, map}
 use Rattle.std.proofs.lemmas.List.Elements.{Contains-append_left}
 use Rattle.std.specs.Prelude.{Contains, flat_map}
+use Rattle.sw_list.proofs.Members.{in_flat_map}
 use Rattle.sw_types.specs.declared.shape.Shape.{Shape}
 use Rattle.sw_typing_rules.specs.Worlds.{World, item}
 use Rattle.sw_typing_rules.specs.declared.row.Meaning.{Meaning}
 use Rattle.sw_typing_rules.specs.declared.row.Meaning.TheVariants as means
 use Rattle.sw_typing_rules.specs.declared.scope.Var.{Var}
-use Rattle.sw_typing_rules.proofs.Saying.{in_flat_map}
 use Rattle.sw_isolation_rules.specs.Answers.{Answers, for_some}
 use Rattle.sw_isolation_rules.specs.Captures.{me_mentions, meant_mentions, mention, mentioned}
 use Rattle.sw_isolation_rules.specs.Captures.{self_of, word_mentions}

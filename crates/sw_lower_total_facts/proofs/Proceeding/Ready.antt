@@ -4,7 +4,7 @@ use Rattle.std.proofs.Common.{◌≡◌, ℕ, ◌⊎◌, inl, inr, Bool, true, f
 use Rattle.std.proofs.Common.{Some, subst, sym, ◌∙◌}
 use Rattle.std.proofs.lemmas.List.Elements.{Contains-append_left, Contains-append_right}
 use Rattle.std.specs.Prelude.{Ok, Contains, flat_map, ◌==◌, if◌then◌else◌}
-use Rattle.sw_typing_rules.proofs.Saying.{in_flat_map, of_flat_map}
+use Rattle.sw_list.proofs.Members.{in_flat_map, of_flat_map}
 use Rattle.sw_isolation_rules.specs.Captures.{mentioned, self_of}
 use Rattle.sw_isolation_rules.specs.Kinds.{is_own}
 use Rattle.sw_isolation_rules.specs.Lists.{held_in}

@@ -4,6 +4,7 @@ use Rattle.std.proofs.Common.{Contains, refl, ap, sym, ◌∙◌, subst, arith}
 use Rattle.std.proofs.lemmas.Bool.{eq-eqb}
 use Rattle.std.proofs.lemmas.List.Sorted.{Contains-permutation, IsPermutation-sym}
 use Rattle.std.specs.Prelude.{◌==◌, if◌then◌else◌, slice_get}
+use Rattle.sw_list.proofs.Members.{none_in}
 use Rattle.sw_tree.specs.declared.decl.Decl.{Decl}
 use Rattle.sw_decl_words.specs.Words.{or_else, top_meaning}
 use Rattle.sw_decls.specs.Declaring.{key_place, numbered_from}
@@ -11,7 +12,6 @@ use Rattle.sw_decls.specs.Signatures.{funcs_from, funcs_of}
 use Rattle.sw_decls.specs.declared.signature.AsyncDefault.{AsyncDefault}
 use Rattle.sw_decls.specs.declared.signature.Signature.{Signature}
 use Rattle.sw_typing_rules.specs.Worlds.{IsWorldOf, World, item}
-use Rattle.sw_typing_rules.proofs.Saying.{none_in}
 use Rattle.sw_isolation_rules.specs.Answers.{Answers}
 use Rattle.sw_isolation_rules.specs.Programs.{func_at}
 use Rattle.sw_lower_formed_facts.proofs.Headers.FoundFuncs.{found_func}

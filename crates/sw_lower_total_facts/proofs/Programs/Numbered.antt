@@ -5,8 +5,8 @@ use Rattle.std.proofs.lemmas.Bool.{eq-eqb}
 use Rattle.std.proofs.lemmas.List.Elements.{All-contains_itself}
 use Rattle.std.proofs.lemmas.List.Sorted.{Contains-permutation}
 use Rattle.std.specs.Prelude.{All, IsSome, ◌&&◌, if◌then◌else◌}
+use Rattle.sw_list.proofs.Members.{none_in}
 use Rattle.sw_tree.specs.declared.decl.Decl.{Decl}
-use Rattle.sw_typing_rules.proofs.Saying.{none_in}
 use Rattle.sw_lower_plans.specs.declared.name.FunctionName.{FunctionName}
 use Rattle.sw_lower_code.specs.Whole.{Body}
 use Rattle.sw_lower_rules.specs.Bodies.{AreOrdered, numbers_of, program_bodies}

@@ -5,6 +5,7 @@ use Rattle.std.proofs.Common.{flat_map, Option, None, Some, option_map, unwrap_o
 use Rattle.std.proofs.Common.{inr, refl, ap, subst, ◌∙◌, arith}
 use Rattle.std.specs.Prelude.{slice_get}
 use Rattle.std.proofs.lemmas.List.Elements.{Contains-append_cases}
+use Rattle.sw_list.proofs.Members.{none_in}
 use Rattle.sw_tree.specs.Keys.{Keys, block_keys, decl_keys, expr_keys, func_keys, init_keys}
 use Rattle.sw_tree.specs.Keys.{params_keys, prop_keys}
 use Rattle.sw_tree.specs.declared.decl.Decl.{Decl}
@@ -25,7 +26,6 @@ use Rattle.sw_decl_words.specs.Shaped.{written_actor}
 use Rattle.sw_decls.specs.Signatures.{actor_iso}
 use Rattle.sw_decls.specs.declared.signature.Signature.{Signature}
 use Rattle.sw_typing_rules.specs.Worlds.{World}
-use Rattle.sw_typing_rules.proofs.Saying.{none_in}
 use Rattle.sw_isolation_rules.specs.Answers.{Answers, for_some}
 use Rattle.sw_isolation_rules.specs.Kinds.{is_isolated, shape_iso}
 use Rattle.sw_isolation_rules.specs.Noting.{block_notes, body_note, see}

@@ -5,6 +5,7 @@ use Rattle.std.proofs.Common.{Contains, refl, ap, sym, subst}
 use Rattle.std.proofs.lemmas.List.Elements.{All-contains, All-from_recursion, Contains-append_left}
 use Rattle.std.proofs.lemmas.List.Elements.{Contains-append_right}
 use Rattle.std.specs.Prelude.{slice_get}
+use Rattle.sw_list.proofs.Members.{none_in}
 use Rattle.sw_tree.specs.Keys.{Keys}
 use Rattle.sw_tree.specs.Order.{AreInOrder, AreRising, decl_orders}
 use Rattle.sw_tree.specs.Order.{func_order, init_order, prop_order}
@@ -20,7 +21,6 @@ use Rattle.sw_decl_words.specs.Evident.{meanings_of}
 use Rattle.sw_decl_words.specs.Shaped.{shape_of}
 use Rattle.sw_decls.specs.declared.signature.AsyncDefault.{AsyncDefault}
 use Rattle.sw_typing_rules.specs.Worlds.{IsWorldOf, World}
-use Rattle.sw_typing_rules.proofs.Saying.{none_in}
 use Rattle.sw_isolation_rules.specs.Answers.{for_some}
 use Rattle.sw_isolation_rules.specs.Captures.{self_of}
 use Rattle.sw_typing_facts.proofs.Lists.Listed.{in_first, in_map, only_in}

@@ -2,6 +2,7 @@
 use Rattle.std.proofs.Common.{◌≡◌, ℕ, Bool, List, [], ◌∷◌, ◌++◌, map, Option, None, Some, Contains}
 use Rattle.std.proofs.Common.{refl, ap, ◌∙◌}
 use Rattle.std.proofs.lemmas.List.Elements.{Contains-append_left, Contains-append_right}
+use Rattle.sw_list.proofs.Members.{none_in}
 use Rattle.sw_tree.specs.Contents.{AreKeyed}
 use Rattle.sw_tree.specs.declared.decl.Decl.{Decl}
 use Rattle.sw_tree.specs.declared.decl.Decl.TheVariants.{Entry, Struct, Enum, Class, Actor}
@@ -20,7 +21,6 @@ use Rattle.sw_decls.specs.Signatures.{actor_iso, func_of, funcs_of, init_of, ini
 use Rattle.sw_decls.specs.declared.signature.AsyncDefault.{AsyncDefault}
 use Rattle.sw_decls.specs.declared.signature.Signature.{Signature}
 use Rattle.sw_typing_rules.specs.Worlds.{IsWorldOf, World}
-use Rattle.sw_typing_rules.proofs.Saying.{none_in}
 use Rattle.sw_isolation_rules.specs.Answers.{Answers}
 use Rattle.sw_isolation_rules.specs.Programs.{func_at}
 use Rattle.sw_lower_formed_facts.proofs.Headers.FoundFuncs.{func_is}

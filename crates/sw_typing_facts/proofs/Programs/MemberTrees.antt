@@ -6,6 +6,7 @@ use Rattle.std.proofs.lemmas.Bool.{eqb-true}
 use Rattle.std.proofs.lemmas.List.Elements.{Contains-append_cases}
 use Rattle.std.proofs.lemmas.Option.{same_Some}
 use Rattle.std.specs.Prelude.{◌==◌, ◌&&◌, if◌then◌else◌}
+use Rattle.sw_list.proofs.Members.{none_in}
 use Rattle.sw_tree.specs.declared.decl.CaseTree.{CaseTree}
 use Rattle.sw_tree.specs.declared.decl.Decl.{Decl}
 use Rattle.sw_tree.specs.declared.decl.Decl.TheVariants.{Entry, Struct, Enum, Class, Actor}
@@ -18,7 +19,6 @@ use Rattle.sw_decl_words.specs.Words.{declares}
 use Rattle.sw_decl_words.specs.declared.members.Member.{Member}
 use Rattle.sw_decl_words.specs.declared.members.Owned.{Owned}
 use Rattle.sw_decl_words.specs.declared.members.Role.TheVariants as role
-use Rattle.sw_typing_rules.proofs.Saying.{none_in}
 use Rattle.sw_typing_facts.proofs.Lists.Listed.{in_first, in_rest, of_map}
 use Rattle.sw_typing_facts.proofs.Programs.MadeOf.{member_made}
 use Rattle.sw_typing_facts.proofs.Programs.Standing.{Stands}

@@ -4,11 +4,11 @@ use Rattle.std.proofs.Common.{Option, Some, None, flat_map, Contains, refl, sym,
 use Rattle.std.proofs.Common.{fold}
 use Rattle.std.proofs.lemmas.Bool.{eq-eqb}
 use Rattle.std.specs.Prelude.{◌==◌, if◌then◌else◌}
+use Rattle.sw_list.proofs.Members.{none_in}
 use Rattle.sw_tree.specs.declared.name.Name.{Name}
 use Rattle.sw_decl_words.specs.Words.{is_reserved}
 use Rattle.sw_decl_words.specs.declared.placed.Placed.{Placed}
 use Rattle.sw_decl_names.specs.Repeats.{earlier, first_place, is_before, is_repeated, repeated, repeats}
-use Rattle.sw_typing_rules.proofs.Saying.{none_in}
 use Rattle.sw_typing_facts.proofs.Programs.DeclStands.{none_left, none_right}
 
 -- what is made of an element of a list of which nothing is made

@@ -7,6 +7,7 @@ use Rattle.std.proofs.lemmas.List.Elements.{Contains-append_cases}
 use Rattle.std.proofs.lemmas.Option.{same_Some, slice_get-map}
 use Rattle.std.specs.Option.{option_map}
 use Rattle.std.specs.Prelude.{◌==◌, ◌&&◌, not, if◌then◌else◌, slice_get}
+use Rattle.sw_list.proofs.Members.{none_in}
 use Rattle.sw_tree.specs.declared.decl.CaseTree.{CaseTree}
 use Rattle.sw_tree.specs.declared.decl.Decl.{Decl}
 use Rattle.sw_tree.specs.declared.decl.Decl.TheVariants.{Entry, Struct, Enum, Class, Actor}
@@ -25,7 +26,6 @@ use Rattle.sw_decl_words.specs.declared.members.Member.{Member}
 use Rattle.sw_decl_words.specs.declared.members.Owned.{Owned}
 use Rattle.sw_decl_words.specs.declared.members.Role.TheVariants as role
 use Rattle.sw_decls.specs.declared.signature.AsyncDefault.{AsyncDefault}
-use Rattle.sw_typing_rules.proofs.Saying.{none_in}
 use Rattle.sw_typing_rules.specs.Worlds.{IsWorldOf, World}
 use Rattle.sw_typing_facts.proofs.Lists.Listed.{in_first, in_rest, of_map}
 use Rattle.sw_typing_facts.proofs.Programs.DeclStands.{shape_there}

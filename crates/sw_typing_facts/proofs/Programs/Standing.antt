@@ -6,11 +6,11 @@ use Rattle.std.proofs.lemmas.Bool.{cases_lt}
 use Rattle.std.proofs.lemmas.List.Elements.{Contains-append_cases, Contains-append_left}
 use Rattle.std.proofs.lemmas.List.Elements.{Contains-append_right}
 use Rattle.std.specs.Prelude.{slice_get}
+use Rattle.sw_list.proofs.Members.{none_in}
 use Rattle.sw_tree.specs.declared.decl.Decl.{Decl}
 use Rattle.sw_list.proofs.ListLemmas.{slice_get_after, slice_get_second, slice_get_before}
 use Rattle.sw_list.proofs.ListLemmas.{slice_get_first}
 use Rattle.sw_decl_words.specs.Words.{shapes_made}
-use Rattle.sw_typing_rules.proofs.Saying.{none_in}
 use Rattle.sw_decl_words.specs.Words.{globals_made}
 use Rattle.sw_typing_facts.proofs.Lists.Listed.{in_first, in_rest}
 

@@ -1,4 +1,4 @@
--- Members of lists that are made of lists.
+-- Members of lists, also of lists that are made of lists.
 use Rattle.std.specs.List.{slice_get, list_all, concat}
 use Rattle.std.proofs.Common.{◌≡◌, ◌⊎◌, ℕ, zero, suc, Bool, true, List, [], ◌∷◌, ◌++◌, Some}
 use Rattle.std.proofs.Common.{Contains, flat_map, map, refl, sym, subst, ap, ◌∙◌, arith, inl, inr}
@@ -18,14 +18,38 @@ pub one_in : {X : Type 0} (x y : X) → Contains (x ∷ []) y → x ≡ y
 one_in x y (zero, lt, is) = is
 one_in x y (suc k, lt, is) = absurd (omega (arith, lt))
 
-pub in_one : {X : Type 0} (x : X) → Contains (x ∷ []) x
-in_one x = (0, (omega arith), refl)
+pub first_in : {X : Type 0} (x : X) (xs : List X) → Contains (x ∷ xs) x
+first_in x xs = (0, omega arith, refl)
 
-pub head_cases : {X : Type 0} (x : X) (xs : List X) (y : X) → Contains (x ∷ xs) y
+pub in_one : {X : Type 0} (x : X) → Contains (x ∷ []) x
+in_one x = first_in x []
+
+pub later_in : {X : Type 0} (x : X) (xs : List X) (y : X) → Contains xs y → Contains (x ∷ xs) y
+later_in x xs y has = (suc has.0, omega (arith, has.1), has.2)
+
+pub first_or_later : {X : Type 0} (x : X) (xs : List X) (y : X) → Contains (x ∷ xs) y
     → (x ≡ y) ⊎ Contains xs y
-head_cases x xs y has = elim (Contains-append_cases (x ∷ []) xs y has) [
+first_or_later x xs y has = elim (Contains-append_cases (x ∷ []) xs y has) [
   | inl here ↦ inl (one_in x y here)
   | inr there ↦ inr there
+]
+
+-- a list without its second member, and the other way round
+pub without_second : {X : Type 0} (x y : X) (xs : List X) (z : X) → Contains (x ∷ xs) z
+    → Contains (x ∷ y ∷ xs) z
+without_second x y xs z has = elim (first_or_later x xs z has) [
+  | inl is ↦ subst (Contains (x ∷ y ∷ xs)) is (first_in x (y ∷ xs))
+  | inr there ↦ later_in x (y ∷ xs) z (later_in y xs z there)
+]
+
+pub second_or_other : {X : Type 0} (x y : X) (xs : List X) (z : X) → Contains (x ∷ y ∷ xs) z
+    → (y ≡ z) ⊎ Contains (x ∷ xs) z
+second_or_other x y xs z has = elim (first_or_later x (y ∷ xs) z has) [
+  | inl is ↦ inr (subst (Contains (x ∷ xs)) is (first_in x xs))
+  | inr there ↦ elim (first_or_later y xs z there) [
+    | inl same ↦ inl same
+    | inr later ↦ inr (later_in x xs z later)
+  ]
 ]
 
 -- a member of a list stands at an index
