@@ -12,7 +12,7 @@ use Rattle.clap.proofs.OnLiterals.{clap_on_literals}
 use Rattle.clap.proofs.FaultLemmas.{stopped_fault}
 use Rattle.clap.proofs.WalkLemmas.{walk_stopped}
 use Rattle.sw_check_words.specs.Tool.{tool, check_app, replay_app, demo_app}
-use Rattle.sw_check_words.specs.Words.{Run, Trace, command_of, form_of}
+use Rattle.sw_check_words.specs.Words.{Run, Trace, Owners, command_of, form_of}
 use Rattle.sw_check_words.specs.Read.{command_by, read_rows}
 use Rattle.sw_check_words.proofs.Leaves.{IsWord, name, option, Agrees, taken, refused, leaf}
 use Rattle.sw_check_words.proofs.Leaves.{leaf_fault, leaf_rows, names_in, others_in}
@@ -76,6 +76,16 @@ to_trace words = record {
   rows = rw (← walk_stopped rules verbs start (codes "trace") [] words) refl;
 }
 
+to_owners : (words : List Text) → GoesTo (codes "owners") (replay_app (codes "owners")) words
+unfolding clap_on_literals
+to_owners words = record {
+  fault = rw (
+    ← walk_stopped rules verbs start (codes "owners") [] words,
+    stopped_fault (built tool).top verbs start (codes "owners", []) words,
+  ) (or_nothing _);
+  rows = rw (← walk_stopped rules verbs start (codes "owners") [] words) refl;
+}
+
 to_demo : (words : List Text) → GoesTo (codes "demo") demo_app words
 unfolding clap_on_literals
 to_demo words = record {
@@ -103,11 +113,13 @@ module _ (words : List Text) (are : AllByRecursion IsWord words) where
       → bytes_eq (codes "check") (first ∷ rest) ≡ false
       → bytes_eq (codes "run") (first ∷ rest) ≡ false
       → bytes_eq (codes "trace") (first ∷ rest) ≡ false
+      → bytes_eq (codes "owners") (first ∷ rest) ≡ false
       → bytes_eq (codes "demo") (first ∷ rest) ≡ false
       → AgreesOn ((first ∷ rest) ∷ words)
   unfolding clap_on_literals command_of
-  unknown first rest e check run trace demo =
-      refused (simp (check, run, trace, demo, e) refl) (simp (check, run, trace, demo) refl)
+  unknown first rest e check run trace owners demo =
+      refused (simp (check, run, trace, owners, demo, e) refl)
+      (simp (check, run, trace, owners, demo) refl)
 
   first_word : (first : ℕ) (rest : List ℕ) → (first == 45) ≡ false
       → AgreesOn ((first ∷ rest) ∷ words)
@@ -122,12 +134,25 @@ module _ (words : List Text) (are : AllByRecursion IsWord words) where
     by_demo : bytes_eq (codes "check") (first ∷ rest) ≡ false
         → bytes_eq (codes "run") (first ∷ rest) ≡ false
         → bytes_eq (codes "trace") (first ∷ rest) ≡ false
+        → bytes_eq (codes "owners") (first ∷ rest) ≡ false
         → (demo : Bool) → bytes_eq (codes "demo") (first ∷ rest) ≡ demo
         → AgreesOn ((first ∷ rest) ∷ words)
-    by_demo check run trace true demo =
+    by_demo check run trace owners true demo =
         is (codes "demo") demo
         (by_leaf (codes "demo") demo_app words (to_demo words) (demo_agrees words are))
-    by_demo check run trace false demo = unknown first rest e check run trace demo
+    by_demo check run trace owners false demo = unknown first rest e check run trace owners demo
+
+    by_owners : bytes_eq (codes "check") (first ∷ rest) ≡ false
+        → bytes_eq (codes "run") (first ∷ rest) ≡ false
+        → bytes_eq (codes "trace") (first ∷ rest) ≡ false
+        → (owners : Bool) → bytes_eq (codes "owners") (first ∷ rest) ≡ owners
+        → AgreesOn ((first ∷ rest) ∷ words)
+    by_owners check run trace true owners =
+        is (codes "owners") owners
+        (by_leaf (codes "owners") (replay_app (codes "owners")) words (to_owners words)
+        (replay_agrees (codes "owners") Owners words are))
+    by_owners check run trace false owners =
+        by_demo check run trace owners (bytes_eq (codes "demo") (first ∷ rest)) refl
 
     by_trace : bytes_eq (codes "check") (first ∷ rest) ≡ false
         → bytes_eq (codes "run") (first ∷ rest) ≡ false
@@ -138,7 +163,7 @@ module _ (words : List Text) (are : AllByRecursion IsWord words) where
         (by_leaf (codes "trace") (replay_app (codes "trace")) words (to_trace words)
         (replay_agrees (codes "trace") Trace words are))
     by_trace check run false trace =
-        by_demo check run trace (bytes_eq (codes "demo") (first ∷ rest)) refl
+        by_owners check run trace (bytes_eq (codes "owners") (first ∷ rest)) refl
 
     by_run : bytes_eq (codes "check") (first ∷ rest) ≡ false
         → (run : Bool) → bytes_eq (codes "run") (first ∷ rest) ≡ run

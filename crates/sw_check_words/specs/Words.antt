@@ -20,6 +20,9 @@ pub data Action : Type 0 where
   Run : (schedule_file : List ℕ) → Action
   -- run it by the schedule in the other file, also where jobs of it may race
   Trace : (schedule_file : List ℕ) → Action
+  -- run it, where it is accepted, by the schedule in the other file, and say who owns its coloured
+  -- cells
+  Owners : (schedule_file : List ℕ) → Action
 
 -- What the words ask for.
 pub data Command : Type 0 where
@@ -54,7 +57,7 @@ abbrev pub check_form : List (List ℕ) → Option (List ℕ × Action)
 check_form (file ∷ []) = Some (file, Check)
 check_form names = None
 
--- `run FILE SCHEDULE`, and likewise `trace`
+-- `run FILE SCHEDULE`, and likewise `trace` and `owners`
 abbrev pub replay_form : (List ℕ → Action) → List (List ℕ) → Option (List ℕ × Action)
 replay_form action (file ∷ schedule_file ∷ []) = Some (file, action schedule_file)
 replay_form action names = None
@@ -84,11 +87,13 @@ form_of verb names others =
     if bytes_eq (codes "check") verb then file_form (check_form names) others
     else if bytes_eq (codes "run") verb then file_form (replay_form Run names) others
     else if bytes_eq (codes "trace") verb then file_form (replay_form Trace names) others
+    else if bytes_eq (codes "owners") verb then file_form (replay_form Owners names) others
     else if bytes_eq (codes "demo") verb then demo_form names others
     else None
 
--- `check FILE`, `run FILE SCHEDULE` and `trace FILE SCHEDULE`, with the option anywhere after the
--- first word, and `demo N` are the forms. Any other list of words has none.
+-- `check FILE`, `run FILE SCHEDULE`, `trace FILE SCHEDULE` and `owners FILE SCHEDULE`, with the
+-- option anywhere after the first word, and `demo N` are the forms. Any other list of words has
+-- none.
 unfoldable pub command_of : List (List ℕ) → Option Command
 command_of [] = None
 command_of (verb ∷ words) =

@@ -9,6 +9,8 @@ pub enum Action<'a> {
     Run { schedule_file: &'a str },
     /// Run it by a schedule, also where jobs of it may race.
     Trace { schedule_file: &'a str },
+    /// Run it, where it is accepted, by a schedule, and say who owns its coloured cells.
+    Owners { schedule_file: &'a str },
 }
 
 /// What the words ask for.
