@@ -108,7 +108,8 @@ no_command ((first ∷ rest) ∷ words) e = by (first == 45) refl where
       let bad = bad_others words (rw is at e) in
       no_form_by (bytes_eq (codes "check") (first ∷ rest)) (bytes_eq (codes "run") (first ∷ rest))
       (bytes_eq (codes "trace") (first ∷ rest)) (bytes_eq (codes "owners") (first ∷ rest))
-      (bytes_eq (codes "demo") (first ∷ rest)) (names_in words) (others_in words) bad.none (no_demo (names_in words) (others_in words) bad)
+      (bytes_eq (codes "demo") (first ∷ rest)) (names_in words) (others_in words) bad.none
+      (no_demo (names_in words) (others_in words) bad)
 
 -- a test of each text, as the words are lent
 pub list_all-map : {X Y : Type 0} (test : Y → Bool) (f : X → Y) (xs : List X)
