@@ -165,13 +165,13 @@ find_file-with_file_other (file ∷ files) name bytes other h =
         rw e (ap (λ (o : Option (List ℕ)). cond (bytes_eq file.0 other) (Some file.1) o) rest)
 
 -- the file of the name of a file that was added
-pub file_of-with_file : (files : Files) (name bytes : List ℕ)
+pub added : (files : Files) (name bytes : List ℕ)
     → file_of (with_file name bytes files) name ≡ bytes
 unfolding file_of
-file_of-with_file files name bytes = rw find_file-with_file refl
+added files name bytes = rw find_file-with_file refl
 
 -- the files of the other names
-pub file_of-with_file_other : (files : Files) (name bytes other : List ℕ)
+pub others : (files : Files) (name bytes other : List ℕ)
     → other ≢ name → file_of (with_file name bytes files) other ≡ file_of files other
 unfolding file_of
-file_of-with_file_other files name bytes other h = rw find_file-with_file_other refl
+others files name bytes other h = rw find_file-with_file_other refl

@@ -4,3 +4,4 @@ pub mod MemSink
 pub mod Rise
 pub mod Shelf
 pub mod Sink
+pub mod SteadyShelf

@@ -41,12 +41,19 @@ fn files_of_the_system(rt: HostRuntime) -> Result<(), Fail> {
     Ok(())
 }
 
-/// A folder opens, and its read fails.
+/// A folder opens, and its read fails. So does that of the memory at no address, and who may not
+/// open the file of that memory can't read it either.
 #[test]
 fn files_that_cannot_be_read(rt: HostRuntime) {
-    let failed = Err(FetchFault::Failed);
-    let missing = fetches(&rt, "/no/such/file", 10, failed);
-    let folder = fetches(&rt, "/", 10, failed);
-    assert!(rt; missing, "a missing file");
-    assert!(rt; folder, "a folder");
+    for name in ["/no/such/file", "/", "/proc/self/mem"] {
+        let failed = fetches(&rt, name, 10, Err(FetchFault::Failed));
+        assert!(rt; failed, "a fetch of {name}");
+    }
+}
+
+/// A file that is longer at each read.
+#[test]
+fn a_file_that_grows(rt: HostRuntime) {
+    let long = fetches(&rt, "/dev/zero", COUNT, Err(FetchFault::TooLong));
+    assert!(rt; long, "a file without an end");
 }

@@ -16,6 +16,11 @@ mod sink;
 mod std_sink;
 #[cfg(test)]
 mod std_sink_tests;
+mod steady_shelf;
+mod steady_sink;
+#[cfg(test)]
+mod steady_tests;
+mod stored_files;
 
 pub use file_shelf::FileShelf;
 pub use mem_shelf::MemShelf;
@@ -23,3 +28,5 @@ pub use mem_sink::MemSink;
 pub use shelf::{FetchFault, Shelf};
 pub use sink::{Sink, SinkFault};
 pub use std_sink::StdSink;
+pub use steady_shelf::SteadyShelf;
+pub use steady_sink::SteadySink;

@@ -1,83 +1,19 @@
-ghost use Rattle.std.specs.Prelude.{◌≡◌, ◌≢◌, List, ℕ, Some, None, [], ◌∷◌, ◌++◌, ◌<◌, ◌≤◌, length};
-ghost use Rattle.std.specs.Prelude.{slice_index_or, slice_set, position, IfSome, IfNone, IfOk};
-ghost use Rattle.std.specs.Prelude.{OnOk, OnErr, IsErrOf, IsTrue};
-ghost use Rattle.std.specs.Str.{bytes_eq};
+ghost use Rattle.std.specs.Prelude.{◌≡◌, ◌≢◌, List, ℕ, Some, [], ◌<◌, ◌≤◌, length, IsTrue};
+ghost use Rattle.std.specs.Prelude.{IfNone, IfOk, OnOk, OnErr, IsErrOf};
 ghost use Rattle.sw_outside.specs.MemShelf.{ShelfState, fails_at, after_fetch};
 ghost use Rattle.sw_outside.specs.Rise.{Rose, raised};
-ghost use Rattle.sw_outside.specs.Shelf.{with_request, file_of, find_file, with_file};
+ghost use Rattle.sw_outside.specs.Shelf.{with_request, file_of, with_file};
 
 use crate::shelf::{FetchFault, Shelf};
+use crate::stored_files::{StoredFiles, copy_within};
 use std::alloc::{AllocError, Global};
 use std::marker::Model;
-
-/// A name that a shelf keeps.
-#[derive(Drop)]
-struct Name {
-    text: String,
-}
-
-impl Model for Name {
-    ghost use Rattle.std.specs.Prelude.{List, ℕ, string_bytes};
-
-    ghost Value = { List ℕ };
-
-    ghost view = { λ n. string_bytes n.text };
-}
-
-impl Name {
-    fn new(alloc: Global, text: &str) -> Result<Name, AllocError>
-        ensures { IfOk result (λ name. name ≡ text.now) }
-    {
-        Ok(Name {
-            text: String::from_str(alloc, text)?,
-        })
-    }
-}
-
-#[derive(Drop)]
-struct StoredFile {
-    name: String,
-    bytes: Vec<u8>,
-}
-
-impl Model for StoredFile {
-    ghost use Rattle.std.specs.Prelude.{List, ℕ, string_bytes};
-
-    ghost Value = { List ℕ × List ℕ };
-
-    ghost view = { λ f. (string_bytes f.name, f.bytes.items) };
-}
-
-impl StoredFile {
-    fn new(alloc: Global, name: &str, bytes: &[u8]) -> Result<StoredFile, AllocError>
-        ensures { IfOk result (λ file. file ≡ (name.now, bytes.now)) }
-    {
-        Ok(StoredFile {
-            name: String::from_str(alloc, name)?,
-            bytes: Vec::from_slice(alloc, bytes)?,
-        })
-    }
-
-    fn has_name(&self, name: &str) -> bool
-        ensures { result ≡ bytes_eq self.now.0 name.now }
-    {
-        self.name.as_str() == name
-    }
-
-    fn bytes(&self) -> &[u8]
-        ensures { result.now ≡ self.now.1 }
-    {
-        self.bytes.as_slice()
-    }
-}
 
 /// Files in memory. A fetch of a name that no file has fails, as does one whose number, from 0, is
 /// among those that were passed to `new`; a fetch that runs out of memory has no number.
 #[derive(Drop)]
 pub struct MemShelf {
-    alloc: Global,
-    files: Vec<StoredFile>,
-    requested: Vec<Name>,
+    stored: StoredFiles,
     fails: Vec<u64>,
     received: usize,
     faults: u64,
@@ -89,7 +25,7 @@ impl Model for MemShelf {
     ghost Value = { ShelfState };
 
     ghost view = { λ s. record {
-      known = record { files = s.files.items; requested = s.requested.items };
+      known = s.stored;
       fails = s.fails.items;
       received = s.received;
       faults = s.faults;
@@ -107,9 +43,7 @@ impl MemShelf {
         }) }
     {
         Ok(MemShelf {
-            alloc,
-            files: Vec::new(alloc),
-            requested: Vec::new(alloc),
+            stored: StoredFiles::new(alloc),
             fails: Vec::from_slice(alloc, fails)?,
             received: 0,
             faults: 0,
@@ -117,6 +51,7 @@ impl MemShelf {
     }
 
     /// Adds a file, or replaces the one of its name.
+    #[tactic(auto, using(crate::proofs::FileLemmas::added, crate::proofs::FileLemmas::others))]
     pub fn add(&mut self, name: &str, bytes: &[u8]) -> Result<(), AllocError>
         ensures ok { OnOk result (self.new ≡ record self.old {
           known = record self.old.known {
@@ -130,12 +65,7 @@ impl MemShelf {
         ensures others { OnOk result ((other : List ℕ) → other ≢ name.now
             → file_of self.new.known.files other ≡ file_of self.old.known.files other) }
     {
-        let file = StoredFile::new(self.alloc, name, bytes)?;
-        match index_of(&self.files, name) {
-            Some(at) => self.files[at] = file,
-            None => self.files.push(file)?,
-        }
-        Ok(())
+        self.stored.add(name, bytes)
     }
 
     /// A copy of the file, or why there is none.
@@ -149,16 +79,12 @@ impl MemShelf {
         ensures above { IsErrOf result FetchFault.TooLong
             → limit < length (file_of self.now.known.files name.now) }
     {
-        let number = self.requested.len() as u64;
-        let at = index_of(&self.files, name).ok_or(FetchFault::Failed)?;
+        let number = self.stored.requests() as u64;
+        let bytes = self.stored.find(name).ok_or(FetchFault::Failed)?;
         if self.fails.contains(&number) {
             return Err(FetchFault::Failed);
         }
-        let bytes = self.files[at].bytes();
-        if bytes.len() > limit {
-            return Err(FetchFault::TooLong);
-        }
-        Ok(Vec::from_slice(alloc, bytes)?)
+        copy_within(alloc, bytes, limit)?.ok_or(FetchFault::TooLong)
     }
 
     /// Records a fetch that was answered.
@@ -166,35 +92,11 @@ impl MemShelf {
         ensures ok { OnOk result (self.new ≡ after_fetch name.now received faults self.old) }
         ensures err { OnErr result (self.new ≡ self.old) }
     {
-        self.requested.push(Name::new(self.alloc, name)?)?;
+        self.stored.request(name)?;
         self.received = received;
         self.faults = faults;
         Ok(())
     }
-}
-
-/// The index of the file of that name, and what it says of the files.
-fn index_of(files: &[StoredFile], name: &str) -> Option<usize>
-    ensures there { IfSome result (λ i. i < length files.now) }
-    ensures found { IfSome result
-        (λ i. (d : List ℕ × List ℕ)
-        → find_file files.now name.now ≡ Some (slice_index_or files.now i d).1) }
-    ensures replaced { IfSome result
-        (λ i. (bytes : List ℕ)
-        → with_file name.now bytes files.now ≡ slice_set files.now i (name.now, bytes)) }
-    ensures missing { IfNone result (find_file files.now name.now ≡ None) }
-    ensures added { IfNone result
-        ((bytes : List ℕ)
-        → with_file name.now bytes files.now ≡ files.now ++ (name.now, bytes) ∷ []) }
-{
-    first_named(files, name)
-}
-
-/// The index of the first file of that name.
-fn first_named(files: &[StoredFile], name: &str) -> Option<usize>
-    ensures { result ≡ position (λ file. bytes_eq file.0 name.now) files.now }
-{
-    files.iter().position(|file| file.has_name(name))
 }
 
 impl Shelf for MemShelf {

@@ -1,6 +1,6 @@
 use Rattle.sw_outside.proofs.FileLemmas.{find_file-found, find_file-not_found, with_file-found}
 use Rattle.sw_outside.proofs.FileLemmas.{with_file-not_found}
-use Rattle.sw_outside.proofs.mem_shelf.index_of.Goals as goal
+use Rattle.sw_outside.proofs.stored_files.index_of.Goals as goal
 
 pub returns-clause-found : goal.returns-clause-found
 returns-clause-found c = find_file-found c.args.files.now c.args.name.now _ c.first_named.ensures
