@@ -1,0 +1,10 @@
+pub mod ClosureLemmas
+pub mod BeforeLemmas
+pub mod ChannelLemmas
+pub mod KnownLemmas
+pub mod CountLemmas
+pub mod ClockLemmas
+pub mod EventLemmas
+pub mod Searching
+pub mod PairLemmas
+pub mod RivalLemmas
