@@ -115,7 +115,7 @@ abbrev pub IsKnown : Graph → State → Owner → Type 0
 IsKnown graph state (Instance c) = IsActorCell state.cells c
 IsKnown graph state (GlobalActor g) = g < global_count graph.functions
 
-stands_by : (e : Executor) (a : Owner) → actor_on e ≡ Some a → stands_on e ≡ On a
+pub stands_by : (e : Executor) (a : Owner) → actor_on e ≡ Some a → stands_on e ≡ On a
 stands_by executor.Generic a is = cc
 stands_by (executor.ActorOf c) a is = ap On (some_injective is)
 stands_by (executor.Global g) a is = ap On (some_injective is)

@@ -1,4 +1,5 @@
--- A late state stays secure by hue when all that jobs take along is delivered at once.
+-- A late state stays secure by hue when all that jobs take along is delivered at once, and its
+-- tints go on to fit.
 use Rattle.std.proofs.Common.{◌≡◌, ◌≢◌, ◌<◌, ℕ, suc, Option, List, [], ◌∷◌, length, get_or, refl}
 use Rattle.std.proofs.Common.{sym, subst, ap, ◌∙◌}
 use Rattle.std.proofs.Common.{arith}
@@ -46,15 +47,15 @@ delivery_count c colors = ap next_color (merges_are c.actor c.colors colors)
 
 module _ (graph : Graph) (states : ℕ → List (Option Regions)) (state : State) where
   -- What these jobs are to take, which is all among so many colours.
-  record Stands (count : ℕ) (colors : Colors) (cargo : List Cargo) : Type 0 where
-    whole : IsWhole colors.palette
-    made : AreMade colors
-    counted : next_color colors ≡ count
-    tints : TintsFit graph state.cells colors
-    secure : IsSecure graph states state (hued colors)
-    fits : All (CargoFits graph states state colors) cargo
-    below : All (λ (c : Cargo). AreBelow count (c.actor ∷ c.colors)) cargo
-    once : AllPairs AreOfOtherJobs cargo
+  pub record Stands (count : ℕ) (colors : Colors) (cargo : List Cargo) : Type 0 where
+    pub whole : IsWhole colors.palette
+    pub made : AreMade colors
+    pub counted : next_color colors ≡ count
+    pub tints : TintsFit graph state.cells colors
+    pub secure : IsSecure graph states state (hued colors)
+    pub fits : All (CargoFits graph states state colors) cargo
+    pub below : All (λ (c : Cargo). AreBelow count (c.actor ∷ c.colors)) cargo
+    pub once : AllPairs AreOfOtherJobs cargo
 
   -- the first of it is delivered
   module _ (count : ℕ) (colors : Colors) (c : Cargo) (cargo : List Cargo)
@@ -141,29 +142,10 @@ module _ (graph : Graph) (states : ℕ → List (Option Regions)) (state : State
           (omega (arith, within));
     }
 
-  all_arrive : (count : ℕ) (cargo : List Cargo) (colors : Colors) → Stands count colors cargo
-      → IsSecure graph states state (hued (after_changes (deliveries cargo) colors))
-  all_arrive count [] colors s = s.secure
+  pub all_arrive : (count : ℕ) (cargo : List Cargo) (colors : Colors) → Stands count colors cargo
+      → Stands count (after_changes (deliveries cargo) colors) []
+  all_arrive count [] colors s = s
   all_arrive count (c ∷ cargo) colors s =
-      subst (λ (l : Colors). IsSecure graph states state (hued l))
+      subst (λ (l : Colors). Stands count l [])
       (sym (fold-append after_change colors (delivery c) (deliveries cargo)))
       (all_arrive count cargo (after_changes (delivery c) colors) (next count colors c cargo s))
-
-  pub arrive_secure : (cargo : List Cargo) (colors : Colors) → IsWhole colors.palette → AreMade
-      colors
-      → TintsFit graph state.cells colors → IsSecure graph states state (hued colors)
-      → All (CargoFits graph states state colors) cargo
-      → All (λ (c : Cargo). AreBelow (next_color colors) (c.actor ∷ c.colors)) cargo
-      → AllPairs AreOfOtherJobs cargo
-      → IsSecure graph states state (hued (after_changes (deliveries cargo) colors))
-  arrive_secure cargo colors whole made tints secure fits below once =
-      all_arrive (next_color colors) cargo colors (record {
-        whole = whole;
-        made = made;
-        counted = refl;
-        tints = tints;
-        secure = secure;
-        fits = fits;
-        below = below;
-        once = once;
-      })

@@ -2,10 +2,10 @@
 -- jobs take along is delivered.
 use Rattle.std.proofs.Common.{◌≡◌, ◌<◌, ℕ, Bool, true, false, not, Option, Some, None, List, length}
 use Rattle.std.proofs.Common.{map, get_or}
-use Rattle.std.proofs.Common.{refl, sym, subst, ap, ◌∙◌, arith, inl}
+use Rattle.std.proofs.Common.{[], refl, sym, subst, ap, ◌∙◌, arith, inl, inr}
 use Rattle.std.specs.List.{All, slice_get}
 use Rattle.std.specs.Option.{option_and_then}
-use Rattle.std.proofs.lemmas.List.Elements.{All-cons}
+use Rattle.std.proofs.lemmas.List.Elements.{All-cons, All-nil}
 use Rattle.std.proofs.lemmas.Option.{slice_get-get_or, slice_get_within}
 use Rattle.sw_list.proofs.ListLemmas.{some_injective}
 use Rattle.sw_types.specs.Sendable.{sends_at}
@@ -28,36 +28,38 @@ use Rattle.sw_color_rules.specs.Names.{name_in}
 use Rattle.sw_color_rules.specs.Palette.{IsWhole, owner_in}
 use Rattle.sw_color_rules.specs.Plans.{next_color}
 use Rattle.sw_color_rules.specs.Tints.{owned_by, owned_number}
+use Rattle.sw_color_rules.proofs.PlanRanges.{reach_made}
 use Rattle.sw_partition.specs.Regions.{Regions}
 use Rattle.sw_owner_facts.specs.Colours.{GlobalActor, Instance, OfActor, OfJob}
 use Rattle.sw_reach_facts.specs.Coloured.{runs_isolated}
-use Rattle.sw_late_facts.specs.Alike.{AreAlike, delivered}
+use Rattle.sw_late_facts.specs.Alike.{AreAlike, delivered, job_of}
 use Rattle.sw_late_facts.specs.Hues.{hue, hue_by}
 use Rattle.sw_late_facts.specs.Late.{Cargo, Late, late_reach}
 use Rattle.sw_late_facts.specs.Owners.{KeepNumbers, TakesOwn}
 use Rattle.sw_late_facts.proofs.Carriers.{reach_goes}
 use Rattle.sw_late_facts.proofs.Once.{reach_once}
 use Rattle.sw_late_facts.proofs.Reached.{alike, reach_follows}
-use Rattle.sw_late_facts.proofs.SameOwners.{owners_same}
+use Rattle.sw_late_facts.proofs.SameOwners.{owners_delayed, owners_same}
 use Rattle.sw_secure_facts.specs.Secure.{IsSecure}
 use Rattle.sw_secure_job_facts.specs.Begins.{AreAnnotated}
 use Rattle.sw_hue_facts.specs.Hued.{cell_hue, hued}
 use Rattle.sw_hue_facts.specs.Tinted.{TintFits, TintsFit}
 use Rattle.sw_hue_facts.proofs.Colours.{hued_alike}
-use Rattle.sw_secure_late_facts.specs.LateSecure.{IsLateSecure}
-use Rattle.sw_secure_late_facts.proofs.Arriving.{arrive_secure}
+use Rattle.sw_hue_facts.proofs.Retinted.{tints_renamed}
+use Rattle.sw_secure_late_facts.specs.LateSecure.{CargoFits, IsLateSecure, taking_nothing}
+use Rattle.sw_secure_late_facts.proofs.Arriving.{Stands, all_arrive}
 use Rattle.sw_secure_late_facts.proofs.Everywhere.{late_secure}
 use Rattle.sw_secure_late_facts.proofs.Numbers.{all_in}
 
 -- ---- owners by hue
-actor_by : (o : Option Owner) (n c : ℕ) → hue_by o n ≡ OfActor (Instance c) → o ≡ Some
+pub actor_by : (o : Option Owner) (n c : ℕ) → hue_by o n ≡ OfActor (Instance c) → o ≡ Some
     (owner.ActorOf c)
 actor_by None n c is = cc
 actor_by (Some (owner.Job j)) n c is = cc
 actor_by (Some (owner.ActorOf d)) n c is = cc
 actor_by (Some (owner.Global g)) n c is = cc
 
-global_by : (o : Option Owner) (n g : ℕ) → hue_by o n ≡ OfActor (GlobalActor g)
+pub global_by : (o : Option Owner) (n g : ℕ) → hue_by o n ≡ OfActor (GlobalActor g)
     → o ≡ Some (owner.Global g)
 global_by None n g is = cc
 global_by (Some (owner.Job j)) n g is = cc
@@ -69,7 +71,7 @@ job_by (owner.Job j) n job number is = cc
 job_by (owner.ActorOf c) n job number is = cc
 job_by (owner.Global g) n job number is = cc
 
-job_owns : (p : Palette) → IsWhole p → (n : ℕ) → n < length p.names → (job number : ℕ)
+pub job_owns : (p : Palette) → IsWhole p → (n : ℕ) → n < length p.names → (job number : ℕ)
     → hue p n ≡ OfJob job number → owner_in p n ≡ Some (owner.Job job)
 job_owns p whole n inside job number is =
     has ∙ ap (λ o. Some o) (job_by own (name_in p.names n) job number
@@ -164,15 +166,23 @@ module _ (graph : Graph) (clean : IsClean graph) (supplied : IsSupplied graph)
           c.job own.0 own.1);
     }
 
-    arrived : IsSecure graph states late.state (hued (delivered late))
-    arrived = arrive_secure graph states late.state late.cargo late.colors secure.whole secure.made
-        secure.tints
-        secure.secure secure.cargo
-        (λ k d within.
-        let goes = reach_goes graph items k d within in
-        let c : Cargo = get_or late.cargo k d in
-        All-cons (λ n. n < next_color late.colors) c.actor c.colors goes.made goes.colors_made)
-        (reach_once graph items)
+    -- once all is delivered
+    arrived : Stands graph states late.state (next_color late.colors) (delivered late) []
+    arrived = all_arrive graph states late.state (next_color late.colors) late.cargo late.colors
+        (record {
+          whole = secure.whole;
+          made = secure.made;
+          counted = refl;
+          tints = secure.tints;
+          secure = secure.secure;
+          fits = secure.cargo;
+          below = λ k d within.
+              let goes = reach_goes graph items k d within in
+              let c : Cargo = get_or late.cargo k d in
+              All-cons (λ n. n < next_color late.colors) c.actor c.colors goes.made
+              goes.colors_made;
+          once = reach_once graph items;
+        })
 
     same : AreAlike early.colors (delivered late)
     same = alike graph early late (reach_follows graph items)
@@ -199,4 +209,59 @@ module _ (graph : Graph) (clean : IsClean graph) (supplied : IsSupplied graph)
     pub colored_secure : IsSecure graph states early.state (hued early.colors)
     colored_secure = subst (λ (t : State). IsSecure graph states t (hued early.colors))
         (sym (reach_follows graph items).state)
-        (subst (IsSecure graph states late.state) (sym hued_same) arrived)
+        (subst (IsSecure graph states late.state) (sym hued_same) arrived.secure)
+
+    -- ---- what is noted by number
+    fits_there : TintsFit graph late.state.cells (record {
+      cells = (delivered late).cells;
+      palette = early.colors.palette;
+      heres = (delivered late).heres;
+    })
+    fits_there = tints_renamed graph late.state.cells (delivered late) early.colors.palette
+        (λ c. c) hues_same (λ a. refl) arrived.tints
+
+    colored_tints : TintsFit graph early.state.cells early.colors
+    colored_tints =
+        subst (λ (t : State). TintsFit graph t.cells early.colors)
+        (sym (reach_follows graph items).state)
+        (subst (λ (ts : List Tint). TintsFit graph late.state.cells (record {
+          cells = ts;
+          palette = early.colors.palette;
+          heres = early.colors.heres;
+        })) (sym same.cells)
+        (subst (λ (hs : List (List ℕ)). TintsFit graph late.state.cells (record {
+          cells = (delivered late).cells;
+          palette = early.colors.palette;
+          heres = hs;
+        })) (sym same.heres) fits_there))
+
+    -- what an actor owns in the late colours it owns
+    actor_stays : (n : ℕ) (o : Owner) → job_of (Some o) ≡ None
+        → owner_in late.colors.palette n ≡ Some o → owner_in early.colors.palette n ≡ Some o
+    actor_stays n o actor is = elim (owners_delayed graph items keep_numbers take_own n) [
+      | inl same ↦ same ∙ is
+      | inr taken ↦
+          let clash : None ≡ Some taken.cargo.job =
+          sym actor ∙ ap job_of (sym is ∙ taken.jobs) in
+          absurd (let none : ⊥ = cc in none)
+    ]
+
+    pub colored_keep_numbers : KeepNumbers (global_count graph.functions) early.colors
+    colored_keep_numbers = record {
+      actors = λ c n is. actor_stays n (owner.ActorOf c) refl (keep_numbers.actors c n
+          (ap (λ (ts : List Tint). owned_number ts c) (sym (reach_follows graph items).cells)
+          ∙ is));
+      globals = λ g few. actor_stays g (owner.Global g) refl (keep_numbers.globals g few);
+    }
+
+    -- the coloured state as a late one of which nothing is taken along
+    pub colored_late : IsLateSecure graph states (taking_nothing early)
+    colored_late = record {
+      whole = (reach_follows graph items).early_whole;
+      made = reach_made graph items;
+      globals = λ g few. ap (λ o. hue_by o (name_in early.colors.palette.names g))
+          (colored_keep_numbers.globals g few);
+      tints = colored_tints;
+      cargo = All-nil (CargoFits graph states early.state early.colors);
+      secure = colored_secure;
+    }

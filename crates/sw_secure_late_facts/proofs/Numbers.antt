@@ -27,7 +27,7 @@ pub all_in : {X : Type 0} (P : X → Type 0) (xs : List X) (x : X) → All P xs 
 all_in P xs x all has = let at = stands_at xs x has in all_there P xs at.0 x at.1 all
 
 -- the number in a job's hue is what is left of the colour
-job_number : (o : Option Owner) (n job number : ℕ) → hue_by o n ≡ OfJob job number → n ≡ number
+pub job_number : (o : Option Owner) (n job number : ℕ) → hue_by o n ≡ OfJob job number → n ≡ number
 job_number None n job number is = cc
 job_number (Some (owner.Job j)) n job number is = cc
 job_number (Some (owner.ActorOf c)) n job number is = cc

@@ -97,7 +97,7 @@ unites_same job joined other colours after same unites = record {
   only = λ n has. same.to (OfJob job n) (unites.only n has);
 }
 
-nothing_in : (cs : List Colour) → ((c : Colour) → Contains cs c → ⊥) → cs ≡ []
+pub nothing_in : {X : Type 0} (cs : List X) → ((c : X) → Contains cs c → ⊥) → cs ≡ []
 nothing_in [] empty = refl
 nothing_in (c ∷ cs) empty = absurd (empty c (Contains-append_left (c ∷ []) cs c (in_one c)))
 

@@ -1,14 +1,15 @@
 -- What every late state of an accepted program keeps: by hue it is secure, and its numbers are as
 -- the
 -- next item needs them.
-use Rattle.std.specs.Prelude.{◌≡◌, ◌⊎◌, ◌<◌, ℕ, suc, true, Option, Some, List, length, slice_get}
-use Rattle.std.specs.Prelude.{Contains}
+use Rattle.std.specs.Prelude.{◌≡◌, ◌⊎◌, ◌<◌, ℕ, suc, true, Option, Some, List, [], length}
+use Rattle.std.specs.Prelude.{slice_get, Contains}
 use Rattle.std.specs.List.{All}
 use Rattle.sw_graph.specs.declared.graph.Graph.{Graph}
 use Rattle.sw_value.specs.declared.frame.Frame.{Frame}
 use Rattle.sw_value.specs.declared.job.Job.{Job}
 use Rattle.sw_value.specs.declared.state.State.{State}
 use Rattle.sw_value.specs.Job.{top_frame}
+use Rattle.sw_color_rules.specs.declared.colored.Colored.{Colored}
 use Rattle.sw_color_rules.specs.declared.colors.Colors.{Colors}
 use Rattle.sw_color_rules.specs.Machine.{global_count}
 use Rattle.sw_color_rules.specs.Palette.{IsWhole}
@@ -57,3 +58,7 @@ pub record IsLateSecure (graph : Graph) (states : ℕ → List (Option Regions))
     pub tints : TintsFit graph late.state.cells late.colors
     pub cargo : All (CargoFits graph states late.state late.colors) late.cargo
     pub secure : IsSecure graph states late.state (hued late.colors)
+
+-- a state of the coloured machine as a late one in which no job takes anything along
+abbrev pub taking_nothing : Colored → Late
+taking_nothing colored = record { state = colored.state; colors = colored.colors; cargo = [] }

@@ -23,7 +23,7 @@ ghost use Rattle.sw_secure_facts.specs.Painting.{Paints};
 ghost use Rattle.sw_secure_facts.specs.Secure.{IsSecure};
 ghost use Rattle.sw_secure_job_facts.specs.Begins.{AreAnnotated};
 ghost use Rattle.sw_hue_facts.specs.Hued.{hued};
-ghost use Rattle.sw_secure_late_facts.specs.LateSecure.{IsLateSecure};
+ghost use Rattle.sw_secure_late_facts.specs.LateSecure.{IsLateSecure, taking_nothing};
 
 /// Where a late state is secure by hue and a job executes an effect, the late colours after it are,
 /// by hue, what that effect may make of colours; and the state after it is secure with them.
@@ -62,11 +62,19 @@ pub fn late_owners_keep_their_numbers()
         → All (TakesOwn (late_reach graph items).colors) (late_reach graph items).cargo }
 {}
 
-/// Whatever the items, the state of the coloured machine that they lead to is secure with its colours
-/// by hue: its view is sound, and so no two running jobs hold one colour in their top frames.
+/// Whatever the items, the state of the coloured machine that they lead to is secure with its
+/// colours by hue: its view is sound, and so no two running jobs hold one colour in their top
+/// frames. It is as a late state in which no job takes anything along, and each actor owns the
+/// number that is noted of its cell.
 pub fn coloured_states_are_secure()
-    ensures { (graph : Graph) → IsClean graph → IsSupplied graph
+    ensures secure { (graph : Graph) → IsClean graph → IsSupplied graph
         → (states : ℕ → List (Option Regions)) → AreAnnotated graph states → (items : List ℕ)
         → IsSecure graph states (colored_reach graph items).state
         (hued (colored_reach graph items).colors) }
+    ensures late { (graph : Graph) → IsClean graph → IsSupplied graph
+        → (states : ℕ → List (Option Regions)) → AreAnnotated graph states → (items : List ℕ)
+        → IsLateSecure graph states (taking_nothing (colored_reach graph items)) }
+    ensures numbers { (graph : Graph) → IsClean graph → IsSupplied graph
+        → (states : ℕ → List (Option Regions)) → AreAnnotated graph states → (items : List ℕ)
+        → KeepNumbers (global_count graph.functions) (colored_reach graph items).colors }
 {}
