@@ -1,0 +1,9 @@
+pub mod Numbers
+pub mod Frames
+pub mod Standing
+pub mod Contents
+pub mod Closures
+pub mod Crossing
+pub mod Actors
+pub mod Owned
+pub mod Apart
