@@ -7,3 +7,4 @@ pub mod Crossing
 pub mod Actors
 pub mod Owned
 pub mod Apart
+pub mod Keeping

@@ -6,4 +6,4 @@
 
 mod laws;
 
-pub use laws::{coloured_states_are_owned, owned_jobs_share_no_colour};
+pub use laws::{actors_keep_their_colours, coloured_states_are_owned, owned_jobs_share_no_colour};
