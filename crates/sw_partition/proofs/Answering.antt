@@ -2,16 +2,17 @@
 use Rattle.std.proofs.Common.{◌≡◌, ◌≢◌, ℕ, zero, suc, ◌+◌, ◌*◌, ◌/◌, ◌%◌, ◌^◌, ◌<◌, ◌≤◌, ◌⊎◌, inl}
 use Rattle.std.proofs.Common.{inr, Result, Ok, Err, IsOk, MatchResult, List, length, get_or}
 use Rattle.std.proofs.Common.{slice_index, replicate, Contains, refl, sym, subst, ap, ◌∙◌, arith}
-use Rattle.std.proofs.Common.{◌-◌}
+use Rattle.std.proofs.Common.{◌-◌, ◌↔◌}
 use Rattle.std.specs.List.Sorted.{IsStrictlyIncreasing, IsBinarySearchResult}
 use Rattle.std.specs.Ordering.{nat_cmp}
 use Rattle.std.specs.Int.{bit_at}
-use Rattle.std.proofs.lemmas.Bool.{cases_eq, cases_lt}
+use Rattle.std.proofs.lemmas.Bool.{cases_eq, cases_lt, cases_order}
 use Rattle.std.proofs.lemmas.List.{get_or-replicate, get_or_past, get_or_read}
 use Rattle.std.proofs.lemmas.List.Sorted.{searched}
 use Rattle.std.proofs.lemmas.Nat.Bits.{bit_at-zero}
 use Rattle.std.proofs.Math.ListN.{length-replicate}
-use Rattle.sw_partition.specs.Regions.{Regions, words_for, bit_of, Together, HasPair, HasSomePair}
+use Rattle.sw_partition.specs.Regions.{Regions, words_for, bit_of, mark_of, Together, HasPair}
+use Rattle.sw_partition.specs.Regions.{HasSomePair}
 use Rattle.sw_partition.specs.Effects.{IsBlank, IsGiven, IsLeastSite}
 use Rattle.sw_partition.specs.Tables.{AreNumbers, AreTables, IsClassMarked, IsFirstBit}
 use Rattle.sw_partition.proofs.Effecting.{column_in_row, written, refilled, zero_not_one}
@@ -41,6 +42,28 @@ pub rising_le : (sites : List ℕ) → IsStrictlyIncreasing sites → (i j : ℕ
 rising_le sites rising i j le j_lt = elim (cases_eq i j) [
   | inl e ↦ (let same = ap (slice_index sites) e in omega (arith, same))
   | inr ne ↦ (let lt = rising_lt sites rising i j (omega (arith, ne)) j_lt in omega (arith, lt))
+]
+
+-- a pair's column is that of its site
+pub column_of_site : (r : Regions) (x site k : ℕ) → IsStrictlyIncreasing r.sites
+    → (k < length r.sites) × (slice_index r.sites k ≡ site) → (has : HasPair r x site)
+    → has.column ≡ k
+column_of_site r x site k rising at has = elim (cases_order has.column k) [
+  | inl e ↦ e
+  | inr apart ↦ elim apart [
+    | inl lt ↦ absurd (omega (
+      arith,
+      rising_lt r.sites rising has.column k lt at.0,
+      has.is_site,
+      at.1,
+    ))
+    | inr gt ↦ absurd (omega (
+      arith,
+      rising_lt r.sites rising k has.column gt has.in_range,
+      has.is_site,
+      at.1,
+    ))
+  ]
 ]
 
 -- a site that is there is found
@@ -299,6 +322,24 @@ need_found x width bit labels sites words seen_words now now_is words_are width_
       subst (λ (n : Regions). IsLeastSite n x (slice_index sites bit)) now_is
           (least_site x bit labels sites words tables x_lt f),
     )
+
+-- ---- has
+pub pair_is_set : (r : Regions) (x site column : ℕ) → AreTables r.labels r.sites r.words
+    → x < length r.labels → (column < length r.sites) × (slice_index r.sites column ≡ site)
+    → (bit_of r.words (x * words_for (length r.sites) * 64 + column) ≡ 1) ↔ HasPair r x site
+pair_is_set r x site column tables x_lt found = (
+  λ set. record {
+    element = x_lt;
+    column = column;
+    in_range = found.0;
+    is_site = found.1;
+    marked =
+        ap (bit_of r.words) (sym (row_column x (words_for (length r.sites)) column)) ∙ set;
+  },
+  λ has. ap (bit_of r.words) (row_column x (words_for (length r.sites)) column)
+      ∙ (ap (mark_of r x) (sym (column_of_site r x site column tables.rising found has))
+      ∙ has.marked),
+)
 
 -- `Here` has no pair
 pub here_has_none : (labels sites words : List ℕ) (now : Regions)

@@ -4,4 +4,5 @@ pub mod Bits
 pub mod Marking
 pub mod Effecting
 pub mod Answering
+pub mod Including
 pub mod Uniting

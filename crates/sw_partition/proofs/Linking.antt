@@ -412,7 +412,7 @@ flattening_ends old now x ge f = record {
 }
 
 -- ---- the classes of two tables are united
-keeps_coarser : (a z : List ℕ) → KeepsLinks a z → IsCoarser a z
+pub keeps_coarser : (a z : List ℕ) → KeepsLinks a z → IsCoarser a z
 keeps_coarser a z keeps =
     record {
       each = λ p q p_lt q_lt e. keeps.each p p_lt

@@ -135,3 +135,7 @@ pub record IsFirstBit (words : List ℕ) (from count bit : ℕ) : Type 0 where
 -- a row of `count` words has no bit that is set
 pub record IsClearRow (words : List ℕ) (from count : ℕ) : Type 0 where
   pub each : (k : ℕ) → k < count * 64 → bit_of words (from * 64 + k) ≡ 0
+
+-- the bits that are set in the first words are set in the second
+pub record AreBitsWithin (a b : List ℕ) : Type 0 where
+  pub each : (n : ℕ) → bit_of a n ≤ bit_of b n

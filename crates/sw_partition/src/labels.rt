@@ -1,5 +1,6 @@
 //! Tables of classes: each element has a label, which is an element of its class.
-ghost use Rattle.std.specs.Prelude.{◌≡◌, ◌^◌, ◌<◌, ◌↔◌, length, IsTrue, IfOk};
+ghost use Rattle.std.specs.Prelude.{◌≡◌, ℕ, ◌^◌, ◌<◌, ◌≤◌, ◌↔◌, length, slice_index, IsTrue, IfOk};
+ghost use Rattle.std.specs.Prelude.{SomeIndex};
 ghost use Rattle.sw_partition.specs.Tables.{AreNumbers, AreLabels, IsRelabeled, IsReleased};
 ghost use Rattle.sw_partition.specs.Tables.{KeepsLinks, IsUnited};
 
@@ -46,7 +47,7 @@ pub(crate) fn release(labels: &mut [u32], x: usize)
 }
 
 /// Whether the table puts together what the other table does.
-fn is_coarser(labels: &[u32], other: &[u32]) -> bool
+pub(crate) fn is_coarser(labels: &[u32], other: &[u32]) -> bool
     requires length { length other.now ≡ length labels.now }
     requires other { AreLabels other.now }
     ensures { IsTrue result ↔ KeepsLinks other.now labels.now }
@@ -75,4 +76,20 @@ pub(crate) fn unite(labels: &mut [u32], other: &[u32]) -> bool
     }
     flatten(labels);
     true
+}
+
+/// The first element that has the label.
+pub(crate) fn first_with(labels: &[u32], label: u32) -> usize
+    requires { SomeIndex labels.now (λ k. slice_index labels.now k ≡ label) }
+    ensures there { result < length labels.now }
+    ensures labelled { slice_index labels.now result ≡ label }
+    ensures least { (k : ℕ) → k < length labels.now → slice_index labels.now k ≡ label
+        → result ≤ k }
+{
+    for x in 0..labels.len() {
+        if labels[x] == label {
+            return x;
+        }
+    }
+    labels.len()
 }

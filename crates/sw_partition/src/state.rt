@@ -1,13 +1,14 @@
 //! The region state and its operations.
-ghost use Rattle.std.specs.Prelude.{◌≡◌, ◌≢◌, ℕ, ◌<◌, length, Contains, ◌↔◌, IsTrue, IsSome};
+ghost use Rattle.std.specs.Prelude.{◌≡◌, ◌≢◌, ℕ, ◌<◌, ◌≤◌, length, Contains, ◌↔◌, IsTrue, IsSome};
 ghost use Rattle.std.specs.Prelude.{IfSome, IfOk};
 ghost use Rattle.std.specs.List.Sorted.{IsStrictlyIncreasing};
-ghost use Rattle.sw_partition.specs.Regions.{Together, HasSomePair};
+ghost use Rattle.sw_partition.specs.Regions.{size_of, Together, HasPair, HasSomePair};
+ghost use Rattle.sw_partition.specs.Regions.{IsWithin};
 ghost use Rattle.sw_partition.specs.Effects.{IsBlank, IsFree, IsLeastSite, IsFreshened, IsPut};
 ghost use Rattle.sw_partition.specs.Effects.{IsJoined, IsGiven};
 
-use crate::labels::{numbers, relabel, release, unite};
-use crate::words::{clear, copy, fill, first_bit, mark_class, words_for, zeros};
+use crate::labels::{first_with, is_coarser, numbers, relabel, release, unite};
+use crate::words::{clear, copy, covers, fill, first_bit, is_set, mark_class, words_for, zeros};
 use std::alloc::{AllocError, Global};
 use std::marker::Model;
 use std::sync::ledger::Ledger;
@@ -136,6 +137,48 @@ impl Partition {
         let column = self.sites.binary_search(&site).unwrap();
         let label = self.labels[x as usize];
         mark_class(&mut self.words, &self.labels, label, width, column);
+    }
+
+    /// How many elements there are.
+    pub fn elements(&self) -> u32
+        ensures { result ≡ length self.now.labels }
+    {
+        self.labels.len() as u32
+    }
+
+    /// The sites, in rising order.
+    pub fn sites(&self) -> &[u32]
+        ensures { result.now ≡ self.now.sites }
+    {
+        self.sites.as_slice()
+    }
+
+    /// The least element of the element's class.
+    pub fn class_of(&self, x: u32) -> u32
+        requires { x < length self.now.labels }
+        ensures class { Together self.now x result }
+        ensures least { (y : ℕ) → Together self.now x y → result ≤ y }
+    {
+        first_with(&self.labels, self.labels[x as usize]) as u32
+    }
+
+    /// Whether the element has a pair with the site.
+    pub fn has(&self, x: u32, site: u32) -> bool
+        requires element { x < length self.now.labels }
+        requires site { Contains self.now.sites site }
+        ensures { IsTrue result ↔ HasPair self.now x site }
+    {
+        let width = words_for(self.sites.len());
+        let column = self.sites.binary_search(&site).unwrap();
+        is_set(&self.words, x as usize * width, column)
+    }
+
+    /// Whether the other state is included in this one: its equivalence and its set of pairs.
+    pub fn includes(&self, other: &Partition) -> bool
+        requires { size_of other.now ≡ size_of self.now }
+        ensures { IsTrue result ↔ IsWithin other.now self.now }
+    {
+        is_coarser(&self.labels, &other.labels) && covers(&self.words, &other.words)
     }
 }
 

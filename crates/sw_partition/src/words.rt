@@ -1,9 +1,10 @@
 //! Rows of bits, in words of 64.
 ghost use Rattle.std.specs.Prelude.{◌≡◌, ℕ, ◌+◌, ◌*◌, ◌/◌, ◌^◌, ◌<◌, ◌≤◌, ◌⊎◌, length, replicate};
-ghost use Rattle.std.specs.Prelude.{IfOk, MatchOption};
+ghost use Rattle.std.specs.Prelude.{IfOk, MatchOption, IsTrue, ◌↔◌};
+ghost use Rattle.sw_partition.specs.Regions.{bit_of};
 ghost use Rattle.sw_partition.specs.Regions as spec;
 ghost use Rattle.sw_partition.specs.Tables.{IsCleared, IsCopied, IsFilled, SetsBit, IsClassMarked};
-ghost use Rattle.sw_partition.specs.Tables.{IsFirstBit, IsClearRow};
+ghost use Rattle.sw_partition.specs.Tables.{IsFirstBit, IsClearRow, AreBitsWithin};
 
 use std::alloc::{AllocError, Global};
 
@@ -96,4 +97,25 @@ pub(crate) fn first_bit(words: &[u64], from: usize, count: usize) -> Option<usiz
         }
     }
     None
+}
+
+/// Whether all bits are set that are set in the other words.
+pub(crate) fn covers(words: &[u64], other: &[u64]) -> bool
+    requires { length other.now ≡ length words.now }
+    ensures { IsTrue result ↔ AreBitsWithin other.now words.now }
+{
+    for i in 0..words.len() {
+        if words[i] | other[i] != words[i] {
+            return false;
+        }
+    }
+    true
+}
+
+/// Whether the bit of a column is set in a row that begins with a word.
+pub(crate) fn is_set(words: &[u64], from: usize, column: usize) -> bool
+    requires { from + column / 64 < length words.now }
+    ensures { IsTrue result ↔ (bit_of words.now (from * 64 + column) ≡ 1) }
+{
+    words[from + column / 64] >> (column % 64) & 1 == 1
 }
