@@ -148,7 +148,8 @@ impl Partition {
 
     /// The sites, in rising order.
     pub fn sites(&self) -> &[u32]
-        ensures { result.now ≡ self.now.sites }
+        ensures value { result.now ≡ self.now.sites }
+        ensures rising { IsStrictlyIncreasing result.now }
     {
         self.sites.as_slice()
     }
