@@ -11,6 +11,7 @@ use Rattle.sw_solve.proofs.Least.{blocks_give_points}
 use Rattle.sw_solve.specs.Layout.{Chain, IsLeastOfBlocks, IsLeastOfPoints}
 use Rattle.sw_breach.specs.declared.Breach.{Breach}
 use Rattle.sw_graph.specs.Points.{Point, points_of, points_of_block}
+use Rattle.sw_graph.specs.declared.instr.Block.{Block}
 use Rattle.sw_partition.specs.Laws.{within_refl, within_trans, within_both}
 use Rattle.sw_partition.specs.Rank.{rank_of}
 use Rattle.sw_partition.specs.Regions.{Regions, size_of, IsWithin}
@@ -23,7 +24,7 @@ use Rattle.sw_region_flow.specs.Analysis.{Analysis, IsAnalysis, layout, block_op
 use Rattle.sw_region_flow.specs.Breaches.{IsBreachIn}
 use Rattle.sw_region_flow.specs.Laws.{walks_monotone, entries_within}
 use Rattle.sw_region_flow.specs.Least.{first_point, followers, point_ops_at, IsClosedFor, IsLeast}
-use Rattle.sw_region_flow.specs.Least.{FailsAt}
+use Rattle.sw_region_flow.specs.Least.{FailsAt, IsLeastAtBlocks}
 use Rattle.sw_region_flow.specs.Walks.{IsCopy, Walks, FailsAmong}
 use Rattle.sw_region_ops.proofs.RunLemmas.{runs_split, runs_both}
 use Rattle.sw_region_ops.specs.Entry.{IsEntry}
@@ -109,6 +110,39 @@ among_at setting (first ∷ points) (suc k) point a m breach e runs fails =
     among_right (point_ops setting first) (points_ops setting points) a h.0 breach h.1
     (among_at setting points k point h.0 m breach e h.2 fails)
 
+-- From a state at a block the points before one of its points make what stands there, and the
+-- operations at that point can be done.
+pub record ComesTo (setting : FunctionSetting) (points : List Point) (k : ℕ) (point : Point)
+    (x y : Regions) : Type 0 where
+  pub copied : Regions
+  pub is_copy : IsCopy x copied
+  pub before : Regions
+  pub runs : Runs (points_ops setting (take k points)) copied before
+  pub same : IsCopy y before
+  pub made : Regions
+  pub does : Runs (point_ops setting point) before made
+
+pub comes_to : (setting : FunctionSetting) (b k : ℕ) (block : Block) (point : Point)
+    (x y end : Regions) → slice_get setting.body.blocks b ≡ Some block
+    → slice_get (points_of_block block) k ≡ Some point → Walks (block_ops_at setting b) x end
+    → Chain (λ q. Walks (point_ops_at setting q)) (first_point setting.body.blocks b) k x y
+    → ComesTo setting (points_of_block block) k point x y
+comes_to setting b k block point x y end e here_is walks chain =
+    let within = slice_get_within (points_of_block block) k point here_is in
+    let at = runs_at setting (points_of_block block) k point walks.copied end here_is
+    (subst (λ os. Runs os walks.copied end) (ops_are setting b block e) walks.runs) in
+    record {
+      copied = walks.copied;
+      is_copy = walks.is_copy;
+      before = at.0;
+      runs = at.2;
+      same = chain_same setting (points_of_block block) k (first_point setting.body.blocks b) x y
+          walks.copied at.0 (stands_at setting b block e) (omega (arith, within)) chain
+          walks.is_copy at.2;
+      made = at.1;
+      does = at.3;
+    }
+
 -- a test fails only where there is a point
 point_there : (setting : FunctionSetting) (p : ℕ) (a : Regions) (breach : Breach)
     → FailsAmong (point_ops_at setting p) a breach
@@ -122,16 +156,16 @@ point_there setting p a breach fails =
     ]
 
 -- what stands at a point, if something below it stands there
-stands_above : (o : Option Regions) (x : Regions) → IsBelow IsWithin x o
+pub stands_above : (o : Option Regions) (x : Regions) → IsBelow IsWithin x o
     → (y : Regions) × (o ≡ Some y) × IsWithin x y
 stands_above None x below = absurd below
 stands_above (Some y) x below = (y, refl, below)
 
-at_some : (o other : Option Regions) (x : Regions) → o ≡ Some x → IsAtMost IsWithin o other
+pub at_some : (o other : Option Regions) (x : Regions) → o ≡ Some x → IsAtMost IsWithin o other
     → IsBelow IsWithin x other
 at_some o other x e most = subst (λ v. IsAtMost IsWithin v other) e most
 
-size_at : (facts : List ℕ) (o : Option Regions) (x : Regions) → o ≡ Some x
+pub size_at : (facts : List ℕ) (o : Option Regions) (x : Regions) → o ≡ Some x
     → IfSome o (λ r. size_of r ≡ facts) → size_of x ≡ facts
 size_at facts o x e sized = subst (λ v. IfSome v (λ r. size_of r ≡ facts)) e sized
 
@@ -254,25 +288,21 @@ module _ (analysis : Analysis) (fits : IsAnalysis analysis) (s a : List (Option 
           let stood = points.stood b k y inside (omega (arith, count, within))
           (ap (value_at a) (sym place) ∙ stands) in
           let passed = blocks.closed.stepped b stood.0 stood.1 in
-          let walks = passed.leads_to.1 in
-          let all = ops_are analysis.setting b block e in
-          let at = runs_at analysis.setting (points_of_block block) k point walks.copied passed.made
-          here_is (subst (λ os. Runs os walks.copied passed.made) all walks.runs) in
-          let copy_too : IsCopy y at.0 = chain_same analysis.setting (points_of_block block) k
-          (first_point analysis.setting.body.blocks b) stood.0 y walks.copied at.0 stand
-          (omega (arith, within)) stood.2 walks.is_copy at.2 in
-          let among = among_same (point_ops analysis.setting point) c at.0 at.1 breach
-          (copy_trans c y at.0 copy copy_too) at.3
+          let to = comes_to analysis.setting b k block point stood.0 y passed.made e here_is
+          passed.leads_to.1 stood.2 in
+          let among = among_same (point_ops analysis.setting point) c to.before to.made breach
+          (copy_trans c y to.before copy to.same) to.does
           (subst (λ os. FailsAmong os c breach) ops fails) in (
             b,
             record {
               state = stood.0;
               stands = stood.1;
-              copied = walks.copied;
-              is_copy = walks.is_copy;
-              fails = subst (λ os. FailsAmong os walks.copied breach) (sym all)
-                  (among_at analysis.setting (points_of_block block) k point walks.copied at.0
-                  breach here_is at.2 among);
+              copied = to.copied;
+              is_copy = to.is_copy;
+              fails = subst (λ os. FailsAmong os to.copied breach)
+                  (sym (ops_are analysis.setting b block e))
+                  (among_at analysis.setting (points_of_block block) k point to.copied to.before
+                  breach here_is to.runs among);
             },
           )
 
@@ -286,3 +316,14 @@ breaches_are analysis fits s blocks breach =
       to_block analysis fits s h.0 blocks h.1 breach,
       λ found. from_block analysis fits s h.0 blocks h.1 found.0 breach found.1,
     )
+
+-- a least annotation of the blocks has what one of the points has
+pub least_at_blocks : (analysis : Analysis) → IsAnalysis analysis → (s : List (Option Regions))
+    → IsLeastOfBlocks (layout analysis) s → IsLeastAtBlocks analysis.setting s
+least_at_blocks analysis fits s blocks =
+    let h = blocks_give_points (layout analysis) (laid_out analysis fits) s blocks in
+    record {
+      points = h.0;
+      least = is_least analysis fits s h.0 blocks h.1;
+      at = λ b within. sym (h.1.starts b within);
+    }

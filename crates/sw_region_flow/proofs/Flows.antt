@@ -5,7 +5,7 @@ use Rattle.std.specs.List.{slice_get, All}
 use Rattle.sw_list.proofs.ListLemmas.{at_index}
 use Rattle.sw_graph.specs.Limits.{IsWithinLimits}
 use Rattle.sw_graph.specs.Mentions.{blocks_of}
-use Rattle.sw_graph.specs.WellFormed.{IsWellFormed, FunctionFits, BlockFits}
+use Rattle.sw_graph.specs.WellFormed.{FunctionFits, BlockFits}
 use Rattle.sw_graph.specs.declared.function.Function.{Function}
 use Rattle.sw_graph.specs.declared.function.GlobalKind.{GlobalKind}
 use Rattle.sw_graph.specs.declared.graph.Graph.{Graph}
@@ -17,6 +17,7 @@ use Rattle.sw_region_flow.proofs.Places.{element_at, fewer_blocks, targets_of}
 use Rattle.sw_region_flow.specs.Analysis.{Analysis, IsAnalysis, facts_of, block_ops_at}
 use Rattle.sw_region_flow.specs.Analysis.{targets_at}
 use Rattle.sw_region_flow.specs.Work.{site_count, joins_of}
+use Rattle.sw_region_ops.proofs.ContextLemmas.{are_elements}
 use Rattle.sw_region_ops.proofs.RangeLemmas.{block_fits}
 use Rattle.sw_region_ops.specs.Elements.{AreElements, element_count}
 use Rattle.sw_region_ops.specs.Runs.{Fits}
@@ -45,24 +46,26 @@ fits_as shapes globals functions n body elements sites fits limits are are_sites
       in h.last.blocks_in;
 }
 
+pub body_fits : (graph : Graph) (n : ℕ) (body : Function) (sites : List ℕ)
+    → slice_get graph.functions n ≡ Some body → AreSites (setting_of graph body) sites
+    → IsAnalysis (record { setting = setting_of graph body; sites = sites })
+body_fits graph n body sites is are_sites =
+    let limits = at_index IsWithinLimits graph.functions n body graph.well_formed.limits is in
+    fits_as graph.shapes graph.globals graph.functions n body (setting_of graph body).elements sites
+    (at_index (FunctionFits graph.shapes graph.globals graph.functions) graph.functions n body
+    graph.well_formed.each is) limits
+    (are_elements graph.shapes body.regs limits.registers) are_sites
+
 pub analysis_fits : (graph : Graph) (n : ℕ) (setting : FunctionSetting) (sites : List ℕ)
-    → IsWellFormed graph.shapes graph.globals graph.functions graph.entry graph.starts
     → n < length graph.functions
     → ((body : Function) → slice_get graph.functions n ≡ Some body
     → setting ≡ setting_of graph body)
-    → AreElements setting.elements → AreSites setting sites
-    → IsAnalysis (record { setting = setting; sites = sites })
-analysis_fits graph n setting sites formed within value are are_sites =
+    → AreSites setting sites → IsAnalysis (record { setting = setting; sites = sites })
+analysis_fits graph n setting sites within value are_sites =
     let h = element_at graph.functions n within in
     let e = value h.0 h.1 in
-    let elements : AreElements (setting_of graph h.0).elements =
-    subst (λ s. AreElements s.elements) e are in
-    let all : AreSites (setting_of graph h.0) sites = subst (λ s. AreSites s sites) e are_sites in
     subst (λ s. IsAnalysis (record { setting = s; sites = sites })) (sym e)
-    (fits_as graph.shapes graph.globals graph.functions n h.0 (setting_of graph h.0).elements sites
-    (at_index (FunctionFits graph.shapes graph.globals graph.functions) graph.functions n h.0
-    formed.each h.1)
-    (at_index IsWithinLimits graph.functions n h.0 formed.limits h.1) elements all)
+    (body_fits graph n h.0 sites h.1 (subst (λ s. AreSites s sites) e are_sites))
 
 -- the operations of a block that there is
 pub ops_there : (setting : FunctionSetting) (b : ℕ) (block : Block) (ops : List Op)

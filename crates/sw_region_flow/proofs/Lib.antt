@@ -1,3 +1,4 @@
+pub mod Certifying
 pub mod Climbing
 pub mod Codes
 pub mod Collecting

@@ -1,12 +1,13 @@
 -- No test fails in the least annotations of a graph exactly where each passes.
-use Rattle.std.proofs.Common.{ℕ, inl, inr, Option, Some, None, List, [], ◌∷◌, refl, arith}
+use Rattle.std.proofs.Common.{◌≡◌, ℕ, ◌⊎◌, inl, inr, ◌↔◌, Option, Some, None, List, [], ◌∷◌}
+use Rattle.std.proofs.Common.{Contains, refl, subst, arith}
 use Rattle.sw_breach.specs.declared.Breach.{Breach}
 use Rattle.sw_graph.specs.declared.graph.Graph.{Graph}
 use Rattle.sw_partition.specs.Effects.{IsLeastSite}
 use Rattle.sw_partition.specs.Regions.{Regions}
 use Rattle.sw_region_flow.proofs.Gathering.{given}
 use Rattle.sw_region_flow.proofs.Leasts.{some_least}
-use Rattle.sw_region_flow.proofs.OneSites.{no_member}
+use Rattle.sw_region_flow.proofs.OneSites.{member_first, no_member}
 use Rattle.sw_region_flow.specs.Breaches.{AreBreaches, IsBreachIn, IsBreachOf}
 use Rattle.sw_region_flow.specs.Least.{point_ops_at, IsLeast}
 use Rattle.sw_region_flow.specs.Passing.{AllPass, EachPasses, IsNotGivenAway, IsPassed, Passes}
@@ -69,6 +70,23 @@ none_fails [] r breach passes fails = fails
 none_fails (op ∷ ops) r breach passes (inl fails) = op_fails op r breach passes.0 fails
 none_fails (op ∷ ops) r breach passes (inr later) =
     none_fails ops later.0 breach (passes.1 later.0 later.1) later.2
+
+-- no breach is found exactly where all operations pass
+pub pass_if_none : (ops : List Op) (r : Regions) (found : List Breach)
+    → ((breach : Breach) → Contains found breach
+    ↔ (Contains [] breach ⊎ FailsAmong ops r breach)) → (found ≡ []) ↔ AllPass ops r
+pass_if_none ops r found are = (
+  λ e. all_pass ops r (λ breach fails.
+      no_member breach (subst (λ l. Contains l breach) e ((are breach).1 (inr fails)))),
+  λ passes. empty found (λ breach has. elim ((are breach).0 has) [
+    | inl none ↦ no_member breach none
+    | inr fails ↦ none_fails ops r breach passes fails
+  ]),
+)
+  where
+    empty : (list : List Breach) → ((breach : Breach) → Contains list breach → ⊥) → list ≡ []
+    empty [] none = refl
+    empty (breach ∷ rest) none = absurd (none breach (member_first breach rest))
 
 each_passes : (setting : FunctionSetting) (states : List (Option Regions)) → IsLeast setting states
     → ((breach : Breach) → IsBreachIn setting breach → ⊥) → EachPasses setting states

@@ -1,9 +1,10 @@
 -- The flow of a function's blocks with region states.
 use Rattle.std.specs.Coded.{Coded, code_by, coded×, coded_list, coded_ℕ}
-use Rattle.std.specs.Prelude.{◌≡◌, ℕ, ◌<◌, ◌≤◌, Some, List, [], ◌∷◌, length, slice_get, All, refl}
+use Rattle.std.specs.Prelude.{◌≡◌, ℕ, ◌<◌, ◌≤◌, Option, Some, List, [], ◌∷◌, length, slice_get}
+use Rattle.std.specs.Prelude.{All, refl}
 use Rattle.std.specs.Option.{option_map_or}
 use Rattle.sw_graph.specs.Mentions.{blocks_of}
-use Rattle.sw_solve.specs.Layout.{Layout}
+use Rattle.sw_solve.specs.Layout.{Layout, IsLeastOfBlocks}
 use Rattle.sw_graph.specs.Points.{points_of_block}
 use Rattle.sw_graph.specs.declared.function.TheConstants.{MAX_POINTS}
 use Rattle.sw_graph.specs.declared.instr.Block.{Block}
@@ -75,3 +76,11 @@ pub record IsAnalysis (analysis : Analysis) : Type 0 where
   pub few : length analysis.setting.body.blocks ≤ MAX_POINTS
   pub targets : (b : ℕ) (block : Block) → slice_get analysis.setting.body.blocks b ≡ Some block
       → All (λ target. target < length analysis.setting.body.blocks) (blocks_of block.last)
+
+-- a least annotation of a function's blocks, over the sites at which the function gives elements
+-- away
+pub record IsLeastOfFunction (setting : FunctionSetting)
+    (states : List (Option Regions)) : Type 0 where
+  pub sites : List ℕ
+  pub fits : IsAnalysis (record { setting = setting; sites = sites })
+  pub least : IsLeastOfBlocks (layout (record { setting = setting; sites = sites })) states

@@ -1,6 +1,6 @@
 -- The least annotation of the points of a function with region states (SE-0414), and the tests that
 -- fail in it.
-use Rattle.std.specs.Prelude.{◌≡◌, ℕ, ◌+◌, Option, Some, List, [], ◌∷◌, length, map, take}
+use Rattle.std.specs.Prelude.{◌≡◌, ℕ, ◌+◌, ◌<◌, Option, Some, List, [], ◌∷◌, length, map, take}
 use Rattle.std.specs.Prelude.{slice_get}
 use Rattle.std.specs.Option.{option_map_or}
 use Rattle.sw_breach.specs.declared.Breach.{Breach}
@@ -59,3 +59,11 @@ pub record FailsAt (ops : ℕ → List Op) (states : List (Option Regions)) (p :
   pub copied : Regions
   pub is_copy : IsCopy state copied
   pub fails : FailsAmong (ops p) copied breach
+
+-- What the least annotation of a function's points has at the first points of its blocks.
+pub record IsLeastAtBlocks (setting : FunctionSetting)
+    (states : List (Option Regions)) : Type 0 where
+  pub points : List (Option Regions)
+  pub least : IsLeast setting points
+  pub at : (b : ℕ) → b < length setting.body.blocks
+      → value_at states b ≡ value_at points (first_point setting.body.blocks b)

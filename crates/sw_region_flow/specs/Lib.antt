@@ -1,5 +1,6 @@
 pub mod Analysis
 pub mod Breaches
+pub mod Certified
 pub mod Distinct
 pub mod Laws
 pub mod Least

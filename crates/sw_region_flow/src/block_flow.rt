@@ -2,10 +2,12 @@
 ghost use Rattle.std.specs.Prelude.{◌≡◌, IfOk};
 ghost use Rattle.sw_graph.specs.Mentions.{blocks_of};
 
+use crate::walking::walk;
 use smallvec::SmallVec;
 use std::alloc::{AllocError, Global};
 use std::marker::Model;
 use sw_graph::{Block, Graph, Last};
+use sw_list::ListOf;
 use sw_partition::Partition;
 use sw_region_ops::{Context, OpList, run};
 use sw_solve::{Flow, Lattice};
@@ -13,7 +15,7 @@ use sw_solve::{Flow, Lattice};
 /// The blocks of a function as the points of a flow, whose step does the operations of a block.
 /// Contracts see the function's setting, and the sites of its states.
 #[derive(Drop)]
-pub(crate) struct BlockFlow<'a> {
+pub struct BlockFlow<'a> {
     context: Context<'a>,
     sites: Vec<u32>,
 }
@@ -45,17 +47,19 @@ fn targets(alloc: Global, last: &Last) -> Result<SmallVec<u32, 2, Global>, Alloc
 }
 
 impl<'a> BlockFlow<'a> {
-    ghost use Rattle.std.specs.Prelude.{◌≡◌, ◌<◌, Some, length, slice_get, All, IfOk};
+    ghost use Rattle.std.specs.Prelude.{◌≡◌, ◌<◌, ◌↔◌, Some, length, slice_get, All, IsTrue, IfOk};
+    ghost use Rattle.std.specs.Prelude.{OnOk};
     ghost use Rattle.sw_graph.specs.declared.function.Function.{Function};
     ghost use Rattle.sw_partition.specs.Regions.{size_of};
     ghost use Rattle.sw_region_flow.specs.Analysis.{IsAnalysis, block_ops_at, facts_of};
     ghost use Rattle.sw_region_flow.specs.Analysis.{targets_at};
     ghost use Rattle.sw_region_ops.specs.Entry.{IsEntry};
-    ghost use Rattle.sw_region_ops.specs.Runs.{Fits};
+    ghost use Rattle.sw_region_flow.specs.Passing.{AllPass};
+    ghost use Rattle.sw_region_ops.specs.Runs.{Fits, Runs};
     ghost use Rattle.sw_region_ops.specs.Setting.{setting_of};
 
     /// The flow of a function of a graph.
-    pub(crate) fn new(
+    pub fn new(
         alloc: Global,
         graph: &'a Graph,
         function: usize,
@@ -72,7 +76,7 @@ impl<'a> BlockFlow<'a> {
     }
 
     /// How many blocks there are.
-    pub(crate) fn blocks(&self) -> u32
+    pub fn blocks(&self) -> u32
         ensures count { result ≡ length self.now.setting.body.blocks }
         ensures fits { IsAnalysis self.now }
     {
@@ -99,7 +103,11 @@ impl<'a> BlockFlow<'a> {
     }
 
     /// The blocks that follow a block.
-    fn following(&self, alloc: Global, block: u32) -> Result<SmallVec<u32, 2, Global>, AllocError>
+    pub fn following(
+        &self,
+        alloc: Global,
+        block: u32,
+    ) -> Result<SmallVec<u32, 2, Global>, AllocError>
         requires { block < length self.now.setting.body.blocks }
         ensures targets { IfOk result
             (λ targets. targets.items ≡ targets_at self.now.setting.body.blocks block) }
@@ -111,12 +119,33 @@ impl<'a> BlockFlow<'a> {
     }
 
     /// The state at the entry.
-    fn enter(&self, alloc: Global) -> Result<Partition, AllocError>
+    pub fn enter(&self, alloc: Global) -> Result<Partition, AllocError>
         ensures entry { IfOk result (IsEntry self.now.setting self.now.sites) }
         ensures size { IfOk result (λ state. size_of state ≡ facts_of self.now) }
     {
         let state = self.context.enter(alloc, &self.sites)?;
         Ok(state)
+    }
+
+    /// Goes through a block from the state with which control comes to it, and answers whether each
+    /// test on the way passes.
+    pub fn passes(
+        &self,
+        alloc: Global,
+        block: u32,
+        state: &mut Partition,
+    ) -> Result<bool, AllocError>
+        requires block { block < length self.now.setting.body.blocks }
+        requires size { size_of state.old ≡ facts_of self.now }
+        ensures runs { OnOk result
+            (Runs (block_ops_at self.now.setting block) state.old state.new) }
+        ensures passes { IfOk result (λ passes. IsTrue passes
+            ↔ AllPass (block_ops_at self.now.setting block) state.old) }
+    {
+        let ops = self.ops(alloc, block)?;
+        let mut found = ListOf::new(alloc);
+        walk(&mut found, ops.as_slice(), state)?;
+        Ok(found.is_empty())
     }
 }
 

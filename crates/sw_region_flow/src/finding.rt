@@ -1,12 +1,15 @@
 //! The region breaches of a function and of a graph.
-ghost use Rattle.std.specs.Prelude.{◌≡◌, ◌+◌, ◌<◌, ◌≤◌, ◌↔◌, ◌⊎◌, Some, length, slice_get};
-ghost use Rattle.std.specs.Prelude.{Contains, IfOk, OnOk};
+ghost use Rattle.std.specs.Prelude.{◌≡◌, ℕ, ◌+◌, ◌<◌, ◌≤◌, ◌↔◌, ◌⊎◌, Some, length, slice_get};
+ghost use Rattle.std.specs.Prelude.{Contains, IsSome, IfOk, OnOk};
+ghost use Rattle.sw_solve.specs.Annotation.{value_at};
 ghost use Rattle.sw_solve.specs.Layout.{IsLeastOfBlocks};
+ghost use Rattle.sw_solve.specs.Ways.{HasWay};
 ghost use Rattle.sw_breach.specs.declared.Breach.{Breach};
 ghost use Rattle.sw_graph.specs.declared.function.Function.{Function};
-ghost use Rattle.sw_region_flow.specs.Analysis.{block_ops_at, layout};
+ghost use Rattle.sw_region_flow.specs.Analysis.{block_ops_at, layout, targets_at};
+ghost use Rattle.sw_region_flow.specs.Analysis.{IsLeastOfFunction};
 ghost use Rattle.sw_region_flow.specs.Breaches.{IsBreachIn, IsBreachOf, AreBreaches};
-ghost use Rattle.sw_region_flow.specs.Least.{FailsAt};
+ghost use Rattle.sw_region_flow.specs.Least.{FailsAt, IsLeastAtBlocks};
 ghost use Rattle.sw_region_flow.specs.Work.{joins_of, graph_joins};
 ghost use Rattle.sw_region_ops.specs.Setting.{setting_of};
 
@@ -60,6 +63,34 @@ fn visit_all(
         visit(alloc, flow, states, block, found)?;
     }
     Ok(())
+}
+
+/// The least annotation of a function's points, at the blocks: the state with which control comes
+/// to each; none where no way leads to it. `steps` counts the joins of states.
+pub fn states<L: Ledger>(
+    alloc: Global,
+    graph: &Graph,
+    function: u32,
+    steps: &mut Steps<L>,
+) -> Result<Solution<Partition>, AllocError>
+    requires { function < length graph.now.functions }
+    ensures least { IfOk result (λ states. (body : Function)
+        → slice_get graph.now.functions function ≡ Some body
+        → IsLeastAtBlocks (setting_of graph.now body) states) }
+
+    // No closed annotation of the blocks is less.
+    ensures blocks { IfOk result (λ states. (body : Function)
+        → slice_get graph.now.functions function ≡ Some body
+        → IsLeastOfFunction (setting_of graph.now body) states) }
+    ensures reached { IfOk result (λ states. (body : Function)
+        → slice_get graph.now.functions function ≡ Some body → (block : ℕ)
+        → IsSome (value_at states block) ↔ HasWay (targets_at body.blocks) block) }
+    ensures joins { (body : Function) → slice_get graph.now.functions function ≡ Some body
+        → steps.new ≤ steps.old + joins_of (setting_of graph.now body) }
+{
+    let flow = BlockFlow::new(alloc, graph, function as usize)?;
+    let states = solve(alloc, &flow, steps)?;
+    Ok(states)
 }
 
 /// Adds the breaches of a function of a graph.

@@ -9,6 +9,7 @@ ghost use Rattle.sw_breach.specs.declared.Breach.{Breach};
 ghost use Rattle.sw_breach.specs.declared.codes.TheConstants.{GIVEN_AWAY};
 ghost use Rattle.sw_graph.specs.declared.graph.Graph.{Graph};
 ghost use Rattle.sw_region_flow.specs.Breaches.{AreAll, AreBreaches};
+ghost use Rattle.sw_region_flow.specs.Certified.{HasCertified};
 ghost use Rattle.sw_region_flow.specs.Passing.{IsPassed};
 ghost use Rattle.sw_region_ops.specs.declared.op.TheConstants.{ISOLATED_TO_ACTOR, ISOLATED_TO_TASK};
 ghost use Rattle.sw_region_ops.specs.declared.op.TheConstants.{NOT_DISCONNECTED};
@@ -40,6 +41,12 @@ pub fn graphs_have_one_list_of_breaches()
 pub fn graphs_without_breaches_pass()
     ensures passes { (graph : Graph) → AreBreaches graph [] → IsPassed graph }
     ensures no_breach { (graph : Graph) → IsPassed graph → AreBreaches graph [] }
+{}
+
+/// A graph has no region breach if each function has an annotation of its blocks that is closed and
+/// in which each test passes, the least or a greater one.
+pub fn certified_graphs_have_no_breach()
+    ensures { (graph : Graph) → HasCertified graph → AreBreaches graph [] }
 {}
 
 /// The codes of region breaches.
