@@ -1,0 +1,4 @@
+pub mod Prefixes
+pub mod Reading
+pub mod Sharing
+pub mod Among

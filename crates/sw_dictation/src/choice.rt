@@ -1,0 +1,92 @@
+//! One number of those that may stand at a place.
+ghost use Rattle.std.specs.Prelude.{◌≡◌, length, Contains, IfOk, IfErr, IfSome};
+ghost use Rattle.sw_dictation.specs.Numbers.{spelled, common_len, BeginsWith, IsOffered};
+ghost use Rattle.sw_dictation.specs.Numbers.{IsSaid, IsNone};
+
+use itoa::write_digits;
+use sw_scan::digits_len;
+
+/// How many bytes two texts have in common at their beginnings.
+fn common(bytes: &[u8], text: &[u8]) -> usize
+    ensures { result ≡ common_len bytes.now text.now }
+{
+    let least = bytes.len().min(text.len());
+    for i in 0..least {
+        if bytes[i] != text[i] {
+            return i;
+        }
+    }
+    least
+}
+
+/// Whether bytes begin with a number and the byte that closes it: the length of both, or how much
+/// of them the bytes begin with.
+fn meet(bytes: &[u8], number: u64, closer: u8) -> Result<usize, usize>
+    ensures ok { IfOk result (λ len. (len ≡ length (spelled number closer))
+        × BeginsWith number closer bytes.now) }
+    ensures common { IfErr result (λ at. at ≡ common_len bytes.now (spelled number closer)) }
+    ensures none { IfErr result (λ at. ¬ (BeginsWith number closer bytes.now)) }
+{
+    let mut buffer = [closer; 21];
+    let start = write_digits(number, &mut buffer, 20);
+    let text = &buffer[start..];
+    let met = common(bytes, text);
+    if met == text.len() {
+        return Ok(met);
+    }
+    Err(met)
+}
+
+/// The number of a list that bytes begin with, closed by this byte, and the length of both; or the
+/// most that the bytes have in common with one. Each number is tried.
+fn tried(bytes: &[u8], numbers: &[u64], closer: u8) -> Result<(u64, usize), usize>
+    ensures ok { IfOk result (λ said.
+        IsSaid (λ n c. (c ≡ closer) × Contains numbers.now n) bytes.now said.0 said.1) }
+    ensures err { IfErr result (IsNone (λ n c. (c ≡ closer) × Contains numbers.now n) bytes.now) }
+{
+    let mut most: usize = 0;
+    for number in numbers {
+        match meet(bytes, *number, closer) {
+            Ok(len) => return Ok((*number, len)),
+            Err(met) => most = most.max(met),
+        }
+    }
+    Err(most)
+}
+
+/// The number that the digits at the beginning of bytes spell, if it is in a rising list and the
+/// byte closes it. It is quick, but it may overlook one.
+fn guessed(bytes: &[u8], numbers: &[u64], closer: u8) -> Option<(u64, usize)>
+    ensures { IfSome result (λ said.
+        IsSaid (λ n c. (c ≡ closer) × Contains numbers.now n) bytes.now said.0 said.1) }
+{
+    let digits = &bytes[..digits_len(bytes)];
+    let number = str::from_utf8(digits).ok()?.parse::<u64>().ok()?;
+    let index = numbers.binary_search(&number).ok()?;
+    let len = meet(bytes, numbers[index], closer).ok()?;
+    Some((numbers[index], len))
+}
+
+/// The number that bytes begin with, and the length of it and its closer: one of the first list,
+/// which a line feed closes, or one of the second list, which a blank closes. Where there is none,
+/// the most that the bytes have in common with one. It is quick where the lists rise.
+pub fn number(bytes: &[u8], ending: &[u64], going: &[u64]) -> Result<(u64, usize), usize>
+    ensures ok { IfOk result (λ said.
+        IsSaid (IsOffered ending.now going.now) bytes.now said.0 said.1) }
+    ensures err { IfErr result (IsNone (IsOffered ending.now going.now) bytes.now) }
+{
+    if let Some(said) = guessed(bytes, going, b' ') {
+        return Ok(said);
+    }
+    if let Some(said) = guessed(bytes, ending, b'\n') {
+        return Ok(said);
+    }
+    let first = match tried(bytes, ending, b'\n') {
+        Ok(said) => return Ok(said),
+        Err(at) => at,
+    };
+    match tried(bytes, going, b' ') {
+        Ok(said) => Ok(said),
+        Err(at) => Err(first.max(at)),
+    }
+}
