@@ -16,8 +16,8 @@ use Rattle.sw_partition.proofs.Bits.{bit_of-word}
 use Rattle.sw_partition.proofs.Linking.{keeps_coarser}
 
 -- a table that is coarser puts together what was together
-pub coarser_within : (a b : Regions) → length b.labels ≡ length a.labels → IsCoarser a.labels b.labels
-    → (x y : ℕ) → Together a x y → Together b x y
+pub coarser_within : (a b : Regions) → length b.labels ≡ length a.labels
+    → IsCoarser a.labels b.labels → (x y : ℕ) → Together a x y → Together b x y
 coarser_within a b same coarser x y t = record {
   left = subst (λ n. x < n) (sym same) t.left;
   right = subst (λ n. y < n) (sym same) t.right;
@@ -33,8 +33,8 @@ within_coarser a b within =
     }
 
 -- a pair stays where its bit does
-pub pair_stays : (x site : ℕ) (a b : Regions) → length b.labels ≡ length a.labels → b.sites ≡ a.sites
-    → (has : HasPair a x site)
+pub pair_stays : (x site : ℕ) (a b : Regions) → length b.labels ≡ length a.labels
+    → b.sites ≡ a.sites → (has : HasPair a x site)
     → bit_of b.words (x * (words_for (length a.sites) * 64) + has.column) ≡ 1 → HasPair b x site
 pair_stays x site a b labels sites has marked = record {
   element = subst (λ n. x < n) (sym labels) has.element;
@@ -100,7 +100,8 @@ pub bits_within : (a b : Regions) → AreTables a.labels a.sites a.words
 bits_within a b a_tables b_tables labels sites pairs = record {
   each = λ n. let w : ℕ = words_for (length a.sites) in
       elim (cases_lt (n / 64) (length a.labels * w)) [
-        | inr past ↦ past_words n (get_or_past a.words (n / 64) 0 (omega (arith, a_tables.full, past)))
+        | inr past ↦ past_words n
+            (get_or_past a.words (n / 64) 0 (omega (arith, a_tables.full, past)))
         | inl within ↦ (
             let some : 0 < w = some_width (n / 64) (length a.labels) w within in
             let x_lt : n / 64 / w < length a.labels =

@@ -1,8 +1,8 @@
 //! The region breaches of a graph (SE-0414, SE-0430): the tests that fail in the least annotation
 //! of each function's points with region states. It solves a flow of the function's blocks, whose
 //! answer stands for the points, and then goes once through each block that control reaches. A
-//! caller may take that answer, or go through blocks with states of its own. The crate knows nothing
-//! of how graphs are made and of the machine.
+//! caller may take that answer, or go through blocks with states of its own. The crate knows
+//! nothing of how graphs are made and of the machine.
 #![tactic(auto)]
 
 mod block_flow;
