@@ -1,13 +1,15 @@
 -- Where a text that is made of lines of numbers goes wrong.
 use Rattle.std.proofs.Common.{◌≡◌, ◌≢◌, ℕ, suc, ◌+◌, ◌<◌, ◌≤◌, ◌^◌, ◌⊎◌, inl, inr, false, List}
-use Rattle.std.proofs.Common.{[], ◌∷◌, ◌++◌, length, take, drop, decimal, refl, sym, subst, ap, ◌∙◌, arith}
+use Rattle.std.proofs.Common.{[], ◌∷◌, ◌++◌, length, take, drop, decimal, refl, sym, subst, ap, ◌∙◌}
+use Rattle.std.proofs.Common.{arith}
 use Rattle.std.proofs.Common.{length-append, append_assoc, flat_map}
 use Rattle.std.proofs.Math.Seq.{take-append-add}
 use Rattle.std.proofs.lemmas.Bool.{cases_lt}
 use Rattle.std.proofs.lemmas.List.{append-nil, take-append-drop, length-take-le}
 use Rattle.std.specs.List.{AllByRecursion}
 use Rattle.sw_scan.specs.Classes.{is_digit}
-use Rattle.sw_dictation.specs.Lines.{closer_before, line_text, begun_line, LineForm, AreLines, IsText}
+use Rattle.sw_dictation.specs.Lines.{closer_before, line_text, begun_line, LineForm, AreLines}
+use Rattle.sw_dictation.specs.Lines.{IsText}
 use Rattle.sw_dictation.specs.Lines.{Begins, IsBadPlace, MayFollow, IsReadable}
 use Rattle.sw_dictation.specs.Numbers.{spelled, common_len, IsNone}
 use Rattle.sw_dictation.proofs.Prefixes.{shorter, common_beginning, one_number}

@@ -1,5 +1,6 @@
 -- What texts have in common.
-use Rattle.std.proofs.Common.{◌≡◌, ℕ, zero, suc, ◌+◌, ◌<◌, ◌≤◌, ◌⊎◌, inl, inr, Bool, true, false, eqb}
+use Rattle.std.proofs.Common.{◌≡◌, ℕ, zero, suc, ◌+◌, ◌<◌, ◌≤◌, ◌⊎◌, inl, inr, Bool, true, false}
+use Rattle.std.proofs.Common.{eqb}
 use Rattle.std.proofs.Common.{cond, List, [], ◌∷◌, ◌++◌, length, take, drop, get_or, min, refl, sym}
 use Rattle.std.proofs.Common.{ap, ◌∙◌, arith}
 use Rattle.std.proofs.Common.{length-append, decimal, ◌-◌}
@@ -92,5 +93,6 @@ past_min a b i past = elim (cases_lt a b) [
 pub text_is : (from n closer : ℕ) (left : List ℕ) → from + length (decimal n) ≡ 20
     → left ≡ decimal n ++ closer ∷ [] → take (21 - from) left ≡ spelled n closer
 text_is from n closer left at is =
-    take_all (21 - from) left (omega (arith, at, ap length is, length-append (decimal n) (closer ∷ [])))
+    take_all (21 - from) left
+    (omega (arith, at, ap length is, length-append (decimal n) (closer ∷ [])))
     ∙ is
