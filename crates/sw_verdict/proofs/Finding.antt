@@ -1,5 +1,5 @@
 -- What the functions of the phases find.
-use Rattle.std.proofs.Common.{◌≡◌, ◌≢◌, ℕ, List, [], length, refl, sym, subst}
+use Rattle.std.proofs.Common.{◌≡◌, ◌≢◌, ℕ, List, [], Option, Some, None, length, refl, sym, subst}
 use Rattle.sw_token.specs.declared.Token.{Token}
 use Rattle.sw_token.specs.declared.LexFault.{LexFault}
 use Rattle.sw_token.specs.declared.LexFault.TheVariants as faults
@@ -11,37 +11,32 @@ use Rattle.sw_token.specs.Tokens as tokens
 use Rattle.sw_token.specs.Spelling.{spelling_of}
 use Rattle.sw_parse_decl.specs.declared.fault.ParseFault.{ParseFault}
 use Rattle.sw_parse_decl.specs.declared.fault.ParseFault.TheVariants as parse_faults
-use Rattle.sw_parse_decl.specs.Programs.{Explains, IsProgramOf}
+use Rattle.sw_parse_decl.specs.Programs.{Explains}
 use Rattle.sw_tree.specs.declared.decl.Decl.{Decl}
 use Rattle.sw_decls.specs.Declaring.{IsDeclarationFault}
 use Rattle.sw_decls.specs.declared.declaring.DeclFault.TheVariants as decl_faults
 use Rattle.sw_decls.specs.declared.signature.AsyncDefault.{AsyncDefault}
-use Rattle.sw_typing_rules.specs.Worlds.{IsWorldOf, World}
-use Rattle.sw_isolation.specs.Refused.{IsIsolationFault}
-use Rattle.sw_isolation.specs.declared.isolating.IsoFault.TheVariants as isolation_faults
-use Rattle.sw_lower.specs.Lowered.{IsTooLarge}
-use Rattle.sw_lower.specs.declared.lowering.LowerFault.TheVariants as lower_faults
-use Rattle.sw_typing.specs.Ill.{IsIllProgram}
-use Rattle.sw_typing.specs.declared.typing.TypeFault.TheVariants as type_faults
+use Rattle.sw_decl_words.specs.declared.placed.Placed.{Placed}
+use Rattle.sw_decls.specs.Declaring.{IsDeclared}
+use Rattle.sw_decls.specs.declared.declaring.Decls.{Decls}
+use Rattle.sw_typing_rules.specs.Worlds.{World, world_of}
+use Rattle.sw_typing_rules.proofs.OneWorld.{declared_world}
 use Rattle.sw_breach.specs.declared.Breach.{Breach}
 use Rattle.sw_verdict.specs.declared.phases.Refusal.{Refusal}
 use Rattle.sw_verdict.specs.declared.phases.Refusal.TheVariants.{Breached, Memory}
-use Rattle.sw_verdict.specs.Phases.{breach_at, lexical_code, LexisFinds, has_fault}
-use Rattle.sw_verdict.specs.Phases.{SyntaxFinds, has_syntax_fault, syntax_code, token_of}
-use Rattle.sw_verdict.specs.Phases.{token_position, DeclarationsFinds, breaks_one, TypesFinds}
-use Rattle.sw_verdict.specs.Phases.{ill_typed, answers_of_program, IsolationFinds}
-use Rattle.sw_verdict.specs.Phases.{reaches_out, SizeFinds, too_large}
-use Rattle.sw_verdict.specs.Phases.{tables_of_program}
-use Rattle.sw_verdict.specs.Found.{FoundBy}
+use Rattle.sw_verdict.specs.Phases.{DeclarationsFinds, FindsFirst, FindsIn, HasProgram, HasWorld}
+use Rattle.sw_verdict.specs.Phases.{LexisFinds, SyntaxFinds, breach_at, breaks_one, has_fault}
+use Rattle.sw_verdict.specs.Phases.{has_syntax_fault, keeps_all, lexical_code, syntax_code}
+use Rattle.sw_verdict.specs.Phases.{token_of, token_position}
+use Rattle.sw_verdict.specs.Decided.{IsAnalysed, IsSpelledText}
+use Rattle.sw_verdict.specs.declared.judging.Analysed.{Analysed}
+use Rattle.sw_verdict.specs.declared.judging.Spelled.{Spelled as Read}
+use Rattle.sw_verdict.specs.Found.{FoundBy, refusal_at}
 
 -- one breach, unless memory ran out
 pub found_breach : (Finding : List Breach → Type 0) (code at : ℕ) (refusal : Refusal)
-    → (refusal ≢ Memory → refusal ≡ Breached (breach_at code at)) → Finding (breach_at code at)
-    → FoundBy Finding refusal
-found_breach Finding code at Memory is finding = tt
-found_breach Finding code at (Breached list) is finding =
-    let same : list ≡ breach_at code at = cc (is (λ e. cc)) in
-    ((λ none. cc), subst Finding (sym same) finding)
+    → refusal ≡ refusal_at code at → Finding (breach_at code at) → FoundBy Finding refusal
+found_breach Finding code at refusal is finding = subst (FoundBy Finding) (sym is) finding
 
 other_fault : (at : ℕ) (before : Before) (bytes : List ℕ) (fault : LexFault)
     → IsTokenFault at before bytes fault → fault ≢ faults.Memory
@@ -62,73 +57,83 @@ memory_is_no_fault text is =
 pub found_fault : (text : List ℕ) (fault : LexFault) (refusal : Refusal)
     → (fault ≢ faults.Memory → IsLexicalFault text fault)
     → (refusal ≢ Memory → (fault ≢ faults.Memory)
-    × (refusal ≡ Breached (breach_at (lexical_code fault) (position_of fault))))
+    × (refusal ≡ refusal_at (lexical_code fault) (position_of fault)))
     → FoundBy (LexisFinds text) refusal
 found_fault text fault Memory place is = tt
-found_fault text fault (Breached list) place is =
+found_fault text fault (Breached breach) place is =
     let why = is (λ e. cc) in
-    found_breach (LexisFinds text) (lexical_code fault) (position_of fault) (Breached list)
-    (λ _. why.1) (has_fault fault (place why.0))
+    found_breach (LexisFinds text) (lexical_code fault) (position_of fault) (Breached breach)
+    why.1 (has_fault fault (place why.0))
 
 -- what a fault of the syntax is found as
 pub found_syntax_fault : (text : List ℕ) (tokens : List Token) (fault : ParseFault)
     (refusal : Refusal) → IsTokens text tokens → Explains fault (spelling_of text tokens)
     → (refusal ≢ Memory → (fault ≢ parse_faults.Memory) × (refusal
-    ≡ Breached (breach_at (syntax_code fault) (token_position text tokens (token_of fault)))))
+    ≡ refusal_at (syntax_code fault) (token_position text tokens (token_of fault))))
     → FoundBy (SyntaxFinds text) refusal
 found_syntax_fault text tokens fault Memory are place is = tt
-found_syntax_fault text tokens (parse_faults.Unexpected token) (Breached list) are place is =
-    found_breach (SyntaxFinds text) _ _ (Breached list) (λ some. (is some).1)
+found_syntax_fault text tokens (parse_faults.Unexpected token) (Breached breach) are place is =
+    found_breach (SyntaxFinds text) _ _ (Breached breach) (is (λ e. cc)).1
     (has_syntax_fault tokens (parse_faults.Unexpected token) are place)
-found_syntax_fault text tokens (parse_faults.TooDeep token) (Breached list) are place is =
-    found_breach (SyntaxFinds text) _ _ (Breached list) (λ some. (is some).1)
+found_syntax_fault text tokens (parse_faults.TooDeep token) (Breached breach) are place is =
+    found_breach (SyntaxFinds text) _ _ (Breached breach) (is (λ e. cc)).1
     (has_syntax_fault tokens (parse_faults.TooDeep token) are place)
-found_syntax_fault text tokens parse_faults.Memory (Breached list) are place is =
+found_syntax_fault text tokens parse_faults.Memory (Breached breach) are place is =
     absurd ((is (λ e. cc)).0 refl)
 
--- what the first breach of the rules on declarations is found as
-pub found_first : (text : List ℕ) (tokens : List Token) (decls : List Decl) (code at : ℕ)
-    (refusal : Refusal) → IsTokens text tokens → IsProgramOf decls (spelling_of text tokens)
-    → IsDeclarationFault decls (decl_faults.Breach code at)
-    → (refusal ≢ Memory → refusal ≡ Breached (breach_at code at))
-    → FoundBy (DeclarationsFinds text) refusal
-found_first text tokens decls code at refusal are spelled first is =
-    found_breach (DeclarationsFinds text) code at refusal is
-    (breaks_one tokens decls (record { at = at; code = code }) are spelled first)
+-- what a first breach is found as
+pub found_first : (text : List ℕ) (decls : List Decl) (code at : ℕ) (refusal : Refusal)
+    → HasProgram text decls → IsDeclarationFault decls (decl_faults.Breach code at)
+    → refusal ≡ refusal_at code at → FoundBy (DeclarationsFinds text) refusal
+found_first text decls code at refusal program first is =
+    found_breach (DeclarationsFinds text) code at refusal is (record {
+      decls = decls;
+      program = program;
+      finds = breaks_one (record { at = at; code = code }) first;
+    })
 
--- what the first ill node is found as
-pub found_ill : (rule : AsyncDefault) (text : List ℕ) (tokens : List Token) (decls : List Decl)
-    (world : World)
-    (code at : ℕ) (refusal : Refusal) → IsTokens text tokens
-    → IsProgramOf decls (spelling_of text tokens) → IsWorldOf decls rule world
-    → IsIllProgram world decls (type_faults.Breach code at)
-    → (refusal ≢ Memory → refusal ≡ Breached (breach_at code at))
-    → FoundBy (TypesFinds rule text) refusal
-found_ill rule text tokens decls world code at refusal are spelled is_world first is =
-    found_breach (TypesFinds rule text) code at refusal is
-    (ill_typed tokens decls world (record { at = at; code = code }) are spelled is_world first)
+-- the same by what the program declares
+pub found_in : (IsFirst : World → List Decl → Option Placed → Type 0) (rule : AsyncDefault)
+    (text : List ℕ) (decls : List Decl) (world : World) (code at : ℕ) (refusal : Refusal)
+    → HasWorld rule text decls world → IsFirst world decls (Some (record { at = at; code = code }))
+    → refusal ≡ refusal_at code at → FoundBy (FindsIn IsFirst rule text) refusal
+found_in IsFirst rule text decls world code at refusal has_world first is =
+    found_breach (FindsIn IsFirst rule text) code at refusal is (record {
+      decls = decls;
+      world = world;
+      has_world = has_world;
+      finds = breaks_one (record { at = at; code = code }) first;
+    })
 
--- what the first breach of isolation is found as
-pub found_refusal : (rule : AsyncDefault) (text : List ℕ) (tokens : List Token) (decls : List Decl)
-    (world : World)
-    (code at : ℕ) (refusal : Refusal) → IsTokens text tokens
-    → IsProgramOf decls (spelling_of text tokens) → IsWorldOf decls rule world
-    → IsIsolationFault world (answers_of_program world decls) decls
-    (isolation_faults.Breach code at)
-    → (refusal ≢ Memory → refusal ≡ Breached (breach_at code at))
-    → FoundBy (IsolationFinds rule text) refusal
-found_refusal rule text tokens decls world code at refusal are spelled is_world first is =
-    found_breach (IsolationFinds rule text) code at refusal is
-    (reaches_out tokens decls world (record { at = at; code = code }) are spelled is_world first)
+-- none is found where none is first
+pub none_in_world : (IsFirst : World → List Decl → Option Placed → Type 0) (rule : AsyncDefault)
+    (text : List ℕ) (decls : List Decl) (world : World) → HasWorld rule text decls world
+    → IsFirst world decls None → FindsIn IsFirst rule text []
+none_in_world IsFirst rule text decls world has_world none = record {
+  decls = decls;
+  world = world;
+  has_world = has_world;
+  finds = keeps_all none;
+}
 
--- what the first function that is too large is found as
-pub found_too_large : (rule : AsyncDefault) (text : List ℕ) (tokens : List Token)
-    (decls : List Decl) (world : World)
-    (code at : ℕ) (refusal : Refusal) → IsTokens text tokens
-    → IsProgramOf decls (spelling_of text tokens) → IsWorldOf decls rule world
-    → IsTooLarge (tables_of_program world decls) decls (lower_faults.Breach code at)
-    → (refusal ≢ Memory → refusal ≡ Breached (breach_at code at))
-    → FoundBy (SizeFinds rule text) refusal
-found_too_large rule text tokens decls world code at refusal are spelled is_world first is =
-    found_breach (SizeFinds rule text) code at refusal is
-    (too_large tokens decls world (record { at = at; code = code }) are spelled is_world first)
+-- and the other way round
+pub none_first : {IsFirst : Option Placed → Type 0} → FindsFirst IsFirst [] → IsFirst None
+none_first (keeps_all none) = none
+
+-- the world of a program that declares these
+pub world_of_text : (rule : AsyncDefault) (text : List ℕ) (decls : List Decl) (made : Decls)
+    → IsDeclared decls rule made → HasProgram text decls
+    → HasWorld rule text decls (world_of made)
+world_of_text rule text decls made declared program =
+    record { program = program; is_world = declared_world decls rule made declared }
+
+-- the world of a text's program, which was read and analysed
+pub read_world : (rule : AsyncDefault) (text : List ℕ) (read : Read) (found : Analysed)
+    → IsSpelledText text read → IsAnalysed rule read.program.decls found
+    → HasWorld rule text read.program.decls (world_of found.declared)
+read_world rule text read found is known =
+    world_of_text rule text read.program.decls found.declared known.declared (record {
+      tokens = read.tokens.items;
+      are_tokens = is.are_tokens;
+      is_program = is.is_program;
+    })

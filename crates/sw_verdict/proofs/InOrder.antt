@@ -1,5 +1,5 @@
 -- The phases one after another.
-use Rattle.std.proofs.Common.{◌≡◌, ◌≢◌, ℕ, List, [], ◌∷◌, ◌++◌, Result, Ok, Err, refl, subst, sym}
+use Rattle.std.proofs.Common.{◌≡◌, ◌≢◌, ℕ, List, [], ◌∷◌, ◌++◌, Result, Err, refl, subst, sym}
 use Rattle.std.proofs.Common.{ap, ◌∙◌}
 use Rattle.std.specs.Prelude.{IsErrAnd, IsErrOf}
 use Rattle.std.proofs.lemmas.Result.{err_from_is_err_and}
@@ -10,24 +10,16 @@ use Rattle.sw_verdict.specs.declared.phases.Refusal.{Refusal}
 use Rattle.sw_verdict.specs.declared.phases.Refusal.TheVariants.{Breached, Memory}
 use Rattle.sw_verdict.specs.Phases.{Phase, Finds, EncodingFinds, is_utf8}
 use Rattle.sw_verdict.specs.Decided.{Decided, DecidedBy}
-use Rattle.sw_verdict.specs.Found.{Found, FoundBy}
-use Rattle.sw_verdict.specs.Verdict.{Breaches, none, first, later}
-
--- the first of the phases decides
-pub decides_first : (rule : AsyncDefault) (phase : Phase) (phases : List Phase) (text : List ℕ)
-    (list : List Breach)
-    → list ≢ [] → Finds rule phase text list → Breaches rule (phase ∷ phases) text list
-decides_first rule phase phases text [] some found = absurd (some refl)
-decides_first rule phase phases text (breach ∷ others) some found =
-    first phase phases text breach others found
+use Rattle.sw_verdict.specs.Found.{FoundBy}
+use Rattle.sw_verdict.specs.Verdict.{Breaches, IsVerdict, none, first, later}
 
 -- what a phase finds decides it and those after it
 pub decided_by : (rule : AsyncDefault) (phase : Phase) (phases : List Phase) (text : List ℕ)
     (refusal : Refusal)
     → FoundBy (Finds rule phase text) refusal → DecidedBy rule (phase ∷ phases) text refusal
 decided_by rule phase phases text Memory found = tt
-decided_by rule phase phases text (Breached list) (some, finds) =
-    (some, decides_first rule phase phases text list some finds)
+decided_by rule phase phases text (Breached breach) finds =
+    first phase phases text breach [] finds
 
 -- these phases find no breach in the text
 abbrev pub Pass : AsyncDefault → List Phase → List ℕ → Type 0
@@ -72,11 +64,9 @@ decided_inside : (rule : AsyncDefault) (before phases after : List Phase) (text 
     → Pass rule before text → DecidedBy rule phases text refusal
     → DecidedBy rule (before ++ (phases ++ after)) text refusal
 decided_inside rule before phases after text Memory pass found = tt
-decided_inside rule before phases after text (Breached list) pass (some, found) = (
-  some,
-  decided_later rule before (phases ++ after) text list pass
-      (decided_before rule phases after text list some found),
-)
+decided_inside rule before phases after text (Breached breach) pass found =
+    decided_later rule before (phases ++ after) text (breach ∷ []) pass
+    (decided_before rule phases after text (breach ∷ []) (λ e. cc) found)
 
 -- Phases stopped the function, after these that find none.
 pub stopped : {B : Type 0} (rule : AsyncDefault) (before phases after : List Phase) (text : List ℕ)
@@ -90,23 +80,13 @@ stopped rule before phases after text refusal result pass found passes_on =
     subst (Decided rule (before ++ (phases ++ after)) text) (sym it)
     (decided_inside rule before phases after text refusal pass found)
 
--- what a phase found after others that find none
-pub last_found : {B : Type 0} (rule : AsyncDefault) (before : List Phase) (phase : Phase)
-    (text : List ℕ)
-    (result : Result B Refusal) → Pass rule before text → Found (Finds rule phase text) result
-    → Decided rule (before ++ phase ∷ []) text result
-last_found rule before phase text (Ok value) pass found =
-    decided_later rule before (phase ∷ []) text [] pass (later phase [] text [] found (none text))
-last_found rule before phase text (Err refusal) pass found =
-    decided_inside rule before (phase ∷ []) [] text refusal pass
-    (decided_by rule phase [] text refusal found)
-
--- the breaches of a refusal
-pub breaches_decided : {B : Type 0} (rule : AsyncDefault) (phases : List Phase) (text : List ℕ)
-    (result : Result B Refusal) → Decided rule phases text result → (list : List Breach)
-    → IsErrOf result (Breached list) → (list ≢ []) × Breaches rule phases text list
-breaches_decided rule phases text result decided list is =
-    let it : result ≡ Err (Breached list) = cc in subst (Decided rule phases text) it decided
+-- the breach of a refusal
+pub breach_decided : {B : Type 0} (rule : AsyncDefault) (phases : List Phase) (text : List ℕ)
+    (result : Result B Refusal) → Decided rule phases text result → (breach : Breach)
+    → IsErrOf result (Breached breach) → IsVerdict rule phases text (Err (breach ∷ []))
+breach_decided rule phases text result decided breach is =
+    let it : result ≡ Err (Breached breach) = cc in
+    ((λ e. cc), subst (Decided rule phases text) it decided)
 
 pub utf8_found : (text : List ℕ) → EncodingFinds text [] → IsUtf8 text
 utf8_found text (is_utf8 utf8) = utf8

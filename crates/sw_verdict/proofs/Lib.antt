@@ -1,7 +1,11 @@
+pub mod ActorNames
+pub mod Coded
 pub mod Finding
 pub mod GraphsExist
 pub mod InOrder
 pub mod LoweredTexts
+pub mod Meant
+pub mod OneLists
 pub mod OneLowered
 pub mod Ordered
 pub mod Passing

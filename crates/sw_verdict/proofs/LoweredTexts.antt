@@ -5,7 +5,6 @@ use Rattle.sw_graph.specs.declared.graph.Graph.{Graph}
 use Rattle.sw_isolation_table.specs.Known.{answers_of}
 use Rattle.sw_decls.specs.declared.signature.AsyncDefault.{AsyncDefault}
 use Rattle.sw_isolation_table.proofs.Answering.{answers_are_said}
-use Rattle.sw_typing_rules.proofs.OneWorld.{declared_world}
 use Rattle.sw_typing_rules.specs.Worlds.{world_of}
 use Rattle.sw_lower_known.specs.Knowledge.{isolation_of}
 use Rattle.sw_lower_rules.specs.Bodies.{Lowered}
@@ -14,6 +13,7 @@ use Rattle.sw_verdict.specs.Phases.{IsGraphOf, Phase, answers_of_program, phases
 use Rattle.sw_verdict.specs.Verdict.{Accepts, Breaches, Refuses, later, none}
 use Rattle.sw_verdict.specs.declared.judging.Analysed.{Analysed}
 use Rattle.sw_verdict.specs.declared.judging.Spelled.{Spelled as Read}
+use Rattle.sw_verdict.proofs.Finding.{read_world}
 use Rattle.sw_verdict.proofs.GraphsExist.{some_graph}
 use Rattle.sw_verdict.proofs.OneLowered.{HasGraph, numbered_bodies}
 use Rattle.sw_verdict.proofs.Tables.{isolation_is_said}
@@ -60,12 +60,9 @@ made_graph rule text read found graph is known lowered =
     (subst (λ answers. HasGraph graph world decls answers (isolation_of found.isolated))
     (answers_are_said world decls found.typed known.typed) (lowered, numbered)) in
     record {
-      tokens = read.tokens.items;
-      are_tokens = is.are_tokens;
       decls = decls;
-      is_program = is.is_program;
       world = world;
-      is_world = declared_world decls rule found.declared known.declared;
+      has_world = read_world rule text read found is known;
       lowered = whole;
       numbered = names;
     }

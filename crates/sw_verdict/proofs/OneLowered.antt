@@ -154,9 +154,7 @@ pub one_graph_of : (rule : AsyncDefault) (text : List ℕ) (a b : Graph) → IsG
 one_graph_of rule text a b is_a is_b =
     let of : World → List Decl → Type 0 = λ world decls.
     HasGraph a world decls (answers_of_program world decls) (isolation_of_program world decls) in
-    let (lowered, numbered) = of_same of is_a.world is_b.world is_a.decls is_b.decls
-    (same_world rule text is_a.tokens is_b.tokens is_a.decls is_b.decls is_a.world is_b.world
-    is_a.are_tokens is_a.is_program is_a.is_world is_b.are_tokens is_b.is_program is_b.is_world)
-    (is_a.lowered, is_a.numbered) in
+    let (lowered, numbered) =
+    of_same of (same_world rule text is_a.has_world is_b.has_world) (is_a.lowered, is_a.numbered) in
     one_lowered is_b.world (answers_of_program is_b.world is_b.decls)
     (isolation_of_program is_b.world is_b.decls) is_b.decls a b lowered numbered is_b.lowered

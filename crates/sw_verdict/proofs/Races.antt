@@ -9,7 +9,6 @@ use Rattle.sw_graph.specs.declared.graph.Graph.{Graph}
 use Rattle.sw_decl_words.specs.declared.placed.Placed.{Placed}
 use Rattle.sw_isolation_table.specs.Known.{answers_of}
 use Rattle.sw_decls.specs.declared.signature.AsyncDefault.{AsyncDefault}
-use Rattle.sw_typing_rules.proofs.OneWorld.{declared_world}
 use Rattle.sw_typing_rules.specs.Worlds.{World, world_of}
 use Rattle.sw_isolation_table.proofs.Answering.{answers_are_said}
 use Rattle.sw_isolation.proofs.SomeMerged.{some_merged}
@@ -20,14 +19,11 @@ use Rattle.sw_region_flow.proofs.OneSites.{member_cases, member_first, member_la
 use Rattle.sw_region_flow.proofs.SomeList.{all_with, listed, some_list}
 use Rattle.sw_region_flow.specs.Breaches.{AreAll, IsBreachOf}
 use Rattle.sw_verdict.specs.Decided.{IsAnalysed, IsSpelledText}
-use Rattle.sw_verdict.specs.Found.{FoundBy}
 use Rattle.sw_verdict.specs.Phases.{IsGraphOf, IsRaceBreach, RacesFinds, answers_of_program}
 use Rattle.sw_verdict.specs.Phases.{breach_of}
-use Rattle.sw_verdict.specs.Phases.{races}
 use Rattle.sw_verdict.specs.declared.judging.Analysed.{Analysed}
 use Rattle.sw_verdict.specs.declared.judging.Spelled.{Spelled as Read}
-use Rattle.sw_verdict.specs.declared.phases.Refusal.{Refusal}
-use Rattle.sw_verdict.specs.declared.phases.Refusal.TheVariants.{Breached, Memory}
+use Rattle.sw_verdict.proofs.Finding.{read_world}
 use Rattle.sw_verdict.proofs.OneLowered.{one_graph_of}
 use Rattle.sw_verdict.proofs.SameProgram.{of_same, same_world}
 
@@ -37,16 +33,17 @@ Shared world decls shared = AreRaces world (answers_of_program world decls) decl
 
 pub races_one : (rule : AsyncDefault) (text : List ℕ) (a b : List Breach) → RacesFinds rule text a
     → RacesFinds rule text b → a ≡ b
-races_one rule text _ _ (races a ds v shared graph one are_a is_a world_a shared_a of_a all_a)
-    (races b es w values made other are_b is_b world_b shared_b of_b all_b) =
-    let same_shared : shared ≡ values =
-    one_merged (all_races w (answers_of_program w es) es) shared values
-    (of_same (λ world decls. Shared world decls shared) v w ds es
-    (same_world rule text a b ds es v w are_a is_a world_a are_b is_b world_b) shared_a) shared_b in
-    one_of_kind (IsRaceBreach values made) one other
-    (subst (λ of_text. AreAll (IsRaceBreach values of_text) one)
-    (one_graph_of rule text graph made of_a of_b)
-    (subst (λ list. AreAll (IsRaceBreach list graph) one) same_shared all_a)) all_b
+races_one rule text a b is_a is_b =
+    let same_shared : is_a.shared ≡ is_b.shared =
+    one_merged (all_races is_b.world (answers_of_program is_b.world is_b.decls) is_b.decls)
+    is_a.shared is_b.shared
+    (of_same (λ world decls. Shared world decls is_a.shared)
+    (same_world rule text is_a.has_world is_b.has_world) is_a.are_shared) is_b.are_shared in
+    one_of_kind (IsRaceBreach is_b.shared is_b.graph) a b
+    (subst (λ graph. AreAll (IsRaceBreach is_b.shared graph) a)
+    (one_graph_of rule text is_a.graph is_b.graph is_a.of_text is_b.of_text)
+    (subst (λ shared. AreAll (IsRaceBreach shared is_a.graph) a) same_shared is_a.are_all))
+    is_b.are_all
 
 -- a text with a graph has a list of races
 pub some_races : (rule : AsyncDefault) (text : List ℕ) (graph : Graph) → IsGraphOf rule text graph
@@ -57,15 +54,23 @@ some_races rule text graph is =
     let (found, of_graph) = some_list graph in
     let (list, all) = listed (map breach_of shared ++ found) in (
       list,
-      races is.tokens is.decls is.world shared graph list is.are_tokens is.is_program is.is_world
-          are is (all_with (IsBreachOf graph) (map breach_of shared) found list of_graph all),
+      record {
+        decls = is.decls;
+        world = is.world;
+        has_world = is.has_world;
+        shared = shared;
+        are_shared = are;
+        graph = graph;
+        of_text = is;
+        are_all = all_with (IsBreachOf graph) (map breach_of shared) found list of_graph all;
+      },
     )
 
 pub races_in_order : (rule : AsyncDefault) (text : List ℕ) (list : List Breach)
     → RacesFinds rule text list
     → IsStrictlySortedBy breach_cmp list
-races_in_order rule text _ (races _ _ _ shared graph list _ _ _ _ _ all) =
-    kind_in_order (IsRaceBreach shared graph) list all
+races_in_order rule text list is =
+    kind_in_order (IsRaceBreach is.shared is.graph) list is.are_all
 
 -- what holds of the codes of values that are shared holds of those of their breaches
 pub of_each : (shared : List Placed) (P : ℕ → Type 0)
@@ -92,14 +97,14 @@ pub found_races : (rule : AsyncDefault) (text : List ℕ) (read : Read) (found :
 found_races rule text read found shared graph is known are of_text list all =
     let decls = read.program.decls in
     let world = world_of found.declared in
-    races read.tokens.items decls world shared graph list is.are_tokens is.is_program
-    (declared_world decls rule found.declared known.declared)
-    (subst (λ answers. AreRaces world answers decls shared)
-    (answers_are_said world decls found.typed known.typed) are) of_text all
-
--- a phase finds what was found of another form
-pub found_by_as : (Is Finding : List Breach → Type 0) (refusal : Refusal)
-    → ((list : List Breach) → Is list → Finding list) → FoundBy Is refusal
-    → FoundBy Finding refusal
-found_by_as Is Finding Memory holds found = tt
-found_by_as Is Finding (Breached list) holds found = (found.0, holds list found.1)
+    record {
+      decls = decls;
+      world = world;
+      has_world = read_world rule text read found is known;
+      shared = shared;
+      are_shared = subst (λ answers. AreRaces world answers decls shared)
+          (answers_are_said world decls found.typed known.typed) are;
+      graph = graph;
+      of_text = of_text;
+      are_all = all;
+    }

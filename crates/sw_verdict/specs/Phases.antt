@@ -3,7 +3,7 @@
 -- on the default: where asynchronous functions without an annotation run (SE-0338, SE-0461). It is an
 -- argument, and each phase is defined for both defaults.
 use Rattle.std.specs.Prelude.{ℕ, List, [], ◌∷◌, ◌++◌, ◌⊎◌, Contains, length, map, slice_get}
-use Rattle.std.specs.Prelude.{Some, None}
+use Rattle.std.specs.Prelude.{Option, Some, None}
 use Rattle.std.specs.Option.{option_map_or}
 use Rattle.std.specs.Str.{IsUtf8}
 use Rattle.std.specs.Str.Lossy.{utf8_valid_len}
@@ -105,49 +105,61 @@ abbrev pub token_position : List ℕ → List Token → ℕ → ℕ
 token_position text tokens n =
     option_map_or (λ token. token.span.start) (slice_get tokens n) (length text)
 
+-- the text has tokens that spell a program of these declarations
+pub record HasProgram (text : List ℕ) (decls : List Decl) : Type 0 where
+  pub tokens : List Token
+  pub are_tokens : IsTokens text tokens
+  pub is_program : IsProgramOf decls (spelling_of text tokens)
+
+-- the text has a program of these declarations, which make this world under the default
+pub record HasWorld (rule : AsyncDefault) (text : List ℕ) (decls : List Decl)
+    (world : World) : Type 0 where
+  pub program : HasProgram text decls
+  pub is_world : IsWorldOf decls rule world
+
 -- The breach is at the one fault of the syntax.
 pub data SyntaxFinds (text : List ℕ) : List Breach → Type 0 where
-  spells_program : (tokens : List Token) (decls : List Decl) → IsTokens text tokens
-      → IsProgramOf decls (spelling_of text tokens) → SyntaxFinds text []
+  spells_program : (decls : List Decl) → HasProgram text decls → SyntaxFinds text []
   has_syntax_fault : (tokens : List Token) (fault : ParseFault) → IsTokens text tokens
       → IsSyntaxFault (spelling_of text tokens) fault
       → SyntaxFinds text (breach_at (syntax_code fault)
       (token_position text tokens (token_of fault)))
 
--- The breach is the first of the rules on declarations.
-pub data DeclarationsFinds (text : List ℕ) : List Breach → Type 0 where
-  keeps_all : (tokens : List Token) (decls : List Decl) → IsTokens text tokens
-      → IsProgramOf decls (spelling_of text tokens) → IsFirstBreach decls None
-      → DeclarationsFinds text []
-  breaks_one : (tokens : List Token) (decls : List Decl) (placed : Placed) → IsTokens text tokens
-      → IsProgramOf decls (spelling_of text tokens) → IsFirstBreach decls (Some placed)
-      → DeclarationsFinds text (breach_at placed.code placed.at)
+-- Of the breaches of some rules the first is found, and none where there is none.
+pub data FindsFirst (IsFirst : Option Placed → Type 0) : List Breach → Type 0 where
+  keeps_all : IsFirst None → FindsFirst IsFirst []
+  breaks_one : (placed : Placed) → IsFirst (Some placed)
+      → FindsFirst IsFirst (breach_at placed.code placed.at)
 
--- The breach is at the first ill node of the program, by what the program declares.
-pub data TypesFinds (rule : AsyncDefault) (text : List ℕ) : List Breach → Type 0 where
-  well_typed : (tokens : List Token) (decls : List Decl) (world : World) → IsTokens text tokens
-      → IsProgramOf decls (spelling_of text tokens) → IsWorldOf decls rule world
-      → IsFirstIll world decls None → TypesFinds rule text []
-  ill_typed : (tokens : List Token) (decls : List Decl) (world : World) (placed : Placed)
-      → IsTokens text tokens → IsProgramOf decls (spelling_of text tokens)
-      → IsWorldOf decls rule world → IsFirstIll world decls (Some placed)
-      → TypesFinds rule text (breach_at placed.code placed.at)
+-- the first breach of the rules on declarations
+pub record DeclarationsFinds (text : List ℕ) (list : List Breach) : Type 0 where
+  pub decls : List Decl
+  pub program : HasProgram text decls
+  pub finds : FindsFirst (IsFirstBreach decls) list
+
+-- the first breach of rules that go by what the program declares
+pub record FindsIn (IsFirst : World → List Decl → Option Placed → Type 0) (rule : AsyncDefault)
+    (text : List ℕ) (list : List Breach) : Type 0 where
+  pub decls : List Decl
+  pub world : World
+  pub has_world : HasWorld rule text decls world
+  pub finds : FindsFirst (IsFirst world decls) list
+
+-- the first ill node of the program
+abbrev pub TypesFinds : AsyncDefault → List ℕ → List Breach → Type 0
+TypesFinds rule text list = FindsIn IsFirstIll rule text list
 
 -- the types and meanings of a program's nodes, by key
 abbrev pub answers_of_program : World → List Decl → Answers
 answers_of_program world decls = answers_in (said world decls)
 
--- The breach is the first of the rules on isolation (SE-0306, SE-0316, SE-0338, SE-0412).
-pub data IsolationFinds (rule : AsyncDefault) (text : List ℕ) : List Breach → Type 0 where
-  keeps_apart : (tokens : List Token) (decls : List Decl) (world : World) → IsTokens text tokens
-      → IsProgramOf decls (spelling_of text tokens) → IsWorldOf decls rule world
-      → IsFirstRefusal world (answers_of_program world decls) decls None
-      → IsolationFinds rule text []
-  reaches_out : (tokens : List Token) (decls : List Decl) (world : World) (placed : Placed)
-      → IsTokens text tokens → IsProgramOf decls (spelling_of text tokens)
-      → IsWorldOf decls rule world
-      → IsFirstRefusal world (answers_of_program world decls) decls (Some placed)
-      → IsolationFinds rule text (breach_at placed.code placed.at)
+-- the first breach of the rules on isolation (SE-0306, SE-0316, SE-0338, SE-0412)
+abbrev pub FirstRefusal : World → List Decl → Option Placed → Type 0
+FirstRefusal world decls first =
+    IsFirstRefusal world (answers_of_program world decls) decls first
+
+abbrev pub IsolationFinds : AsyncDefault → List ℕ → List Breach → Type 0
+IsolationFinds rule text list = FindsIn FirstRefusal rule text list
 
 -- what is noted of a program's isolation
 abbrev pub isolation_of_program : World → List Decl → Noted
@@ -159,26 +171,19 @@ abbrev pub tables_of_program : World → List Decl → Tables
 tables_of_program world decls =
     tables_of world (answers_of_program world decls) (isolation_of_program world decls) decls
 
--- The breach is at the key of the first function that is too large.
-pub data SizeFinds (rule : AsyncDefault) (text : List ℕ) : List Breach → Type 0 where
-  within : (tokens : List Token) (decls : List Decl) (world : World) → IsTokens text tokens
-      → IsProgramOf decls (spelling_of text tokens) → IsWorldOf decls rule world
-      → IsFirstTooLarge (tables_of_program world decls) decls None → SizeFinds rule text []
-  too_large : (tokens : List Token) (decls : List Decl) (world : World) (placed : Placed)
-      → IsTokens text tokens → IsProgramOf decls (spelling_of text tokens)
-      → IsWorldOf decls rule world
-      → IsFirstTooLarge (tables_of_program world decls) decls (Some placed)
-      → SizeFinds rule text (breach_at placed.code placed.at)
+-- the key of the first function that is too large
+abbrev pub FirstTooLarge : World → List Decl → Option Placed → Type 0
+FirstTooLarge world decls first = IsFirstTooLarge (tables_of_program world decls) decls first
+
+abbrev pub SizeFinds : AsyncDefault → List ℕ → List Breach → Type 0
+SizeFinds rule text list = FindsIn FirstTooLarge rule text list
 
 -- The graph is that of the text's program under this default. Each of its bodies is found by its
 -- name.
 pub record IsGraphOf (rule : AsyncDefault) (text : List ℕ) (graph : Graph) : Type 0 where
-  pub tokens : List Token
-  pub are_tokens : IsTokens text tokens
   pub decls : List Decl
-  pub is_program : IsProgramOf decls (spelling_of text tokens)
   pub world : World
-  pub is_world : IsWorldOf decls rule world
+  pub has_world : HasWorld rule text decls world
   pub lowered : Lowered world (answers_of_program world decls) (isolation_of_program world decls)
       decls graph
   pub numbered : AreNumbered lowered.ordered
@@ -189,12 +194,15 @@ IsRaceBreach shared graph breach = Contains (map breach_of shared) breach ⊎ Is
 
 -- The breaches are all values that may not be shared, and all region breaches of the text's graph,
 -- by position and then by code, each once, with the least note (SE-0302, SE-0414, SE-0430).
-pub data RacesFinds (rule : AsyncDefault) (text : List ℕ) : List Breach → Type 0 where
-  races : (tokens : List Token) (decls : List Decl) (world : World) (shared : List Placed)
-      (graph : Graph) (list : List Breach) → IsTokens text tokens
-      → IsProgramOf decls (spelling_of text tokens) → IsWorldOf decls rule world
-      → AreRaces world (answers_of_program world decls) decls shared → IsGraphOf rule text graph
-      → AreAll (IsRaceBreach shared graph) list → RacesFinds rule text list
+pub record RacesFinds (rule : AsyncDefault) (text : List ℕ) (list : List Breach) : Type 0 where
+  pub decls : List Decl
+  pub world : World
+  pub has_world : HasWorld rule text decls world
+  pub shared : List Placed
+  pub are_shared : AreRaces world (answers_of_program world decls) decls shared
+  pub graph : Graph
+  pub of_text : IsGraphOf rule text graph
+  pub are_all : AreAll (IsRaceBreach shared graph) list
 
 -- `Finds rule phase text list`: under this default, where the phases before it find no breach in
 -- the text, this one finds these.

@@ -1,7 +1,8 @@
-ghost use Rattle.std.specs.Prelude.{◌<◌, ◌≤◌, ◌^◌, ◌∷◌, [], ℕ, List, IfOk, IsErrOf, Ok, Err};
-ghost use Rattle.std.specs.Prelude.{length};
+ghost use Rattle.std.specs.Prelude.{◌≡◌, ◌<◌, ◌≤◌, ◌^◌, ◌∷◌, [], ℕ, List, IfOk, IsErrOf, Err};
+ghost use Rattle.std.specs.Prelude.{All, flat_map, length, map, string_bytes};
 ghost use Rattle.sw_breach.specs.declared.Breach.{Breach};
 ghost use Rattle.sw_isolation_table.specs.Known.{answers_of};
+ghost use Rattle.sw_decls.specs.Declaring.{actor_ids};
 ghost use Rattle.sw_decls.specs.declared.signature.AsyncDefault.{AsyncDefault};
 ghost use Rattle.sw_lower_known.specs.Knowledge.{isolation_of};
 ghost use Rattle.sw_lower_rules.specs.Bodies.{Lowered};
@@ -10,19 +11,25 @@ ghost use Rattle.sw_token.specs.Spelling.{spelling_of};
 ghost use Rattle.sw_token.specs.Tokens.{IsTokens};
 ghost use Rattle.sw_token.specs.declared.Token.{Token};
 ghost use Rattle.sw_tree.specs.CasePlaces.{CasesApart};
+ghost use Rattle.sw_tree.specs.Names.{main_actor_id};
 ghost use Rattle.sw_typing_rules.specs.Worlds.{world_of};
-ghost use Rattle.sw_verdict.specs.Decided.{Decided, IsAnalysed, IsSpelledText};
-ghost use Rattle.sw_verdict.specs.Phases.{Declarations, Encoding, Isolation, Lexis, Size};
-ghost use Rattle.sw_verdict.specs.Phases.{Syntax, Types, all_phases, phases_to_size};
+ghost use Rattle.sw_verdict.specs.ActorNames.{actor_names};
+ghost use Rattle.sw_verdict.specs.Decided.{Decided, IsAnalysed, IsMeaning, IsSpelledText};
+ghost use Rattle.sw_verdict.specs.Judged.{IsJudged, IsNamedGraphOf};
+ghost use Rattle.sw_verdict.specs.Phases.{Declarations, Encoding, HasProgram, Isolation, Lexis};
+ghost use Rattle.sw_verdict.specs.Phases.{Size, Syntax, Types, phases_to_size};
 ghost use Rattle.sw_verdict.specs.Verdict.{IsVerdict};
 
+use crate::names::names_of;
 use crate::phases::{
     Refusal, declarations, encoding, isolation, lexis, races, size, syntax, types,
 };
 use std::alloc::{AllocError, Global};
+use sw_breach::Breach;
 use sw_decls::{AsyncDefault, Decls};
 use sw_graph::Graph;
 use sw_isolation::{Isolated, race_forms};
+use sw_list::ListOf;
 use sw_lower::Lowering;
 use sw_lower_graph::graph_of;
 use sw_text::{MAX_LENGTH, Source};
@@ -68,8 +75,7 @@ pub struct Analysed {
 /// functions.
 fn analyse(alloc: Global, program: &Program, default: AsyncDefault) -> Result<Analysed, Refusal>
     requires { length program.now.decls < 2 ^ 31 }
-    ensures decided { (text : List ℕ) (tokens : List Token) → IsTokens text tokens
-        → IsProgramOf program.now.decls (spelling_of text tokens)
+    ensures decided { (text : List ℕ) → HasProgram text program.now.decls
         → Decided default (Declarations ∷ Types ∷ Isolation ∷ Size ∷ []) text result }
     ensures analysed { IfOk result (IsAnalysed default program.now.decls) }
 {
@@ -85,12 +91,45 @@ fn analyse(alloc: Global, program: &Program, default: AsyncDefault) -> Result<An
     })
 }
 
+/// The program of a text, and what is found of it.
+#[derive(Drop)]
+pub struct Meaning {
+    spelled: Spelled,
+    found: Analysed,
+}
+
+/// What a text means under a default, by the phases up to the size of functions.
+fn meaning_of(alloc: Global, text: &[u8], default: AsyncDefault) -> Result<Meaning, Refusal>
+    requires { length text.now ≤ MAX_LENGTH }
+    ensures decided { Decided default phases_to_size text.now result }
+    ensures meant { IfOk result (IsMeaning default text.now) }
+{
+    let spelled = read(alloc, text)?;
+    let found = analyse(alloc, &spelled.program, default)?;
+    Ok(Meaning { spelled, found })
+}
+
+/// A graph with the names of its global actors, by number.
+#[derive(Drop)]
+pub struct NamedGraph {
+    pub graph: Graph,
+    pub actors: ListOf<String>,
+}
+
 /// The graph of a program of which this was found under some default.
-fn graph(alloc: Global, program: &Program, found: Analysed) -> Result<Graph, AllocError>
+fn graph_with_names(
+    alloc: Global,
+    program: &Program,
+    found: Analysed,
+) -> Result<NamedGraph, AllocError>
     requires apart { CasesApart program.now.decls }
     requires analysed { (rule : AsyncDefault) × IsAnalysed rule program.now.decls found }
-    ensures { IfOk result (Lowered (world_of found.declared) (answers_of found.typed)
-        (isolation_of found.isolated) program.now.decls) }
+    requires named { All (λ id. id < length program.now.texts)
+        (main_actor_id ∷ flat_map actor_ids program.now.decls) }
+    ensures graph { IfOk result (λ made. Lowered (world_of found.declared) (answers_of found.typed)
+        (isolation_of found.isolated) program.now.decls made.graph) }
+    ensures actors { IfOk result (λ made. map string_bytes made.actors
+        ≡ actor_names program.now.texts program.now.decls) }
 {
     let Analysed {
         declared,
@@ -98,36 +137,42 @@ fn graph(alloc: Global, program: &Program, found: Analysed) -> Result<Graph, All
         isolated,
         lowering,
     } = found;
-    graph_of(alloc, program, declared, &typed, &isolated, lowering)
+    let actors = names_of(alloc, program.names(), declared.actors.as_slice())?;
+    let graph = graph_of(alloc, program, declared, &typed, &isolated, lowering)?;
+    Ok(NamedGraph { graph, actors })
 }
 
-/// The verdict on a text under a default: its graph, or the breaches of the first phase that finds
-/// any.
-pub fn judge(alloc: Global, text: &[u8], default: AsyncDefault) -> Result<Graph, Refusal>
+/// A text's graph, and all breaches that the phase of races finds in it.
+#[derive(Drop)]
+pub struct Judged {
+    pub made: NamedGraph,
+    pub races: ListOf<Breach>,
+}
+
+/// Judges a text under a default by all phases. One in which a phase before that of races finds a
+/// breach has no graph, and is refused for that breach.
+pub fn judge(alloc: Global, text: &[u8], default: AsyncDefault) -> Result<Judged, Refusal>
     requires { length text.now ≤ MAX_LENGTH }
-    ensures graph { IfOk result (λ graph. IsVerdict default all_phases text.now (Ok graph)) }
-    ensures breaches { (list : List Breach) → IsErrOf result (Refusal.Breached list)
-        → IsVerdict default all_phases text.now (Err list) }
+    ensures judged { IfOk result (IsJudged default text.now) }
+    ensures breached { (breach : Breach) → IsErrOf result (Refusal.Breached breach)
+        → IsVerdict default phases_to_size text.now (Err (breach ∷ [])) }
 {
-    let spelled = read(alloc, text)?;
-    let found = analyse(alloc, &spelled.program, default)?;
+    let Meaning { spelled, found } = meaning_of(alloc, text, default)?;
     let shared = race_forms(alloc, &found.declared, &found.typed, &found.isolated)?;
-    let graph = graph(alloc, &spelled.program, found)?;
-    races(alloc, shared.as_slice(), &graph)?;
-    Ok(graph)
+    let made = graph_with_names(alloc, &spelled.program, found)?;
+    let races = races(alloc, shared.as_slice(), &made.graph)?;
+    Ok(Judged { made, races })
 }
 
-/// The verdict on a text under a default by the phases up to the size of functions: the graph of
-/// its program, whatever races that has, or the breaches of the first of these phases that finds
-/// any.
-pub fn lower_text(alloc: Global, text: &[u8], default: AsyncDefault) -> Result<Graph, Refusal>
+/// Judges a text under a default by the phases up to the size of functions: its graph, whatever
+/// races that has, or the breach of the first of these phases that finds one.
+pub fn lower_text(alloc: Global, text: &[u8], default: AsyncDefault) -> Result<NamedGraph, Refusal>
     requires { length text.now ≤ MAX_LENGTH }
-    ensures graph { IfOk result (λ graph. IsVerdict default phases_to_size text.now (Ok graph)) }
-    ensures breaches { (list : List Breach) → IsErrOf result (Refusal.Breached list)
-        → IsVerdict default phases_to_size text.now (Err list) }
+    ensures made { IfOk result (IsNamedGraphOf default text.now) }
+    ensures breached { (breach : Breach) → IsErrOf result (Refusal.Breached breach)
+        → IsVerdict default phases_to_size text.now (Err (breach ∷ [])) }
 {
-    let spelled = read(alloc, text)?;
-    let found = analyse(alloc, &spelled.program, default)?;
-    let made = graph(alloc, &spelled.program, found)?;
+    let Meaning { spelled, found } = meaning_of(alloc, text, default)?;
+    let made = graph_with_names(alloc, &spelled.program, found)?;
     Ok(made)
 }

@@ -7,6 +7,7 @@ ghost use Rattle.sw_breach.specs.Codes.{IsCode};
 ghost use Rattle.sw_breach.specs.Order.{breach_cmp};
 ghost use Rattle.sw_decls.specs.declared.signature.AsyncDefault.{AsyncDefault};
 ghost use Rattle.sw_region_flow.specs.Passing.{IsPassed};
+ghost use Rattle.sw_verdict.specs.ActorNames.{HasActorNames};
 ghost use Rattle.sw_verdict.specs.Phases.{Finds, IsGraphOf, Phase, Races, all_phases};
 ghost use Rattle.sw_verdict.specs.Phases.{phases_to_size};
 ghost use Rattle.sw_verdict.specs.Verdict.{Accepts, Breaches, Refuses};
@@ -53,4 +54,13 @@ pub fn texts_have_one_graph()
 pub fn accepted_graphs_pass()
     ensures { (rule : AsyncDefault) (text : List ℕ) (graph : Graph) → Accepts rule text
         → IsGraphOf rule text graph → IsPassed graph }
+{}
+
+/// A text in which the phases up to the size of functions find no breach has names for its global
+/// actors. No text has two lists of them.
+pub fn global_actors_have_names()
+    ensures some_names { (rule : AsyncDefault) (text : List ℕ) → Breaches rule phases_to_size text []
+        → (names : List (List ℕ)) × HasActorNames text names }
+    ensures one_list { (text : List ℕ) (a b : List (List ℕ)) → HasActorNames text a
+        → HasActorNames text b → a ≡ b }
 {}

@@ -5,7 +5,7 @@ ghost use Rattle.std.specs.Prelude.{map};
 ghost use Rattle.sw_token.specs.declared.Token.{Token};
 ghost use Rattle.sw_token.specs.Tokens.{IsTokens, position_of};
 ghost use Rattle.sw_token.specs.Spelling.{spelling_of};
-ghost use Rattle.sw_parse_decl.specs.Programs.{IsProgramOf};
+ghost use Rattle.sw_parse_decl.specs.Programs.{IsProgramOf, texts_of};
 ghost use Rattle.sw_decls.specs.Declaring.{IsDeclared, IsFirstBreach};
 ghost use Rattle.sw_decls.specs.declared.signature.AsyncDefault.{AsyncDefault};
 ghost use Rattle.sw_typing_table.specs.Typed.{IsTyped};
@@ -17,11 +17,11 @@ ghost use Rattle.sw_lower_known.specs.Knowledge.{isolation_of};
 ghost use Rattle.sw_lower.specs.Lowered.{IsLowering};
 ghost use Rattle.sw_lower_rules.specs.Bodies.{tables_of};
 ghost use Rattle.sw_region_flow.specs.Breaches.{AreAll};
-ghost use Rattle.sw_verdict.specs.Phases.{DeclarationsFinds, EncodingFinds, IsRaceBreach};
+ghost use Rattle.sw_verdict.specs.Phases.{DeclarationsFinds, EncodingFinds, HasProgram, IsRaceBreach};
 ghost use Rattle.sw_verdict.specs.Phases.{IsolationFinds, LexisFinds, SizeFinds, SyntaxFinds};
-ghost use Rattle.sw_verdict.specs.Phases.{TypesFinds, breach_at, breach_of, lexical_code};
-ghost use Rattle.sw_verdict.specs.Phases.{syntax_code, token_of, token_position};
-ghost use Rattle.sw_verdict.specs.Found.{Found};
+ghost use Rattle.sw_verdict.specs.Phases.{TypesFinds, breach_of, lexical_code, syntax_code};
+ghost use Rattle.sw_verdict.specs.Phases.{token_of, token_position};
+ghost use Rattle.sw_verdict.specs.Found.{Found, refusal_at};
 
 use std::alloc::{AllocError, Global};
 use std::marker::Brand;
@@ -66,8 +66,8 @@ const NESTED_TOO_DEEPLY: u16 = 202;
 /// Why a text has no graph.
 #[derive(Drop)]
 pub enum Refusal {
-    /// The breaches of the first phase that finds any. The list isn't empty.
-    Breached { breaches: ListOf<Breach> },
+    /// The one breach of the first phase that finds any.
+    Breached { breach: Breach },
     /// Memory ran out.
     Memory,
 }
@@ -94,13 +94,12 @@ fn breach_of(placed: Placed) -> Breach
     }
 }
 
-/// The refusal for one breach, which has no note.
-fn refused(alloc: Global, code: u16, at: u32) -> Refusal
-    ensures { result ≢ Refusal.Memory → result ≡ Refusal.Breached (breach_at code at) }
+/// The refusal for a breach, which has no note.
+fn refused(code: u16, at: u32) -> Refusal
+    ensures { result ≡ refusal_at code at }
 {
-    match ListOf::one(alloc, breach_of(Placed { at, code })) {
-        Ok(breaches) => Refusal::Breached { breaches },
-        Err(AllocError) => Refusal::Memory,
+    Refusal::Breached {
+        breach: breach_of(Placed { at, code }),
     }
 }
 
@@ -112,21 +111,21 @@ pub fn encoding(alloc: Global, text: &[u8]) -> Result<Source, Refusal>
 {
     match Source::new(alloc, text) {
         Ok(source) => Ok(source),
-        Err(TextFault::NotUtf8 { at }) => Err(refused(alloc, NOT_UTF8, at)),
+        Err(TextFault::NotUtf8 { at }) => Err(refused(NOT_UTF8, at)),
         Err(TextFault::Memory) => Err(Refusal::Memory),
     }
 }
 
 /// The refusal for a fault of the tokens.
-fn lexical_refusal(alloc: Global, fault: LexFault) -> Refusal
+fn lexical_refusal(fault: LexFault) -> Refusal
     ensures { result ≢ Refusal.Memory → (fault ≢ LexFault.Memory)
-        × (result ≡ Refusal.Breached (breach_at (lexical_code fault) (position_of fault))) }
+        × (result ≡ refusal_at (lexical_code fault) (position_of fault)) }
 {
     match fault {
-        LexFault::Unclosed { at } => refused(alloc, UNCLOSED_COMMENT, at),
-        LexFault::TooBig { at } => refused(alloc, TOO_LARGE_LITERAL, at),
-        LexFault::BadChar { at } => refused(alloc, BAD_CHARACTER, at),
-        LexFault::TooMany { at } => refused(alloc, TOO_MANY_TOKENS, at),
+        LexFault::Unclosed { at } => refused(UNCLOSED_COMMENT, at),
+        LexFault::TooBig { at } => refused(TOO_LARGE_LITERAL, at),
+        LexFault::BadChar { at } => refused(BAD_CHARACTER, at),
+        LexFault::TooMany { at } => refused(TOO_MANY_TOKENS, at),
         LexFault::Memory => Refusal::Memory,
     }
 }
@@ -138,7 +137,7 @@ pub fn lexis(alloc: Global, source: &Source) -> Result<Vec<Token>, Refusal>
 {
     match tokens(alloc, source) {
         Ok(tokens) => Ok(tokens),
-        Err(fault) => Err(lexical_refusal(alloc, fault)),
+        Err(fault) => Err(lexical_refusal(fault)),
     }
 }
 
@@ -153,19 +152,19 @@ fn token_position(source: &Source, tokens: &[Token], n: u32) -> u32
 }
 
 /// The refusal for a fault of the syntax.
-fn syntax_refusal(alloc: Global, source: &Source, tokens: &[Token], fault: ParseFault) -> Refusal
+fn syntax_refusal(source: &Source, tokens: &[Token], fault: ParseFault) -> Refusal
     ensures { result ≢ Refusal.Memory → (fault ≢ ParseFault.Memory)
-        × (result ≡ Refusal.Breached (breach_at (syntax_code fault)
-        (token_position source.now tokens.now (token_of fault)))) }
+        × (result ≡ refusal_at (syntax_code fault)
+        (token_position source.now tokens.now (token_of fault))) }
 {
     match fault {
         ParseFault::Unexpected { token } => {
             let at = token_position(source, tokens, token);
-            refused(alloc, UNEXPECTED_TOKEN, at)
+            refused(UNEXPECTED_TOKEN, at)
         }
         ParseFault::TooDeep { token } => {
             let at = token_position(source, tokens, token);
-            refused(alloc, NESTED_TOO_DEEPLY, at)
+            refused(NESTED_TOO_DEEPLY, at)
         }
         ParseFault::Memory => Refusal::Memory,
     }
@@ -177,11 +176,13 @@ pub fn syntax(alloc: Global, source: &Source, tokens: &[Token]) -> Result<Progra
     ensures found { Found (SyntaxFinds source.now) result }
     ensures program { IfOk result (λ program. IsProgramOf program.decls
         (spelling_of source.now tokens.now)) }
+    ensures texts { IfOk result (λ program. program.texts
+        ≡ texts_of (spelling_of source.now tokens.now)) }
     ensures few { IfOk result (λ program. length program.decls ≤ length tokens.now) }
 {
     match program(alloc, source, tokens) {
         Ok(program) => Ok(program),
-        Err(fault) => Err(syntax_refusal(alloc, source, tokens, fault)),
+        Err(fault) => Err(syntax_refusal(source, tokens, fault)),
     }
 }
 
@@ -192,15 +193,14 @@ pub fn declarations(
     default: AsyncDefault,
 ) -> Result<Decls, Refusal>
     requires { length program.now.decls < 2 ^ 31 }
-    ensures found { (text : List ℕ) (tokens : List Token) → IsTokens text tokens
-        → IsProgramOf program.now.decls (spelling_of text tokens)
+    ensures found { (text : List ℕ) → HasProgram text program.now.decls
         → Found (DeclarationsFinds text) result }
     ensures declared { IfOk result (IsDeclared program.now.decls default) }
     ensures sound { OnOk result (IsFirstBreach program.now.decls None) }
 {
     match declare(alloc, program, default) {
         Ok(decls) => Ok(decls),
-        Err(DeclFault::Breach { code, at }) => Err(refused(alloc, code, at)),
+        Err(DeclFault::Breach { code, at }) => Err(refused(code, at)),
         Err(DeclFault::Memory) => Err(Refusal::Memory),
     }
 }
@@ -208,16 +208,15 @@ pub fn declarations(
 /// The types of a program that declares these, by whatever default.
 pub fn types(alloc: Global, program: &Program, declared: &Decls) -> Result<Typed, Refusal>
     requires { length program.now.decls < 2 ^ 31 }
-    ensures found { (rule : AsyncDefault) (text : List ℕ) (tokens : List Token)
-        → IsDeclared program.now.decls rule declared.now → IsTokens text tokens
-        → IsProgramOf program.now.decls (spelling_of text tokens)
+    ensures found { (rule : AsyncDefault) (text : List ℕ)
+        → IsDeclared program.now.decls rule declared.now → HasProgram text program.now.decls
         → Found (TypesFinds rule text) result }
     ensures typed { IfOk result (IsTyped (world_of declared.now) program.now.decls) }
     ensures well { OnOk result (IsFirstIll (world_of declared.now) program.now.decls None) }
 {
     match type_program(alloc, program, declared) {
         Ok(typed) => Ok(typed),
-        Err(TypeFault::Breach { code, at }) => Err(refused(alloc, code, at)),
+        Err(TypeFault::Breach { code, at }) => Err(refused(code, at)),
         Err(TypeFault::Memory) => Err(Refusal::Memory),
     }
 }
@@ -232,16 +231,15 @@ pub fn isolation(
 ) -> Result<Isolated, Refusal>
     requires small { length program.now.decls < 2 ^ 31 }
     requires typed { IsTyped (world_of declared.now) program.now.decls typed.now }
-    ensures found { (rule : AsyncDefault) (text : List ℕ) (tokens : List Token)
-        → IsDeclared program.now.decls rule declared.now → IsTokens text tokens
-        → IsProgramOf program.now.decls (spelling_of text tokens)
+    ensures found { (rule : AsyncDefault) (text : List ℕ)
+        → IsDeclared program.now.decls rule declared.now → HasProgram text program.now.decls
         → Found (IsolationFinds rule text) result }
     ensures isolated { IfOk result
         (IsIsolated (world_of declared.now) (answers_of typed.now) program.now.decls) }
 {
     match isolate(alloc, program, declared, typed) {
         Ok(isolated) => Ok(isolated),
-        Err(IsoFault::Breach { code, at }) => Err(refused(alloc, code, at)),
+        Err(IsoFault::Breach { code, at }) => Err(refused(code, at)),
         Err(IsoFault::Memory) => Err(Refusal::Memory),
     }
 }
@@ -260,9 +258,8 @@ pub fn size(
     requires typed { IsTyped (world_of declared.now) program.now.decls typed.now }
     requires isolated { IsIsolated (world_of declared.now) (answers_of typed.now)
         program.now.decls isolated.now }
-    ensures found { (rule : AsyncDefault) (text : List ℕ) (tokens : List Token)
-        → IsDeclared program.now.decls rule declared.now → IsTokens text tokens
-        → IsProgramOf program.now.decls (spelling_of text tokens)
+    ensures found { (rule : AsyncDefault) (text : List ℕ)
+        → IsDeclared program.now.decls rule declared.now → HasProgram text program.now.decls
         → Found (SizeFinds rule text) result }
     ensures functions { IfOk result (IsLowering (tables_of (world_of declared.now)
         (answers_of typed.now) (isolation_of isolated.now) program.now.decls)
@@ -270,7 +267,7 @@ pub fn size(
 {
     match lower(alloc, program, declared, typed, isolated) {
         Ok(lowering) => Ok(lowering),
-        Err(LowerFault::Breach { code, at }) => Err(refused(alloc, code, at)),
+        Err(LowerFault::Breach { code, at }) => Err(refused(code, at)),
         Err(LowerFault::Memory) => Err(Refusal::Memory),
     }
 }
@@ -306,15 +303,11 @@ fn all_races<L: Ledger>(
     Ok(in_order(list))
 }
 
-/// Refuses a program that shares these values, or whose graph has a region breach.
-pub fn races(alloc: Global, shared: &[Placed], graph: &Graph) -> Result<(), Refusal>
-    ensures { Found (AreAll (IsRaceBreach shared.now graph.now)) result }
+/// All values that a program shares, and all region breaches of its graph, by position and then by
+/// code.
+pub fn races(alloc: Global, shared: &[Placed], graph: &Graph) -> Result<ListOf<Breach>, AllocError>
+    ensures { IfOk result (λ list. AreAll (IsRaceBreach shared.now graph.now) list) }
 {
     let list = all_races::<Brand>(alloc, shared, graph, Blank::new(1))?;
-    let breaches = ListOf::from_vec(list);
-    if breaches.is_empty() {
-        Ok(())
-    } else {
-        Err(Refusal::Breached { breaches })
-    }
+    Ok(ListOf::from_vec(list))
 }

@@ -50,5 +50,5 @@ returns-clause-spelled c =
       tokens = c.in_ok-tokens.tokens;
       program = c.in_ok-program.program;
     }) c.deref.result.now c.in_ok-source.ensures.same c.deref.ensures.value
-    c.in_ok-tokens.ensures.tokens c.in_ok-program.ensures.program c.in_ok-program.ensures.few
-    c.requires
+    c.in_ok-tokens.ensures.tokens c.in_ok-program.ensures.program c.in_ok-program.ensures.texts
+    c.in_ok-program.ensures.few c.requires

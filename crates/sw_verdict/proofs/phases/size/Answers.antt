@@ -4,31 +4,30 @@ use Rattle.sw_lower.specs.Lowered.{IsTooLarge}
 use Rattle.sw_lower.specs.declared.lowering.LowerFault.TheVariants.{Breach}
 use Rattle.sw_lower_known.specs.Knowledge.{isolation_of}
 use Rattle.sw_lower_rules.specs.Bodies.{IsFirstTooLarge, tables_of}
-use Rattle.sw_typing_rules.proofs.OneWorld.{declared_world}
 use Rattle.sw_typing_rules.specs.Worlds.{world_of}
-use Rattle.sw_verdict.specs.Phases.{within}
-use Rattle.sw_verdict.proofs.Finding.{found_too_large}
+use Rattle.sw_verdict.specs.Phases.{FirstTooLarge}
+use Rattle.sw_verdict.proofs.Finding.{found_in, none_in_world, world_of_text}
 use Rattle.sw_verdict.proofs.Tables.{tables_are_said}
 use Rattle.sw_verdict.proofs.phases.size.Goals as goal
 
 pub returns-in-Ok-clause-found : goal.returns-in-Ok-clause-found
-returns-in-Ok-clause-found c rule text tokens declared are is =
+returns-in-Ok-clause-found c rule text declared program =
     let decls = c.args.program.now.decls in
     let world = world_of c.args.declared.now in
-    within tokens decls world are is
-    (declared_world decls rule c.args.declared.now declared)
+    none_in_world FirstTooLarge rule text decls world
+    (world_of_text rule text decls c.args.declared.now declared program)
     (subst (λ tables. IsFirstTooLarge tables decls None)
     (tables_are_said world decls c.args.typed.now c.args.isolated.now c.requires.typed
     c.requires.isolated) c.in-Ok.ensures.none)
 
 pub returns-in-Err-Breach-clause-found : goal.returns-in-Err-Breach-clause-found
-returns-in-Err-Breach-clause-found c rule text tokens declared are is =
+returns-in-Err-Breach-clause-found c rule text declared program =
     let decls = c.args.program.now.decls in
     let world = world_of c.args.declared.now in
     let tables = tables_of world (answers_of c.args.typed.now)
     (isolation_of c.args.isolated.now) decls in
-    found_too_large rule text tokens decls world c.in-Err-Breach.code c.in-Err-Breach.at _ are is
-    (declared_world decls rule c.args.declared.now declared)
+    found_in FirstTooLarge rule text decls world c.in-Err-Breach.code c.in-Err-Breach.at _
+    (world_of_text rule text decls c.args.declared.now declared program)
     (subst (λ tables. IsTooLarge tables decls (Breach c.in-Err-Breach.code c.in-Err-Breach.at))
     (tables_are_said world decls c.args.typed.now c.args.isolated.now c.requires.typed
     c.requires.isolated)

@@ -4,7 +4,11 @@ use Rattle.sw_verdict.proofs.phases.syntax.Goals as goal
 
 pub returns-in-Ok-clause-found : goal.returns-in-Ok-clause-found
 returns-in-Ok-clause-found c =
-    spells_program c.args.tokens.now c.in-Ok.program.decls c.requires c.in-Ok.ensures.decls
+    spells_program c.in-Ok.program.decls (record {
+      tokens = c.args.tokens.now;
+      are_tokens = c.requires;
+      is_program = c.in-Ok.ensures.decls;
+    })
 
 pub returns-in-Err-clause-found : goal.returns-in-Err-clause-found
 returns-in-Err-clause-found c =
