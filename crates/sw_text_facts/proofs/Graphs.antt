@@ -15,9 +15,10 @@ use Rattle.sw_typing_facts.proofs.Lists.Listed.{in_first, in_map}
 use Rattle.sw_lower_total_facts.specs.Programs.{IsWelltyped}
 use Rattle.sw_lower_placed_facts.proofs.Graphs.Keeping.{clean_graph, placed_graph}
 use Rattle.sw_region_flow.proofs.OneSites.{no_member}
-use Rattle.sw_verdict.specs.Phases.{IsGraphOf, IsolationFinds, RacesFinds, answers_of_program}
-use Rattle.sw_verdict.specs.Phases.{breach_of, keeps_apart, phases_to_size, races}
+use Rattle.sw_verdict.specs.Phases.{HasProgram, IsGraphOf, IsolationFinds, RacesFinds}
+use Rattle.sw_verdict.specs.Phases.{answers_of_program, breach_of, phases_to_size}
 use Rattle.sw_verdict.specs.Verdict.{Accepts, Breaches, later, none}
+use Rattle.sw_verdict.proofs.Finding.{none_first}
 use Rattle.sw_verdict.proofs.GraphsExist.{passed}
 use Rattle.sw_verdict.proofs.LoweredTexts.{accepted_to_size}
 use Rattle.sw_verdict.proofs.Programs.{program_apart}
@@ -50,42 +51,40 @@ module _ (rule : AsyncDefault) (text : List ℕ) (graph : Graph) (of : IsGraphOf
   where
     -- A program without breaches of isolation is that of the text.
     none_refused : IsolationFinds rule text [] → in_bodies of.world of.decls ≡ []
-    none_refused (keeps_apart tokens decls world are is_program is_world apart) =
-        of_same (λ world decls. in_bodies world decls ≡ []) world of.world decls of.decls
-        (same_world rule text tokens of.tokens decls of.decls world of.world are is_program is_world
-        of.are_tokens of.is_program of.is_world) apart
+    none_refused found =
+        of_same (λ world decls. in_bodies world decls ≡ [])
+        (same_world rule text found.has_world of.has_world) (none_first found.finds)
 
     -- One without races shares no value that may not be.
     none_shared : RacesFinds rule text [] → in_values of.world of.decls ≡ []
-    none_shared (races tokens decls world shared made _ are is_program is_world are_shared is all) =
-        of_same (λ world decls. in_values world decls ≡ []) world of.world decls of.decls
-        (same_world rule text tokens of.tokens decls of.decls world of.world are is_program is_world
-        of.are_tokens of.is_program of.is_world)
-        (none_there (in_values world decls) (λ one has.
-        let kept = all.complete (breach_of one)
-        (inl (in_map breach_of shared one (are_shared.covers one has))) in
+    none_shared found =
+        of_same (λ world decls. in_values world decls ≡ [])
+        (same_world rule text found.has_world of.has_world)
+        (none_there (in_values found.world found.decls) (λ one has.
+        let kept = found.are_all.complete (breach_of one)
+        (inl (in_map breach_of found.shared one (found.are_shared.covers one has))) in
         no_member kept.0 kept.1))
 
     module _ (passes : Breaches rule phases_to_size text []) where
       welltyped : IsWelltyped of.decls rule of.world
       welltyped =
           let keeps = passed rule text passes in
-          of_same (λ world decls. IsWelltyped decls rule world) keeps.world of.world keeps.decls
-          of.decls
-          (same_world rule text keeps.tokens of.tokens keeps.decls of.decls keeps.world of.world
-          keeps.are_tokens keeps.is_program keeps.is_world of.are_tokens of.is_program of.is_world)
-          keeps.welltyped
+          of_same (λ world decls. IsWelltyped decls rule world)
+          (same_world rule text keeps.has_world of.has_world) keeps.welltyped
+
+      abbrev program : HasProgram text of.decls
+      program = of.has_world.program
 
       is_placed : IsPlaced graph
       is_placed =
           placed_graph of.decls rule of.world graph welltyped
-          (program_apart (spelling_of text of.tokens) of.decls of.is_program)
+          (program_apart (spelling_of text program.tokens) of.decls program.is_program)
           (none_refused (isolation_found rule text passes)) of.lowered
 
       is_clean : in_values of.world of.decls ≡ [] → IsClean graph
       is_clean unshared =
           clean_graph of.decls rule of.world graph welltyped
-          (program_apart (spelling_of text of.tokens) of.decls of.is_program)
+          (program_apart (spelling_of text program.tokens) of.decls program.is_program)
           (none_refused (isolation_found rule text passes)) unshared of.lowered
 
 pub text_placed : (rule : AsyncDefault) (text : List ℕ) (graph : Graph)

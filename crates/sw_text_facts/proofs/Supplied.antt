@@ -26,7 +26,7 @@ use Rattle.sw_lower_first_facts.proofs.Quiet.Alone.{firsts_alone}
 use Rattle.sw_lower_first_facts.proofs.Storing.Firsts.{starts_store}
 use Rattle.sw_lower_call_facts.specs.Given.{TakesAt}
 use Rattle.sw_lower_call_facts.proofs.Giving.Programs.{calls_give, tasks_give}
-use Rattle.sw_verdict.specs.Phases.{IsGraphOf, isolation_of_program, phases_to_size}
+use Rattle.sw_verdict.specs.Phases.{HasProgram, IsGraphOf, isolation_of_program, phases_to_size}
 use Rattle.sw_verdict.specs.Phases.{tables_of_program}
 use Rattle.sw_verdict.specs.Verdict.{Breaches}
 use Rattle.sw_verdict.proofs.GraphsExist.{Keeps, passed}
@@ -54,17 +54,18 @@ module _ (rule : AsyncDefault) (text : List ℕ) (graph : Graph)
 
   -- What the text keeps is said of the program and the world that its graph is of.
   same : (keeps.decls ≡ of.decls) × (keeps.world ≡ of.world)
-  same = same_world rule text keeps.tokens of.tokens keeps.decls of.decls keeps.world of.world
-      keeps.are_tokens keeps.is_program keeps.is_world of.are_tokens of.is_program of.is_world
+  same = same_world rule text keeps.has_world of.has_world
+
+  abbrev program : HasProgram text of.decls
+  program = of.has_world.program
 
   welltyped : IsWelltyped of.decls rule of.world
-  welltyped = of_same (λ world decls. IsWelltyped decls rule world) keeps.world of.world
-      keeps.decls of.decls same keeps.welltyped
+  welltyped = of_same (λ world decls. IsWelltyped decls rule world) same keeps.welltyped
 
   kept_ordered : AreOrdered (tables_of_program of.world of.decls) of.decls keeps.ordered
   kept_ordered = of_same
-      (λ world decls. AreOrdered (tables_of_program world decls) decls keeps.ordered)
-      keeps.world of.world keeps.decls of.decls same keeps.are_ordered
+      (λ world decls. AreOrdered (tables_of_program world decls) decls keeps.ordered) same
+      keeps.are_ordered
 
   same_bodies : ordered ≡ keeps.ordered
   same_bodies = same_order (program_bodies (tables_of_program of.world of.decls) of.decls) ordered
@@ -80,8 +81,8 @@ module _ (rule : AsyncDefault) (text : List ℕ) (graph : Graph)
   returns = each_of ReturnsResult graph.functions
       (subst (All ReturnsResult) (sym of.lowered.functions)
       (all_return of.decls rule of.world (isolation_of_program of.world of.decls) ordered
-      welltyped.keyed (program_apart (spelling_of text of.tokens) of.decls of.is_program)
-      welltyped.sound of.is_world welltyped.well of.lowered.are_ordered of.numbered made))
+      welltyped.keyed (program_apart (spelling_of text program.tokens) of.decls program.is_program)
+      welltyped.sound of.has_world.is_world welltyped.well of.lowered.are_ordered of.numbered made))
 
   -- a function of the graph is one of the program
   listed : (n : ℕ) (function : Function) → slice_get graph.functions n ≡ Some function
@@ -100,7 +101,7 @@ module _ (rule : AsyncDefault) (text : List ℕ) (graph : Graph)
     by : (one : Instr) → point_in body p ≡ Some (Middle one) → GivesActor graph body one
     by (Call key r kinds.Strong f ss) here =
         given f (calls_give of.decls rule of.world ordered welltyped.keyed welltyped.sound
-        of.is_world of.lowered.are_ordered of.numbered made n p key r f ss body (listed n body is)
+        of.has_world.is_world of.lowered.are_ordered of.numbered made n p key r f ss body (listed n body is)
         here)
     by (NewTask key r f cs) here =
         given f (tasks_give of.decls rule of.world ordered welltyped
