@@ -4,6 +4,7 @@ ghost use Rattle.sw_graph.specs.Clean.{IsClean};
 ghost use Rattle.sw_graph.specs.Supplied.{IsSupplied};
 ghost use Rattle.sw_graph.specs.declared.graph.Graph.{Graph};
 ghost use Rattle.sw_region_flow.specs.Breaches.{AreBreaches};
+ghost use Rattle.sw_region_flow.specs.Passing.{IsPassed};
 ghost use Rattle.sw_region_flow.specs.Work.{graph_joins};
 ghost use Rattle.sw_sound.specs.Checks.{HasBreaches, IsChecked};
 
@@ -71,6 +72,16 @@ impl Checked {
                 breaches: found,
             })
         }
+    }
+
+    /// A graph that is clean and supplied, and in which each test on regions passes.
+    pub fn of_passed(graph: Graph) -> Checked
+        requires clean { IsClean graph }
+        requires supplied { IsSupplied graph }
+        requires passed { IsPassed graph }
+        ensures { result.graph ≡ graph }
+    {
+        Checked { graph }
     }
 
     /// The graph.
