@@ -27,20 +27,22 @@ use Rattle.sw_verdict.specs.Phases.{all_phases, IsGraphOf}
 use Rattle.sw_verdict.specs.Verdict.{Breaches}
 use Rattle.sw_verdict.proofs.LoweredTexts.{some_graph_of}
 use Rattle.sw_text_facts.proofs.Sound.{accepted_never_races}
-use Rattle.sw_check.specs.Claims.{NeverRaces, Ends, ProgramPasses, ExitSays, ExitSaysOf}
+use Rattle.sw_check.specs.Claims.{NeverRaces, Ends, EndsSo, ProgramPasses, ExitSays, ExitSaysOf}
+use Rattle.sw_check.specs.Claims.{RunsTo}
 use Rattle.sw_check.specs.Claims.{Fits, IsLong, ProgramFits, SecondFits, SecondIsLong, Stands}
 use Rattle.sw_check.specs.Claims.{ScheduleIsBad, default_of, ending_by, phases_of, program_file_of}
 use Rattle.sw_check.specs.Claims.{program_of}
 use Rattle.sw_check.proofs.Pieces.{program_then}
 use Rattle.sw_replay.specs.declared.output.Output.{Output}
 use Rattle.sw_replay.specs.Output.{output_of}
+use Rattle.sw_check.specs.Programs.{Passed}
 use Rattle.sw_check.specs.Reply.{usage, accepted, end_outcome, EndsWithReply, IsJudgement, passes}
 use Rattle.sw_check.specs.Reply.{bad_schedule_outcome, breached, by_items, items_in, run_outcome}
 use Rattle.sw_check.specs.Reply.{Scheduled, has_items, has_fault, Runs, Traces, ends, course_of}
 use Rattle.sw_check.specs.Reply.{Reply, at_end, before_end, demo_end, demo_items, demo_outcome}
-use Rattle.sw_check.specs.Reply.{phases_for, watched_outcome}
+use Rattle.sw_check.specs.Reply.{Owns, owners_reply, phases_for, watched_outcome}
 use Rattle.sw_gen.specs.Program.{program}
-use Rattle.sw_check_words.specs.Words.{Action, Check, Run, Trace, Command, OnFile, Demo}
+use Rattle.sw_check_words.specs.Words.{Action, Check, Run, Trace, Owners, Command, OnFile, Demo}
 
 -- the reply with which a command ends
 abbrev outcome_of : Result Outcome Outcome → Outcome
@@ -113,21 +115,21 @@ module _ (files : List ℕ → List ℕ) (rule : AsyncDefault) (file : List ℕ)
   SaysSo result = ExitSaysOf files on_file (outcome_of result).exit
 
   -- how a program is judged for the command
-  abbrev JudgedSo : List ℕ → Result Graph Outcome → Type 0
+  abbrev JudgedSo : List ℕ → Result Passed Outcome → Type 0
   JudgedSo = IsJudgement rule (phases_for action)
 
   -- The command begins with its program: it is too long, or refused, or the rest ended.
-  module _ (rest : List ℕ → Graph → Part Outcome)
-      (continues : (graph : Graph) (reads : List Read) (result : Result Outcome Outcome)
-      → AreOf files reads → ProgramPasses files on_file → IsGraphOf rule (files file) graph
-      → rest (files file) graph reads (Ended result) → SaysSo result) where
+  module _ (rest : List ℕ → Passed → Part Outcome)
+      (continues : (passed : Passed) (reads : List Read) (result : Result Outcome Outcome)
+      → AreOf files reads → ProgramPasses files on_file → IsGraphOf rule (files file) passed.graph
+      → rest (files file) passed reads (Ended result) → SaysSo result) where
     says_judged : (reads : List Read) (result : Result Outcome Outcome) → AreOf files reads
         → length (files file) ≤ PROGRAM_LIMIT
         → EndsAfterRule (JudgedSo (files file)) (rest (files file)) reads result → SaysSo result
     says_judged reads _ of_files short (refuses _ (breached list judges)) =
         record { short = short; breaches = (list, judges.0, judges.1) }
-    says_judged reads _ of_files short (gives _ result (passes graph judges) ended) =
-        continues graph reads result of_files (record { short = short; no_breach = judges.0 })
+    says_judged reads _ of_files short (gives _ result (passes passed judges _) ended) =
+        continues passed reads result of_files (record { short = short; no_breach = judges.0 })
         judges.1 ended
 
     says_fetched : (result : Result Outcome Outcome)
@@ -217,22 +219,45 @@ replied files command outcome result is says =
 -- a program is run, or replayed and watched, by a schedule
 module _ (files : List ℕ → List ℕ) (rule : AsyncDefault) (file schedule_file : List ℕ)
     (graph : Graph) (of_text : IsGraphOf rule (files file) graph) where
-  runs_say : ProgramPasses files (OnFile rule file (Run schedule_file)) → (items : List ℕ)
-      (result : Result Outcome Outcome) → length (files schedule_file) ≤ SCHEDULE_LIMIT
-      → IsItems (files schedule_file) items → Runs (files file) graph items result
-      → ExitSaysOf files (OnFile rule file (Run schedule_file)) (outcome_of result).exit
-  runs_say whole items result fits are is =
+  -- whatever lines follow those of the run
+  run_says : (action : Action) → ProgramPasses files (OnFile rule file action)
+      → SecondFits files (OnFile rule file action) → (items : List ℕ)
+      → (EndsSo rule (files file) (IsItems (files schedule_file))
+      (RunsTo (Stands (output_of graph items).end))
+      → Ends (Stands (output_of graph items).end) files (OnFile rule file action))
+      → IsItems (files schedule_file) items
+      → ExitSaysOf files (OnFile rule file action)
+      (run_outcome (files file) (output_of graph items)).exit
+  run_says action whole fits items comes are =
       let output = output_of graph items in
-      replied files (OnFile rule file (Run schedule_file)) (run_outcome (files file) output) result
-      is
-      (says_run files (OnFile rule file (Run schedule_file)) whole fits (files file) output.lines
-      output.ended output.jobs output.end (record {
+      says_run files (OnFile rule file action) whole fits (files file) output.lines
+      output.ended output.jobs output.end (comes (record {
         graph = graph;
         of_text = of_text;
         items = items;
         are_items = are;
         ends = refl;
       }))
+
+  runs_say : ProgramPasses files (OnFile rule file (Run schedule_file)) → (items : List ℕ)
+      (result : Result Outcome Outcome) → length (files schedule_file) ≤ SCHEDULE_LIMIT
+      → IsItems (files schedule_file) items → Runs (files file) graph items result
+      → ExitSaysOf files (OnFile rule file (Run schedule_file)) (outcome_of result).exit
+  runs_say whole items result fits are is =
+      replied files (OnFile rule file (Run schedule_file))
+      (run_outcome (files file) (output_of graph items)) result is
+      (run_says (Run schedule_file) whole fits items (λ so. so) are)
+
+  owners_say : (names : List (List ℕ)) → ProgramPasses files (OnFile rule file (Owners schedule_file))
+      → (items : List ℕ)
+      (result : Result Outcome Outcome) → length (files schedule_file) ≤ SCHEDULE_LIMIT
+      → IsItems (files schedule_file) items
+      → Owns (files file) (record { graph = graph; actors = names }) items result
+      → ExitSaysOf files (OnFile rule file (Owners schedule_file)) (outcome_of result).exit
+  owners_say names whole items result fits are is =
+      replied files (OnFile rule file (Owners schedule_file))
+      (owners_reply (files file) (record { graph = graph; actors = names }) items) result is
+      (run_says (Owners schedule_file) whole fits items (λ so. so) are)
 
   traces_say : ProgramPasses files (OnFile rule file (Trace schedule_file)) → (items : List ℕ)
       (result : Result Outcome Outcome) → length (files schedule_file) ≤ SCHEDULE_LIMIT
@@ -251,22 +276,22 @@ module _ (files : List ℕ → List ℕ) (rule : AsyncDefault) (file schedule_fi
 -- a generated program, which was judged, is run
 module _ (files : List ℕ → List ℕ) (actors : ℕ) where
   -- what is answered of its graph
-  abbrev demo_answer : Graph → Outcome
-  demo_answer graph = demo_outcome actors (output_of graph (demo_items actors))
+  abbrev demo_answer : Passed → Outcome
+  demo_answer passed = demo_outcome actors (output_of passed.graph (demo_items actors))
 
   says_demo : (reads : List Read) (result : Result Outcome Outcome)
       → EndsAfterRule (IsJudgement Concurrent all_phases (program actors))
-      (λ graph. Alone (EndsWithReply (demo_answer graph))) reads result
+      (λ passed. Alone (EndsWithReply (demo_answer passed))) reads result
       → ExitSaysOf files (Demo actors) (outcome_of result).exit
   says_demo reads _ (refuses _ (breached list judges)) =
       record { short = tt; breaches = (list, judges.0, judges.1) }
-  says_demo reads _ (gives _ result (passes graph judges) ended) =
-      let output = output_of graph (demo_items actors) in
-      replied files (Demo actors) (demo_answer graph) result
-      (by_rule (EndsWithReply (demo_answer graph)) reads result ended)
+  says_demo reads _ (gives _ result (passes passed judges _) ended) =
+      let output = output_of passed.graph (demo_items actors) in
+      replied files (Demo actors) (demo_answer passed) result
+      (by_rule (EndsWithReply (demo_answer passed)) reads result ended)
       (says_demo_end files (Demo actors) (record { short = tt; no_breach = judges.0 }) tt actors
       output.lines output.ended output.jobs output.end (record {
-        graph = graph;
+        graph = passed.graph;
         of_text = judges.1;
         items = demo_items actors;
         are_items = refl;
@@ -279,29 +304,39 @@ says : (files : List ℕ → List ℕ) (command : Option Command) (reads : List 
 says files None reads result of_files ended =
     ap (λ o. o.exit) (answers_exit usage reads result ended)
 says files (Some (OnFile rule file Check)) reads result of_files ended =
-    says_program files rule file Check (λ text graph. Alone (EndsWithReply accepted))
-    (λ graph reads result _ whole _. says_accepted_at files rule file reads result whole) reads
+    says_program files rule file Check (λ text passed. Alone (EndsWithReply accepted))
+    (λ passed reads result _ whole _. says_accepted_at files rule file reads result whole) reads
     result of_files ended
 says files (Some (OnFile rule file (Run schedule_file))) reads result of_files ended =
     says_program files rule file (Run schedule_file)
-    (λ text graph. by_items schedule_file (Runs text graph))
-    (λ graph reads result of_files whole of_text.
-    says_by files rule file (Run schedule_file) schedule_file whole (Runs (files file) graph)
+    (λ text passed. by_items schedule_file (Runs text passed.graph))
+    (λ passed reads result of_files whole of_text.
+    says_by files rule file (Run schedule_file) schedule_file whole
+    (Runs (files file) passed.graph)
     (λ fits. fits) (λ fault is. (fault, is)) (λ long. long)
-    (runs_say files rule file schedule_file graph of_text whole) reads result of_files) reads
+    (runs_say files rule file schedule_file passed.graph of_text whole) reads result of_files) reads
     result of_files ended
 says files (Some (OnFile rule file (Trace schedule_file))) reads result of_files ended =
     says_program files rule file (Trace schedule_file)
-    (λ text graph. by_items schedule_file (Traces text graph))
-    (λ graph reads result of_files whole of_text.
-    says_by files rule file (Trace schedule_file) schedule_file whole (Traces (files file) graph)
+    (λ text passed. by_items schedule_file (Traces text passed.graph))
+    (λ passed reads result of_files whole of_text.
+    says_by files rule file (Trace schedule_file) schedule_file whole
+    (Traces (files file) passed.graph)
     (λ fits. fits) (λ fault is. (fault, is)) (λ long. long)
-    (traces_say files rule file schedule_file graph of_text whole) reads result of_files) reads
+    (traces_say files rule file schedule_file passed.graph of_text whole) reads result of_files) reads
     result of_files ended
+says files (Some (OnFile rule file (Owners schedule_file))) reads result of_files ended =
+    says_program files rule file (Owners schedule_file)
+    (λ text passed. by_items schedule_file (Owns text passed))
+    (λ passed reads result of_files whole of_text.
+    says_by files rule file (Owners schedule_file) schedule_file whole (Owns (files file) passed)
+    (λ fits. fits) (λ fault is. (fault, is)) (λ long. long)
+    (owners_say files rule file schedule_file passed.graph of_text passed.actors whole) reads result
+    of_files) reads result of_files ended
 says files (Some (Demo actors)) reads result of_files ended =
     says_demo files actors reads result
     (after_rule (IsJudgement Concurrent all_phases (program actors))
-    (λ graph. Alone (EndsWithReply (demo_answer files actors graph))) reads result ended)
+    (λ passed. Alone (EndsWithReply (demo_answer files actors passed))) reads result ended)
 
 pub reply_says : (files : List ℕ → List ℕ) (command : Option Command) (reads : List Read)
     (outcome : Outcome) → AreOf files reads → Reply command reads outcome

@@ -1,6 +1,5 @@
 -- Commands are lawful, and can end.
 use Rattle.std.proofs.Common.{◌≡◌, ◌⊎◌, ℕ, List, [], ◌++◌, Option, Some, None, Result, Ok, Err}
-use Rattle.sw_graph.specs.declared.graph.Graph.{Graph}
 use Rattle.sw_replay.specs.declared.text.TheConstants.{SCHEDULE_LIMIT}
 use Rattle.sw_replay.specs.Output.{output_of}
 use Rattle.sw_check_parts.specs.declared.TheConstants.{PROGRAM_LIMIT}
@@ -11,25 +10,26 @@ use Rattle.sw_check_parts.proofs.LawfulParts.{can_end_alone, can_end_fetched, ca
 use Rattle.sw_check_parts.proofs.LawfulParts.{lawful_alone, lawful_fetched, lawful_then}
 use Rattle.sw_decls.specs.declared.signature.AsyncDefault.{AsyncDefault}
 use Rattle.sw_decls.specs.declared.signature.AsyncDefault.TheVariants.{Concurrent}
-use Rattle.sw_verdict.specs.Phases.{Phase, all_phases, IsGraphOf}
+use Rattle.sw_verdict.specs.Phases.{Phase, all_phases, phases_to_size}
 use Rattle.sw_verdict.specs.Verdict.{Breaches, Refuses}
-use Rattle.sw_verdict.proofs.GraphsExist.{some_graph}
-use Rattle.sw_verdict.proofs.LoweredTexts.{decided_to_size, some_graph_of}
+use Rattle.sw_verdict.proofs.LoweredTexts.{accepted_to_size, decided_to_size}
 use Rattle.sw_verdict.proofs.Verdicts.{decided}
-use Rattle.sw_check.specs.Reply.{usage, accepted, EndsWithReply, IsJudgement, Runs, Scheduled}
+use Rattle.sw_check.specs.Programs.{Passed}
+use Rattle.sw_check.specs.Reply.{usage, accepted, EndsWithReply, IsJudgement, Owns, Runs, Scheduled}
 use Rattle.sw_check.specs.Reply.{Traces, after_verdict, by_items, course_of, demo_course, demo_items}
-use Rattle.sw_check.specs.Reply.{demo_outcome, items_in, phases_for, run_outcome}
+use Rattle.sw_check.specs.Reply.{demo_outcome, items_in, owners_reply, phases_for}
+use Rattle.sw_check.specs.Reply.{run_outcome}
 use Rattle.sw_check.specs.Reply.{Reply, at_end, before_end}
 use Rattle.sw_gen.specs.Program.{program}
-use Rattle.sw_check_words.specs.Words.{Action, Check, Run, Trace, Command, OnFile, Demo}
+use Rattle.sw_check_words.specs.Words.{Action, Check, Run, Trace, Owners, Command, OnFile, Demo}
 use Rattle.sw_check.proofs.Pieces.{program_then}
 use Rattle.sw_check.proofs.RuleLemmas.{answers_one, answers_some, judged_one, judged_some}
 use Rattle.sw_check.proofs.RuleLemmas.{scheduled_one, scheduled_some, traces_one, traces_some}
 
--- a program is fetched and judged, and something goes on from its text and its graph
+-- a program is fetched and judged, and something goes on from its text and what passes
 module _ (rule : AsyncDefault) (phases : List Phase) (file : List ℕ)
-    (next : List ℕ → Graph → Part Outcome) where
-  lawful_program : ((text : List ℕ) (graph : Graph) → IsLawful (next text graph))
+    (next : List ℕ → Passed → Part Outcome) where
+  lawful_program : ((text : List ℕ) (passed : Passed) → IsLawful (next text passed))
       → IsLawful (program_then rule phases file next)
   lawful_program each =
       lawful_then (Fetched file PROGRAM_LIMIT)
@@ -39,17 +39,17 @@ module _ (rule : AsyncDefault) (phases : List Phase) (file : List ℕ)
       (lawful_alone (IsJudgement rule phases text) (judged_one rule phases text)) (each text))
 
   can_end_program : ((text : List ℕ) → Breaches rule phases text []
-      → (graph : Graph) × IsGraphOf rule text graph)
+      → Breaches rule phases_to_size text [])
       → ((text : List ℕ) → Breaches rule phases text [] ⊎ Refuses rule phases text)
-      → ((text : List ℕ) (graph : Graph) → CanEnd (next text graph))
+      → ((text : List ℕ) (passed : Passed) → CanEnd (next text passed))
       → CanEnd (program_then rule phases file next)
-  can_end_program have either each =
+  can_end_program to_size either each =
       can_end_then (Fetched file PROGRAM_LIMIT)
       (λ text. Alone (IsJudgement rule phases text) >>= next text)
       (can_end_fetched file PROGRAM_LIMIT)
       (λ text. can_end_then (Alone (IsJudgement rule phases text)) (next text)
       (can_end_alone (IsJudgement rule phases text)
-      (judged_some rule phases text (have text) (either text)))
+      (judged_some rule phases text (to_size text) (either text)))
       (each text))
 
 -- a schedule is fetched, and what is answered follows from its items
@@ -78,21 +78,27 @@ module _ (file : List ℕ) where
         (λ items. can_end_alone (Answers items) (some items))
 
 -- what follows the verdict
-lawful_after : (action : Action) (text : List ℕ) (graph : Graph)
-    → IsLawful (after_verdict action text graph)
-lawful_after Check text graph = lawful_alone (EndsWithReply accepted) (answers_one accepted)
-lawful_after (Run file) text graph =
-    lawful_by file (Runs text graph)
-    (λ items. answers_one (run_outcome text (output_of graph items)))
-lawful_after (Trace file) text graph = lawful_by file (Traces text graph) (traces_one text graph)
+lawful_after : (action : Action) (text : List ℕ) (passed : Passed)
+    → IsLawful (after_verdict action text passed)
+lawful_after Check text passed = lawful_alone (EndsWithReply accepted) (answers_one accepted)
+lawful_after (Run file) text passed =
+    lawful_by file (Runs text passed.graph)
+    (λ items. answers_one (run_outcome text (output_of passed.graph items)))
+lawful_after (Trace file) text passed =
+    lawful_by file (Traces text passed.graph) (traces_one text passed.graph)
+lawful_after (Owners file) text passed =
+    lawful_by file (Owns text passed) (λ items. answers_one (owners_reply text passed items))
 
-can_end_after : (action : Action) (text : List ℕ) (graph : Graph)
-    → CanEnd (after_verdict action text graph)
-can_end_after Check text graph = can_end_alone (EndsWithReply accepted) (answers_some accepted)
-can_end_after (Run file) text graph =
-    can_end_by file (Runs text graph)
-    (λ items. answers_some (run_outcome text (output_of graph items)))
-can_end_after (Trace file) text graph = can_end_by file (Traces text graph) (traces_some text graph)
+can_end_after : (action : Action) (text : List ℕ) (passed : Passed)
+    → CanEnd (after_verdict action text passed)
+can_end_after Check text passed = can_end_alone (EndsWithReply accepted) (answers_some accepted)
+can_end_after (Run file) text passed =
+    can_end_by file (Runs text passed.graph)
+    (λ items. answers_some (run_outcome text (output_of passed.graph items)))
+can_end_after (Trace file) text passed =
+    can_end_by file (Traces text passed.graph) (traces_some text passed.graph)
+can_end_after (Owners file) text passed =
+    can_end_by file (Owns text passed) (λ items. answers_some (owners_reply text passed items))
 
 -- the phases of an action accept or refuse a text, and one that they accept has a graph
 decided_for : (rule : AsyncDefault) (action : Action) (text : List ℕ)
@@ -100,35 +106,39 @@ decided_for : (rule : AsyncDefault) (action : Action) (text : List ℕ)
 decided_for rule Check = decided rule
 decided_for rule (Run schedule_file) = decided rule
 decided_for rule (Trace schedule_file) = decided_to_size rule
+decided_for rule (Owners schedule_file) = decided rule
 
-graph_for : (rule : AsyncDefault) (action : Action) (text : List ℕ)
-    → Breaches rule (phases_for action) text [] → (graph : Graph) × IsGraphOf rule text graph
-graph_for rule Check = some_graph_of rule
-graph_for rule (Run schedule_file) = some_graph_of rule
-graph_for rule (Trace schedule_file) = some_graph rule
+-- where they find none, those up to the size of functions don't
+to_size_for : (rule : AsyncDefault) (action : Action) (text : List ℕ)
+    → Breaches rule (phases_for action) text [] → Breaches rule phases_to_size text []
+to_size_for rule Check = accepted_to_size rule
+to_size_for rule (Run schedule_file) = accepted_to_size rule
+to_size_for rule (Trace schedule_file) = λ text passes. passes
+to_size_for rule (Owners schedule_file) = accepted_to_size rule
 
 -- a program is generated, judged and run
 module _ (actors : ℕ) where
-  abbrev demo_judged : Result Graph Outcome → Type 0
+  abbrev demo_judged : Result Passed Outcome → Type 0
   demo_judged = IsJudgement Concurrent all_phases (program actors)
 
   -- what is answered of its graph
-  abbrev demo_answer : Graph → Outcome
-  demo_answer graph = demo_outcome actors (output_of graph (demo_items actors))
+  abbrev demo_answer : Passed → Outcome
+  demo_answer passed = demo_outcome actors (output_of passed.graph (demo_items actors))
 
   lawful_demo : IsLawful (demo_course actors)
   lawful_demo =
-      lawful_then (Alone demo_judged) (λ graph. Alone (EndsWithReply (demo_answer graph)))
+      lawful_then (Alone demo_judged) (λ passed. Alone (EndsWithReply (demo_answer passed)))
       (lawful_alone demo_judged (judged_one Concurrent all_phases (program actors)))
-      (λ graph. lawful_alone (EndsWithReply (demo_answer graph)) (answers_one (demo_answer graph)))
+      (λ passed. lawful_alone (EndsWithReply (demo_answer passed))
+      (answers_one (demo_answer passed)))
 
   can_end_demo : CanEnd (demo_course actors)
   can_end_demo =
-      can_end_then (Alone demo_judged) (λ graph. Alone (EndsWithReply (demo_answer graph)))
+      can_end_then (Alone demo_judged) (λ passed. Alone (EndsWithReply (demo_answer passed)))
       (can_end_alone demo_judged (judged_some Concurrent all_phases (program actors)
-      (some_graph_of Concurrent (program actors)) (decided Concurrent (program actors))))
-      (λ graph. can_end_alone (EndsWithReply (demo_answer graph))
-      (answers_some (demo_answer graph)))
+      (accepted_to_size Concurrent (program actors)) (decided Concurrent (program actors))))
+      (λ passed. can_end_alone (EndsWithReply (demo_answer passed))
+      (answers_some (demo_answer passed)))
 
 pub lawful : (command : Option Command) → IsLawful (course_of command)
 lawful None = lawful_alone (EndsWithReply usage) (answers_one usage)
@@ -140,7 +150,7 @@ pub can_end : (command : Option Command) → CanEnd (course_of command)
 can_end None = can_end_alone (EndsWithReply usage) (answers_some usage)
 can_end (Some (OnFile rule file action)) =
     can_end_program rule (phases_for action) file (after_verdict action)
-    (graph_for rule action) (decided_for rule action) (can_end_after action)
+    (to_size_for rule action) (decided_for rule action) (can_end_after action)
 can_end (Some (Demo actors)) = can_end_demo actors
 
 reply_of : (command : Option Command) (reads : List Read) (result : Result Outcome Outcome)

@@ -24,14 +24,18 @@ use Rattle.sw_check_parts.proofs.Inversions.{refuses_fetched, refuses_then, ends
 use Rattle.sw_decls.specs.declared.signature.AsyncDefault.{AsyncDefault}
 use Rattle.sw_decls.specs.declared.signature.AsyncDefault.TheVariants.{Concurrent}
 use Rattle.sw_verdict.specs.Phases.{Phase, all_phases, phases_to_size}
+use Rattle.sw_owners.specs.Lines.{owner_lines}
+use Rattle.sw_owners.specs.Replay.{owner_replay}
 use Rattle.sw_check.specs.Claims.{phases_of}
+use Rattle.sw_check.specs.Programs.{Passed}
 use Rattle.sw_check.specs.Reply.{usage, accepted, end_outcome, EndsWithReply, IsJudgement, breached}
 use Rattle.sw_check.specs.Reply.{Scheduled, has_fault, Runs, Traces, ends, course_of, Reply, at_end}
 use Rattle.sw_check.specs.Reply.{before_end, by_items, demo_course, demo_end, demo_exits, demo_items}
 use Rattle.sw_check.specs.Reply.{demo_outcome, exits_of, file_course, file_exits, items_in}
-use Rattle.sw_check.specs.Reply.{replay_outcome, run_outcome, watched_outcome}
+use Rattle.sw_check.specs.Reply.{Owns, owners_reply, replay_outcome, run_exits, run_outcome}
+use Rattle.sw_check.specs.Reply.{watched_outcome}
 use Rattle.sw_gen.specs.Program.{program}
-use Rattle.sw_check_words.specs.Words.{Action, Check, Run, Trace, Command, OnFile, Demo}
+use Rattle.sw_check_words.specs.Words.{Action, Check, Run, Trace, Owners, Command, OnFile, Demo}
 use Rattle.sw_check.proofs.Pieces.{program_then}
 
 -- a reply that has one of these exits: it reports no failure, and nothing is written where the exit
@@ -74,9 +78,9 @@ traces_nothing_else Q text graph items other is = elim is [ ]
 
 -- a program that is fetched and judged, and the rest
 program_refusals : (among : List Exit) (rule : AsyncDefault) (phases : List Phase) (file : List ℕ)
-    (rest : List ℕ → Graph → Part Outcome) → IsOneOf among exits.TooLong
+    (rest : List ℕ → Passed → Part Outcome) → IsOneOf among exits.TooLong
     → IsOneOf among exits.Breached
-    → ((text : List ℕ) (graph : Graph) → RefusesBy (HasExit among) (rest text graph))
+    → ((text : List ℕ) (passed : Passed) → RefusesBy (HasExit among) (rest text passed))
     → RefusesBy (HasExit among) (program_then rule phases file rest)
 program_refusals among rule phases file rest long refused others =
     refuses_then (HasExit among) (Fetched file PROGRAM_LIMIT) _
@@ -105,25 +109,30 @@ file_refusals : (rule : AsyncDefault) (file : List ℕ) (action : Action)
     → RefusesBy (HasExit (file_exits action)) (file_course rule file action)
 file_refusals rule file Check =
     program_refusals _ rule all_phases file _ (inl refl) (inr (inl refl))
-    (λ text graph. refuses_alone _ (EndsWithReply accepted) (answers_nothing_else _ accepted))
+    (λ text passed. refuses_alone _ (EndsWithReply accepted) (answers_nothing_else _ accepted))
 file_refusals rule file (Run schedule_file) =
     program_refusals _ rule all_phases file _ (inl refl) (inr (inl refl))
-    (λ text graph. items_refusals _ schedule_file (Runs text graph) (inl refl)
+    (λ text passed. items_refusals _ schedule_file (Runs text passed.graph) (inl refl)
     (inr (inr (inl refl)))
-    (λ items. answers_nothing_else _ (run_outcome text (output_of graph items))))
+    (λ items. answers_nothing_else _ (run_outcome text (output_of passed.graph items))))
 file_refusals rule file (Trace schedule_file) =
     program_refusals _ rule phases_to_size file _ (inl refl) (inr (inl refl))
-    (λ text graph. items_refusals _ schedule_file (Traces text graph) (inl refl)
-    (inr (inr (inl refl))) (traces_nothing_else _ text graph))
+    (λ text passed. items_refusals _ schedule_file (Traces text passed.graph) (inl refl)
+    (inr (inr (inl refl))) (traces_nothing_else _ text passed.graph))
+file_refusals rule file (Owners schedule_file) =
+    program_refusals _ rule all_phases file _ (inl refl) (inr (inl refl))
+    (λ text passed. items_refusals _ schedule_file (Owns text passed) (inl refl)
+    (inr (inr (inl refl)))
+    (λ items. answers_nothing_else _ (owners_reply text passed items)))
 
 demo_refusals : (actors : ℕ) → RefusesBy (HasExit demo_exits) (demo_course actors)
 demo_refusals actors =
     refuses_then (HasExit demo_exits) (Alone (IsJudgement Concurrent all_phases (program actors))) _
     (refuses_alone (HasExit demo_exits) (IsJudgement Concurrent all_phases (program actors))
     (judged_exit demo_exits Concurrent all_phases (program actors) (inl refl)))
-    (λ graph. refuses_alone (HasExit demo_exits)
-    (EndsWithReply (demo_outcome actors (output_of graph (demo_items actors))))
-    (answers_nothing_else _ (demo_outcome actors (output_of graph (demo_items actors)))))
+    (λ passed. refuses_alone (HasExit demo_exits)
+    (EndsWithReply (demo_outcome actors (output_of passed.graph (demo_items actors))))
+    (answers_nothing_else _ (demo_outcome actors (output_of passed.graph (demo_items actors)))))
 
 refusals : (command : Option Command) → RefusesBy (HasExit (exits_of command)) (course_of command)
 refusals None = refuses_alone _ (EndsWithReply usage) (answers_nothing_else _ usage)
@@ -144,6 +153,15 @@ run_ends among done trapped text output = by output.end where
       → HasEndExit among (end_outcome text output.lines output.ended output.jobs end)
   by Ran = record { exit = done; plain = refl; speaks = refl }
   by (Trapped kind at) = record { exit = trapped; plain = refl; speaks = refl }
+
+a_run_ends : (text : List ℕ) (output : Output) → HasEndExit run_exits (run_outcome text output)
+a_run_ends = run_ends run_exits (inr (inr (inr (inl refl)))) (inr (inr (inr (inr (inl refl)))))
+
+-- the same of a reply with more lines
+with_lines : (lines : List ℕ) (outcome : Outcome) → HasEndExit run_exits outcome
+    → HasEndExit run_exits (record { exit = outcome.exit; bytes = outcome.bytes ++ lines })
+with_lines lines outcome has =
+    record { exit = has.exit; plain = has.plain; speaks = has.speaks }
 
 replay_end : (text schedule_file : List ℕ) (replay : Replay)
     → HasEndExit (file_exits (Trace schedule_file)) (replay_outcome text replay)
@@ -168,13 +186,13 @@ demo_ends actors output = by output.end where
   by (Trapped kind at) = record { exit = inr (inr (inl refl)); plain = refl; speaks = refl }
 
 program_ends : (among : List Exit) (rule : AsyncDefault) (phases : List Phase) (file : List ℕ)
-    (rest : List ℕ → Graph → Part Outcome)
-    → ((text : List ℕ) (graph : Graph) → EndsBy (HasEndExit among) (rest text graph))
+    (rest : List ℕ → Passed → Part Outcome)
+    → ((text : List ℕ) (passed : Passed) → EndsBy (HasEndExit among) (rest text passed))
     → EndsBy (HasEndExit among) (program_then rule phases file rest)
 program_ends among rule phases file rest others =
     ends_then (HasEndExit among) (Fetched file PROGRAM_LIMIT) _
     (λ _ text _. ends_then (HasEndExit among) (Alone (IsJudgement rule phases text)) (rest text)
-    (λ _ graph _. others text graph))
+    (λ _ passed _. others text passed))
 
 items_end : (among : List Exit) (file : List ℕ)
     (Answers : List ℕ → Result Outcome Outcome → Type 0)
@@ -187,20 +205,27 @@ items_end among file Answers each =
 file_ends : (rule : AsyncDefault) (file : List ℕ) (action : Action)
     → EndsBy (HasEndExit (file_exits action)) (file_course rule file action)
 file_ends rule file Check =
-    program_ends _ rule all_phases file _ (λ text graph. ends_alone _ (EndsWithReply accepted)
+    program_ends _ rule all_phases file _ (λ text passed. ends_alone _ (EndsWithReply accepted)
     (λ outcome is. answers_end _ accepted outcome
     (record { exit = inr (inr (inl refl)); plain = refl; speaks = refl }) is))
 file_ends rule file (Run schedule_file) =
-    program_ends _ rule all_phases file (λ text graph. by_items schedule_file (Runs text graph))
-    (λ text graph. items_end _ schedule_file (Runs text graph)
-    (λ items outcome is. answers_end _ (run_outcome text (output_of graph items)) outcome
-    (run_ends _ (inr (inr (inr (inl refl)))) (inr (inr (inr (inr (inl refl))))) text
-    (output_of graph items)) is))
+    program_ends _ rule all_phases file
+    (λ text passed. by_items schedule_file (Runs text passed.graph))
+    (λ text passed. items_end _ schedule_file (Runs text passed.graph)
+    (λ items outcome is. answers_end _ (run_outcome text (output_of passed.graph items)) outcome
+    (a_run_ends text (output_of passed.graph items)) is))
 file_ends rule file (Trace schedule_file) =
     program_ends _ rule phases_to_size file
-    (λ text graph. by_items schedule_file (Traces text graph))
-    (λ text graph. items_end _ schedule_file (Traces text graph)
-    (trace_ends schedule_file text graph))
+    (λ text passed. by_items schedule_file (Traces text passed.graph))
+    (λ text passed. items_end _ schedule_file (Traces text passed.graph)
+    (trace_ends schedule_file text passed.graph))
+file_ends rule file (Owners schedule_file) =
+    program_ends _ rule all_phases file (λ text passed. by_items schedule_file (Owns text passed))
+    (λ text passed. items_end _ schedule_file (Owns text passed)
+    (λ items outcome is. answers_end _ (owners_reply text passed items) outcome
+    (with_lines (owner_lines passed.actors (owner_replay passed.graph items).owners)
+    (run_outcome text (output_of passed.graph items))
+    (a_run_ends text (output_of passed.graph items))) is))
 
 at_ends : (command : Option Command) → EndsBy (HasEndExit (exits_of command)) (course_of command)
 at_ends None = ends_alone _ (EndsWithReply usage)
@@ -209,10 +234,11 @@ at_ends None = ends_alone _ (EndsWithReply usage)
 at_ends (Some (OnFile rule file action)) = file_ends rule file action
 at_ends (Some (Demo actors)) =
     ends_then (HasEndExit demo_exits) (Alone (IsJudgement Concurrent all_phases (program actors))) _
-    (λ _ graph _. ends_alone (HasEndExit demo_exits)
-    (EndsWithReply (demo_outcome actors (output_of graph (demo_items actors))))
-    (λ outcome is. answers_end _ (demo_outcome actors (output_of graph (demo_items actors))) outcome
-    (demo_ends actors (output_of graph (demo_items actors))) is))
+    (λ _ passed _. ends_alone (HasEndExit demo_exits)
+    (EndsWithReply (demo_outcome actors (output_of passed.graph (demo_items actors))))
+    (λ outcome is. answers_end _
+    (demo_outcome actors (output_of passed.graph (demo_items actors))) outcome
+    (demo_ends actors (output_of passed.graph (demo_items actors))) is))
 
 -- a race is none of these exits
 unraced : (among : List Exit) → AllByRecursion (λ exit. exits.Raced ≢ exit) among
@@ -221,14 +247,16 @@ unraced [] tt is = is
 unraced (exit ∷ among) (not, others) (inl is) = not is
 unraced (exit ∷ among) (not, others) (inr is) = unraced among others is
 
+runs_unraced : IsOneOf run_exits exits.Raced → ⊥
+runs_unraced = unraced run_exits (λ e. cc, (λ e. cc, (λ e. cc, (λ e. cc, (λ e. cc, tt)))))
+
 -- nor is it one of a command for which all phases count
 pub exits_unraced : (command : Command) → phases_of command ≡ all_phases
     → IsOneOf (exits_of (Some command)) exits.Raced → ⊥
 exits_unraced (OnFile rule file Check) all is =
     unraced (file_exits Check) (λ e. cc, (λ e. cc, (λ e. cc, tt))) is
-exits_unraced (OnFile rule file (Run schedule_file)) all is =
-    unraced (file_exits (Run schedule_file))
-    (λ e. cc, (λ e. cc, (λ e. cc, (λ e. cc, (λ e. cc, tt))))) is
+exits_unraced (OnFile rule file (Run schedule_file)) all is = runs_unraced is
+exits_unraced (OnFile rule file (Owners schedule_file)) all is = runs_unraced is
 exits_unraced (OnFile rule file (Trace schedule_file)) all is = omega (arith, ap length all)
 exits_unraced (Demo actors) all is = unraced demo_exits (λ e. cc, (λ e. cc, (λ e. cc, tt))) is
 

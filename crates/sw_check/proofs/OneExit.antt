@@ -26,7 +26,7 @@ use Rattle.sw_check.specs.Claims.{ExitSays, ExitSaysOf, IsLong, ProgramFits, Run
 use Rattle.sw_check.specs.Claims.{SecondFits, SecondIsLong, Stands, TracesTo, default_of, ending_by}
 use Rattle.sw_check.specs.Claims.{phases_of, program_of, program_file_of, schedule_file_of}
 use Rattle.sw_gen.specs.Program.{program}
-use Rattle.sw_check_words.specs.Words.{Command, Check, Run, Trace, OnFile, Demo}
+use Rattle.sw_check_words.specs.Words.{Command, Check, Run, Trace, Owners, OnFile, Demo}
 use Rattle.sw_check.specs.Reply.{demo_items}
 use Rattle.sw_check.proofs.ClaimLemmas.{fits_or_long}
 
@@ -66,6 +66,9 @@ one_ending files (OnFile rule file (Run schedule_file)) a b is_a is_b =
 one_ending files (OnFile rule file (Trace schedule_file)) a b is_a is_b =
     both_so (IsItems (files schedule_file)) (one_items (files schedule_file)) (TracesTo a)
     (TracesTo b) (a ≡ b) (traces_to_one a b) rule (files file) is_a is_b
+one_ending files (OnFile rule file (Owners schedule_file)) a b is_a is_b =
+    both_so (IsItems (files schedule_file)) (one_items (files schedule_file)) (RunsTo a) (RunsTo b)
+    (a ≡ b) (runs_to_one a b) rule (files file) is_a is_b
 one_ending files (Demo actors) a b is_a is_b =
     both_so (λ items. items ≡ demo_items actors) (λ items others is_those are. is_those ∙ sym are)
     (RunsTo a) (RunsTo b) (a ≡ b) (runs_to_one a b) Concurrent (program actors) is_a is_b
@@ -77,6 +80,8 @@ ends_or_bad files (OnFile rule file Check) ending so bad = bad
 ends_or_bad files (OnFile rule file (Run schedule_file)) ending so (fault, is) =
     items_and_fault (files schedule_file) so.items fault so.are_items is
 ends_or_bad files (OnFile rule file (Trace schedule_file)) ending so (fault, is) =
+    items_and_fault (files schedule_file) so.items fault so.are_items is
+ends_or_bad files (OnFile rule file (Owners schedule_file)) ending so (fault, is) =
     items_and_fault (files schedule_file) so.items fault so.are_items is
 ends_or_bad files (Demo actors) ending so bad = bad
 

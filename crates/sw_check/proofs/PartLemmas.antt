@@ -21,6 +21,7 @@ use Rattle.sw_verdict.specs.Phases.{Phase}
 use Rattle.sw_verdict.specs.Verdict.{IsVerdict}
 use Rattle.sw_replay.specs.Replay.{IsReplay}
 use Rattle.sw_check_words.specs.Words.{Action, Command}
+use Rattle.sw_check.specs.Programs.{Passed}
 use Rattle.sw_check.specs.Reply.{usage, course_of, EndsWithReply, refusal, bad_schedule_outcome}
 use Rattle.sw_check.specs.Reply.{IsJudgement, breached, Scheduled, has_fault}
 use Rattle.sw_check.specs.Reply.{Traces, after_verdict, ends, replay_outcome}
@@ -52,11 +53,11 @@ trace_answered text graph items replay (Err error) is same = tt
 
 -- what follows the verdict, for a text that was lent
 pub follows_lent : {text lent : List ℕ} {before after : SeenShelf} {result : Result Outcome Stop}
-    (action : Action) (graph : Graph) → lent ≡ text
-    → Does (after_verdict action lent graph) before result after
-    → Does (after_verdict action text graph) before result after
-follows_lent {before = before} {after} {result} action graph same does =
-    subst (λ text. Does (after_verdict action text graph) before result after) same does
+    (action : Action) (passed : Passed) → lent ≡ text
+    → Does (after_verdict action lent passed) before result after
+    → Does (after_verdict action text passed) before result after
+follows_lent {before = before} {after} {result} action passed same does =
+    subst (λ text. Does (after_verdict action text passed) before result after) same does
 
 -- words of no form
 pub no_form : {command : Option Command} {shelf : SeenShelf} → None ≡ command

@@ -1,18 +1,18 @@
 -- A piece that commands have in common.
 use Rattle.std.proofs.Common.{ℕ, List}
-use Rattle.sw_graph.specs.declared.graph.Graph.{Graph}
 use Rattle.sw_check_parts.specs.declared.TheConstants.{PROGRAM_LIMIT}
 use Rattle.sw_check_parts.specs.declared.outcome.Outcome.{Outcome}
 use Rattle.sw_check_parts.specs.Course.{Part, Alone, Fetched, ◌>>=◌}
 use Rattle.sw_decls.specs.declared.signature.AsyncDefault.{AsyncDefault}
 use Rattle.sw_verdict.specs.Phases.{Phase}
+use Rattle.sw_check.specs.Programs.{Passed}
 use Rattle.sw_check.specs.Reply.{IsJudgement}
 
 -- A program is fetched and judged by these phases under a default, and the rest goes on from its
--- text and its graph.
-abbrev pub program_then : AsyncDefault → List Phase → List ℕ → (List ℕ → Graph → Part Outcome)
+-- text and what passes.
+abbrev pub program_then : AsyncDefault → List Phase → List ℕ → (List ℕ → Passed → Part Outcome)
     → Part Outcome
 program_then rule phases file rest = do
   text ← Fetched file PROGRAM_LIMIT
-  graph ← Alone (IsJudgement rule phases text)
-  rest text graph
+  passed ← Alone (IsJudgement rule phases text)
+  rest text passed

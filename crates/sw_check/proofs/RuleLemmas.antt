@@ -10,10 +10,14 @@ use Rattle.sw_replay.proofs.ScheduleLaws.{never_both as items_and_fault}
 use Rattle.sw_check_parts.specs.declared.outcome.Outcome.{Outcome}
 use Rattle.sw_check_parts.specs.Lawful.{HasOneResult, HasResult}
 use Rattle.sw_decls.specs.declared.signature.AsyncDefault.{AsyncDefault}
-use Rattle.sw_verdict.specs.Phases.{Phase, IsGraphOf}
+use Rattle.sw_verdict.specs.Phases.{Phase, phases_to_size}
 use Rattle.sw_verdict.specs.Verdict.{Breaches, Refuses}
+use Rattle.sw_verdict.proofs.ActorNames.{one_names, some_names}
+use Rattle.sw_verdict.proofs.GraphsExist.{some_graph}
 use Rattle.sw_verdict.proofs.OneLowered.{one_graph_of}
-use Rattle.sw_verdict.proofs.Verdicts.{never_both, one_list as one_verdict}
+use Rattle.sw_verdict.proofs.OneLists.{one_list as one_verdict}
+use Rattle.sw_verdict.proofs.Verdicts.{never_both}
+use Rattle.sw_check.specs.Programs.{Passed}
 use Rattle.sw_check.specs.Reply.{refusal, bad_schedule_outcome, EndsWithReply}
 use Rattle.sw_check.specs.Reply.{IsJudgement}
 use Rattle.sw_check.specs.Reply.{passes, breached, Scheduled, has_items, has_fault, Traces, ends}
@@ -27,20 +31,27 @@ answers_some outcome = (Ok outcome, refl)
 
 module _ (rule : AsyncDefault) (phases : List Phase) (text : List ℕ) where
   pub judged_one : HasOneResult (IsJudgement rule phases text)
-  judged_one _ _ (passes a is_a) (passes b is_b) = ap Ok (one_graph_of rule text a b is_a.1 is_b.1)
-  judged_one _ _ (passes a is_a) (breached list is_b) =
+  judged_one _ _ (passes a is_a named) (passes b is_b others) =
+      let graphs = one_graph_of rule text a.graph b.graph is_a.1 is_b.1 in
+      let names = one_names text a.actors b.actors named others in
+      λ i. Ok (record { graph = graphs i; actors = names i })
+  judged_one _ _ (passes a is_a _) (breached list is_b) =
       absurd (never_both rule phases text is_a.0 (list, is_b.0, is_b.1))
-  judged_one _ _ (breached list is_a) (passes b is_b) =
+  judged_one _ _ (breached list is_a) (passes b is_b _) =
       absurd (never_both rule phases text is_b.0 (list, is_a.0, is_a.1))
   judged_one _ _ (breached list is_a) (breached other is_b) =
       ap (λ list. Err (refusal text list)) (one_verdict rule phases text list other is_a.1 is_b.1)
 
-  -- where it has a graph if it passes
-  pub judged_some : (Breaches rule phases text [] → (graph : Graph) × IsGraphOf rule text graph)
+  -- where the phases up to the size of functions find no breach if it passes
+  pub judged_some : (Breaches rule phases text [] → Breaches rule phases_to_size text [])
       → Breaches rule phases text [] ⊎ Refuses rule phases text
       → HasResult (IsJudgement rule phases text)
-  judged_some have (inl pass) = let (graph, is) = have pass in (Ok graph, passes graph (pass, is))
-  judged_some have (inr (list, not, found)) = (Err (refusal text list), breached list (not, found))
+  judged_some to_size (inl pass) =
+      let (graph, is) = some_graph rule text (to_size pass) in
+      let (names, named) = some_names rule text (to_size pass) in
+      let passed : Passed = record { graph = graph; actors = names } in
+      (Ok passed, passes passed (pass, is) named)
+  judged_some to_size (inr (list, not, found)) = (Err (refusal text list), breached list (not, found))
 
 module _ (schedule : List ℕ) where
   pub scheduled_one : HasOneResult (Scheduled schedule)

@@ -26,7 +26,7 @@ use Rattle.sw_verdict.specs.Phases.{Phase, all_phases, IsGraphOf}
 use Rattle.sw_verdict.specs.Verdict.{Breaches, Refuses}
 use Rattle.sw_replay.specs.Replay.{IsReplay}
 use Rattle.sw_gen.specs.Program.{program}
-use Rattle.sw_check_words.specs.Words.{Action, Check, Run, Trace, Command, OnFile, Demo}
+use Rattle.sw_check_words.specs.Words.{Action, Check, Run, Trace, Owners, Command, OnFile, Demo}
 use Rattle.sw_check.specs.Reply.{demo_items, phases_for}
 
 -- The machine of the graph isn't racing after any list of items, of any length.
@@ -58,6 +58,7 @@ abbrev pub schedule_file_in : Action → Option (List ℕ)
 schedule_file_in Check = None
 schedule_file_in (Run schedule_file) = Some schedule_file
 schedule_file_in (Trace schedule_file) = Some schedule_file
+schedule_file_in (Owners schedule_file) = Some schedule_file
 
 -- that of a command
 abbrev pub schedule_file_of : Command → Option (List ℕ)
@@ -123,6 +124,8 @@ FileEnds ending files rule file (Run schedule_file) =
     EndsSo rule (files file) (IsItems (files schedule_file)) (RunsTo ending)
 FileEnds ending files rule file (Trace schedule_file) =
     EndsSo rule (files file) (IsItems (files schedule_file)) (TracesTo ending)
+FileEnds ending files rule file (Owners schedule_file) =
+    EndsSo rule (files file) (IsItems (files schedule_file)) (RunsTo ending)
 
 -- how a command ends that goes to its end
 abbrev pub Ends : Ending → (List ℕ → List ℕ) → Command → Type 0

@@ -20,13 +20,18 @@ use Rattle.sw_check_parts.specs.Course.{Read, Ended, Part, Alone, Fetched, ◌>>
 use Rattle.sw_decls.specs.declared.signature.AsyncDefault.{AsyncDefault}
 use Rattle.sw_decls.specs.declared.signature.AsyncDefault.TheVariants.{Concurrent}
 use Rattle.sw_verdict.specs.Phases.{Phase, all_phases, phases_to_size}
+use Rattle.sw_verdict.specs.ActorNames.{HasActorNames}
 use Rattle.sw_verdict.specs.Verdict.{IsVerdict}
 use Rattle.sw_replay.specs.Output.{output_of}
 use Rattle.sw_replay.specs.Replay.{IsReplay}
+use Rattle.sw_owners.specs.declared.replaying.OwnerReplay.{OwnerReplay}
+use Rattle.sw_owners.specs.Lines.{owner_lines}
+use Rattle.sw_owners.specs.Replay.{owner_replay}
+use Rattle.sw_check.specs.Programs.{Passed}
 use Rattle.sw_check.specs.Lines.{demo_line, summary, trap_line, race_lines, schedule_line}
 use Rattle.sw_gen.specs.Program.{program}
 use Rattle.sw_gen.specs.Schedule.{runs}
-use Rattle.sw_check_words.specs.Words.{Action, Check, Run, Trace, Command, OnFile, Demo}
+use Rattle.sw_check_words.specs.Words.{Action, Check, Run, Trace, Owners, Command, OnFile, Demo}
 
 -- the one line about words that have no form
 abbrev pub usage : Outcome
@@ -61,8 +66,15 @@ end_outcome text lines ended jobs (Trapped kind at) =
 abbrev pub run_outcome : List ℕ → Output → Outcome
 run_outcome text output = end_outcome text output.lines output.ended output.jobs output.end
 
--- The same of a program that was generated for a number of actors: where nothing halts the machine,
--- the reply is one line.
+-- the same, and then a line for each coloured cell, with its owner
+abbrev pub owners_outcome : List ℕ → List (List ℕ) → OwnerReplay → Outcome
+owners_outcome text names replay = record {
+  exit = (run_outcome text replay.output).exit;
+  bytes = (run_outcome text replay.output).bytes ++ owner_lines names replay.owners;
+}
+
+-- The answer to a run of a program that was generated for a number of actors: where nothing halts
+-- the machine, the reply is one line.
 abbrev pub demo_end : ℕ → List ℕ → ℕ → ℕ → End → Outcome
 demo_end actors lines ended jobs Ran =
     record { exit = exits.Done; bytes = demo_line actors (program actors) lines ended jobs }
@@ -87,9 +99,9 @@ EndsWithReply outcome result = result ≡ Ok outcome
 
 -- A program is judged by these phases under a default: it has a graph, or it is refused.
 pub data IsJudgement (rule : AsyncDefault) (phases : List Phase) (text : List ℕ)
-    : Result Graph Outcome → Type 0 where
-  passes : (graph : Graph) → IsVerdict rule phases text (Ok graph)
-      → IsJudgement rule phases text (Ok graph)
+    : Result Passed Outcome → Type 0 where
+  passes : (passed : Passed) → IsVerdict rule phases text (Ok passed.graph)
+      → HasActorNames text passed.actors → IsJudgement rule phases text (Ok passed)
   breached : (breaches : List Breach) → IsVerdict rule phases text (Err breaches)
       → IsJudgement rule phases text (Err (refusal text breaches))
 
@@ -109,6 +121,15 @@ pub data Traces (text : List ℕ) (graph : Graph) (items : List ℕ)
   ends : (replay : Replay) → IsReplay graph items replay
       → Traces text graph items (Ok (replay_outcome text replay))
 
+-- The coloured machine takes them, all of them, and the answer of a run is followed by the lines on
+-- who owns the coloured cells.
+abbrev pub owners_reply : List ℕ → Passed → List ℕ → Outcome
+owners_reply text passed items =
+    owners_outcome text passed.actors (owner_replay passed.graph items)
+
+abbrev pub Owns : List ℕ → Passed → List ℕ → Result Outcome Outcome → Type 0
+Owns text passed items = EndsWithReply (owners_reply text passed items)
+
 -- A schedule is fetched, and has these items.
 abbrev pub items_in : List ℕ → Part (List ℕ)
 items_in schedule_file = do
@@ -126,20 +147,22 @@ abbrev pub phases_for : Action → List Phase
 phases_for Check = all_phases
 phases_for (Run schedule_file) = all_phases
 phases_for (Trace schedule_file) = phases_to_size
+phases_for (Owners schedule_file) = all_phases
 
 -- What follows the verdict on a text that has a graph. A program of which all phases find nothing
 -- never races, and its run isn't watched.
-abbrev pub after_verdict : Action → List ℕ → Graph → Part Outcome
-after_verdict Check text graph = Alone (EndsWithReply accepted)
-after_verdict (Run schedule_file) text graph = by_items schedule_file (Runs text graph)
-after_verdict (Trace schedule_file) text graph = by_items schedule_file (Traces text graph)
+abbrev pub after_verdict : Action → List ℕ → Passed → Part Outcome
+after_verdict Check text passed = Alone (EndsWithReply accepted)
+after_verdict (Run schedule_file) text passed = by_items schedule_file (Runs text passed.graph)
+after_verdict (Trace schedule_file) text passed = by_items schedule_file (Traces text passed.graph)
+after_verdict (Owners schedule_file) text passed = by_items schedule_file (Owns text passed)
 
 -- A program is fetched and judged by the phases that count, and then comes what follows the verdict.
 abbrev pub file_course : AsyncDefault → List ℕ → Action → Part Outcome
 file_course rule file action = do
   text ← Fetched file PROGRAM_LIMIT
-  graph ← Alone (IsJudgement rule (phases_for action) text)
-  after_verdict action text graph
+  passed ← Alone (IsJudgement rule (phases_for action) text)
+  after_verdict action text passed
 
 -- the items by which a generated program is run
 abbrev pub demo_items : ℕ → List ℕ
@@ -148,8 +171,8 @@ demo_items actors = written_out (runs actors)
 -- The program that is generated for a number of actors is judged, and run by its own schedule.
 abbrev pub demo_course : ℕ → Part Outcome
 demo_course actors = do
-  graph ← Alone (IsJudgement Concurrent all_phases (program actors))
-  Alone (EndsWithReply (demo_outcome actors (output_of graph (demo_items actors))))
+  passed ← Alone (IsJudgement Concurrent all_phases (program actors))
+  Alone (EndsWithReply (demo_outcome actors (output_of passed.graph (demo_items actors))))
 
 -- the parts of each command
 abbrev pub course_of : Option Command → Part Outcome
@@ -163,11 +186,15 @@ pub data Reply (command : Option Command) (reads : List Read) (outcome : Outcome
   at_end : course_of command reads (Ended (Ok outcome)) → Reply command reads outcome
   before_end : course_of command reads (Ended (Err outcome)) → Reply command reads outcome
 
+-- the exits of the replies to a run by a schedule
+abbrev pub run_exits : List Exit
+run_exits = exits.TooLong ∷ exits.Breached ∷ exits.BadSchedule ∷ exits.Done ∷ exits.Trapped ∷ []
+
 -- the exits of the replies to a command on a file
 abbrev pub file_exits : Action → List Exit
 file_exits Check = exits.TooLong ∷ exits.Breached ∷ exits.Done ∷ []
-file_exits (Run schedule_file) =
-    exits.TooLong ∷ exits.Breached ∷ exits.BadSchedule ∷ exits.Done ∷ exits.Trapped ∷ []
+file_exits (Run schedule_file) = run_exits
+file_exits (Owners schedule_file) = run_exits
 file_exits (Trace schedule_file) =
     exits.TooLong ∷ exits.Breached ∷ exits.BadSchedule ∷ exits.Done ∷ exits.Trapped ∷ exits.Raced
     ∷ []

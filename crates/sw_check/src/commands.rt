@@ -7,24 +7,25 @@ ghost use Rattle.sw_check_words.specs.Words.{command_of};
 ghost use Rattle.sw_check.specs.Phases.{list_of};
 ghost use Rattle.sw_check.specs.Reply.{after_verdict, course_of, demo_course, file_course, items_in};
 ghost use Rattle.sw_check.specs.Reply.{phases_for};
+ghost use Rattle.sw_check.specs.Programs.{seen_graph};
 
-use crate::parts::{Phases, demonstrate, judged, run, scheduled, trace};
+use crate::parts::{Phases, demonstrate, judged, owners, run, scheduled, trace};
 use std::alloc::Global;
 use sw_check_parts::{Exit, Outcome, PROGRAM_LIMIT, Stop, fetch, lines};
 use sw_check_words::{Action, Command, read};
 use sw_decls::AsyncDefault;
 use sw_gen::{MAX_ACTORS, make_program, make_schedule};
-use sw_graph::Graph;
 use sw_list::ListOf;
 use sw_outside::Shelf;
 use sw_replay::{SCHEDULE_LIMIT, Schedule};
+use sw_verdict::NamedGraph;
 
 /// The phases by which an action judges its program.
 fn phases_for(action: Action<'_>) -> Phases
     ensures { list_of result ≡ phases_for (lent_action action.entry) }
 {
     match action {
-        Action::Check | Action::Run { .. } => Phases::All,
+        Action::Check | Action::Run { .. } | Action::Owners { .. } => Phases::All,
         Action::Trace { .. } => Phases::ToSize,
     }
 }
@@ -38,16 +39,16 @@ fn items_in<S: Shelf>(alloc: Global, schedule_file: &str, shelf: &mut S) -> Resu
     scheduled(alloc, text.as_slice())
 }
 
-/// What follows the verdict on a text that has a graph.
+/// What follows the verdict on a text that passes.
 fn after_verdict<S: Shelf>(
     alloc: Global,
     action: Action<'_>,
     text: &[u8],
-    graph: &Graph,
+    made: &NamedGraph,
     shelf: &mut S,
 ) -> Result<Outcome, Stop>
     requires { length text.now ≤ PROGRAM_LIMIT }
-    ensures { Does (after_verdict (lent_action action.entry) text.now graph.now)
+    ensures { Does (after_verdict (lent_action action.entry) text.now (seen_graph made.now))
         (seen S.known S.received S.faults shelf.old) result
         (seen S.known S.received S.faults shelf.new) }
 {
@@ -55,11 +56,15 @@ fn after_verdict<S: Shelf>(
         Action::Check => Ok(lines(alloc, Exit::Done, "accepted\n")?),
         Action::Run { schedule_file } => {
             let items = items_in(alloc, schedule_file, shelf)?;
-            Ok(run(alloc, text, graph, &items)?)
+            Ok(run(alloc, text, &made.graph, &items)?)
         }
         Action::Trace { schedule_file } => {
             let items = items_in(alloc, schedule_file, shelf)?;
-            Ok(trace(alloc, text, graph, &items)?)
+            Ok(trace(alloc, text, &made.graph, &items)?)
+        }
+        Action::Owners { schedule_file } => {
+            let items = items_in(alloc, schedule_file, shelf)?;
+            Ok(owners(alloc, text, made, &items)?)
         }
     }
 }
@@ -77,8 +82,8 @@ fn on_file<S: Shelf>(
         (seen S.known S.received S.faults shelf.new) }
 {
     let text = fetch(alloc, file, PROGRAM_LIMIT, shelf)?;
-    let graph = judged(alloc, default, text.as_slice(), phases_for(action))?;
-    after_verdict(alloc, action, text.as_slice(), &graph, shelf)
+    let made = judged(alloc, default, text.as_slice(), phases_for(action))?;
+    after_verdict(alloc, action, text.as_slice(), &made, shelf)
 }
 
 /// `demo N`: the program that is generated for a number of actors is judged and run. It fetches
@@ -88,7 +93,7 @@ fn demo(alloc: Global, actors: u32) -> Result<Outcome, Stop>
     ensures { (shelf : SeenShelf) → Does (demo_course actors) shelf result shelf }
 {
     let text = make_program(alloc, actors)?;
-    let graph = judged(
+    let made = judged(
         alloc,
         AsyncDefault::Concurrent,
         text.as_slice(),
@@ -96,7 +101,7 @@ fn demo(alloc: Global, actors: u32) -> Result<Outcome, Stop>
     )?;
     let runs = make_schedule(alloc, actors)?;
     let items = Schedule::new(ListOf::from_vec(runs));
-    Ok(demonstrate(alloc, actors, text.as_slice(), &graph, &items)?)
+    Ok(demonstrate(alloc, actors, text.as_slice(), &made.graph, &items)?)
 }
 
 /// The command of the words after the program's name.

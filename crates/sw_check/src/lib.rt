@@ -32,6 +32,7 @@ use reply::{NoReply, reply};
 use std::alloc::Global;
 use sw_check_parts::write_all;
 pub use sw_check_parts::{Exit, PROGRAM_LIMIT};
+pub use sw_check_text::{Verdict, check_text, verdicts_are_exact};
 use sw_outside::{Shelf, Sink, SinkFault};
 pub use sw_verdict::{accepted_graphs_pass, texts_have_one_graph, texts_have_one_verdict};
 

@@ -1,15 +1,15 @@
 //! The parts of commands that read no file.
 
-ghost use Rattle.std.specs.Prelude.{◌≡◌, ◌≢◌, ◌<◌, ◌≤◌, IfOk, IsErrOf, List, Ok, Err, length};
+ghost use Rattle.std.specs.Prelude.{◌≡◌, ◌≢◌, ◌<◌, ◌≤◌, IfOk, Ok, length};
 ghost use Rattle.std.specs.List.{AllByRecursion};
 ghost use Rattle.sw_breach.specs.Codes.{IsCode};
-ghost use Rattle.sw_breach.specs.declared.Breach.{Breach};
 ghost use Rattle.sw_check_parts.specs.Leaves.{Decides};
-ghost use Rattle.sw_verdict.specs.Verdict.{IsVerdict};
+ghost use Rattle.sw_verdict.specs.Phases.{all_phases, phases_to_size};
 ghost use Rattle.sw_check.specs.Lines.{schedule_line};
 ghost use Rattle.sw_check.specs.Phases.{list_of};
-ghost use Rattle.sw_check.specs.Reply.{IsJudgement, Runs, Scheduled, Traces, bad_schedule_outcome};
-ghost use Rattle.sw_check.specs.Reply.{demo_outcome, refusal, replay_outcome, run_outcome};
+ghost use Rattle.sw_check.specs.Programs.{seen_graph, seen_result};
+ghost use Rattle.sw_check.specs.Reply.{IsJudgement, Owns, Runs, Scheduled, Traces};
+ghost use Rattle.sw_check.specs.Reply.{bad_schedule_outcome, demo_outcome, refusal, replay_outcome, run_outcome};
 ghost use Rattle.sw_replay.specs.Output.{output_of};
 ghost use Rattle.sw_gen.specs.Program.{program};
 
@@ -17,13 +17,15 @@ use crate::lines::{demo_line, race_lines, schedule_line, summary, trap_line};
 use std::alloc::{AllocError, Global};
 use sw_breach::{Breach, render};
 use sw_check_parts::{Exit, Outcome, PROGRAM_LIMIT, Stop, lines, with_last_line};
+use sw_check_text::{Verdict, check_text};
 use sw_decls::AsyncDefault;
 use sw_graph::Graph;
 use sw_list::ListOf;
+use sw_owners::{OwnerReplay, color_replay, owner_lines};
 use sw_replay::{
     End, Output, Replay, SCHEDULE_LIMIT, SchedFault, Schedule, output_of, replay, schedule,
 };
-use sw_verdict::{Refusal, judge, lower_text};
+use sw_verdict::{NamedGraph, Refusal, lower_text};
 
 /// The reply about a program that is refused.
 fn refusal(alloc: Global, text: &[u8], breaches: &[Breach]) -> Result<Outcome, AllocError>
@@ -49,41 +51,51 @@ pub enum Phases {
     ToSize,
 }
 
-/// The verdict of these phases on a text under a default: its graph, or the breaches of the first
-/// that finds any.
-fn verdict(
-    alloc: Global,
-    default: AsyncDefault,
-    text: &[u8],
-    phases: Phases,
-) -> Result<Graph, Refusal>
+/// The graph of a text in which no phase finds a breach under a default.
+fn accepted(alloc: Global, default: AsyncDefault, text: &[u8]) -> Result<NamedGraph, Stop>
     requires { length text.now ≤ PROGRAM_LIMIT }
-    ensures graph { IfOk result (λ graph. IsVerdict default (list_of phases) text.now (Ok graph)) }
-    ensures breaches { (list : List Breach) → IsErrOf result (Refusal.Breached list)
-        → IsVerdict default (list_of phases) text.now (Err list) }
+    ensures { Decides (IsJudgement default all_phases text.now) (seen_result result) }
 {
-    match phases {
-        Phases::All => judge(alloc, text, default),
-        Phases::ToSize => lower_text(alloc, text, default),
+    match check_text(alloc, text, default)? {
+        Verdict::Accepted { checked, actors } => Ok(NamedGraph {
+            graph: checked.graph,
+            actors,
+        }),
+        Verdict::Races { breaches, .. } => {
+            Err(Stop::Refused(refusal(alloc, text, breaches.as_slice())?))
+        }
+        Verdict::Refused { breach } => Err(Stop::Refused(refusal(alloc, text, &[breach])?)),
     }
 }
 
-/// The graph of a program in which none of these phases finds a breach under a default.
+/// The graph of a text in which no phase up to the size of functions finds a breach under a
+/// default.
+fn lowered(alloc: Global, default: AsyncDefault, text: &[u8]) -> Result<NamedGraph, Stop>
+    requires { length text.now ≤ PROGRAM_LIMIT }
+    ensures { Decides (IsJudgement default phases_to_size text.now) (seen_result result) }
+{
+    match lower_text(alloc, text, default) {
+        Ok(made) => Ok(made),
+        Err(Refusal::Breached { breach }) => {
+            Err(Stop::Refused(refusal(alloc, text, &[breach])?))
+        }
+        Err(Refusal::Memory) => Err(Stop::Memory),
+    }
+}
+
+/// The graph of a text in which none of these phases finds a breach under a default.
 pub fn judged(
     alloc: Global,
     default: AsyncDefault,
     text: &[u8],
     phases: Phases,
-) -> Result<Graph, Stop>
+) -> Result<NamedGraph, Stop>
     requires { length text.now ≤ PROGRAM_LIMIT }
-    ensures { Decides (IsJudgement default (list_of phases) text.now) result }
+    ensures { Decides (IsJudgement default (list_of phases) text.now) (seen_result result) }
 {
-    match verdict(alloc, default, text, phases) {
-        Ok(graph) => Ok(graph),
-        Err(Refusal::Breached { breaches }) => {
-            Err(Stop::Refused(refusal(alloc, text, breaches.as_slice())?))
-        }
-        Err(Refusal::Memory) => Err(Stop::Memory),
+    match phases {
+        Phases::All => accepted(alloc, default, text),
+        Phases::ToSize => lowered(alloc, default, text),
     }
 }
 
@@ -146,6 +158,23 @@ pub fn run(
 {
     let output = output_of(alloc, graph, items)?;
     run_ending(alloc, text, output)
+}
+
+/// The reply to a run of a program's graph by items, and who owns its coloured cells then.
+pub fn owners(
+    alloc: Global,
+    text: &[u8],
+    made: &NamedGraph,
+    items: &Schedule,
+) -> Result<Outcome, AllocError>
+    requires { length text.now ≤ PROGRAM_LIMIT }
+    ensures { IfOk result (λ outcome.
+        Owns text.now (seen_graph made.now) items.now (Ok outcome)) }
+{
+    let OwnerReplay { output, owners } = color_replay(alloc, &made.graph, items)?;
+    let Outcome { exit, bytes } = run_ending(alloc, text, output)?;
+    let last = owner_lines(alloc, made.actors.as_slice(), owners.as_slice())?;
+    with_last_line(exit, bytes, last.as_str())
 }
 
 /// The reply about a replay that was watched for races.

@@ -55,7 +55,9 @@ ghost use Rattle.sw_machine_kind_facts.specs.Operands.{HasNext};
 ghost use Rattle.sw_machine_let_facts.specs.Lets.{IsPastFirsts, IsLet};
 ghost use Rattle.sw_verdict.specs.Phases.{Finds, Phase, Races, all_phases, IsGraphOf};
 ghost use Rattle.sw_verdict.specs.Phases.{phases_to_size, answers_of_program};
+ghost use Rattle.sw_verdict.specs.ActorNames.{HasActorNames};
 ghost use Rattle.sw_verdict.specs.Verdict.{Accepts, Breaches, Refuses};
+ghost use Rattle.sw_check_text.specs.Verdicts.{Accepting, IsVerdictOn, NamesRaces, Refusing};
 ghost use Rattle.sw_check_parts.specs.Course.{AreOf, Read, Underway};
 ghost use Rattle.sw_check_parts.specs.Lawful.{IsPrefixOf};
 ghost use Rattle.sw_check_parts.specs.declared.outcome.Outcome.{Outcome};
@@ -63,7 +65,7 @@ ghost use Rattle.sw_check.specs.Claims.{Ending, Ends};
 ghost use Rattle.sw_check.specs.Reply.{Reply, course_of};
 ghost use Rattle.sw_check_words.specs.Words.{Command};
 
-use sw_check::PROGRAM_LIMIT;
+use sw_check::{PROGRAM_LIMIT, Verdict};
 use sw_graph::{MAX_POINTS, MAX_REGISTERS};
 use sw_replay::{MAX_ITEMS, SCHEDULE_LIMIT};
 use sw_token::MOST_TOKENS;
@@ -109,6 +111,32 @@ pub fn texts_have_one_graph()
         → IsGraphOf rule text a → IsGraphOf rule text b → a ≡ b }
 {
     sw_verdict::texts_have_one_graph()
+}
+
+/// The verdict that `check_text` gives accepts exactly the texts in which no phase finds a breach. It
+/// names races exactly where the last phase is the first that finds any, and refuses exactly where an
+/// earlier phase does.
+pub fn verdicts_are_exact()
+    ensures accepted { (rule : AsyncDefault) (text : List ℕ) (verdict : Verdict)
+        → IsVerdictOn rule text verdict → Accepts rule text → Accepting verdict }
+    ensures races { (rule : AsyncDefault) (text : List ℕ) (verdict : Verdict)
+        → IsVerdictOn rule text verdict → Breaches rule phases_to_size text []
+        → Refuses rule all_phases text → NamesRaces verdict }
+    ensures refused { (rule : AsyncDefault) (text : List ℕ) (verdict : Verdict)
+        → IsVerdictOn rule text verdict → Refuses rule phases_to_size text → Refusing verdict }
+{
+    sw_check_text::verdicts_are_exact()
+}
+
+/// A text in which the phases up to the size of functions find no breach has names for its global
+/// actors. No text has two lists of them.
+pub fn global_actors_have_names()
+    ensures some_names { (rule : AsyncDefault) (text : List ℕ) → Breaches rule phases_to_size text []
+        → (names : List (List ℕ)) × HasActorNames text names }
+    ensures one_list { (text : List ℕ) (a b : List (List ℕ)) → HasActorNames text a
+        → HasActorNames text b → a ≡ b }
+{
+    sw_verdict::global_actors_have_names()
 }
 
 /// In the graph of a text that is accepted under a default each test of the regions passes, at each

@@ -2,7 +2,8 @@ use Rattle.std.proofs.Common.{Ok, Err, ap}
 use Rattle.std.proofs.lemmas.Result.{err_from_is_err_and}
 use Rattle.sw_check_parts.specs.declared.stop.Stop.TheVariants.{Memory}
 use Rattle.sw_check_parts.proofs.Doing.{does_on, does_stop, does_alone}
-use Rattle.sw_check.specs.Reply.{EndsWithReply, Runs, Traces, accepted}
+use Rattle.sw_check.specs.Programs.{seen_graph}
+use Rattle.sw_check.specs.Reply.{EndsWithReply, Owns, Runs, Traces, accepted}
 use Rattle.sw_check.proofs.commands.after_verdict.Goals as goal
 
 pub returns-in_err-lines-in-Check : goal.returns-in_err-lines-in-Check
@@ -27,13 +28,13 @@ pub returns-in_err-run-in-Run : goal.returns-in_err-run-in-Run
 returns-in_err-run-in-Run g c =
     let p = err_from_is_err_and c.from_residual-in_err-run-in-Run.result
     c.from_residual-in_err-run-in-Run.ensures.1 in
-    let Answers = Runs c.args.text.now c.args.graph.now c.in_ok-items-in-Run.items in
+    let Answers = Runs c.args.text.now c.args.made.now.graph c.in_ok-items-in-Run.items in
     rw (p.1, p.2, c.in-Run.is)
     (does_on c.in_ok-items-in-Run.ensures (does_alone Answers (Err Memory) tt))
 
 pub returns-in_ok-run-in-Run : goal.returns-in_ok-run-in-Run
 returns-in_ok-run-in-Run g c =
-    let Answers = Runs c.args.text.now c.args.graph.now c.in_ok-items-in-Run.items in
+    let Answers = Runs c.args.text.now c.args.made.now.graph c.in_ok-items-in-Run.items in
     rw c.in-Run.is
     (does_on c.in_ok-items-in-Run.ensures
     (does_alone Answers (Ok c.in_ok-run-in-Run.field-0) c.in_ok-run-in-Run.ensures))
@@ -49,13 +50,35 @@ pub returns-in_err-trace-in-Trace : goal.returns-in_err-trace-in-Trace
 returns-in_err-trace-in-Trace g c =
     let p = err_from_is_err_and c.from_residual-in_err-trace-in-Trace.result
     c.from_residual-in_err-trace-in-Trace.ensures.1 in
-    let Answers = Traces c.args.text.now c.args.graph.now c.in_ok-items-in-Trace.items in
+    let Answers = Traces c.args.text.now c.args.made.now.graph c.in_ok-items-in-Trace.items in
     rw (p.1, p.2, c.in-Trace.is)
     (does_on c.in_ok-items-in-Trace.ensures (does_alone Answers (Err Memory) tt))
 
 pub returns-in_ok-trace-in-Trace : goal.returns-in_ok-trace-in-Trace
 returns-in_ok-trace-in-Trace g c =
-    let Answers = Traces c.args.text.now c.args.graph.now c.in_ok-items-in-Trace.items in
+    let Answers = Traces c.args.text.now c.args.made.now.graph c.in_ok-items-in-Trace.items in
     rw c.in-Trace.is
     (does_on c.in_ok-items-in-Trace.ensures
     (does_alone Answers (Ok c.in_ok-trace-in-Trace.field-0) c.in_ok-trace-in-Trace.ensures))
+
+pub returns-in_err-items-in-Owners : goal.returns-in_err-items-in-Owners
+returns-in_err-items-in-Owners g c =
+    let p = err_from_is_err_and c.from_residual-in_err-items-in-Owners.result
+    c.from_residual-in_err-items-in-Owners.ensures.1 in
+    rw (p.1, p.2, c.in-Owners.is)
+    (does_stop _ c.in_err-items-in-Owners.field-0.0 c.in_err-items-in-Owners.ensures)
+
+pub returns-in_err-owners-in-Owners : goal.returns-in_err-owners-in-Owners
+returns-in_err-owners-in-Owners g c =
+    let p = err_from_is_err_and c.from_residual-in_err-owners-in-Owners.result
+    c.from_residual-in_err-owners-in-Owners.ensures.1 in
+    let Answers = Owns c.args.text.now (seen_graph c.args.made.now) c.in_ok-items-in-Owners.items in
+    rw (p.1, p.2, c.in-Owners.is)
+    (does_on c.in_ok-items-in-Owners.ensures (does_alone Answers (Err Memory) tt))
+
+pub returns-in_ok-owners-in-Owners : goal.returns-in_ok-owners-in-Owners
+returns-in_ok-owners-in-Owners g c =
+    let Answers = Owns c.args.text.now (seen_graph c.args.made.now) c.in_ok-items-in-Owners.items in
+    rw c.in-Owners.is
+    (does_on c.in_ok-items-in-Owners.ensures
+    (does_alone Answers (Ok c.in_ok-owners-in-Owners.field-0) c.in_ok-owners-in-Owners.ensures))
