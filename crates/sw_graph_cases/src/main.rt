@@ -8,7 +8,7 @@
 #![tactic(auto)]
 
 ghost use Rattle.std.specs.Prelude.{◌≤◌, IfOk, IfSome, IfNone, Ok, length};
-ghost use Rattle.sw_verdict.specs.Phases.{all_phases, phases_to_size};
+ghost use Rattle.sw_verdict.specs.Phases.{phases_to_size};
 ghost use Rattle.sw_verdict.specs.Verdict.{IsVerdict, Refuses};
 
 mod folder;
@@ -21,10 +21,11 @@ use graphs::print_graph;
 use std::alloc::{AllocError, Global};
 use std::rt::Files;
 use std::{fs, io};
+use sw_check_text::{Verdict, check_text};
 use sw_decls::AsyncDefault;
 use sw_graph::Graph;
 use sw_text::MAX_LENGTH;
-use sw_verdict::{Refusal, judge, lower_text};
+use sw_verdict::{Refusal, lower_text};
 
 /// The graph of a text under a default, where no phase up to the size of functions refuses it.
 fn graph_of(alloc: Global, text: &[u8], default: AsyncDefault) -> Result<Option<Graph>, AllocError>
@@ -34,21 +35,7 @@ fn graph_of(alloc: Global, text: &[u8], default: AsyncDefault) -> Result<Option<
     ensures none { IfOk result (λ found. IfNone found (Refuses default phases_to_size text.now)) }
 {
     match lower_text(alloc, text, default) {
-        Ok(graph) => Ok(Some(graph)),
-        Err(Refusal::Breached { .. }) => Ok(None),
-        Err(Refusal::Memory) => Err(AllocError),
-    }
-}
-
-/// The graph of a text under a default, where it is accepted.
-fn accepted(alloc: Global, text: &[u8], default: AsyncDefault) -> Result<Option<Graph>, AllocError>
-    requires { length text.now ≤ MAX_LENGTH }
-    ensures graph { IfOk result (λ found. IfSome found (λ graph.
-        IsVerdict default all_phases text.now (Ok graph))) }
-    ensures none { IfOk result (λ found. IfNone found (Refuses default all_phases text.now)) }
-{
-    match judge(alloc, text, default) {
-        Ok(kept) => Ok(Some(kept)),
+        Ok(made) => Ok(Some(made.graph)),
         Err(Refusal::Breached { .. }) => Ok(None),
         Err(Refusal::Memory) => Err(AllocError),
     }
@@ -74,9 +61,9 @@ fn show_verdict<R: Print + AllocGlobal>(
     if text.len() > MAX_LENGTH {
         return println!(rt; "too long");
     }
-    match accepted(rt.alloc(), text, default)? {
-        Some(_) => println!(rt; "{default:?}: accepted"),
-        None => println!(rt; "{default:?}: refused"),
+    match check_text(rt.alloc(), text, default)? {
+        Verdict::Accepted { .. } => println!(rt; "{default:?}: accepted"),
+        Verdict::Races { .. } | Verdict::Refused { .. } => println!(rt; "{default:?}: refused"),
     }
 }
 
