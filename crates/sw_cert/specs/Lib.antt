@@ -1,2 +1,4 @@
 pub mod Certificate
+pub mod Choices
+pub mod Form
 pub mod Shown

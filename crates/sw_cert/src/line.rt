@@ -2,28 +2,28 @@
 
 use sw_list::ListOf;
 
-/// What a certificate depends on of a function: how many blocks it has, how many elements its states
-/// have, `Here` among them, and the sites at which it gives elements away, in rising order.
+/// What a certificate depends on of a function: how many blocks it has, how many elements its
+/// states have, `Here` among them, and the sites at which it gives elements away, in rising order.
 #[derive(Debug, Drop)]
 pub struct Extent {
-    pub blocks: u32,
-    pub elements: u32,
-    pub sites: ListOf<u32>,
+    pub blocks: u64,
+    pub elements: u64,
+    pub sites: ListOf<u64>,
 }
 
 /// An element, and a site that gave it away.
 #[derive(Clone, Copy, Debug, PartialEq, Eq)]
 pub struct Pair {
-    pub element: u32,
-    pub site: u32,
+    pub element: u64,
+    pub site: u64,
 }
 
 /// A line: a function and a block of it, and the state with which control comes to the block: for
 /// each element in order the least element of its class, and the pairs.
 #[derive(Debug, Drop)]
 pub struct Line {
-    pub function: u32,
-    pub block: u32,
-    pub classes: ListOf<u32>,
+    pub function: u64,
+    pub block: u64,
+    pub classes: ListOf<u64>,
     pub pairs: ListOf<Pair>,
 }

@@ -34,11 +34,11 @@ fn text_of(alloc: Global, numbers: &[u64]) -> Result<Vec<u8>, AllocError>
 }
 
 /// Adds the numbers of classes.
-fn add_classes(numbers: &mut Vec<u64>, classes: &[u32]) -> Result<(), AllocError>
+fn add_classes(numbers: &mut Vec<u64>, classes: &[u64]) -> Result<(), AllocError>
     ensures { OnOk result (numbers.new.items ≡ numbers.old.items ++ classes.now) }
 {
     for class in classes {
-        numbers.push(u64::from(*class))?;
+        numbers.push(*class)?;
     }
     Ok(())
 }
@@ -48,8 +48,8 @@ fn add_pairs(numbers: &mut Vec<u64>, pairs: &[Pair]) -> Result<(), AllocError>
     ensures { OnOk result (numbers.new.items ≡ numbers.old.items ++ pair_numbers pairs.now) }
 {
     for pair in pairs {
-        numbers.push(u64::from(pair.element))?;
-        numbers.push(u64::from(pair.site))?;
+        numbers.push(pair.element)?;
+        numbers.push(pair.site)?;
     }
     Ok(())
 }
@@ -59,8 +59,8 @@ fn numbers_of(alloc: Global, line: &Line) -> Result<Vec<u64>, AllocError>
     ensures { IfOk result (λ numbers. numbers.items ≡ numbers_of line.now) }
 {
     let mut numbers = Vec::new(alloc);
-    numbers.push(u64::from(line.function))?;
-    numbers.push(u64::from(line.block))?;
+    numbers.push(line.function)?;
+    numbers.push(line.block)?;
     numbers.push(line.classes.len() as u64)?;
     add_classes(&mut numbers, line.classes.as_slice())?;
     numbers.push(line.pairs.len() as u64)?;
@@ -69,12 +69,12 @@ fn numbers_of(alloc: Global, line: &Line) -> Result<Vec<u64>, AllocError>
 }
 
 /// Of each element the least one of its class.
-fn classes_of(alloc: Global, state: &Partition) -> Result<ListOf<u32>, AllocError>
+fn classes_of(alloc: Global, state: &Partition) -> Result<ListOf<u64>, AllocError>
     ensures { IfOk result (AreClassesOf state.now) }
 {
     let mut classes = ListOf::new(alloc);
     for element in 0..state.elements() {
-        classes.push(state.class_of(element))?;
+        classes.push(state.class_of(element) as u64)?;
     }
     Ok(classes)
 }
@@ -88,8 +88,8 @@ fn add_pairs_of(pairs: &mut ListOf<Pair>, state: &Partition, element: u32) -> Re
     for site in state.sites() {
         if state.has(element, *site) {
             pairs.push(Pair {
-                element,
-                site: *site,
+                element: element as u64,
+                site: *site as u64,
             })?;
         }
     }
@@ -119,8 +119,8 @@ pub fn line_of(
     ensures { IfOk result (λ text. IsLineFor function block state.now text.items) }
 {
     let line = Line {
-        function,
-        block,
+        function: function as u64,
+        block: block as u64,
         classes: classes_of(alloc, state)?,
         pairs: pairs_of(alloc, state)?,
     };

@@ -1,4 +1,5 @@
-use Rattle.std.proofs.Common.{◌≡◌, ◌+◌, ◌<◌, ◌≤◌, ℕ, List, length, slice_index, sym, subst, ap, arith}
+use Rattle.std.proofs.Common.{◌≡◌, ◌+◌, ◌<◌, ◌≤◌, ℕ, List, length, slice_index, sym, subst, ap}
+use Rattle.std.proofs.Common.{arith}
 use Rattle.std.specs.List.Sorted.{IsStrictlyIncreasing}
 use Rattle.sw_cert.proofs.Gathered.{ArePairsTo, row_starts, row_has, row_lacks, row_ends}
 use Rattle.sw_cert.proofs.printing.add_pairs_of.Goals.{then-has+in_ok-push, else-has}

@@ -1,0 +1,67 @@
+//! Laws, without code: certificates as texts of lines of numbers, and which numbers may stand where
+//! in a line.
+ghost use Rattle.std.specs.Prelude.{◌≡◌, ℕ, ◌+◌, ◌<◌, ◌↔◌, Some, List, [], ◌∷◌, ◌++◌, length};
+ghost use Rattle.std.specs.Prelude.{slice_get};
+ghost use Rattle.sw_dictation.specs.Lines.{IsText, MayFollow, IsReadable};
+ghost use Rattle.sw_cert.specs.Certificate.{Spot, start, IsCertificate, AreClasses, pair_numbers};
+ghost use Rattle.sw_cert.specs.Choices.{RisesTo, HasBlock, MayBeNext, ClosesCount, RiseTo};
+ghost use Rattle.sw_cert.specs.Choices.{MayBePair, ClosesPair, HasLine, HasClasses};
+ghost use Rattle.sw_cert.specs.Form.{certificate_form, AreFit};
+ghost use Rattle.sw_cert.specs.declared.line.Extent.{Extent};
+ghost use Rattle.sw_cert.specs.declared.line.Line.{Line};
+ghost use Rattle.sw_cert.specs.declared.line.Pair.{Pair};
+
+/// Certificates are the texts of the form.
+pub fn certificates_are_texts()
+    ensures lines { (extents : List Extent) (bytes : List ℕ)
+        → IsText (certificate_form extents) start bytes
+        ↔ ((lines : List Line) × IsCertificate extents bytes lines) }
+    ensures readable { (extents : List Extent) → AreFit extents
+        → IsReadable (certificate_form extents) }
+{}
+
+/// Which numbers may stand behind the first numbers of a line, and what closes them.
+pub fn numbers_follow()
+    ensures function { (extents : List Extent) (spot : Spot) → AreFit extents → (n closer : ℕ)
+        → MayFollow (certificate_form extents) spot [] n closer
+        ↔ ((closer ≡ 32) × HasBlock extents spot n) }
+    ensures block { (extents : List Extent) (spot : Spot) (function : ℕ) (extent : Extent)
+        → AreFit extents → slice_get extents function ≡ Some extent → (n closer : ℕ)
+        → MayFollow (certificate_form extents) spot (function ∷ []) n closer
+        ↔ ((closer ≡ 32) × (n < extent.blocks) × RisesTo spot function n) }
+    ensures elements { (extents : List Extent) (spot : Spot) (function block : ℕ)
+        (extent : Extent) → AreFit extents → HasLine extents spot function block extent
+        → (n closer : ℕ)
+        → MayFollow (certificate_form extents) spot (function ∷ block ∷ []) n closer
+        ↔ ((closer ≡ 32) × (n ≡ extent.elements)) }
+    ensures class { (extents : List Extent) (spot : Spot) (function block : ℕ)
+        (extent : Extent) (classes : List ℕ) → AreFit extents
+        → HasLine extents spot function block extent → length classes < extent.elements
+        → AreClasses classes → (n closer : ℕ)
+        → MayFollow (certificate_form extents) spot
+        (function ∷ block ∷ extent.elements ∷ classes) n closer
+        ↔ ((closer ≡ 32) × MayBeNext classes n) }
+    ensures count { (extents : List Extent) (spot : Spot) (function block : ℕ)
+        (extent : Extent) (classes : List ℕ) → AreFit extents
+        → HasLine extents spot function block extent → HasClasses extent classes
+        → (n closer : ℕ)
+        → MayFollow (certificate_form extents) spot
+        (function ∷ block ∷ extent.elements ∷ classes) n closer ↔ ClosesCount extent n closer }
+
+    // Behind some pairs, the last of which has the rank before `to`, where `left` are to come.
+    ensures element { (extents : List Extent) (spot : Spot) (function block : ℕ)
+        (extent : Extent) (classes : List ℕ) (known : List Pair) (to left : ℕ) → AreFit extents
+        → HasLine extents spot function block extent → HasClasses extent classes
+        → RiseTo extent 0 known to → 0 < left → (n closer : ℕ)
+        → MayFollow (certificate_form extents) spot (function ∷ block ∷ extent.elements
+        ∷ (classes ++ (length known + left) ∷ pair_numbers known)) n closer
+        ↔ ((closer ≡ 32) × ((pair : Pair) × (pair.element ≡ n) × MayBePair extent to left pair)) }
+    ensures site { (extents : List Extent) (spot : Spot) (function block : ℕ)
+        (extent : Extent) (classes : List ℕ) (known : List Pair) (to left element : ℕ)
+        → AreFit extents → HasLine extents spot function block extent
+        → HasClasses extent classes → RiseTo extent 0 known to → 0 < left → (n closer : ℕ)
+        → MayFollow (certificate_form extents) spot (function ∷ block ∷ extent.elements
+        ∷ (classes ++ (length known + left) ∷ (pair_numbers known ++ element ∷ []))) n closer
+        ↔ (ClosesPair left closer
+        × MayBePair extent to left (record { element = element; site = n })) }
+{}
