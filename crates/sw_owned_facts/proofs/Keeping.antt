@@ -46,7 +46,7 @@ together_next (Merge a b) s m n same = by (ltb a s.count) (ltb b s.count) where
   by true false = same
   by false y = same
 
-together_on : (cs : List Change) (s : Jobs) (m n : ℕ) → s.name m ≡ s.name n
+pub together_on : (cs : List Change) (s : Jobs) (m n : ℕ) → s.name m ≡ s.name n
     → (seen cs s).name m ≡ (seen cs s).name n
 together_on [] s m n same = same
 together_on (c ∷ cs) s m n same = together_on cs (see c s) m n (together_next c s m n same)

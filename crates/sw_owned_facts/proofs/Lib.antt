@@ -8,3 +8,9 @@ pub mod Actors
 pub mod Owned
 pub mod Apart
 pub mod Keeping
+pub mod Meeting
+pub mod Sources
+pub mod Passing
+pub mod Changing
+pub mod Coming
+pub mod Taking

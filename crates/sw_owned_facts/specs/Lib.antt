@@ -1,2 +1,3 @@
 pub mod Holding
 pub mod Owned
+pub mod Taking

@@ -6,4 +6,7 @@
 
 mod laws;
 
-pub use laws::{actors_keep_their_colours, coloured_states_are_owned, owned_jobs_share_no_colour};
+pub use laws::{
+    actors_keep_their_colours, coloured_states_are_owned, colours_meet_in_two_ways,
+    owned_jobs_share_no_colour,
+};
