@@ -6,4 +6,6 @@ mod checked;
 mod laws;
 
 pub use checked::{CertifyFault, Checked};
-pub use laws::{checked_graphs_never_race, checked_graphs_own_their_memory};
+pub use laws::{
+    checked_colours_meet_in_two_ways, checked_graphs_never_race, checked_graphs_own_their_memory,
+};
