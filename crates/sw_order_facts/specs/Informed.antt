@@ -11,7 +11,7 @@ use Rattle.sw_machine_access_facts.specs.Location.{IsLocation}
 use Rattle.sw_machine_name_facts.specs.Given.{LiesIn}
 use Rattle.sw_machine_name_facts.specs.Names.{FixedNames, JobNames, PlaceNames, ResultNames}
 use Rattle.sw_machine_name_facts.specs.Names.{StandsOn}
-use Rattle.sw_owner_facts.specs.Colours.{Actor, Colour, OfActor}
+use Rattle.sw_owner_facts.specs.Colours.{Actor, Colour, OfActor, OfJob}
 use Rattle.sw_view_facts.specs.Views.{Colours}
 use Rattle.sw_secure_race_facts.proofs.Claims.{HasColour, IsKept}
 use Rattle.sw_before.specs.Unordered.{AccessesAt}
@@ -34,6 +34,9 @@ pub record IsInformed (graph : Graph) (state : State) (colours : Colours)
   -- a cell is made once, and then it is there
   pub once : (k p q : ℕ) → MakesCell events p k → MakesCell events q k → p ≡ q
   pub made : (k p : ℕ) → MakesCell events p k → k < length state.cells
+  -- a job that owns memory is there
+  pub owners : (place : Place) (j n : ℕ) → IsOfColour graph state colours place (OfJob j n)
+      → j < length state.jobs
   -- what was accessed is there
   pub there : (p c : ℕ) (access : Access) → AccessesAt events p access → LiesIn access.place c
       → c < length state.cells

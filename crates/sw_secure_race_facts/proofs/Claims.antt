@@ -48,13 +48,13 @@ Claims graph state colours view q place =
     × ((view.shape q).executor ≡ On actor))
 
 -- ---- a place has one colour, or one keeper
-same_colour : (colours : Colours) (place : Place) (c d : Colour) → HasColour colours place c
+pub same_colour : (colours : Colours) (place : Place) (c d : Colour) → HasColour colours place c
     → HasColour colours place d → c ≡ d
 same_colour colours place c d one other =
     let same = some_injective (sym one.inside ∙ other.inside) in
     some_injective (sym one.is ∙ ap (λ n. slice_index_or colours.cells n None) same ∙ other.is)
 
-same_keeper : (graph : Graph) (state : State) (colours : Colours) (place : Place) (a b : Actor)
+pub same_keeper : (graph : Graph) (state : State) (colours : Colours) (place : Place) (a b : Actor)
     → IsKept graph state colours place a → IsKept graph state colours place b → a ≡ b
 same_keeper graph state colours (Prop c i) a b one other =
     let cells = some_injective (sym one.1.1 ∙ other.1.1) in
@@ -65,7 +65,7 @@ same_keeper graph state colours (Global g) a b one other =
     let numbers = some_injective (sym one.3 ∙ ap (λ (k : GlobalKind). k.actor) kinds ∙ other.3) in
     one.4 ∙ ap GlobalActor numbers ∙ sym other.4
 
-coloured_or_kept : (graph : Graph) (state : State) (colours : Colours) (place : Place)
+pub coloured_or_kept : (graph : Graph) (state : State) (colours : Colours) (place : Place)
     (colour : Colour) (actor : Actor) → HasColour colours place colour
     → IsKept graph state colours place actor → ⊥
 coloured_or_kept graph state colours (Prop c i) colour actor one other =
