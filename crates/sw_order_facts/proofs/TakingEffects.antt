@@ -133,3 +133,24 @@ module _ (graph : Graph) (states : ℕ → List (Option Regions)) (state : State
       (λ c is low. sym (ap (λ (l : List (Option Colour)). slice_index_or l c None) same)
       ∙ united_bare graph state q.job joined base after unites c is)
       (λ c cell actor made added keeps. absurd (none cell added))
+
+  -- what becomes one by an effect of values is held
+  pub values_take : Unites q.job (joined_by graph state colours q number f point e) colours after
+      → joined_by graph state colours q number f point e
+      ≡ values_of graph states state colours x.secure q job f function number point e
+      → ((cell : HeapCell) → IsAdded e cell → ⊥)
+      → AllTake graph state colours q.job (Execute e) after
+  values_take unites same none =
+      without_cell (joined_by graph state colours q number f point e) colours refl unites
+      (λ c has. of_held c (subst (AreHeld graph states state colours x.secure q job f function)
+      (ap (values_of graph states state colours x.secure q job f function number point) x.gives
+      ∙ sym same)
+      (values_held_at graph states state colours x.secure q job f function number
+      (length job.frames) point x.stands) c has)) none
+
+  -- and where nothing becomes one, nothing has to be
+  pub nothing_takes : (base : Colours) → base.cells ≡ colours.cells → Unites q.job [] base after
+      → ((cell : HeapCell) → IsAdded e cell → ⊥)
+      → AllTake graph state colours q.job (Execute e) after
+  nothing_takes base same unites none =
+      without_cell [] base same unites (λ c has. absurd (none_in c has)) none
