@@ -22,7 +22,7 @@ use Rattle.sw_value.specs.declared.state.State.{State}
 use Rattle.sw_value.specs.declared.value.Value.{Value}
 use Rattle.sw_value.specs.Act.{act_of}
 use Rattle.sw_partition.specs.Regions.{Regions}
-use Rattle.sw_machine_kind_facts.proofs.ItemLemmas.{and_parts}
+use Rattle.std.proofs.lemmas.Bool.{and_parts}
 use Rattle.sw_owner_facts.specs.Colours.{Actor, Colour, GlobalActor, Instance, OfActor, OfJob}
 use Rattle.sw_owner_facts.specs.View.{Frame as Spot}
 use Rattle.sw_reach_facts.specs.Coloured.{may_have_colour}

@@ -1,0 +1,11 @@
+pub mod Growing
+pub mod Holding
+pub mod Becoming
+pub mod Entering
+pub mod Cells
+pub mod Taking
+pub mod TakingEffects
+pub mod TakingCells
+pub mod TakingCalls
+pub mod TakingTasks
+pub mod Running
