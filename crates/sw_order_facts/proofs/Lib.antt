@@ -9,3 +9,6 @@ pub mod TakingCells
 pub mod TakingCalls
 pub mod TakingTasks
 pub mod Running
+pub mod Stepping
+pub mod Learning
+pub mod Keeping
