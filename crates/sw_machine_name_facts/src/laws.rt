@@ -66,12 +66,10 @@ pub fn cells_and_jobs_are_numbered_in_turn()
         → (c ≡ length state.cells) × (c < length (step_of graph state j).cells) }
     ensures job { (graph : Graph) (state : State) (j : ℕ) (act : Act)
         → act_of graph state j ≡ Some act → (i : ℕ) → made_by act ≡ Some i
-        → (i ≡ length state.jobs) × (i < length (step_of graph state j).jobs) }
+        → i ≡ length state.jobs }
     ensures cells { (graph : Graph) (state : State) (j : ℕ)
         → length state.cells ≤ length (step_of graph state j).cells }
-    ensures jobs { (graph : Graph) (state : State) (j : ℕ)
-        → length state.jobs ≤ length (step_of graph state j).jobs }
-    ensures comes { (graph : Graph) (state : State) (j : ℕ) (act : Act)
+    ensures jobs { (graph : Graph) (state : State) (j : ℕ) (act : Act)
         → act_of graph state j ≡ Some act → (i : ℕ) → i < length (step_of graph state j).jobs
         → (i < length state.jobs) ⊎ (made_by act ≡ Some i) }
 {}

@@ -96,8 +96,12 @@ module _ (events : List Transition) (t : Transition) where
   }
 
   -- ---- what happens before the new event
+  pub job_before : (p : ℕ) → JobKnows events t.job p
+      → Before (events ++ t ∷ []) p (length events)
+  job_before p known = end_hears events t (channel.OfJob t.job) p (hears_job t) known
+
   pub job_reaches : (p : ℕ) → JobKnows events t.job p → IsReached p
-  job_reaches p known = inr (end_hears events t (channel.OfJob t.job) p (hears_job t) known)
+  job_reaches p known = inr (job_before p known)
 
   pub end_reaches : (i p : ℕ) → t.follows ≡ Some i → EndTells events i p → IsReached p
   end_reaches i p follows known =

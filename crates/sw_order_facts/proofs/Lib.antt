@@ -12,3 +12,7 @@ pub mod Running
 pub mod Stepping
 pub mod Learning
 pub mod Keeping
+pub mod Starting
+pub mod Taken
+pub mod Ordering
+pub mod Theorem

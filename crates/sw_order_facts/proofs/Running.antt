@@ -1,12 +1,12 @@
 -- Which jobs run on an executor after a step: those that did and haven't left it, and the job that is
 -- dispatched onto it.
-use Rattle.std.proofs.Common.{◌≡◌, ◌≢◌, ◌⊎◌, ◌<◌, inl, inr, ℕ, suc, ◌-◌, Bool, true, false, cond, Option, Some}
-use Rattle.std.proofs.Common.{None, List, [], ◌∷◌, ◌++◌, length, take, get_or, refl, sym, subst, ap, ◌∙◌}
+use Rattle.std.proofs.Common.{◌≡◌, ◌≢◌, ◌⊎◌, ◌<◌, inl, inr, ◌≤◌, ℕ, zero, suc, ◌-◌, Bool, true, false, cond, Option, Some}
+use Rattle.std.proofs.Common.{None, List, [], ◌∷◌, ◌++◌, length, get_or, refl, sym, subst, ap, ◌∙◌}
 use Rattle.std.proofs.Common.{arith, length-append}
 use Rattle.std.specs.Prelude.{option_and_then, ◌==◌}
 use Rattle.std.specs.Option.{option_map}
 use Rattle.std.specs.List.{slice_get}
-use Rattle.std.proofs.lemmas.List.{length-take-le}
+use Rattle.std.proofs.lemmas.Bool.{cases_eq, eq-eqb}
 use Rattle.std.proofs.lemmas.Option.{slice_get_within, slice_get-get_or}
 use Rattle.sw_list.proofs.ListLemmas.{slice_get_before, slice_get_first, some_injective}
 use Rattle.sw_graph.specs.declared.function.Function.{Function}
@@ -34,14 +34,14 @@ use Rattle.sw_value.specs.Job.{rest, return_to, top_frame, wait, wake}
 use Rattle.sw_value.specs.Lists.{changed_at}
 use Rattle.sw_value.specs.Reach.{after_act, after_effect, step_of}
 use Rattle.sw_value.specs.State.{add_cell, add_job, halt, in_cell, in_job, set_global}
-use Rattle.sw_value.specs.Transition.{Describes, Transition, executor_in, executor_of_top, gained}
+use Rattle.sw_value.specs.Transition.{Describes, Transition, executor_of_top, gained, made_by}
 use Rattle.sw_value.specs.Transition.{runs_at, transition_by, transition_of}
 use Rattle.sw_value.proofs.JobLemmas.{leave_some}
 use Rattle.sw_value.proofs.ListLemmas.{changed_at_found, changed_at_none, length-changed_at}
 use Rattle.sw_value.proofs.ListLemmas.{slice_get_end}
 use Rattle.sw_value.proofs.ReachLemmas.{after_acts, step_by_act}
 use Rattle.sw_value.proofs.TransitionLemmas.{transition_describes}
-use Rattle.sw_machine_kind_facts.proofs.ItemLemmas.{at_end, changed_other}
+use Rattle.sw_machine_kind_facts.proofs.ItemLemmas.{at_end, changed_other, found_within}
 use Rattle.sw_late_facts.proofs.Waiting.{others_stay}
 use Rattle.sw_partition.specs.Regions.{Regions}
 use Rattle.sw_owner_facts.specs.Colours as owned
@@ -459,3 +459,60 @@ module _ (graph : Graph) (states : ℕ → List (Option Regions)) (state : State
         let none : None ≡ Some x = sym (ap (λ o. gained o (runs_at state j)) now)
         ∙ sym describes.leaves ∙ leaves in
         absurd (let wrong : ⊥ = cc in wrong)
+
+-- ---- how many jobs there are
+-- a job that was there is there
+still_there : (graph : Graph) (state : State) (j : ℕ) (act : Act) → act_of graph state j ≡ Some act
+    → (i : ℕ) (job : Job) → slice_get state.jobs i ≡ Some job
+    → (later : Job) × (slice_get (step_of graph state j).jobs i ≡ Some later)
+still_there graph state j act acts i job there = elim (cases_eq i j) [
+  | inr apart ↦ (job, ap (λ (s : State). slice_get s.jobs i) (stepped graph state j act acts)
+      ∙ others_stay j i act state job apart there)
+  | inl same ↦
+      let own = by act (ap (slice_get state.jobs) (sym same) ∙ there) in
+      (own.0, ap (λ (s : State). slice_get s.jobs i) (stepped graph state j act acts)
+      ∙ ap (slice_get (after_act j act state).jobs) same ∙ own.1)
+]
+  where
+    unfolding in_job
+    by : (act : Act) → slice_get state.jobs j ≡ Some job
+        → (later : Job) × (slice_get (after_act j act state).jobs j ≡ Some later)
+    by Dispatch at = (dispatch job, changed_at_found dispatch j state.jobs job at)
+    by (Wake ended r v) at = (wake r v job, changed_at_found (wake r v) j state.jobs job at)
+    by (Execute e) at = (turned e job, own_is state j job e at)
+
+pub jobs_stay : (graph : Graph) (state : State) (j : ℕ) (act : Act)
+    → act_of graph state j ≡ Some act → length state.jobs ≤ length (step_of graph state j).jobs
+jobs_stay graph state j act acts = by (length state.jobs) refl where
+  by : (n : ℕ) → length state.jobs ≡ n → length state.jobs ≤ length (step_of graph state j).jobs
+  by zero count = omega (arith, count)
+  by (suc n) count =
+      let job = found_within state.jobs n (omega (arith, count)) in
+      let later = still_there graph state j act acts n job.0 job.1 in
+      let inside = slice_get_within (step_of graph state j).jobs n later.0 later.1 in
+      omega (arith, count, inside)
+
+-- a job that is made is there
+pub made_there : (graph : Graph) (state : State) (j : ℕ) (act : Act) → act_of graph state j ≡ Some act
+    → (i : ℕ) → made_by act ≡ Some i
+    → (i ≡ length state.jobs) × (i < length (step_of graph state j).jobs)
+unfolding transition_of
+made_there graph state j act acts i made =
+    by (length (step_of graph state j).jobs == length state.jobs) refl
+    (sym (transition_describes graph state j (transition_by graph state j act)
+    (ap (option_map (transition_by graph state j)) acts)).makes ∙ made)
+  where
+    more : length state.jobs ≤ length (step_of graph state j).jobs
+    more = jobs_stay graph state j act acts
+
+    by : (b : Bool) → (length (step_of graph state j).jobs == length state.jobs) ≡ b
+        → cond b None (Some (length state.jobs)) ≡ Some i
+        → (i ≡ length state.jobs) × (i < length (step_of graph state j).jobs)
+    by true same is = absurd (let no : ⊥ = cc in no)
+    by false differ is =
+        let next : length state.jobs ≡ i = some_injective is in
+        let other : length (step_of graph state j).jobs ≢ length state.jobs =
+        (λ e. let no : false ≡ true = sym differ
+        ∙ eq-eqb (length (step_of graph state j).jobs) (length state.jobs) e in
+        let wrong : ⊥ = cc in wrong) in
+        (sym next, omega (arith, more, next, other))
