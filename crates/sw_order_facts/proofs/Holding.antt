@@ -35,8 +35,8 @@ use Rattle.sw_machine_kind_facts.proofs.LawLemmas.{status_is}
 use Rattle.sw_secure_facts.specs.Secure.{IsSecure}
 use Rattle.sw_secure_job_facts.proofs.Frames.{function_at}
 use Rattle.sw_secure_race_facts.proofs.Accessing.{AccessAt, access_at}
-use Rattle.sw_secure_race_facts.proofs.Claims.{HasColour, IsKept, coloured_or_kept, same_colour}
-use Rattle.sw_secure_race_facts.proofs.Claims.{same_keeper}
+use Rattle.sw_secure_race_facts.specs.Places.{HasColour, IsKept}
+use Rattle.sw_secure_race_facts.proofs.Claims.{coloured_or_kept, same_colour, same_keeper}
 use Rattle.sw_secure_race_facts.proofs.Excluding.{claims}
 use Rattle.sw_order_facts.specs.Informed.{IsOfColour}
 use Rattle.sw_order_facts.specs.Knowing.{RunsOn, executor_of}

@@ -36,7 +36,7 @@ use Rattle.sw_before.proofs.ChannelLemmas.{tells_own}
 use Rattle.sw_before.proofs.KnownLemmas.{at_end}
 use Rattle.sw_secure_facts.specs.Memory.{keeper}
 use Rattle.sw_secure_facts.specs.Secure.{IsSecure}
-use Rattle.sw_secure_race_facts.proofs.Claims.{HasColour, IsKept, cell_in}
+use Rattle.sw_secure_race_facts.specs.Places.{HasColour, IsKept, cell_in}
 use Rattle.sw_machine_access_facts.specs.Location.{IsLocation, content_of, location_at}
 use Rattle.sw_machine_access_facts.proofs.AccessLemmas.{access_location}
 use Rattle.sw_machine_name_facts.specs.Given.{ActGives, Fills, IsStepped, LiesIn, by_access, by_first}

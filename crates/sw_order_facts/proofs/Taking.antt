@@ -33,7 +33,7 @@ use Rattle.sw_owner_facts.specs.View.{Frame as Spot}
 use Rattle.sw_view_facts.specs.Views.{Colours}
 use Rattle.sw_secure_facts.specs.Memory.{keeper}
 use Rattle.sw_secure_facts.specs.Secure.{IsSecure}
-use Rattle.sw_secure_race_facts.proofs.Claims.{HasColour, IsKept, cell_in}
+use Rattle.sw_secure_race_facts.specs.Places.{HasColour, IsKept, cell_in}
 use Rattle.sw_machine_name_facts.specs.Given.{LiesIn, made_cell}
 use Rattle.sw_order_facts.specs.Informed.{IsOfColour}
 use Rattle.sw_order_facts.specs.Knowing.{RunsOn}

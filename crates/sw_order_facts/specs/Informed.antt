@@ -13,7 +13,7 @@ use Rattle.sw_machine_name_facts.specs.Names.{FixedNames, JobNames, PlaceNames, 
 use Rattle.sw_machine_name_facts.specs.Names.{StandsOn}
 use Rattle.sw_owner_facts.specs.Colours.{Actor, Colour, OfActor, OfJob}
 use Rattle.sw_view_facts.specs.Views.{Colours}
-use Rattle.sw_secure_race_facts.proofs.Claims.{HasColour, IsKept}
+use Rattle.sw_secure_race_facts.specs.Places.{HasColour, IsKept}
 use Rattle.sw_before.specs.Unordered.{AccessesAt}
 use Rattle.sw_order_facts.specs.Knowing.{ActorKeeps, EndTells, HasMaking, JobKnows, LeadsToCell}
 use Rattle.sw_order_facts.specs.Knowing.{MakesCell, OwnerKnows, RunsOn}

@@ -51,7 +51,8 @@ use Rattle.sw_secure_facts.specs.Secure.{IsSecure}
 use Rattle.sw_secure_facts.proofs.Belonging.{implied}
 use Rattle.sw_secure_race_facts.proofs.Accessing.{AccessAt, NamesBox, NamesGlobal, NamesPart, access_at}
 use Rattle.sw_secure_race_facts.proofs.Accessing.{names_box, names_global, names_part}
-use Rattle.sw_secure_race_facts.proofs.Claims.{Claims, IsKept, cell_in, one_claims}
+use Rattle.sw_secure_race_facts.specs.Places.{IsKept, cell_in}
+use Rattle.sw_secure_race_facts.proofs.Claims.{Claims, one_claims}
 use Rattle.sw_secure_race_facts.proofs.Insiders.{inside_global, inside_part}
 
 module _ (graph : Graph) (states : ℕ → List (Option Regions)) (state : State) (colours : Colours)
