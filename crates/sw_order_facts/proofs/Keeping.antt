@@ -160,8 +160,8 @@ module _ (graph : Graph) (states : ℕ → List (Option Regions)) (state : State
   abbrev Owner : Colour → ℕ → Type 0
   Owner = OwnerKnows (step_of graph state j) (events ++ transition_by graph state j act ∷ [])
 
-  unfolding transition_of
   describes : Describes graph state next j t
+  unfolding transition_of
   describes = transition_describes graph state j t
       (ap (option_map (transition_by graph state j)) steps.acts)
 
@@ -239,10 +239,10 @@ module _ (graph : Graph) (states : ℕ → List (Option Regions)) (state : State
 
       now_taker : next_access graph state j ≡ Some access
           → Takes graph state colours j act access.place colour → IsTakers state j act colour
-      now_taker next (stays was) = accessed_takers graph states state colours s events informed j
-          act access next colour was
-      now_taker next (taken n was taker) = taker
-      now_taker next (begins c made lies taker) = taker
+      now_taker asked (stays was) = accessed_takers graph states state colours s events informed j
+          act access asked colour was
+      now_taker asked (taken n was taker) = taker
+      now_taker asked (begins c made lies taker) = taker
 
   -- ---- owners
   owner_there : (i n : ℕ) → IsTakers state j act (OfJob i n) → i < length next.jobs

@@ -57,8 +57,8 @@ module _ (graph : Graph) (states : ℕ → List (Option Regions)) (state : State
   holders_know colour (inr (a, runs, is)) p knows =
       elim (subst (λ c. OwnerKnows state events c p) is knows) [
         | inl keeps ↦ informed.runs j p a runs keeps
-        | inr runner ↦ subst (λ i. JobKnows events i p)
-            (one_runs graph states state colours s runner.job j a runner.runs runs) runner.knows
+        | inr other ↦ subst (λ i. JobKnows events i p)
+            (one_runs graph states state colours s other.job j a other.runs runs) other.knows
       ]
 
   -- a colour of a place that the job is about to access is a taker's
