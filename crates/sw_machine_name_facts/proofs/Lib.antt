@@ -1,0 +1,5 @@
+pub mod Acts
+pub mod Cells
+pub mod Items
+pub mod Jobs
+pub mod Numbers
