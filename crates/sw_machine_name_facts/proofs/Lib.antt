@@ -1,5 +1,11 @@
 pub mod Acts
 pub mod Cells
+pub mod Frames
+pub mod Going
 pub mod Items
 pub mod Jobs
+pub mod Needs
+pub mod NewFrames
 pub mod Numbers
+pub mod Parts
+pub mod Registers
