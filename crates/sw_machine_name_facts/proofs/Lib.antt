@@ -1,0 +1,16 @@
+pub mod Acts
+pub mod Cells
+pub mod Computed
+pub mod Frames
+pub mod Going
+pub mod Items
+pub mod Jobs
+pub mod Loads
+pub mod Needs
+pub mod NewFrames
+pub mod Numbers
+pub mod Parts
+pub mod Registers
+pub mod Sources
+pub mod Taken
+pub mod Waking
