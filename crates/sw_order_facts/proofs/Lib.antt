@@ -16,3 +16,4 @@ pub mod Starting
 pub mod Taken
 pub mod Ordering
 pub mod Theorem
+pub mod Passed
