@@ -53,7 +53,7 @@ begun_frame (Execute (effect.Spawn r frame made c next)) = Some frame
 begun_frame _ = None
 
 -- the jobs that an act makes: one, or none
-abbrev made_jobs : Act → List Job
+abbrev pub made_jobs : Act → List Job
 made_jobs (Execute (effect.Spawn r frame made c next)) = new_job (frame ∷ []) ∷ []
 made_jobs _ = []
 
@@ -72,7 +72,7 @@ unchanged j jobs = by (slice_get jobs j) refl where
   by None is = ap (λ o. changed_by o (λ job. job) j jobs) is
   by (Some job) is = changed_at_there (λ job. job) j jobs job is ∙ set_back jobs j job job is refl
 
-jobs_of : (j : ℕ) (act : Act) (state : State)
+pub jobs_of : (j : ℕ) (act : Act) (state : State)
     → (after_act j act state).jobs ≡ changed_at (changed act) j (state.jobs ++ made_jobs act)
 unfolding in_job add_job add_cell in_cell set_global halt
 jobs_of j (Execute (effect.Spawn r frame made c next)) state = refl

@@ -6,7 +6,7 @@ use Rattle.std.proofs.Common.{arith, length-append}
 use Rattle.std.specs.Prelude.{option_and_then, ◌==◌}
 use Rattle.std.specs.Option.{option_map}
 use Rattle.std.specs.List.{slice_get}
-use Rattle.std.proofs.lemmas.Bool.{cases_eq, eq-eqb}
+use Rattle.std.proofs.lemmas.Bool.{eq-eqb}
 use Rattle.std.proofs.lemmas.Option.{slice_get_within, slice_get-get_or}
 use Rattle.sw_list.proofs.ListLemmas.{slice_get_before, slice_get_first, some_injective}
 use Rattle.sw_graph.specs.declared.function.Function.{Function}
@@ -41,8 +41,9 @@ use Rattle.sw_value.proofs.ListLemmas.{changed_at_found, changed_at_none, length
 use Rattle.sw_value.proofs.ListLemmas.{slice_get_end}
 use Rattle.sw_value.proofs.ReachLemmas.{after_acts, step_by_act}
 use Rattle.sw_value.proofs.TransitionLemmas.{transition_describes}
-use Rattle.sw_machine_kind_facts.proofs.ItemLemmas.{at_end, changed_other, found_within}
 use Rattle.sw_late_facts.proofs.Waiting.{others_stay}
+use Rattle.sw_machine_name_facts.proofs.Jobs.{JobAfter, begins, changed, changes, job_after, jobs_of}
+use Rattle.sw_machine_name_facts.proofs.Jobs.{made_jobs, stays}
 use Rattle.sw_partition.specs.Regions.{Regions}
 use Rattle.sw_owner_facts.specs.Colours as owned
 use Rattle.sw_owner_facts.specs.View.{FrameShape, View, above, Frame as Spot}
@@ -69,54 +70,28 @@ not_new : (frames : List Frame) → is_running (new_job frames) ≡ true → ⊥
 unfolding is_running new_job
 not_new frames runs = cc
 
--- what another job is after a step it was, or it is the one that is made
-other_was : (j i : ℕ) (act : Act) (state : State) (job : Job) → i ≢ j
-    → slice_get (after_act j act state).jobs i ≡ Some job
-    → (slice_get state.jobs i ≡ Some job) ⊎ ((frames : List Frame) × (job ≡ new_job frames))
-unfolding in_job add_job add_cell in_cell set_global halt
-other_was j i Dispatch state job apart at = inl (sym (changed_other _ j i state.jobs apart) ∙ at)
-other_was j i (Wake ended r v) state job apart at =
-    inl (sym (changed_other _ j i state.jobs apart) ∙ at)
-other_was j i (Execute e) state job apart at = by e at where
-  by : (e : Effect) → slice_get (after_effect j e state).jobs i ≡ Some job
-      → (slice_get state.jobs i ≡ Some job) ⊎ ((frames : List Frame) × (job ≡ new_job frames))
-  by (effect.Set r v next) at = inl (sym (changed_other _ j i state.jobs apart) ∙ at)
-  by (effect.SetField r k v next) at = inl (sym (changed_other _ j i state.jobs apart) ∙ at)
-  by (effect.Print r line next) at = inl (sym (changed_other _ j i state.jobs apart) ∙ at)
-  by (effect.New r cell n next) at = inl (sym (changed_other _ j i state.jobs apart) ∙ at)
-  by (effect.Write c slot v next) at = inl (sym (changed_other _ j i state.jobs apart) ∙ at)
-  by (effect.WriteGlobal g v next) at = inl (sym (changed_other _ j i state.jobs apart) ∙ at)
-  by (effect.Goto next) at = inl (sym (changed_other _ j i state.jobs apart) ∙ at)
-  by (effect.Enter frame next) at = inl (sym (changed_other _ j i state.jobs apart) ∙ at)
-  by (effect.Wait on r next) at = inl (sym (changed_other _ j i state.jobs apart) ∙ at)
-  by (effect.Rest r next) at = inl (sym (changed_other _ j i state.jobs apart) ∙ at)
-  by (effect.Spawn r frame made cell next) at =
-      elim (at_end state.jobs (new_job (frame ∷ [])) job i
-      (sym (changed_other _ j i (state.jobs ++ new_job (frame ∷ []) ∷ []) apart) ∙ at)) [
-        | inl old ↦ inl old
-        | inr new ↦ inr (frame ∷ [], new.1)
-      ]
-  by (effect.Leave v) at = inl (sym (changed_other _ j i state.jobs apart) ∙ at)
-  by (effect.Halt kind k) at = inl at
-  by effect.Stuck at = inl at
-
 pub other_ran : (graph : Graph) (state : State) (j i : ℕ) (act : Act)
     → act_of graph state j ≡ Some act → i ≢ j → (x : Executor)
     → runs_at (step_of graph state j) i ≡ Some x → runs_at state i ≡ Some x
 other_ran graph state j i act acts apart x runs =
-    let r = runs_there (step_of graph state j) i x runs in
-    elim (other_was j i act state r.job apart
-    (ap (λ (s : State). slice_get s.jobs i) (sym (stepped graph state j act acts)) ∙ r.there)) [
-      | inl old ↦ runs_so state i x (record {
-        job = r.job;
-        there = old;
-        running = r.running;
-        frame = r.frame;
-        top = r.top;
-        on = r.on;
-      })
-      | inr (frames, is) ↦ absurd (not_new frames (ap is_running (sym is) ∙ r.running))
-    ]
+    by r.job (job_after graph state j act acts i r.job r.there) r.running r.top
+  where
+    r : RunsAt (step_of graph state j) i x
+    r = runs_there (step_of graph state j) i x runs
+
+    by : (job : Job) → JobAfter state act j i job → is_running job ≡ true
+        → top_frame job ≡ Some r.frame → runs_at state i ≡ Some x
+    by job (stays old) running top = runs_so state i x (record {
+      job = job;
+      there = old;
+      running = running;
+      frame = r.frame;
+      top = top;
+      on = r.on;
+    })
+    by job (changes here old there is) running top = absurd (apart here)
+    by job (begins made frame begun is) running top =
+        absurd (not_new (frame ∷ []) (ap is_running is ∙ running))
 
 pub other_runs : (graph : Graph) (state : State) (j i : ℕ) (act : Act)
     → act_of graph state j ≡ Some act → i ≢ j → (x : Executor) → runs_at state i ≡ Some x
@@ -134,38 +109,6 @@ other_runs graph state j i act acts apart x runs =
     })
 
 -- ---- the job that executes
--- what becomes of it
-abbrev turned : Effect → Job → Job
-turned (effect.Enter frame next) job = enter frame next job
-turned (effect.Leave v) job = leave v job
-turned (effect.Wait on r next) job = wait on r next job
-turned (effect.Rest r next) job = rest r next job
-turned (effect.Spawn r frame made cell next) job =
-    in_top (finish_instr r (value.Cell cell) next) job
-turned (effect.Halt kind at) job = job
-turned effect.Stuck job = job
-turned e job = in_top (turn_of e) job
-
-own_is : (state : State) (j : ℕ) (job : Job) (e : Effect) → slice_get state.jobs j ≡ Some job
-    → slice_get (after_effect j e state).jobs j ≡ Some (turned e job)
-unfolding in_job add_job add_cell in_cell set_global halt
-own_is state j job (effect.Set r v next) there = changed_at_found _ j state.jobs job there
-own_is state j job (effect.SetField r k v next) there = changed_at_found _ j state.jobs job there
-own_is state j job (effect.Print r line next) there = changed_at_found _ j state.jobs job there
-own_is state j job (effect.New r cell n next) there = changed_at_found _ j state.jobs job there
-own_is state j job (effect.Write c slot v next) there = changed_at_found _ j state.jobs job there
-own_is state j job (effect.WriteGlobal g v next) there = changed_at_found _ j state.jobs job there
-own_is state j job (effect.Goto next) there = changed_at_found _ j state.jobs job there
-own_is state j job (effect.Enter frame next) there = changed_at_found _ j state.jobs job there
-own_is state j job (effect.Wait on r next) there = changed_at_found _ j state.jobs job there
-own_is state j job (effect.Rest r next) there = changed_at_found _ j state.jobs job there
-own_is state j job (effect.Spawn r frame made cell next) there =
-    changed_at_found _ j (state.jobs ++ new_job (frame ∷ []) ∷ []) job
-    (slice_get_before state.jobs (new_job (frame ∷ []) ∷ []) j job there)
-own_is state j job (effect.Leave v) there = changed_at_found _ j state.jobs job there
-own_is state j job (effect.Halt kind at) there = there
-own_is state j job effect.Stuck there = there
-
 -- a top frame that is changed inside
 top_in_top : (h : Frame → Frame) (job : Job) (f : Frame) → top_frame job ≡ Some f
     → top_frame (in_top h job) ≡ Some (h f)
@@ -229,6 +172,15 @@ not_waiting on r next job runs = cc
 not_resting : (r next : ℕ) (job : Job) → is_running (rest r next job) ≡ true → ⊥
 unfolding is_running rest
 not_resting r next job runs = cc
+
+not_woken : (r : ℕ) (v : Value) (job : Job) → is_running (wake r v job) ≡ true → ⊥
+unfolding is_running wake
+not_woken r v job runs = cc
+
+-- a dispatch leaves the frames
+dispatched_top : (job : Job) → top_frame job ≡ top_frame (dispatch job)
+unfolding top_frame dispatch
+dispatched_top job = refl
 
 -- what is left where a frame returns
 record Returns (below : List Frame) (f g : Frame) : Type 0 where
@@ -311,7 +263,7 @@ module _ (graph : Graph) (states : ℕ → List (Option Regions)) (state : State
 
     -- where the job goes on to run, it runs where it ran
     keeps_executor : (e : Effect) → point_effect graph state (length job.frames) f point ≡ e
-        → (g : Frame) → is_running (turned e job) ≡ true → top_frame (turned e job) ≡ Some g
+        → (g : Frame) → is_running (changed (Execute e) job) ≡ true → top_frame (changed (Execute e) job) ≡ Some g
         → g.executor ≡ f.executor
     keeps_executor (effect.Enter frame next) gives g runs now =
         ap (λ (k : Frame). k.executor) (entered_top frame g next job now)
@@ -360,62 +312,64 @@ module _ (graph : Graph) (states : ℕ → List (Option Regions)) (state : State
   executed : (j : ℕ) (e : Effect) → act_of graph state j ≡ Some (Execute e) → (x : Executor)
       → runs_at (step_of graph state j) j ≡ Some x → runs_at state j ≡ Some x
   executed j e acts x runs =
-      let at = executes_at graph state j e acts in
-      let r = runs_there (step_of graph state j) j x runs in
-      let there : slice_get state.jobs j ≡ Some at.job =
-      ap (slice_get state.jobs) (sym at.is_job) ∙ at.stands.top.there in
-      let now : r.job ≡ turned e at.job = some_injective (sym r.there
-      ∙ ap (λ (t : State). slice_get t.jobs j) (stepped graph state j (Execute e) acts)
-      ∙ own_is state j at.job e there) in
       ap (runs_at state) (sym at.is_job)
       ∙ executing_runs graph states state colours s at.q at.job at.frame at.function at.point
       at.stands
-      ∙ ap Some (sym (keeps_executor at.q at.job at.frame at.function at.point at.stands e at.gives
-      r.frame (ap is_running (sym now) ∙ r.running) (ap top_frame (sym now) ∙ r.top)) ∙ r.on)
+      ∙ ap Some (sym (by r.job (job_after graph state j (Execute e) acts j r.job r.there) r.running
+      r.top) ∙ r.on)
+    where
+      at : ExecutesAt graph state j e
+      at = executes_at graph state j e acts
+
+      r : RunsAt (step_of graph state j) j x
+      r = runs_there (step_of graph state j) j x runs
+
+      there : slice_get state.jobs j ≡ Some at.job
+      there = ap (slice_get state.jobs) (sym at.is_job) ∙ at.stands.top.there
+
+      by : (job : Job) → JobAfter state (Execute e) j j job → is_running job ≡ true
+          → top_frame job ≡ Some r.frame → r.frame.executor ≡ at.frame.executor
+      by job (stays old) running now =
+          ap (λ (k : Frame). k.executor) (some_injective (sym now
+          ∙ ap top_frame (some_injective (sym old ∙ there))
+          ∙ top at.q at.job at.frame at.function at.point at.stands))
+      by job (changes here old was is) running now =
+          let same : changed (Execute e) at.job ≡ job =
+          ap (changed (Execute e)) (some_injective (sym there ∙ was)) ∙ is in
+          keeps_executor at.q at.job at.frame at.function at.point at.stands e at.gives r.frame
+          (ap is_running same ∙ running) (ap top_frame same ∙ now)
+      by job (begins made frame begun is) running now =
+          absurd (not_new (frame ∷ []) (ap is_running is ∙ running))
 
   pub own_ran : (j : ℕ) (act : Act) → act_of graph state j ≡ Some act → (x : Executor)
       → runs_at (step_of graph state j) j ≡ Some x
       → (runs_at state j ≡ Some x) ⊎ ((transition_by graph state j act).enters ≡ Some x)
-  unfolding in_job dispatch wake is_running top_frame
-  own_ran j (Execute e) acts x runs = inl (executed j e acts x runs)
-  own_ran j (Wake ended r v) acts x runs =
-      let t = runs_there (step_of graph state j) j x runs in
-      absurd (by (slice_get state.jobs j) refl t.job
-      (ap (λ (u : State). slice_get u.jobs j) (sym (stepped graph state j (Wake ended r v) acts))
-      ∙ t.there) t.running)
+  own_ran j act acts x runs = by act acts r.job (job_after graph state j act acts j r.job r.there)
+      r.running r.top
     where
-      by : (o : Option Job) → slice_get state.jobs j ≡ o → (job : Job)
-          → slice_get (changed_at (wake r v) j state.jobs) j ≡ Some job → is_running job ≡ true → ⊥
-      by None none job at running =
-          let no : None ≡ Some job = sym none
-          ∙ ap (λ (l : List Job). slice_get l j) (sym (changed_at_none (wake r v) j state.jobs none))
-          ∙ at in
-          let wrong : ⊥ = cc in wrong
-      by (Some old) there job at running =
-          let is : wake r v old ≡ job = some_injective (sym (changed_at_found (wake r v) j state.jobs
-          old there) ∙ at) in
-          let no : false ≡ true = ap is_running is ∙ running in
-          let wrong : ⊥ = cc in wrong
-  own_ran j Dispatch acts x runs =
-      let t = runs_there (step_of graph state j) j x runs in
-      inr (by (slice_get state.jobs j) refl t.job
-      (ap (λ (u : State). slice_get u.jobs j) (sym (stepped graph state j Dispatch acts)) ∙ t.there)
-      t.frame t.top t.on)
-    where
-      by : (o : Option Job) → slice_get state.jobs j ≡ o → (job : Job)
-          → slice_get (changed_at dispatch j state.jobs) j ≡ Some job → (frame : Frame)
-          → top_frame job ≡ Some frame → frame.executor ≡ x
-          → option_and_then executor_of_top (slice_get state.jobs j) ≡ Some x
-      by None none job at frame top on =
-          let no : None ≡ Some job = sym none
-          ∙ ap (λ (l : List Job). slice_get l j) (sym (changed_at_none dispatch j state.jobs none))
-          ∙ at in
-          absurd (let wrong : ⊥ = cc in wrong)
-      by (Some old) there job at frame top on =
-          let is : dispatch old ≡ job = some_injective (sym (changed_at_found dispatch j state.jobs
-          old there) ∙ at) in
-          ap (option_and_then executor_of_top) there
-          ∙ ap (option_map (λ (k : Frame). k.executor)) (ap top_frame is ∙ top) ∙ ap Some on
+      r : RunsAt (step_of graph state j) j x
+      r = runs_there (step_of graph state j) j x runs
+
+      by : (act : Act) → act_of graph state j ≡ Some act → (job : Job) → JobAfter state act j j job
+          → is_running job ≡ true → top_frame job ≡ Some r.frame
+          → (runs_at state j ≡ Some x) ⊎ ((transition_by graph state j act).enters ≡ Some x)
+      by act acts job (stays old) running now = inl (runs_so state j x (record {
+        job = job;
+        there = old;
+        running = running;
+        frame = r.frame;
+        top = now;
+        on = r.on;
+      }))
+      by act acts job (begins made frame begun is) running now =
+          absurd (not_new (frame ∷ []) (ap is_running is ∙ running))
+      by (Execute e) acts job (changes here old was is) running now = inl (executed j e acts x runs)
+      by (Wake ended r v) acts job (changes here old was is) running now =
+          absurd (not_woken r v old (ap is_running is ∙ running))
+      by Dispatch acts job (changes here old was is) running now =
+          inr (ap (option_and_then executor_of_top) was
+          ∙ ap (option_map (λ (k : Frame). k.executor)) (dispatched_top old ∙ ap top_frame is ∙ now)
+          ∙ ap Some r.on)
 
   -- a job that ran on an executor runs there still, or leaves it
   pub own_leaves : (j : ℕ) (act : Act) → act_of graph state j ≡ Some act → (x : Executor)
@@ -461,36 +415,14 @@ module _ (graph : Graph) (states : ℕ → List (Option Regions)) (state : State
         absurd (let wrong : ⊥ = cc in wrong)
 
 -- ---- how many jobs there are
--- a job that was there is there
-still_there : (graph : Graph) (state : State) (j : ℕ) (act : Act) → act_of graph state j ≡ Some act
-    → (i : ℕ) (job : Job) → slice_get state.jobs i ≡ Some job
-    → (later : Job) × (slice_get (step_of graph state j).jobs i ≡ Some later)
-still_there graph state j act acts i job there = elim (cases_eq i j) [
-  | inr apart ↦ (job, ap (λ (s : State). slice_get s.jobs i) (stepped graph state j act acts)
-      ∙ others_stay j i act state job apart there)
-  | inl same ↦
-      let own = by act (ap (slice_get state.jobs) (sym same) ∙ there) in
-      (own.0, ap (λ (s : State). slice_get s.jobs i) (stepped graph state j act acts)
-      ∙ ap (slice_get (after_act j act state).jobs) same ∙ own.1)
-]
-  where
-    unfolding in_job
-    by : (act : Act) → slice_get state.jobs j ≡ Some job
-        → (later : Job) × (slice_get (after_act j act state).jobs j ≡ Some later)
-    by Dispatch at = (dispatch job, changed_at_found dispatch j state.jobs job at)
-    by (Wake ended r v) at = (wake r v job, changed_at_found (wake r v) j state.jobs job at)
-    by (Execute e) at = (turned e job, own_is state j job e at)
-
 pub jobs_stay : (graph : Graph) (state : State) (j : ℕ) (act : Act)
     → act_of graph state j ≡ Some act → length state.jobs ≤ length (step_of graph state j).jobs
-jobs_stay graph state j act acts = by (length state.jobs) refl where
-  by : (n : ℕ) → length state.jobs ≡ n → length state.jobs ≤ length (step_of graph state j).jobs
-  by zero count = omega (arith, count)
-  by (suc n) count =
-      let job = found_within state.jobs n (omega (arith, count)) in
-      let later = still_there graph state j act acts n job.0 job.1 in
-      let inside = slice_get_within (step_of graph state j).jobs n later.0 later.1 in
-      omega (arith, count, inside)
+jobs_stay graph state j act acts =
+    let count = ap (λ (s : State). length s.jobs) (stepped graph state j act acts)
+    ∙ ap (λ (l : List Job). length l) (jobs_of j act state)
+    ∙ length-changed_at (changed act) j (state.jobs ++ made_jobs act) in
+    let sum = length-append state.jobs (made_jobs act) in
+    omega (arith, count, sum)
 
 -- a job that is made is there
 pub made_there : (graph : Graph) (state : State) (j : ℕ) (act : Act) → act_of graph state j ≡ Some act

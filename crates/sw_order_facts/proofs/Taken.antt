@@ -86,7 +86,7 @@ module _ (graph : Graph) (states : ℕ → List (Option Regions)) (state : State
           (values.stays graph states state colours q number job f function point
           (effect.Set r v next) x refl)
           (λ after u. values_take graph states state colours q number job f function point
-          (effect.Set r v next) x acts nc after u refl (λ c is. is))
+          (effect.Set r v next) x acts nc after u refl (λ c is. let no : ⊥ = cc in no))
       by_effect (effect.SetField r i v next) x acts nc =
           settled (effect.SetField r i v next)
           (joined_by graph state colours q number f point (effect.SetField r i v next)) colours
@@ -95,7 +95,7 @@ module _ (graph : Graph) (states : ℕ → List (Option Regions)) (state : State
           (values.stays graph states state colours q number job f function point
           (effect.SetField r i v next) x refl)
           (λ after u. values_take graph states state colours q number job f function point
-          (effect.SetField r i v next) x acts nc after u refl (λ c is. is))
+          (effect.SetField r i v next) x acts nc after u refl (λ c is. let no : ⊥ = cc in no))
       by_effect (effect.Print r line next) x acts nc =
           settled (effect.Print r line next)
           (joined_by graph state colours q number f point (effect.Print r line next)) colours
@@ -104,7 +104,7 @@ module _ (graph : Graph) (states : ℕ → List (Option Regions)) (state : State
           (values.stays graph states state colours q number job f function point
           (effect.Print r line next) x refl)
           (λ after u. values_take graph states state colours q number job f function point
-          (effect.Print r line next) x acts nc after u refl (λ c is. is))
+          (effect.Print r line next) x acts nc after u refl (λ c is. let no : ⊥ = cc in no))
       by_effect (effect.Write c slot v next) x acts nc =
           settled (effect.Write c slot v next)
           (joined_by graph state colours q number f point (effect.Write c slot v next)) colours
@@ -113,7 +113,7 @@ module _ (graph : Graph) (states : ℕ → List (Option Regions)) (state : State
           (values.stays graph states state colours q number job f function point
           (effect.Write c slot v next) x refl)
           (λ after u. values_take graph states state colours q number job f function point
-          (effect.Write c slot v next) x acts nc after u refl (λ c is. is))
+          (effect.Write c slot v next) x acts nc after u refl (λ c is. let no : ⊥ = cc in no))
       by_effect (effect.WriteGlobal g v next) x acts nc =
           settled (effect.WriteGlobal g v next)
           (joined_by graph state colours q number f point (effect.WriteGlobal g v next)) colours
@@ -122,7 +122,7 @@ module _ (graph : Graph) (states : ℕ → List (Option Regions)) (state : State
           (values.stays graph states state colours q number job f function point
           (effect.WriteGlobal g v next) x refl)
           (λ after u. values_take graph states state colours q number job f function point
-          (effect.WriteGlobal g v next) x acts nc after u refl (λ c is. is))
+          (effect.WriteGlobal g v next) x acts nc after u refl (λ c is. let no : ⊥ = cc in no))
       by_effect (effect.Goto next) x acts nc =
           settled (effect.Goto next)
           (joined_by graph state colours q number f point (effect.Goto next)) colours
@@ -131,7 +131,7 @@ module _ (graph : Graph) (states : ℕ → List (Option Regions)) (state : State
           (values.stays graph states state colours q number job f function point
           (effect.Goto next) x refl)
           (λ after u. values_take graph states state colours q number job f function point
-          (effect.Goto next) x acts nc after u refl (λ c is. is))
+          (effect.Goto next) x acts nc after u refl (λ c is. let no : ⊥ = cc in no))
       by_effect (effect.Wait on r next) x acts nc =
           settled (effect.Wait on r next)
           (joined_by graph state colours q number f point (effect.Wait on r next)) colours
@@ -140,7 +140,7 @@ module _ (graph : Graph) (states : ℕ → List (Option Regions)) (state : State
           (values.stays graph states state colours q number job f function point
           (effect.Wait on r next) x refl)
           (λ after u. values_take graph states state colours q number job f function point
-          (effect.Wait on r next) x acts nc after u refl (λ c is. is))
+          (effect.Wait on r next) x acts nc after u refl (λ c is. let no : ⊥ = cc in no))
       by_effect (effect.Rest r next) x acts nc =
           settled (effect.Rest r next)
           (joined_by graph state colours q number f point (effect.Rest r next)) colours
@@ -149,7 +149,7 @@ module _ (graph : Graph) (states : ℕ → List (Option Regions)) (state : State
           (values.stays graph states state colours q number job f function point
           (effect.Rest r next) x refl)
           (λ after u. values_take graph states state colours q number job f function point
-          (effect.Rest r next) x acts nc after u refl (λ c is. is))
+          (effect.Rest r next) x acts nc after u refl (λ c is. let no : ⊥ = cc in no))
       by_effect (effect.New r cell c next) x acts nc =
           settled (effect.New r cell c next)
           (joined_by graph state colours q number f point (effect.New r cell c next))
@@ -201,12 +201,12 @@ module _ (graph : Graph) (states : ℕ → List (Option Regions)) (state : State
           settled (effect.Leave v) [] (without_here q.job colours) (inl refl)
           (returns_stay graph states state colours q number job f function point v x)
           (λ after u. nothing_takes graph states state colours q number job f function point
-          (effect.Leave v) x acts nc after (without_here q.job colours) refl u (λ c is. is))
+          (effect.Leave v) x acts nc after (without_here q.job colours) refl u (λ c is. let no : ⊥ = cc in no))
       by_effect (effect.Halt kind at) x acts nc =
           settled (effect.Halt kind at) [] colours (inl refl)
           (traps_stay graph states state colours q number job f function point kind at x)
           (λ after u. nothing_takes graph states state colours q number job f function point
-          (effect.Halt kind at) x acts nc after colours refl u (λ c is. is))
+          (effect.Halt kind at) x acts nc after colours refl u (λ c is. let no : ⊥ = cc in no))
       by_effect effect.Stuck x acts nc = absurd (stuck_executes_not graph state q.job acts)
 
   pub taken : (j : ℕ) (act : Act) → act_of graph state j ≡ Some act

@@ -38,7 +38,8 @@ use Rattle.sw_machine_name_facts.specs.Given.{LiesIn, made_cell}
 use Rattle.sw_order_facts.specs.Informed.{IsOfColour}
 use Rattle.sw_order_facts.specs.Knowing.{RunsOn}
 use Rattle.sw_order_facts.specs.Taking.{AllTake, IsTakers, Takes, begins, stays, taken}
-use Rattle.sw_order_facts.proofs.Cells.{IsAdded, added_made, cell_was}
+use Rattle.sw_machine_name_facts.proofs.Cells.{new_cell}
+use Rattle.sw_order_facts.proofs.Cells.{added_made, cell_was}
 
 lies_in : (place : Place) (c : ℕ) → cell_in place ≡ Some c → LiesIn place c
 lies_in (Prop c i) k is = some_injective is
@@ -82,7 +83,7 @@ module _ (graph : Graph) (state : State) (colours after : Colours) (j : ℕ) (e 
       → ((c : ℕ) → slice_index_or after.cells c None ≡ None → c < length state.cells
       → slice_index_or colours.cells c None ≡ None)
       → ((c : ℕ) (cell : HeapCell) (actor : Actor) → made_cell (Execute e) ≡ Some c
-      → IsAdded e cell → keeper graph c cell ≡ Some actor
+      → new_cell (Execute e) ≡ Some cell → keeper graph c cell ≡ Some actor
       → IsTakers state j (Execute e) (OfActor actor))
       → AllTake graph state colours j (Execute e) after
   all_take coloured bare news place colour (inl has) =

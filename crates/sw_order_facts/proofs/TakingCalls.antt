@@ -76,4 +76,4 @@ module _ (graph : Graph) (states : ℕ → List (Option Regions)) (state : State
       (effect.Enter frame next) x acts next_cell after
       (joined_by_call graph state colours q number f point frame)
       (with_here q.job (begun_here (called_on point frame) q.job number) colours) refl unites
-      (joined (takes_along point frame) refl) (λ cell added. added)
+      (joined (takes_along point frame) refl) (λ cell added. let no : ⊥ = cc in no)

@@ -162,4 +162,4 @@ module _ (graph : Graph) (states : ℕ → List (Option Regions)) (state : State
       (let count = x.secure.memory.count in omega (arith, low, count)))
       ∙ united_bare graph state q.job (joined_in_cell graph state colours q number c cell) base after
       unites k is)
-      (λ k h actor made added is. keeps k actor made (ap (keeper graph k) (sym added) ∙ is))
+      (λ k h actor made added is. keeps k actor made (ap (keeper graph k) (some_injective added) ∙ is))

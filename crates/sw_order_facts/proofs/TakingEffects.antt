@@ -58,7 +58,7 @@ use Rattle.sw_machine_name_facts.specs.Given.{made_cell}
 use Rattle.sw_order_facts.specs.Knowing.{RunsOn, executor_of}
 use Rattle.sw_order_facts.specs.Taking.{AllTake, IsTakers, heir, maker, own, runner}
 use Rattle.sw_order_facts.proofs.Becoming.{handed_bare, handed_was, united_bare, united_was}
-use Rattle.sw_order_facts.proofs.Cells.{IsAdded}
+use Rattle.sw_machine_name_facts.proofs.Cells.{new_cell}
 use Rattle.sw_order_facts.proofs.Entering.{begins_on, entered_stays}
 use Rattle.sw_order_facts.proofs.Holding.{executing_runs, held_holders, stands_is, standing_runs}
 use Rattle.sw_order_facts.proofs.Taking.{all_take}
@@ -118,7 +118,7 @@ module _ (graph : Graph) (states : ℕ → List (Option Regions)) (state : State
   pub without_cell : (joined : List Colour) (base : Colours) → base.cells ≡ colours.cells
       → Unites q.job joined base after → ((c : Colour) → Contains joined c
       → IsTakers state q.job (Execute e) c)
-      → ((cell : HeapCell) → IsAdded e cell → ⊥)
+      → ((cell : HeapCell) → new_cell (Execute e) ≡ Some cell → ⊥)
       → AllTake graph state colours q.job (Execute e) after
   without_cell joined base same unites all none =
       all_take graph state colours after q.job e acts next_cell
@@ -138,7 +138,7 @@ module _ (graph : Graph) (states : ℕ → List (Option Regions)) (state : State
   pub values_take : Unites q.job (joined_by graph state colours q number f point e) colours after
       → joined_by graph state colours q number f point e
       ≡ values_of graph states state colours x.secure q job f function number point e
-      → ((cell : HeapCell) → IsAdded e cell → ⊥)
+      → ((cell : HeapCell) → new_cell (Execute e) ≡ Some cell → ⊥)
       → AllTake graph state colours q.job (Execute e) after
   values_take unites same none =
       without_cell (joined_by graph state colours q number f point e) colours refl unites
@@ -150,7 +150,7 @@ module _ (graph : Graph) (states : ℕ → List (Option Regions)) (state : State
 
   -- and where nothing becomes one, nothing has to be
   pub nothing_takes : (base : Colours) → base.cells ≡ colours.cells → Unites q.job [] base after
-      → ((cell : HeapCell) → IsAdded e cell → ⊥)
+      → ((cell : HeapCell) → new_cell (Execute e) ≡ Some cell → ⊥)
       → AllTake graph state colours q.job (Execute e) after
   nothing_takes base same unites none =
       without_cell [] base same unites (λ c has. absurd (none_in c has)) none

@@ -4,6 +4,7 @@ use Rattle.std.proofs.Common.{None, List, [], ◌∷◌, ◌++◌, length, Conta
 use Rattle.std.proofs.Common.{arith}
 use Rattle.std.specs.List.{slice_index_or}
 use Rattle.std.proofs.lemmas.List.{get_or_append_left}
+use Rattle.sw_list.proofs.ListLemmas.{some_injective}
 use Rattle.sw_list.proofs.Members.{first_or_later, none_in}
 use Rattle.sw_graph.specs.declared.function.Function.{Function}
 use Rattle.sw_graph.specs.declared.graph.Graph.{Graph}
@@ -164,5 +165,5 @@ module _ (graph : Graph) (states : ℕ → List (Option Regions)) (state : State
       (handed q.job made paints.given colours) made number f frame)
       (handed q.job made paints.given base) after paints.unites c is))
       (λ c h actor here added is.
-      let none : None ≡ Some actor = ap (keeper graph c) (sym added) ∙ is in
+      let none : None ≡ Some actor = ap (keeper graph c) (some_injective added) ∙ is in
       absurd (let no : ⊥ = cc in no))
