@@ -1,5 +1,6 @@
 -- Cells after an effect: each was there and has its keeper still, or is the one that is made.
 use Rattle.std.proofs.Common.{◌≡◌, ◌⊎◌, inl, inr, ℕ, Option, Some, None, List, length, refl, sym, ap, ◌∙◌}
+use Rattle.std.proofs.Common.{arith}
 use Rattle.std.specs.List.{slice_get}
 use Rattle.sw_graph.specs.declared.graph.Graph.{Graph}
 use Rattle.sw_value.specs.declared.cell.HeapCell.{HeapCell}
@@ -24,7 +25,7 @@ keeper_stays graph c slot v h = grind arith
 pub added_made : (e : Effect) (found : HeapCell) → new_cell (Execute e) ≡ Some found
     → (c : ℕ) × (made_cell (Execute e) ≡ Some c)
 added_made (effect.New r h c next) found is = (c, refl)
-added_made (effect.Spawn r frame made c next) found is = (c, refl)
+added_made (effect.Spawn r frame task c next) found is = (c, refl)
 added_made _ found is = cc
 
 pub cell_was : (graph : Graph) (state : State) (j : ℕ) (e : Effect) (c : ℕ) (found : HeapCell)

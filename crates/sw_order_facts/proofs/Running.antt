@@ -125,8 +125,8 @@ turns_stay e f = grind arith
 in_top_stays : (h : Frame → Frame) (job : Job) (f g : Frame)
     → ((k : Frame) → (h k).executor ≡ k.executor) → top_frame job ≡ Some f
     → top_frame (in_top h job) ≡ Some g → g.executor ≡ f.executor
-in_top_stays h job f g stays top now =
-    ap (λ (k : Frame). k.executor) (some_injective (sym now ∙ top_in_top h job f top)) ∙ stays f
+in_top_stays h job f g keeps top now =
+    ap (λ (k : Frame). k.executor) (some_injective (sym now ∙ top_in_top h job f top)) ∙ keeps f
 
 taken_stays : (r : ℕ) (v : Value) (f : Frame) → (take_result r v f).executor ≡ f.executor
 unfolding take_result set_register
@@ -227,7 +227,7 @@ module _ (graph : Graph) (states : ℕ → List (Option Regions)) (state : State
     lower_stays : (below : List Frame) → job.frames ≡ below ++ f ∷ [] → f.crossing ≡ false
         → (lower : Frame) → slice_get below (length below - 1) ≡ Some lower
         → lower.executor ≡ f.executor
-    lower_stays below are stays lower at =
+    lower_stays below are within lower at =
         let inside = slice_get_within below (length below - 1) lower at in
         let size = ap (λ (l : List Frame). length l) are in
         let count = length-append below (f ∷ []) in
@@ -255,7 +255,7 @@ module _ (graph : Graph) (states : ℕ → List (Option Regions)) (state : State
         let frames = subst (λ (u : Spot). u.depth < w.height u.job) (sym up)
         (let i : q.depth < w.height q.job = omega (arith, height) in i) in
         let same = s.coloured.sound.stacked.inherited p frames
-        (ap (λ (u : Spot). (w.shape u).crossing) up ∙ ap (λ (h : FrameShape). h.crossing) own ∙ stays)
+        (ap (λ (u : Spot). (w.shape u).crossing) up ∙ ap (λ (h : FrameShape). h.crossing) own ∙ within)
         in
         same_stand lower.executor f.executor (sym (ap (λ (h : FrameShape). h.executor) low)
         ∙ sym same ∙ ap (λ (u : Spot). (w.shape u).executor) up
@@ -277,9 +277,9 @@ module _ (graph : Graph) (states : ℕ → List (Option Regions)) (state : State
         r.is ∙ lower_stays split.0 split.1 r.stays r.lower r.at
     keeps_executor (effect.Wait on r next) gives g runs now = absurd (not_waiting on r next job runs)
     keeps_executor (effect.Rest r next) gives g runs now = absurd (not_resting r next job runs)
-    keeps_executor (effect.Spawn r frame made cell next) gives g runs now =
+    keeps_executor (effect.Spawn r frame task cell next) gives g runs now =
         in_top_stays (finish_instr r (value.Cell cell) next) job f g
-        (turns_stay (effect.New r _ cell next)) top now
+        (turns_stay (effect.Set r (value.Cell cell) next)) top now
     keeps_executor (effect.Halt kind at) gives g runs now =
         ap (λ (k : Frame). k.executor) (some_injective (sym now ∙ top))
     keeps_executor effect.Stuck gives g runs now =

@@ -48,9 +48,10 @@ use Rattle.sw_order_facts.proofs.Taking.{all_take}
 use Rattle.sw_order_facts.proofs.TakingEffects.{of_held}
 
 -- the colour that a cell is made with is the job's
-new_colour : (b : Bool) (own colour : Colour) → cond b (Some own) None ≡ Some colour → colour ≡ own
-new_colour true own colour is = sym (some_injective is)
-new_colour false own colour is = cc
+new_colour : (b : Bool) (mine colour : Colour) → cond b (Some mine) None ≡ Some colour
+    → colour ≡ mine
+new_colour true mine colour is = sym (some_injective is)
+new_colour false mine colour is = cc
 
 mapped : {X Y : Type 0} (g : X → Y) (o : Option X) (y : Y) → option_map g o ≡ Some y
     → (x : X) × (o ≡ Some x) × (y ≡ g x)
