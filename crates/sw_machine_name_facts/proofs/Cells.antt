@@ -32,13 +32,13 @@ pub data CellAfter (state : State) (act : Act) (c : ℕ) (h : HeapCell) : Type 0
   written : (slot : Slot) (v : Value) (next : ℕ) → act ≡ Execute (effect.Write c slot v next)
       → (old : HeapCell) → slice_get state.cells c ≡ Some old → with_slot slot v old ≡ h
       → CellAfter state act c h
-  made : c ≡ length state.cells → new_cell act ≡ Some h → CellAfter state act c h
+  added : c ≡ length state.cells → new_cell act ≡ Some h → CellAfter state act c h
 
 of_added : (state : State) (act : Act) (c : ℕ) (new h : HeapCell) → new_cell act ≡ Some new
     → slice_get (state.cells ++ new ∷ []) c ≡ Some h → CellAfter state act c h
 of_added state act c new h is at = elim (at_end state.cells new h c at) [
   | inl was ↦ stays was
-  | inr (here, same) ↦ made here (is ∙ ap Some (sym same))
+  | inr (here, same) ↦ added here (is ∙ ap Some (sym same))
 ]
 
 pub cell_after : (j : ℕ) (act : Act) (state : State) (c : ℕ) (h : HeapCell)

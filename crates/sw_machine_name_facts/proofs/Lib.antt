@@ -1,6 +1,7 @@
 pub mod Acts
 pub mod Cells
 pub mod Computed
+pub mod Contents
 pub mod Frames
 pub mod Going
 pub mod Items
@@ -10,6 +11,7 @@ pub mod Needs
 pub mod NewFrames
 pub mod Numbers
 pub mod Parts
+pub mod Places
 pub mod Registers
 pub mod Sources
 pub mod Taken

@@ -8,15 +8,11 @@ use Rattle.sw_graph.specs.declared.function.Function.{Function}
 use Rattle.sw_graph.specs.declared.graph.Graph.{Graph}
 use Rattle.sw_graph.specs.declared.instr.Operand.{Operand}
 use Rattle.sw_graph.specs.Points.{Point, point_in}
-use Rattle.sw_value.specs.declared.cell.HeapCell.{HeapCell}
-use Rattle.sw_value.specs.declared.cell.HeapCell.TheVariants as cell
 use Rattle.sw_value.specs.declared.cell.Slot.{Slot}
-use Rattle.sw_value.specs.declared.cell.Slot.TheVariants.{Content}
 use Rattle.sw_value.specs.declared.effect.Act.{Act}
 use Rattle.sw_value.specs.declared.frame.Frame.{Frame}
 use Rattle.sw_value.specs.declared.race.Access.{Access}
 use Rattle.sw_value.specs.declared.race.Place.{Place}
-use Rattle.sw_value.specs.declared.race.Place.TheVariants.{BoxOf}
 use Rattle.sw_value.specs.declared.state.State.{State}
 use Rattle.sw_value.specs.declared.value.Value.{Value}
 use Rattle.sw_value.specs.Access.{read_by, point_access, frame_access, job_access, next_access}
@@ -30,7 +26,6 @@ use Rattle.sw_machine_access_facts.specs.Footprint.{IsReadOf, Reads}
 use Rattle.sw_machine_access_facts.specs.Location.{location_at, IsLocation, content_of}
 use Rattle.sw_machine_access_facts.proofs.CellLemmas.{slot_place}
 use Rattle.sw_machine_access_facts.proofs.ContentLemmas.{slot_content}
-use Rattle.sw_machine_access_facts.proofs.LocationLemmas.{box_is}
 use Rattle.sw_machine_access_facts.proofs.NextLemmas.{access_at, access_made}
 use Rattle.sw_machine_let_facts.proofs.ActLemmas.{Executes, asked}
 use Rattle.sw_machine_let_facts.proofs.PlaceLemmas.{cases_place}
@@ -95,12 +90,3 @@ finds state frame o slot v = by (reference_at frame.regs o) refl where
   by None refers is = cc
   by (Some c) refers is =
       record { cell = c; refers = refers; has = slot_content c slot state ∙ is }
-
--- a box that has a value is a location
-pub box_located : (graph : Graph) (state : State) (c : ℕ) (v : Value)
-    → content_of state (BoxOf c) ≡ Some v → IsLocation graph state (BoxOf c)
-box_located graph state c v = by (slice_get state.cells c) refl where
-  by : (o : Option HeapCell) → slice_get state.cells c ≡ o
-      → option_and_then (slot_of Content) o ≡ Some v → IsLocation graph state (BoxOf c)
-  by (Some (cell.BoxOf w)) is has = box_is graph state c w is
-  by o is has = cc

@@ -1,7 +1,7 @@
 -- Where an effect takes the names from that it gives.
 use Rattle.std.proofs.Common.{◌≡◌, ◌⊎◌, inl, inr, ℕ, ◌+◌, ◌-◌, Bool, true, false, cond, Option, Some}
 use Rattle.std.proofs.Common.{None, List, [], ◌∷◌, length, nat_le, Contains, refl, ap, ◌∙◌, subst, sym}
-use Rattle.std.specs.Prelude.{option_and_then, Result, Ok, Err}
+use Rattle.std.specs.Prelude.{option_and_then, is_some, Result, Ok, Err}
 use Rattle.std.specs.Option.{option_map}
 use Rattle.std.specs.List.{slice_get}
 use Rattle.sw_list.proofs.Members.{one_in}
@@ -49,6 +49,7 @@ use Rattle.sw_value.specs.Value.{value_of, operand_value, reference_at, value_at
 use Rattle.sw_value.specs.Value.{field_of, payload_of, made, truth_of, tag_of}
 use Rattle.sw_machine_access_facts.specs.Location.{location_at, IsLocation, content_of}
 use Rattle.sw_machine_let_facts.proofs.ActLemmas.{Executes, asked}
+use Rattle.sw_machine_let_facts.proofs.VarLemmas.{box_located}
 use Rattle.sw_reach_facts.specs.Named.{values_in}
 use Rattle.sw_reach_facts.specs.Reached.{references}
 use Rattle.sw_machine_name_facts.specs.Given.{EffectGives, Source, in_register, in_cell, in_location}
@@ -57,7 +58,7 @@ use Rattle.sw_machine_name_facts.specs.Names.{RegistersName, JobNames, PlaceName
 use Rattle.sw_machine_name_facts.proofs.Acts.{acts, by_act}
 use Rattle.sw_machine_name_facts.proofs.Computed.{IsPlain, literal_plain, unary_plain, binary_plain}
 use Rattle.sw_machine_name_facts.proofs.Jobs.{begun_frame}
-use Rattle.sw_machine_name_facts.proofs.Loads.{reads_next, cases_location, Finds, finds, box_located}
+use Rattle.sw_machine_name_facts.proofs.Loads.{reads_next, cases_location, Finds, finds}
 use Rattle.sw_machine_name_facts.proofs.Needs.{of_needs, in_needs, of_and_then}
 use Rattle.sw_machine_name_facts.proofs.NewFrames.{NewFrame, point_frame}
 use Rattle.sw_machine_name_facts.proofs.Parts.{nothing_named, void_names, field_names, payload_names}
@@ -105,7 +106,7 @@ module _ (graph : Graph) (state : State) (j : ℕ) (x : Executes graph state j)
       read (BoxOf f.cell) at (there (BoxOf f.cell) v f.has named)
       (ap (point_access graph state j x.frame) here
       ∙ ap (λ o. option_map (read_by j at) (option_and_then (box_at state) o)) f.refers
-      ∙ ap (option_map (read_by j at)) (box_located graph state f.cell v f.has))
+      ∙ ap (option_map (read_by j at)) (box_located graph state f.cell (ap is_some f.has)))
 
   from_part : (at r : ℕ) (o : Operand) (i : ℕ) → x.point ≡ Middle (instr.LoadProp at r o i)
       → (v : Value) → Finds state x.frame o (Part i) v → Contains (references v) k
