@@ -27,6 +27,7 @@ use Rattle.sw_machine_name_facts.proofs.Acts.{acts}
 use Rattle.sw_machine_name_facts.proofs.Going.{executors_stand, jobs_name, results_name}
 use Rattle.sw_machine_name_facts.proofs.Jobs as jobs
 use Rattle.sw_machine_name_facts.proofs.Numbers.{cells_stay, made_within}
+use Rattle.sw_machine_name_facts.proofs.Places.{fixed_name, places_name}
 use Rattle.sw_machine_name_facts.proofs.Sources.{effect_sources}
 use Rattle.sw_machine_name_facts.proofs.Waking.{wake_result}
 use Rattle.sw_order_facts.specs.Informed.{IsInformed}
@@ -58,8 +59,8 @@ module _ (graph : Graph) (clean : IsClean graph) (supplied : IsSupplied graph) w
         jobs = jobs_name graph (reach graph items) j act is;
         results = results_name graph (reach graph items) j act is;
         executors = executors_stand graph (reach graph items) j act is;
-        places = places_fill graph clean.placed supplied items j act is;
-        fixed = fixed_fill graph clean.placed supplied items j act is;
+        places = places_name graph clean.placed supplied items j act is;
+        fixed = fixed_name graph clean.placed supplied items j act is;
         cell = made_within graph (reach graph items) j act is;
         job = made_there graph (reach graph items) j act is;
         cells_stay = cells_stay graph (reach graph items) j;

@@ -70,7 +70,7 @@ on_executor (executor.ActorOf c) a is = ap executor_of (some_injective is)
 on_executor (executor.Global g) a is = ap executor_of (some_injective is)
 
 -- a task that doesn't go away runs where its maker does
-stays_here : (mine other : Executor) (a : Actor) → actor_on other ≡ Some a
+pub stays_here : (mine other : Executor) (a : Actor) → actor_on other ≡ Some a
     → goes_away mine other ≡ false → mine ≡ other
 stays_here mine executor.Generic a on away = cc
 stays_here mine (executor.ActorOf c) a on away =
