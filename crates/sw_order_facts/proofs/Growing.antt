@@ -146,9 +146,6 @@ module _ (events : List Transition) (t : Transition) where
       (told_left t (executor.Global g) (not_generic (GlobalActor g)) leaves) reached
 
   -- ---- what is new
-  abbrev pub WasMade : ℕ → ℕ → Type 0
-  WasMade p k = MakesCell events p k ⊎ ((p ≡ length events) × (made_cell t.act ≡ Some k))
-
   pub makes_back : (p k : ℕ) → MakesCell (events ++ t ∷ []) p k
       → MakesCell events p k ⊎ ((p ≡ length events) × (made_cell t.act ≡ Some k))
   makes_back p k makes = elim (at_end events t makes.event p makes.is) [

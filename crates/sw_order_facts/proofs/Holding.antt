@@ -40,6 +40,7 @@ use Rattle.sw_secure_race_facts.proofs.Claims.{coloured_or_kept, same_colour, sa
 use Rattle.sw_secure_race_facts.proofs.Excluding.{claims}
 use Rattle.sw_order_facts.specs.Informed.{IsOfColour}
 use Rattle.sw_order_facts.specs.Knowing.{RunsOn, executor_of}
+use Rattle.sw_order_facts.specs.Taking.{IsHolders}
 
 -- ---- executors
 -- an executor on which a frame stands is the actor's
@@ -172,16 +173,10 @@ module _ (graph : Graph) (states : ℕ → List (Option Regions)) (state : State
       (sym (ap (λ (h : FrameShape). h.executor) (shape_at q job f function x.top x.is)) ∙ on))
 
   -- ---- whose a colour is that a job holds
-  -- the job's, or that of the actor on which it runs
-  abbrev pub IsHolders : ℕ → Colour → Type 0
-  IsHolders j colour = ((n : ℕ) × (colour ≡ OfJob j n))
-      ⊎ ((a : Actor) × RunsOn state j a × (colour ≡ OfActor a))
-
   pub held_holders : (q : Spot) (job : Job) (f : Frame) (function : Function) (point : Point)
       → StandsAt graph state q job f function point → (y : Element) (colour : Colour)
       → HoldsLive (view_at graph states state colours) q y colour
-      → ((n : ℕ) × (colour ≡ OfJob q.job n))
-      ⊎ ((a : Actor) × RunsOn state q.job a × (colour ≡ OfActor a))
+      → IsHolders state q.job colour
   held_holders q job f function point x y (OfJob j n) held =
       inl (n, ap (λ k. OfJob k n) (s.coloured.sound.owned.owned held))
   held_holders q job f function point x y (OfActor a) held =
@@ -202,16 +197,14 @@ module _ (graph : Graph) (states : ℕ → List (Option Regions)) (state : State
   -- the place that a job is about to access has a colour that the job holds
   pub accessed_holders : (j : ℕ) (access : Access) → next_access graph state j ≡ Some access
       → (colour : Colour) × IsOfColour graph state colours access.place colour
-      × (((n : ℕ) × (colour ≡ OfJob j n))
-      ⊎ ((a : Actor) × RunsOn state j a × (colour ≡ OfActor a)))
+      × IsHolders state j colour
   accessed_holders j access next =
       let at = access_at graph state j access next in
       elim (claims graph states state colours s j access at) [
         | inl (colour, has, (y, held)) ↦ (
           colour,
           inl has,
-          subst (λ k. ((n : ℕ) × (colour ≡ OfJob k n))
-              ⊎ ((a : Actor) × RunsOn state k a × (colour ≡ OfActor a))) at.is_job
+          subst (λ k. IsHolders state k colour) at.is_job
               (held_holders at.q at.job at.frame at.function _ at.stands y colour held),
         )
         | inr (actor, kept, on) ↦ (

@@ -25,7 +25,7 @@ use Rattle.sw_machine_name_facts.specs.Names.{PlaceNames}
 use Rattle.sw_order_facts.specs.Informed.{IsInformed, IsOfColour, IsOwnable}
 use Rattle.sw_order_facts.specs.Knowing.{ActorKeeps, HasMaking, JobKnows, OwnerKnows, RunsOn}
 use Rattle.sw_order_facts.specs.Knowing.{executor_of}
-use Rattle.sw_order_facts.specs.Taking.{IsTakers, heir, maker, own, runner}
+use Rattle.sw_order_facts.specs.Taking.{IsHolders, IsTakers, heir, maker, own, runner}
 use Rattle.sw_order_facts.proofs.Growing.{IsReached, cell_learns, end_reaches, heir_learns, job_grows}
 use Rattle.sw_order_facts.proofs.Growing.{job_reaches, keeps_grows, known_before, left_learns}
 use Rattle.sw_order_facts.proofs.Growing.{making_among, own_learns}
@@ -50,8 +50,7 @@ module _ (graph : Graph) (states : ℕ → List (Option Regions)) (state : State
     (s : IsSecure graph states state colours) (events : List Transition)
     (informed : IsInformed graph state colours events) (j : ℕ) where
   -- who holds a colour knows what its owner knows
-  pub holders_know : (colour : Colour) → ((n : ℕ) × (colour ≡ OfJob j n))
-      ⊎ ((a : Actor) × RunsOn state j a × (colour ≡ OfActor a)) → (p : ℕ)
+  pub holders_know : (colour : Colour) → IsHolders state j colour → (p : ℕ)
       → OwnerKnows state events colour p → JobKnows events j p
   holders_know colour (inl (n, is)) p knows = subst (λ c. OwnerKnows state events c p) is knows
   holders_know colour (inr (a, runs, is)) p knows =

@@ -61,25 +61,22 @@ cells_stay graph state colours j act cells (Global g) colour (inr (actor, kept, 
     stays (inr (actor, kept, is))
 
 -- ---- an effect
+-- a cell's colour after it: what it was, or a taker's
+abbrev pub CellTakes : State → Colours → ℕ → Effect → ℕ → Colour → Type 0
+CellTakes state colours j e c colour = (slice_index_or colours.cells c None ≡ Some colour)
+    ⊎ (((n : ℕ) × (slice_index_or colours.cells c None ≡ Some (OfJob j n))
+    × IsTakers state j (Execute e) colour)
+    ⊎ ((made_cell (Execute e) ≡ Some c) × IsTakers state j (Execute e) colour))
+
 module _ (graph : Graph) (state : State) (colours after : Colours) (j : ℕ) (e : Effect)
     (acts : act_of graph state j ≡ Some (Execute e))
     (next_cell : (c : ℕ) → made_cell (Execute e) ≡ Some c → c ≡ length state.cells) where
   stepped : step_of graph state j ≡ after_effect j e state
   stepped = step_by_act graph state j ∙ ap (λ o. after_acts j o state) acts
 
-  -- a cell's colour after it
-  abbrev pub CellTakes : ℕ → Colour → Type 0
-  CellTakes c colour = (slice_index_or colours.cells c None ≡ Some colour)
-      ⊎ (((n : ℕ) × (slice_index_or colours.cells c None ≡ Some (OfJob j n))
-      × IsTakers state j (Execute e) colour)
-      ⊎ ((made_cell (Execute e) ≡ Some c) × IsTakers state j (Execute e) colour))
-
   -- each cell's colour is a taker's, and what keeps the cell that is made is one
   pub all_take : ((c : ℕ) (colour : Colour) → slice_index_or after.cells c None ≡ Some colour
-      → (slice_index_or colours.cells c None ≡ Some colour)
-      ⊎ (((n : ℕ) × (slice_index_or colours.cells c None ≡ Some (OfJob j n))
-      × IsTakers state j (Execute e) colour)
-      ⊎ ((made_cell (Execute e) ≡ Some c) × IsTakers state j (Execute e) colour)))
+      → CellTakes state colours j e c colour)
       → ((c : ℕ) → slice_index_or after.cells c None ≡ None → c < length state.cells
       → slice_index_or colours.cells c None ≡ None)
       → ((c : ℕ) (cell : HeapCell) (actor : Actor) → made_cell (Execute e) ≡ Some c

@@ -44,7 +44,7 @@ use Rattle.sw_order_facts.specs.Knowing.{RunsOn}
 use Rattle.sw_order_facts.specs.Taking.{AllTake, IsTakers, heir, maker, own, runner}
 use Rattle.sw_order_facts.proofs.Becoming.{united_bare, united_was}
 use Rattle.sw_order_facts.proofs.Holding.{standing_runs}
-use Rattle.sw_order_facts.proofs.Taking.{all_take}
+use Rattle.sw_order_facts.proofs.Taking.{CellTakes, all_take}
 use Rattle.sw_order_facts.proofs.TakingEffects.{of_held}
 
 -- the colour that a cell is made with is the job's
@@ -134,9 +134,7 @@ module _ (graph : Graph) (states : ℕ → List (Option Regions)) (state : State
           (ap OfActor global.2)
 
   coloured : (k : ℕ) (colour : Colour) → slice_index_or after.cells k None ≡ Some colour
-      → (slice_index_or colours.cells k None ≡ Some colour)
-      ⊎ (((n : ℕ) × (slice_index_or colours.cells k None ≡ Some (OfJob q.job n)) × Taker colour)
-      ⊎ ((made_cell (Execute (effect.New r cell c next)) ≡ Some k) × Taker colour))
+      → CellTakes state colours q.job (effect.New r cell c next) k colour
   coloured k colour is =
       elim (united_was graph state q.job (joined_in_cell graph state colours q number c cell) base
       after unites k colour is) [

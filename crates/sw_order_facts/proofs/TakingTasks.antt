@@ -35,7 +35,7 @@ use Rattle.sw_secure_job_facts.proofs.Tasks as tasks
 use Rattle.sw_machine_name_facts.specs.Given.{made_cell}
 use Rattle.sw_order_facts.specs.Taking.{AllTake, IsTakers, heir, own, runner}
 use Rattle.sw_order_facts.proofs.Becoming.{handed_bare, handed_was, united_bare, united_was}
-use Rattle.sw_order_facts.proofs.Taking.{all_take}
+use Rattle.sw_order_facts.proofs.Taking.{CellTakes, all_take}
 use Rattle.sw_order_facts.proofs.TakingEffects.{on_executor, runs_where, stays_here}
 
 module _ (graph : Graph) (states : ℕ → List (Option Regions)) (state : State) (colours : Colours)
@@ -129,9 +129,7 @@ module _ (graph : Graph) (states : ℕ → List (Option Regions)) (state : State
   ]
 
   coloured : (c : ℕ) (colour : Colour) → slice_index_or after.cells c None ≡ Some colour
-      → (slice_index_or colours.cells c None ≡ Some colour)
-      ⊎ (((n : ℕ) × (slice_index_or colours.cells c None ≡ Some (OfJob q.job n)) × Taker colour)
-      ⊎ ((made_cell (Execute task) ≡ Some c) × Taker colour))
+      → CellTakes state colours q.job task c colour
   coloured c colour is =
       elim (united_was graph state made (joined_by_task state
       (handed q.job made paints.given colours) made number f frame)

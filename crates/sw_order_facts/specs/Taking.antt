@@ -12,8 +12,13 @@ use Rattle.sw_machine_name_facts.specs.Given.{LiesIn, made_cell}
 use Rattle.sw_order_facts.specs.Informed.{IsOfColour}
 use Rattle.sw_order_facts.specs.Knowing.{RunsOn}
 
--- the colour is the job's, that of the job that it makes, that of the actor on which it runs, or
--- that of the actor that it makes
+-- a job holds the colour: it is the job's, or that of the actor on which it runs
+abbrev pub IsHolders : State → ℕ → Colour → Type 0
+IsHolders state j colour = ((n : ℕ) × (colour ≡ OfJob j n))
+    ⊎ ((actor : Actor) × RunsOn state j actor × (colour ≡ OfActor actor))
+
+-- what the job hands over goes to it: it is the job's, that of the job that it makes, that of the
+-- actor on which it runs, or that of the actor that it makes
 pub data IsTakers (state : State) (j : ℕ) (act : Act) (colour : Colour) : Type 0 where
   own : (n : ℕ) → colour ≡ OfJob j n → IsTakers state j act colour
   heir : (i n : ℕ) → made_by act ≡ Some i → colour ≡ OfJob i n → IsTakers state j act colour
