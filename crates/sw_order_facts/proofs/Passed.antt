@@ -24,6 +24,7 @@ use Rattle.sw_sound_facts.proofs.Chosen.{each_annotated, states_of}
 use Rattle.sw_machine_name_facts.specs.Given.{ActGives, Source}
 use Rattle.sw_machine_name_facts.specs.Names.{ResultNames}
 use Rattle.sw_machine_name_facts.proofs.Acts.{acts}
+use Rattle.sw_machine_name_facts.proofs.Alone.{given_alone}
 use Rattle.sw_machine_name_facts.proofs.Going.{executors_stand, jobs_name, results_name}
 use Rattle.sw_machine_name_facts.proofs.Jobs as jobs
 use Rattle.sw_machine_name_facts.proofs.Numbers.{cells_stay, made_within}
@@ -66,7 +67,7 @@ module _ (graph : Graph) (clean : IsClean graph) (supplied : IsSupplied graph) w
         cells_stay = cells_stay graph (reach graph items) j;
         jobs_stay = jobs_stay graph (reach graph items) j act is;
         jobs_come = jobs.jobs_stay graph (reach graph items) j act is;
-        alone = first_job_alone graph clean.placed items j;
+        alone = given_alone graph clean.placed items j;
       }
 
   module _ (states : ℕ → List (Option Regions)) (annotated : AreAnnotated graph states)
