@@ -1,4 +1,5 @@
 pub mod Acts
+pub mod Alone
 pub mod Cells
 pub mod Computed
 pub mod Contents
@@ -14,5 +15,6 @@ pub mod Parts
 pub mod Places
 pub mod Registers
 pub mod Sources
+pub mod Starting
 pub mod Taken
 pub mod Waking

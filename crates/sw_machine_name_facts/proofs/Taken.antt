@@ -57,7 +57,6 @@ use Rattle.sw_machine_name_facts.specs.Names.{RegistersName, JobNames, PlaceName
 use Rattle.sw_machine_name_facts.proofs.Acts.{acts, by_act}
 use Rattle.sw_machine_name_facts.proofs.Computed.{IsPlain, literal_plain, unary_plain, binary_plain}
 use Rattle.sw_machine_name_facts.proofs.Jobs.{begun_frame}
-use Rattle.sw_machine_name_facts.proofs.Loads.{reads_next, cases_location, Finds, finds, box_located}
 use Rattle.sw_machine_name_facts.proofs.Needs.{of_needs, in_needs, of_and_then}
 use Rattle.sw_machine_name_facts.proofs.NewFrames.{NewFrame, point_frame}
 use Rattle.sw_machine_name_facts.proofs.Parts.{nothing_named, void_names, field_names, payload_names}
