@@ -15,7 +15,7 @@ use Rattle.sw_value.specs.Cell.{with_slot}
 use Rattle.sw_value.specs.Reach.{after_effect}
 use Rattle.sw_secure_facts.specs.Memory.{keeper}
 use Rattle.sw_machine_name_facts.specs.Given.{made_cell}
-use Rattle.sw_machine_name_facts.proofs.Cells.{CellAfter, cell_after, made, new_cell, stays, written}
+use Rattle.sw_machine_name_facts.proofs.Cells.{CellAfter, added, cell_after, new_cell, stays, written}
 
 keeper_stays : (graph : Graph) (c : ℕ) (slot : Slot) (v : Value) (h : HeapCell)
     → keeper graph c (with_slot slot v h) ≡ keeper graph c h
@@ -40,4 +40,4 @@ cell_was graph state j e c found at = by (cell_after j (Execute e) state c found
   by (stays old) = inl (found, old, refl)
   by (written slot v next is old was same) =
       inl (old, was, ap (keeper graph c) (sym same) ∙ keeper_stays graph c slot v old)
-  by (made end added) = inr (end, added)
+  by (added end is) = inr (end, is)
