@@ -1,9 +1,8 @@
 -- What is known after one more event: all that was, and to whom the event tells it also what its job
 -- knew.
-use Rattle.std.proofs.Common.{◌≡◌, ◌≢◌, ◌<◌, ◌⊎◌, inl, inr, ℕ, IsTrue, Option, Some, List, [], ◌∷◌, ◌++◌}
+use Rattle.std.proofs.Common.{◌≡◌, ◌≢◌, ◌<◌, ◌⊎◌, inl, inr, ℕ, IsTrue, Some, List, [], ◌∷◌, ◌++◌}
 use Rattle.std.proofs.Common.{Contains, length, refl, sym, subst, ap, ◌∙◌}
-use Rattle.std.specs.List.{slice_get}
-use Rattle.sw_list.proofs.ListLemmas.{at_seam, some_injective, slice_get_before}
+use Rattle.sw_list.proofs.ListLemmas.{at_seam, slice_get_before}
 use Rattle.sw_value.specs.declared.executor.Executor.{Executor}
 use Rattle.sw_value.specs.declared.executor.Executor.TheVariants as executor
 use Rattle.sw_value.specs.Transition.{Transition}

@@ -1,6 +1,6 @@
 -- Which job runs on an actor, and whose the place is that a job is about to access: the job's, or
 -- that of the actor on which it runs.
-use Rattle.std.proofs.Common.{◌≡◌, ◌⊎◌, inl, inr, ℕ, ◌-◌, Bool, true, false, cond, IsTrue, Option, Some}
+use Rattle.std.proofs.Common.{◌≡◌, inl, inr, ℕ, ◌-◌, Bool, true, false, cond, Option, Some}
 use Rattle.std.proofs.Common.{None, List, length, refl, sym, subst, ap, ◌∙◌, arith}
 use Rattle.std.specs.Prelude.{option_and_then}
 use Rattle.std.specs.Option.{option_map, option_map_or}
@@ -22,7 +22,6 @@ use Rattle.sw_value.specs.Job.{is_running, is_running_status, top_frame}
 use Rattle.sw_value.specs.Transition.{executor_in, runs_at}
 use Rattle.sw_partition.specs.Regions.{Regions}
 use Rattle.sw_owner_facts.specs.Colours.{Actor, Colour, GlobalActor, Instance, OfActor, OfJob, On}
-use Rattle.sw_owner_facts.specs.Colours as owned
 use Rattle.sw_owner_facts.specs.View.{Element, FrameShape, HoldsLive, View, Frame as Spot}
 use Rattle.sw_owner_facts.specs.View as view
 use Rattle.sw_view_facts.specs.Standing.{StandsAt}
@@ -31,11 +30,9 @@ use Rattle.sw_view_facts.specs.Views.{Colours, frame_under, function_of, shape_b
 use Rattle.sw_view_facts.specs.Views.{stands_on, view_at}
 use Rattle.sw_view_facts.proofs.StandingLemmas.{top_of}
 use Rattle.sw_view_facts.proofs.TopLemmas.{frame_was, height_is}
-use Rattle.sw_machine_kind_facts.proofs.LawLemmas.{status_is}
 use Rattle.sw_secure_facts.specs.Secure.{IsSecure}
 use Rattle.sw_secure_job_facts.proofs.Frames.{function_at}
-use Rattle.sw_secure_race_facts.proofs.Accessing.{AccessAt, access_at}
-use Rattle.sw_secure_race_facts.specs.Places.{HasColour, IsKept}
+use Rattle.sw_secure_race_facts.proofs.Accessing.{access_at}
 use Rattle.sw_secure_race_facts.proofs.Claims.{coloured_or_kept, same_colour, same_keeper}
 use Rattle.sw_secure_race_facts.proofs.Excluding.{claims}
 use Rattle.sw_order_facts.specs.Informed.{IsOfColour}

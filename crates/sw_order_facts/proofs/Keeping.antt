@@ -1,5 +1,5 @@
 -- Each step keeps what is known where it has to be known.
-use Rattle.std.proofs.Common.{◌≡◌, ◌≢◌, ◌⊎◌, ◌<◌, inl, inr, ℕ, ◌-◌, Bool, true, false, IsTrue, Option, Some}
+use Rattle.std.proofs.Common.{◌≡◌, ◌≢◌, ◌⊎◌, ◌<◌, inl, inr, ℕ, ◌-◌, IsTrue, Option, Some}
 use Rattle.std.proofs.Common.{None, List, [], ◌∷◌, ◌++◌, Contains, length, refl, sym, subst, ap, ◌∙◌, arith}
 use Rattle.std.specs.Prelude.{is_some, option_and_then}
 use Rattle.std.specs.Option.{option_map}
@@ -25,7 +25,7 @@ use Rattle.sw_value.specs.State.{result_of}
 use Rattle.sw_value.specs.Transition.{Describes, Transition, made_by, transition_by, transition_of}
 use Rattle.sw_value.proofs.TransitionLemmas.{transition_describes}
 use Rattle.sw_partition.specs.Regions.{Regions}
-use Rattle.sw_owner_facts.specs.Colours.{Actor, Colour, GlobalActor, Instance, OfActor, OfJob}
+use Rattle.sw_owner_facts.specs.Colours.{Actor, Colour, GlobalActor, Instance, OfJob}
 use Rattle.sw_view_facts.specs.Views.{Colours}
 use Rattle.sw_before.specs.Channels.{OfExecutor, told_by}
 use Rattle.sw_before.specs.Channels as channel
@@ -34,10 +34,9 @@ use Rattle.sw_before.proofs.BeforeLemmas.{get_within}
 use Rattle.sw_before.proofs.ChannelLemmas.{Tells, executor_is, tells, tells_end, tells_left, tells_made}
 use Rattle.sw_before.proofs.ChannelLemmas.{tells_own}
 use Rattle.sw_before.proofs.KnownLemmas.{at_end}
-use Rattle.sw_secure_facts.specs.Memory.{keeper}
 use Rattle.sw_secure_facts.specs.Secure.{IsSecure}
-use Rattle.sw_secure_race_facts.specs.Places.{HasColour, IsKept, cell_in}
-use Rattle.sw_machine_access_facts.specs.Location.{IsLocation, content_of, location_at}
+use Rattle.sw_secure_race_facts.specs.Places.{cell_in}
+use Rattle.sw_machine_access_facts.specs.Location.{IsLocation, content_of}
 use Rattle.sw_machine_access_facts.proofs.AccessLemmas.{access_location}
 use Rattle.sw_machine_name_facts.specs.Given.{ActGives, Fills, IsStepped, LiesIn, by_access, by_first}
 use Rattle.sw_machine_name_facts.specs.Given.{by_maker, made_cell}
@@ -51,7 +50,7 @@ use Rattle.sw_order_facts.proofs.Growing.{IsReached, cell_learns, end_grows, end
 use Rattle.sw_order_facts.proofs.Growing.{executor_reaches, heir_learns, job_grows, job_reaches}
 use Rattle.sw_order_facts.proofs.Growing.{keeps_back, known_before, leads_grows, makes_back, makes_now}
 use Rattle.sw_order_facts.proofs.Growing.{making_grows, not_generic, own_learns}
-use Rattle.sw_order_facts.proofs.Holding.{RunsAt, one_runs, runs_there}
+use Rattle.sw_order_facts.proofs.Holding.{one_runs, runs_there}
 use Rattle.sw_order_facts.proofs.Learning.{accessed_takers, given_known, owner_grows, some_access}
 use Rattle.sw_order_facts.proofs.Learning.{stepped_learns, takers_learn}
 use Rattle.sw_order_facts.proofs.Running.{left_ran, other_ran, own_ran}
@@ -431,9 +430,9 @@ module _ (graph : Graph) (states : ℕ → List (Option Regions)) (state : State
       mine runs (inr (reached, how)) = own_learns events t p reached
       mine runs (inl old) = elim (own_ran graph states state colours s j act steps.acts
           (executor_of actor) runs) [
-        | inl ran ↦ job_grows events t j p (informed.runs j p actor ran old)
-        | inr enters ↦ entered p actor runs enters old
-      ]
+            | inl ran ↦ job_grows events t j p (informed.runs j p actor ran old)
+            | inr enters ↦ entered p actor runs enters old
+          ]
 
   pub still_informed : IsInformed graph (step_of graph state j) after
       (events ++ transition_by graph state j act ∷ [])

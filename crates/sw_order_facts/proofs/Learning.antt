@@ -1,6 +1,6 @@
 -- What is known after a step by the job that steps, by those that take from it, and by owners.
-use Rattle.std.proofs.Common.{◌≡◌, ◌≢◌, ◌⊎◌, ◌<◌, inl, inr, ℕ, false, IsTrue, Option, Some, None, List}
-use Rattle.std.proofs.Common.{[], ◌∷◌, ◌++◌, length, refl, sym, subst, ap, ◌∙◌}
+use Rattle.std.proofs.Common.{◌≡◌, ◌<◌, inl, inr, ℕ, Option, Some, None, List}
+use Rattle.std.proofs.Common.{[], ◌∷◌, ◌++◌, length, refl, sym, subst, ◌∙◌}
 use Rattle.std.specs.Prelude.{IsSomeAnd}
 use Rattle.std.proofs.lemmas.Bool.{cases_eq}
 use Rattle.sw_graph.specs.declared.graph.Graph.{Graph}
@@ -13,7 +13,7 @@ use Rattle.sw_value.specs.Access.{next_access}
 use Rattle.sw_value.specs.Reach.{step_of}
 use Rattle.sw_value.specs.Transition.{Transition, transition_by}
 use Rattle.sw_partition.specs.Regions.{Regions}
-use Rattle.sw_owner_facts.specs.Colours.{Actor, Colour, Instance, OfActor, OfJob}
+use Rattle.sw_owner_facts.specs.Colours.{Colour, OfActor, OfJob}
 use Rattle.sw_view_facts.specs.Views.{Colours}
 use Rattle.sw_before.specs.Channels as channel
 use Rattle.sw_secure_facts.specs.Secure.{IsSecure}
@@ -23,7 +23,7 @@ use Rattle.sw_machine_name_facts.specs.Given.{ActGives, IsStepped, Source, in_ce
 use Rattle.sw_machine_name_facts.specs.Given.{in_location, in_register}
 use Rattle.sw_machine_name_facts.specs.Names.{PlaceNames}
 use Rattle.sw_order_facts.specs.Informed.{IsInformed, IsOfColour, IsOwnable}
-use Rattle.sw_order_facts.specs.Knowing.{ActorKeeps, HasMaking, JobKnows, OwnerKnows, RunsOn}
+use Rattle.sw_order_facts.specs.Knowing.{HasMaking, JobKnows, OwnerKnows, RunsOn}
 use Rattle.sw_order_facts.specs.Knowing.{executor_of}
 use Rattle.sw_order_facts.specs.Taking.{IsHolders, IsTakers, heir, maker, own, runner}
 use Rattle.sw_order_facts.proofs.Growing.{IsReached, cell_learns, end_reaches, heir_learns, job_grows}

@@ -1,8 +1,7 @@
 -- The access of a step comes after each earlier access that it conflicts with: the job that makes it
 -- knows them.
-use Rattle.std.proofs.Common.{◌≡◌, ◌⊎◌, ◌<◌, inl, inr, ℕ, Option, Some, List, [], ◌∷◌, ◌++◌, length}
-use Rattle.std.proofs.Common.{refl, sym, subst, ap, ◌∙◌, arith}
-use Rattle.std.proofs.lemmas.Option.{slice_get_within}
+use Rattle.std.proofs.Common.{◌≡◌, ◌<◌, inl, inr, ℕ, Option, Some, List, [], ◌∷◌, ◌++◌, length}
+use Rattle.std.proofs.Common.{sym, subst, ap, ◌∙◌, arith}
 use Rattle.sw_graph.specs.declared.graph.Graph.{Graph}
 use Rattle.sw_value.specs.declared.effect.Act.{Act}
 use Rattle.sw_value.specs.declared.race.Access.{Access}
@@ -12,7 +11,7 @@ use Rattle.sw_value.specs.Transition.{Transition, transition_by}
 use Rattle.sw_partition.specs.Regions.{Regions}
 use Rattle.sw_view_facts.specs.Views.{Colours}
 use Rattle.sw_before.specs.Before.{Before}
-use Rattle.sw_before.specs.Unordered.{AccessesAt, AreOrdered, IsUnordered}
+use Rattle.sw_before.specs.Unordered.{AccessesAt, AreOrdered}
 use Rattle.sw_before.proofs.BeforeLemmas.{before_more, get_within}
 use Rattle.sw_before.proofs.KnownLemmas.{at_end}
 use Rattle.sw_secure_facts.specs.Secure.{IsSecure}

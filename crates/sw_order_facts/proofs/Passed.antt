@@ -1,8 +1,6 @@
 -- Of each graph that is clean, supplied and without region breaches: each state that items lead to
 -- knows its past, and conflicting accesses are ordered.
-use Rattle.std.proofs.Common.{◌≡◌, ◌⊎◌, ◌<◌, inl, inr, ℕ, Option, Some, None, List, length, refl, sym, ap, ◌∙◌}
-use Rattle.std.specs.Prelude.{option_and_then}
-use Rattle.std.specs.List.{slice_get}
+use Rattle.std.proofs.Common.{◌≡◌, ◌⊎◌, inl, inr, ℕ, Option, Some, List, refl}
 use Rattle.std.proofs.lemmas.Option.{slice_get_within}
 use Rattle.sw_graph.specs.declared.graph.Graph.{Graph}
 use Rattle.sw_graph.specs.Clean.{IsClean}

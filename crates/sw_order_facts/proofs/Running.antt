@@ -1,6 +1,6 @@
 -- Which jobs run on an executor after a step: those that did and haven't left it, and the job that is
 -- dispatched onto it.
-use Rattle.std.proofs.Common.{◌≡◌, ◌≢◌, ◌⊎◌, ◌<◌, inl, inr, ◌≤◌, ℕ, zero, suc, ◌-◌, Bool, true, false, cond, Option, Some}
+use Rattle.std.proofs.Common.{◌≡◌, ◌≢◌, ◌⊎◌, ◌<◌, inl, inr, ◌≤◌, ℕ, suc, ◌-◌, Bool, true, false, cond, Option, Some}
 use Rattle.std.proofs.Common.{None, List, [], ◌∷◌, ◌++◌, length, get_or, refl, sym, subst, ap, ◌∙◌}
 use Rattle.std.proofs.Common.{arith, length-append}
 use Rattle.std.specs.Prelude.{option_and_then, ◌==◌}
@@ -8,7 +8,7 @@ use Rattle.std.specs.Option.{option_map}
 use Rattle.std.specs.List.{slice_get}
 use Rattle.std.proofs.lemmas.Bool.{eq-eqb}
 use Rattle.std.proofs.lemmas.Option.{slice_get_within, slice_get-get_or}
-use Rattle.sw_list.proofs.ListLemmas.{slice_get_before, slice_get_first, some_injective}
+use Rattle.sw_list.proofs.ListLemmas.{slice_get_before, some_injective}
 use Rattle.sw_graph.specs.declared.function.Function.{Function}
 use Rattle.sw_graph.specs.declared.graph.Graph.{Graph}
 use Rattle.sw_graph.specs.Points.{Point}
@@ -22,22 +22,21 @@ use Rattle.sw_value.specs.declared.frame.Frame.{Frame}
 use Rattle.sw_value.specs.declared.frame.TheConstants.{NO_REGISTER}
 use Rattle.sw_value.specs.declared.job.Job.{Job}
 use Rattle.sw_value.specs.declared.job.Status.{Status}
-use Rattle.sw_value.specs.declared.job.Status.TheVariants.{Ready, Running}
+use Rattle.sw_value.specs.declared.job.Status.TheVariants.{Ready}
 use Rattle.sw_value.specs.declared.state.State.{State}
 use Rattle.sw_value.specs.declared.value.Value.{Value}
 use Rattle.sw_value.specs.declared.value.Value.TheVariants as value
 use Rattle.sw_value.specs.Act.{act_of}
 use Rattle.sw_value.specs.Effect.{point_effect}
 use Rattle.sw_value.specs.Frame.{finish_instr, go_on, set_field, set_register, take_result}
-use Rattle.sw_value.specs.Job.{dispatch, enter, in_top, is_running, is_running_status, leave, new_job}
+use Rattle.sw_value.specs.Job.{dispatch, enter, in_top, is_running, is_running_status, new_job}
 use Rattle.sw_value.specs.Job.{rest, return_to, top_frame, wait, wake}
 use Rattle.sw_value.specs.Lists.{changed_at}
-use Rattle.sw_value.specs.Reach.{after_act, after_effect, step_of}
-use Rattle.sw_value.specs.State.{add_cell, add_job, halt, in_cell, in_job, set_global}
+use Rattle.sw_value.specs.Reach.{after_act, step_of}
 use Rattle.sw_value.specs.Transition.{Describes, Transition, executor_of_top, gained, made_by}
 use Rattle.sw_value.specs.Transition.{runs_at, transition_by, transition_of}
 use Rattle.sw_value.proofs.JobLemmas.{leave_some}
-use Rattle.sw_value.proofs.ListLemmas.{changed_at_found, changed_at_none, length-changed_at}
+use Rattle.sw_value.proofs.ListLemmas.{changed_at_found, length-changed_at}
 use Rattle.sw_value.proofs.ListLemmas.{slice_get_end}
 use Rattle.sw_value.proofs.ReachLemmas.{after_acts, step_by_act}
 use Rattle.sw_value.proofs.TransitionLemmas.{transition_describes}
@@ -45,11 +44,9 @@ use Rattle.sw_late_facts.proofs.Waiting.{others_stay}
 use Rattle.sw_machine_name_facts.proofs.Jobs.{JobAfter, begins, changed, changes, job_after, jobs_of}
 use Rattle.sw_machine_name_facts.proofs.Jobs.{made_jobs, stays}
 use Rattle.sw_partition.specs.Regions.{Regions}
-use Rattle.sw_owner_facts.specs.Colours as owned
-use Rattle.sw_owner_facts.specs.View.{FrameShape, View, above, Frame as Spot}
+use Rattle.sw_owner_facts.specs.View.{FrameShape, above, Frame as Spot}
 use Rattle.sw_view_facts.specs.Effects.{turn_of}
 use Rattle.sw_view_facts.specs.Standing.{StandsAt}
-use Rattle.sw_view_facts.specs.Steps.{TopAt}
 use Rattle.sw_view_facts.specs.Views.{Colours, frame_at, frame_under, function_of, shape_by, shape_with}
 use Rattle.sw_view_facts.specs.Views.{stands_on, view_at}
 use Rattle.sw_view_facts.proofs.TopLemmas.{ends_with, frame_was, height_is}

@@ -1,6 +1,6 @@
 -- Before any item nothing has to be known.
-use Rattle.std.proofs.Common.{◌≡◌, ◌<◌, ◌⊎◌, inl, inr, ℕ, zero, suc, Bool, true, false, Option, Some, None}
-use Rattle.std.proofs.Common.{List, [], ◌∷◌, Contains, length, replicate, refl, sym, subst, ap, ◌∙◌}
+use Rattle.std.proofs.Common.{◌≡◌, inl, inr, ℕ, zero, suc, true, false, Option, Some, None}
+use Rattle.std.proofs.Common.{List, [], length, replicate, sym, ap, ◌∙◌}
 use Rattle.std.specs.Prelude.{option_and_then}
 use Rattle.std.specs.List.{slice_get, slice_index_or}
 use Rattle.sw_list.proofs.ListLemmas.{some_injective}
@@ -13,10 +13,8 @@ use Rattle.sw_value.specs.declared.executor.Executor.{Executor}
 use Rattle.sw_value.specs.declared.executor.Executor.TheVariants as executor
 use Rattle.sw_value.specs.declared.frame.Frame.{Frame}
 use Rattle.sw_value.specs.declared.job.Job.{Job}
-use Rattle.sw_value.specs.declared.race.Access.{Access}
 use Rattle.sw_value.specs.declared.race.Place.{Place}
 use Rattle.sw_value.specs.declared.race.Place.TheVariants.{Prop, Global, BoxOf}
-use Rattle.sw_value.specs.declared.state.State.{State}
 use Rattle.sw_value.specs.declared.value.Value.{Value}
 use Rattle.sw_value.specs.Executor.{executor_of}
 use Rattle.sw_value.specs.Job.{is_running, new_job}
@@ -24,16 +22,16 @@ use Rattle.sw_value.specs.Start.{start_frames, start_of}
 use Rattle.sw_value.specs.State.{result_of}
 use Rattle.sw_value.specs.Transition.{runs_at}
 use Rattle.sw_value.specs.Value.{registers, value_at}
-use Rattle.sw_owner_facts.specs.Colours.{Actor, Colour, OfActor, OfJob}
+use Rattle.sw_owner_facts.specs.Colours.{Colour, OfJob}
 use Rattle.sw_view_facts.specs.Views.{Colours}
 use Rattle.sw_secure_job_facts.proofs.Starts.{IsStart, none_given, start_frame}
 use Rattle.sw_machine_access_facts.specs.Location.{content_of}
-use Rattle.sw_machine_name_facts.specs.Names.{CapturesName, FixedNames, JobNames, PlaceNames}
-use Rattle.sw_machine_name_facts.specs.Names.{ResultNames, StandsOn, in_capture, in_part}
+use Rattle.sw_machine_name_facts.specs.Names.{CapturesName, FixedNames, JobNames}
+use Rattle.sw_machine_name_facts.specs.Names.{StandsOn, in_capture, in_part}
 use Rattle.sw_order_facts.specs.Informed.{IsInformed, IsOfColour}
 use Rattle.sw_order_facts.specs.Knowing.{RunsOn}
 use Rattle.sw_order_facts.specs.Knowing as knowing
-use Rattle.sw_order_facts.proofs.Holding.{RunsAt, runs_there}
+use Rattle.sw_order_facts.proofs.Holding.{runs_there}
 
 -- no global has a value
 none_there : (n g : ℕ) (v : Value) → value_at (replicate n None) g ≡ Some v → ⊥

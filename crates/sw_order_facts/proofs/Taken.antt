@@ -19,8 +19,8 @@ use Rattle.sw_partition.specs.Regions.{Regions}
 use Rattle.sw_owner_facts.specs.Colours.{Colour, OfJob}
 use Rattle.sw_owner_facts.specs.View.{Frame as Spot}
 use Rattle.sw_view_facts.specs.Views.{Colours}
-use Rattle.sw_secure_facts.specs.Executing.{Executing, MayJoin, StaysSecure}
-use Rattle.sw_secure_facts.specs.Painting.{MayUnite, Paints, PaintsTask, Unites, joined_by, made_by}
+use Rattle.sw_secure_facts.specs.Executing.{Executing}
+use Rattle.sw_secure_facts.specs.Painting.{MayUnite, PaintsTask, Unites, joined_by, made_by}
 use Rattle.sw_secure_facts.specs.Painting.{without_here}
 use Rattle.sw_secure_facts.specs.Secure.{IsSecure}
 use Rattle.sw_secure_facts.proofs.Bounds.{some_bound}

@@ -1,43 +1,26 @@
 -- Whose a place is after a step: whose it was, or a taker's. For each act of a secure state.
-use Rattle.std.proofs.Common.{◌≡◌, ◌≢◌, ◌⊎◌, ◌<◌, inl, inr, ℕ, Bool, true, false, cond, not, Option, Some}
-use Rattle.std.proofs.Common.{None, List, [], ◌∷◌, ◌++◌, length, Contains, refl, sym, subst, ap, ◌∙◌}
-use Rattle.std.proofs.Common.{arith}
-use Rattle.std.specs.Prelude.{◌&&◌, is_some}
+use Rattle.std.proofs.Common.{◌≡◌, ◌⊎◌, ◌<◌, inl, inr, ℕ, Some}
+use Rattle.std.proofs.Common.{None, List, length, refl, sym, subst, ap, ◌∙◌}
 use Rattle.std.specs.List.{slice_get, slice_index_or}
-use Rattle.std.proofs.lemmas.List.Elements.{Contains-append_cases}
 use Rattle.std.proofs.lemmas.Option.{slice_get_within}
 use Rattle.sw_list.proofs.ListLemmas.{some_injective}
-use Rattle.sw_list.proofs.Members.{first_or_later, none_in}
-use Rattle.sw_graph.specs.declared.function.Function.{Function}
 use Rattle.sw_graph.specs.declared.graph.Graph.{Graph}
-use Rattle.sw_graph.specs.Points.{Point}
 use Rattle.sw_value.specs.declared.cell.HeapCell.{HeapCell}
 use Rattle.sw_value.specs.declared.effect.Act.{Act}
-use Rattle.sw_value.specs.declared.effect.Act.TheVariants.{Dispatch, Wake, Execute}
+use Rattle.sw_value.specs.declared.effect.Act.TheVariants.{Execute}
 use Rattle.sw_value.specs.declared.effect.Effect.{Effect}
-use Rattle.sw_value.specs.declared.effect.Effect.TheVariants as effect
-use Rattle.sw_value.specs.declared.executor.Executor.{Executor}
-use Rattle.sw_value.specs.declared.frame.Frame.{Frame}
-use Rattle.sw_value.specs.declared.job.Job.{Job}
 use Rattle.sw_value.specs.declared.race.Place.{Place}
 use Rattle.sw_value.specs.declared.race.Place.TheVariants.{Prop, Global, BoxOf}
 use Rattle.sw_value.specs.declared.state.State.{State}
-use Rattle.sw_value.specs.declared.value.Value.{Value}
 use Rattle.sw_value.specs.Act.{act_of}
 use Rattle.sw_value.specs.Reach.{after_effect, step_of}
-use Rattle.sw_value.specs.State.{in_job}
 use Rattle.sw_value.proofs.ReachLemmas.{after_acts, step_by_act}
-use Rattle.sw_partition.specs.Regions.{Regions}
-use Rattle.sw_owner_facts.specs.Colours.{Actor, Colour, Instance, OfActor, OfJob}
-use Rattle.sw_owner_facts.specs.View.{Frame as Spot}
+use Rattle.sw_owner_facts.specs.Colours.{Actor, Colour, OfActor, OfJob}
 use Rattle.sw_view_facts.specs.Views.{Colours}
 use Rattle.sw_secure_facts.specs.Memory.{keeper}
-use Rattle.sw_secure_facts.specs.Secure.{IsSecure}
-use Rattle.sw_secure_race_facts.specs.Places.{HasColour, IsKept, cell_in}
+use Rattle.sw_secure_race_facts.specs.Places.{cell_in}
 use Rattle.sw_machine_name_facts.specs.Given.{LiesIn, made_cell}
-use Rattle.sw_order_facts.specs.Informed.{IsOfColour}
-use Rattle.sw_order_facts.specs.Knowing.{RunsOn}
-use Rattle.sw_order_facts.specs.Taking.{AllTake, IsTakers, Takes, begins, stays, taken}
+use Rattle.sw_order_facts.specs.Taking.{AllTake, IsTakers, begins, stays, taken}
 use Rattle.sw_machine_name_facts.proofs.Cells.{new_cell}
 use Rattle.sw_order_facts.proofs.Cells.{added_made, cell_was}
 

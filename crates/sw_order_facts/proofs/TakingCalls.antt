@@ -1,5 +1,5 @@
 -- A call hands what is the job's to takers alone.
-use Rattle.std.proofs.Common.{◌≡◌, ◌⊎◌, inl, inr, ℕ, Bool, true, false, cond, Option, Some}
+use Rattle.std.proofs.Common.{◌≡◌, inl, inr, ℕ, Bool, true, false, cond, Option, Some}
 use Rattle.std.proofs.Common.{None, List, [], ◌∷◌, ◌++◌, length, Contains, refl, sym, subst, ap, ◌∙◌}
 use Rattle.std.specs.Prelude.{◌&&◌, is_some}
 use Rattle.sw_list.proofs.Members.{first_or_later, none_in}
@@ -14,7 +14,7 @@ use Rattle.sw_value.specs.declared.state.State.{State}
 use Rattle.sw_value.specs.Act.{act_of}
 use Rattle.sw_color_rules.specs.Plans.{sending_of}
 use Rattle.sw_partition.specs.Regions.{Regions}
-use Rattle.sw_owner_facts.specs.Colours.{Actor, Colour, OfActor, OfJob}
+use Rattle.sw_owner_facts.specs.Colours.{Actor, Colour}
 use Rattle.sw_owner_facts.specs.View.{Frame as Spot}
 use Rattle.sw_view_facts.specs.Views.{Colours}
 use Rattle.sw_secure_facts.specs.Executing.{Executing}
@@ -64,12 +64,12 @@ module _ (graph : Graph) (states : ℕ → List (Option Regions)) (state : State
   joined false along d has = elim (first_or_later
       (begun_here (called_on point frame) q.job number) (called_closure state colours f point
       ++ passed state colours (sending_of graph frame.function) frame.regs) d has) [
-    | inl first ↦ subst Taker first (here along (called_on point frame) refl)
-    | inr later ↦ of_held graph states state colours q number job f function point
-        (effect.Enter frame next) x acts next_cell after d
-        (calls_held graph states state colours x.secure q job f function number x.numbered point
-        frame next x.stands x.gives d later)
-  ]
+        | inl first ↦ subst Taker first (here along (called_on point frame) refl)
+        | inr later ↦ of_held graph states state colours q number job f function point
+            (effect.Enter frame next) x acts next_cell after d
+            (calls_held graph states state colours x.secure q job f function number x.numbered point
+            frame next x.stands x.gives d later)
+      ]
 
   pub calls_take : AllTake graph state colours q.job (Execute (effect.Enter frame next)) after
   calls_take = without_cell graph states state colours q number job f function point

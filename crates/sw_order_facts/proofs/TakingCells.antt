@@ -1,6 +1,6 @@
 -- What makes a cell hands what is the job's to takers alone.
-use Rattle.std.proofs.Common.{◌≡◌, ◌⊎◌, ◌<◌, ◌+◌, inl, inr, ℕ, Bool, true, false, cond, not, Option, Some}
-use Rattle.std.proofs.Common.{None, List, [], ◌∷◌, ◌++◌, length, Contains, refl, sym, subst, ap, ◌∙◌}
+use Rattle.std.proofs.Common.{◌≡◌, ◌+◌, inl, inr, ℕ, Bool, true, false, cond, Option, Some}
+use Rattle.std.proofs.Common.{None, List, [], ◌∷◌, length, Contains, refl, sym, subst, ap, ◌∙◌}
 use Rattle.std.proofs.Common.{arith}
 use Rattle.std.specs.Option.{option_map}
 use Rattle.std.specs.List.{slice_index_or}
@@ -9,7 +9,6 @@ use Rattle.sw_list.proofs.ListLemmas.{some_injective}
 use Rattle.sw_graph.specs.declared.function.Function.{Function}
 use Rattle.sw_graph.specs.declared.graph.Graph.{Graph}
 use Rattle.sw_graph.specs.declared.instr.Instr.TheVariants as instr
-use Rattle.sw_graph.specs.declared.instr.Operand.{Operand}
 use Rattle.sw_graph.specs.Bodies.{actor_of, is_on, names}
 use Rattle.sw_graph.specs.Points.{Point, Middle}
 use Rattle.sw_value.specs.declared.cell.HeapCell.{HeapCell}
@@ -19,7 +18,6 @@ use Rattle.sw_value.specs.declared.effect.Effect.TheVariants as effect
 use Rattle.sw_value.specs.declared.frame.Frame.{Frame}
 use Rattle.sw_value.specs.declared.job.Job.{Job}
 use Rattle.sw_value.specs.declared.state.State.{State}
-use Rattle.sw_value.specs.declared.value.Value.{Value}
 use Rattle.sw_value.specs.Act.{act_of}
 use Rattle.sw_partition.specs.Regions.{Regions}
 use Rattle.std.proofs.lemmas.Bool.{and_parts}
@@ -40,8 +38,7 @@ use Rattle.sw_secure_cell_facts.proofs.Makers as makers
 use Rattle.sw_secure_cell_facts.proofs.Makers.{MakesAt}
 use Rattle.sw_owned_facts.proofs.Passing.{IsOfCell, cells_held}
 use Rattle.sw_machine_name_facts.specs.Given.{made_cell}
-use Rattle.sw_order_facts.specs.Knowing.{RunsOn}
-use Rattle.sw_order_facts.specs.Taking.{AllTake, IsTakers, heir, maker, own, runner}
+use Rattle.sw_order_facts.specs.Taking.{AllTake, IsTakers, maker, own, runner}
 use Rattle.sw_order_facts.proofs.Becoming.{united_bare, united_was}
 use Rattle.sw_order_facts.proofs.Holding.{standing_runs}
 use Rattle.sw_order_facts.proofs.Taking.{CellTakes, all_take}
@@ -140,17 +137,17 @@ module _ (graph : Graph) (states : ℕ → List (Option Regions)) (state : State
       after unites k colour is) [
         | inl was ↦ elim (colour_at_end colours.cells (cell_colour graph q.job number cell) k colour
             was) [
-          | inl old ↦ inl old
-          | inr (end, new) ↦ inr (inr (
-            made_at_end k end,
-            own number (new_colour (may_have_colour graph cell) (OfJob q.job number) colour new),
-          ))
-        ]
+              | inl old ↦ inl old
+              | inr (end, new) ↦ inr (inr (
+                made_at_end k end,
+                own number (new_colour (may_have_colour graph cell) (OfJob q.job number) colour new),
+              ))
+            ]
         | inr (n, was, has) ↦ elim (colour_at_end colours.cells
             (cell_colour graph q.job number cell) k (OfJob q.job n) was) [
-          | inl old ↦ inr (inl (n, old, joined colour has))
-          | inr (end, new) ↦ inr (inr (made_at_end k end, joined colour has))
-        ]
+              | inl old ↦ inr (inl (n, old, joined colour has))
+              | inr (end, new) ↦ inr (inr (made_at_end k end, joined colour has))
+            ]
       ]
 
   pub cells_take : AllTake graph state colours q.job (Execute (effect.New r cell c next)) after

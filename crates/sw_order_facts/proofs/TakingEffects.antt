@@ -1,66 +1,38 @@
 -- Each effect hands what is the job's to takers alone.
-use Rattle.std.proofs.Common.{◌≡◌, ◌≢◌, ◌⊎◌, ◌<◌, inl, inr, ℕ, Bool, true, false, cond, not, Option, Some}
-use Rattle.std.proofs.Common.{None, List, [], ◌∷◌, ◌++◌, length, Contains, refl, sym, subst, ap, ◌∙◌}
-use Rattle.std.proofs.Common.{arith}
-use Rattle.std.specs.Prelude.{◌&&◌, is_some}
-use Rattle.std.specs.Option.{option_map}
-use Rattle.std.specs.List.{slice_get, slice_index_or}
-use Rattle.std.proofs.lemmas.Option.{slice_get_within}
-use Rattle.std.proofs.lemmas.List.{get_or_append_left}
+use Rattle.std.proofs.Common.{◌≡◌, inl, inr, ℕ, Bool, true, false, not, Option, Some}
+use Rattle.std.proofs.Common.{None, List, [], length, Contains, refl, sym, subst, ap, ◌∙◌}
+use Rattle.std.specs.List.{slice_index_or}
 use Rattle.sw_list.proofs.ListLemmas.{some_injective}
-use Rattle.sw_list.proofs.Members.{first_or_later, none_in}
+use Rattle.sw_list.proofs.Members.{none_in}
 use Rattle.sw_graph.specs.declared.function.Function.{Function}
 use Rattle.sw_graph.specs.declared.graph.Graph.{Graph}
-use Rattle.sw_graph.specs.Bodies.{actor_of, is_on, names}
-use Rattle.sw_graph.specs.Points.{Point, Middle}
-use Rattle.sw_types.specs.Sendable.{sends_at}
+use Rattle.sw_graph.specs.Points.{Point}
 use Rattle.sw_value.specs.declared.cell.HeapCell.{HeapCell}
-use Rattle.sw_value.specs.declared.cell.HeapCell.TheVariants as heap
 use Rattle.sw_value.specs.declared.effect.Act.TheVariants.{Execute}
 use Rattle.sw_value.specs.declared.effect.Effect.{Effect}
-use Rattle.sw_value.specs.declared.effect.Effect.TheVariants as effect
 use Rattle.sw_value.specs.declared.executor.Executor.{Executor}
 use Rattle.sw_value.specs.declared.executor.Executor.TheVariants as executor
 use Rattle.sw_value.specs.declared.frame.Frame.{Frame}
 use Rattle.sw_value.specs.declared.job.Job.{Job}
 use Rattle.sw_value.specs.declared.state.State.{State}
-use Rattle.sw_value.specs.declared.value.Value.{Value}
 use Rattle.sw_value.specs.Act.{act_of}
 use Rattle.sw_value.specs.Executor.{is_same}
-use Rattle.sw_value.specs.Transition.{runs_at}
 use Rattle.sw_value.proofs.BusyLemmas.{same_executors}
 use Rattle.sw_late_facts.specs.Late.{goes_away}
-use Rattle.sw_color_rules.specs.Plans.{sending_of}
 use Rattle.sw_partition.specs.Regions.{Regions}
-use Rattle.sw_owner_facts.specs.Colours.{Actor, Colour, GlobalActor, Instance, OfActor, OfJob}
+use Rattle.sw_owner_facts.specs.Colours.{Actor, Colour}
 use Rattle.sw_owner_facts.specs.View.{Frame as Spot}
-use Rattle.sw_view_facts.specs.Memory.{coloured_more}
-use Rattle.sw_view_facts.specs.Standing.{StandsAt}
 use Rattle.sw_view_facts.specs.Views.{Colours}
-use Rattle.sw_view_facts.proofs.IsolationLemmas.{global_isolation, on_is}
-use Rattle.sw_secure_facts.specs.Executing.{Executing, is_of_values}
-use Rattle.sw_secure_facts.specs.Memory.{keeper}
-use Rattle.sw_secure_facts.specs.Painting.{Paints, PaintsTask, Unites, actor_on, begun_here, called_on}
-use Rattle.sw_secure_facts.specs.Painting.{called_closure, cell_colour, handed, joined_by, made_by}
-use Rattle.sw_secure_facts.specs.Painting.{joined_by_call, joined_by_task, joined_in_cell, passed}
-use Rattle.sw_secure_facts.specs.Painting.{takes_along}
-use Rattle.sw_secure_facts.specs.Secure.{IsSecure}
-use Rattle.sw_secure_cell_facts.proofs.Adding.{colour_at_end}
-use Rattle.sw_secure_job_facts.proofs.Carried.{ours}
-use Rattle.sw_secure_job_facts.proofs.Effects.{SpawnsBy}
-use Rattle.sw_secure_job_facts.proofs.Making.{MakesTask}
-use Rattle.sw_secure_job_facts.proofs.TaskPaints.{carried_later}
-use Rattle.sw_secure_job_facts.proofs.Handing.{handed_actor, handed_cases, handed_colour, handed_given}
-use Rattle.sw_secure_job_facts.proofs.Tasks as tasks
-use Rattle.sw_owned_facts.proofs.Passing.{IsOfCell, calls_held, cells_held}
+use Rattle.sw_secure_facts.specs.Executing.{Executing}
+use Rattle.sw_secure_facts.specs.Painting.{Unites, actor_on}
+use Rattle.sw_secure_facts.specs.Painting.{joined_by}
 use Rattle.sw_owned_facts.proofs.Sources.{AreHeld, IsHeld, values_held_at, values_of}
 use Rattle.sw_machine_name_facts.specs.Given.{made_cell}
 use Rattle.sw_order_facts.specs.Knowing.{RunsOn, executor_of}
-use Rattle.sw_order_facts.specs.Taking.{AllTake, IsTakers, heir, maker, own, runner}
-use Rattle.sw_order_facts.proofs.Becoming.{handed_bare, handed_was, united_bare, united_was}
+use Rattle.sw_order_facts.specs.Taking.{AllTake, IsTakers, own, runner}
+use Rattle.sw_order_facts.proofs.Becoming.{united_bare, united_was}
 use Rattle.sw_machine_name_facts.proofs.Cells.{new_cell}
-use Rattle.sw_order_facts.proofs.Entering.{begins_on, entered_stays}
-use Rattle.sw_order_facts.proofs.Holding.{executing_runs, held_holders, stands_is, standing_runs}
+use Rattle.sw_order_facts.proofs.Holding.{executing_runs, held_holders}
 use Rattle.sw_order_facts.proofs.Taking.{all_take}
 
 -- an actor's executor

@@ -1,6 +1,6 @@
 -- What makes a task hands what is the job's to takers alone.
-use Rattle.std.proofs.Common.{◌≡◌, ◌≢◌, ◌⊎◌, inl, inr, ℕ, Bool, true, false, cond, Option, Some}
-use Rattle.std.proofs.Common.{None, List, [], ◌∷◌, ◌++◌, length, Contains, refl, sym, subst, ap, ◌∙◌}
+use Rattle.std.proofs.Common.{◌≡◌, ◌≢◌, inl, inr, ℕ, Bool, true, false, cond, Option, Some}
+use Rattle.std.proofs.Common.{None, List, [], ◌∷◌, length, Contains, refl, sym, subst, ap, ◌∙◌}
 use Rattle.std.proofs.Common.{arith}
 use Rattle.std.specs.List.{slice_index_or}
 use Rattle.std.proofs.lemmas.List.{get_or_append_left}
@@ -112,9 +112,9 @@ module _ (graph : Graph) (states : ℕ → List (Option Regions)) (state : State
   joined_at true away d has = absurd (none_in d has)
   joined_at false away d has = elim (first_or_later (begun_here (actor_on frame.executor) made number)
       (passed state (handed q.job made paints.given colours) [] frame.regs) d has) [
-    | inl first ↦ subst Taker first (here away (actor_on frame.executor) refl)
-    | inr later ↦ carried away d later
-  ]
+        | inl first ↦ subst Taker first (here away (actor_on frame.executor) refl)
+        | inr later ↦ carried away d later
+      ]
 
   joined : (d : Colour) → Contains (joined_by_task state (handed q.job made paints.given colours)
       made number f frame) d → Taker d
@@ -144,13 +144,13 @@ module _ (graph : Graph) (states : ℕ → List (Option Regions)) (state : State
         ]
         | inr (n, was, has) ↦ elim (handed_was graph state q.job made other paints.given base c
             (OfJob made n) was) [
-          | inl same ↦ absurd (none_owns c n (was_there c (OfJob made n) same))
-          | inr (m, at, is_heir) ↦ inr (inl (
-            m,
-            was_there c (OfJob q.job m) at,
-            joined colour has,
-          ))
-        ]
+              | inl same ↦ absurd (none_owns c n (was_there c (OfJob made n) same))
+              | inr (m, at, is_heir) ↦ inr (inl (
+                m,
+                was_there c (OfJob q.job m) at,
+                joined colour has,
+              ))
+            ]
       ]
 
   pub tasks_take : AllTake graph state colours q.job

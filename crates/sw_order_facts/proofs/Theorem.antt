@@ -1,42 +1,31 @@
 -- Each state that items lead to is secure and informed, and the events so far are ordered.
-use Rattle.std.proofs.Common.{◌≡◌, ◌⊎◌, ◌<◌, inl, inr, ℕ, Option, Some, None, List, [], ◌∷◌, ◌++◌, length}
+use Rattle.std.proofs.Common.{◌≡◌, inl, ℕ, Option, Some, None, List, [], ◌∷◌, ◌++◌, length}
 use Rattle.std.proofs.Common.{map, refl, sym, subst, ap, ◌∙◌, arith, append-nil, append_assoc}
 use Rattle.std.proofs.Common.{option_to_list}
 use Rattle.std.specs.Option.{option_map}
-use Rattle.std.specs.List.{slice_get, slice_index_or}
-use Rattle.std.proofs.lemmas.List.{length-map}
-use Rattle.std.proofs.lemmas.Option.{slice_get-map, slice_get_within}
-use Rattle.sw_list.proofs.ListLemmas.{some_injective}
 use Rattle.sw_graph.specs.declared.graph.Graph.{Graph}
 use Rattle.sw_graph.specs.Clean.{IsClean}
 use Rattle.sw_graph.specs.Supplied.{IsSupplied}
 use Rattle.sw_value.specs.declared.effect.Act.{Act}
-use Rattle.sw_value.specs.declared.effect.Act.TheVariants.{Dispatch, Wake, Execute}
-use Rattle.sw_value.specs.declared.frame.Frame.{Frame}
 use Rattle.sw_value.specs.declared.race.Place.TheVariants.{Prop}
 use Rattle.sw_value.specs.declared.state.State.{State}
 use Rattle.sw_value.specs.Act.{act_of}
 use Rattle.sw_value.specs.Reach.{reach, step_of}
 use Rattle.sw_value.specs.Start.{start_frames, start_of}
-use Rattle.sw_value.specs.Transition.{Transition, followed_by, transition_by, transition_of}
+use Rattle.sw_value.specs.Transition.{Transition, transition_by, transition_of}
 use Rattle.sw_value.proofs.ReachLemmas.{after_acts, reach_none, reach_push, step_by_act}
 use Rattle.sw_partition.specs.Regions.{Regions}
-use Rattle.sw_owner_facts.specs.Colours.{Colour, OfJob}
 use Rattle.sw_view_facts.specs.Views.{Colours}
 use Rattle.sw_before.specs.Events.{events_of}
 use Rattle.sw_before.specs.Unordered.{AreOrdered}
 use Rattle.sw_before.proofs.EventLemmas.{events_push}
-use Rattle.sw_secure_facts.specs.Painting.{actor_on, begun_here}
 use Rattle.sw_secure_facts.specs.Secure.{IsSecure}
-use Rattle.sw_secure_job_facts.specs.Begins.{AreAnnotated, HeresBegin}
+use Rattle.sw_secure_job_facts.specs.Begins.{AreAnnotated}
 use Rattle.sw_secure_job_facts.proofs.Starts.{starts_secure}
 use Rattle.sw_sound_facts.proofs.Theorem.{begins, here_of}
-use Rattle.sw_machine_name_facts.specs.Given.{ActGives, Source, made_cell}
-use Rattle.sw_machine_name_facts.specs.Names.{ResultNames}
 use Rattle.sw_order_facts.specs.Informed.{IsInformed}
 use Rattle.sw_order_facts.proofs.Keeping.{still_informed}
 use Rattle.sw_order_facts.proofs.Ordering.{ordered_more}
-use Rattle.sw_order_facts.proofs.Running.{jobs_stay, made_there}
 use Rattle.sw_order_facts.proofs.Starting.{starts_informed}
 use Rattle.sw_order_facts.proofs.Stepping.{Steps}
 use Rattle.sw_order_facts.proofs.Taken.{Taken, taken}
