@@ -99,7 +99,7 @@ awaited t = option_to_list (option_map OfEnd t.follows)
 abbrev pub entered : Transition → List Channel
 entered t = option_to_list (option_and_then channel_of t.enters)
 
-data Tells (t : Transition) (c : Channel) : Type 0 where
+pub data Tells (t : Transition) (c : Channel) : Type 0 where
   tells_own : OfJob t.job ≡ c → Tells t c
   tells_made : (k : ℕ) → t.makes ≡ Some k → OfJob k ≡ c → Tells t c
   tells_end : IsTrue t.ends → OfEnd t.job ≡ c → Tells t c
@@ -111,7 +111,7 @@ data Hears (t : Transition) (c : Channel) : Type 0 where
   hears_entered : (x : Executor) → x ≢ Generic → t.enters ≡ Some x → OfExecutor x ≡ c
       → Hears t c
 
-tells : (t : Transition) (c : Channel) → Contains (told_by t) c → Tells t c
+pub tells : (t : Transition) (c : Channel) → Contains (told_by t) c → Tells t c
 tells t c has = elim (first_or_later (OfJob t.job) (made t ++ end t ++ left t) c has) [
   | inl own ↦ tells_own own
   | inr rest ↦ elim (Contains-append_cases (made t ++ end t) (left t) c rest) [
@@ -158,13 +158,13 @@ hears_more : (t : Transition) (c : Channel) → Contains (awaited t ++ entered t
     → Contains (heard_by t) c
 hears_more t c = later_in (OfJob t.job) (awaited t ++ entered t) c
 
-told_made : (t : Transition) (k : ℕ) → t.makes ≡ Some k → Contains (told_by t) (OfJob k)
+pub told_made : (t : Transition) (k : ℕ) → t.makes ≡ Some k → Contains (told_by t) (OfJob k)
 told_made t k is = tells_more t (OfJob k)
     (Contains-append_left (made t ++ end t) (left t) (OfJob k)
     (Contains-append_left (made t) (end t) (OfJob k)
     (of_option (option_map OfJob t.makes) (OfJob k) (ap (option_map OfJob) is))))
 
-told_end : (t : Transition) → IsTrue t.ends → Contains (told_by t) (OfEnd t.job)
+pub told_end : (t : Transition) → IsTrue t.ends → Contains (told_by t) (OfEnd t.job)
 told_end t is = tells_more t (OfEnd t.job)
     (Contains-append_left (made t ++ end t) (left t) (OfEnd t.job)
     (Contains-append_right (made t) (end t) (OfEnd t.job) (of_end t.ends (OfEnd t.job) is)))
@@ -174,17 +174,17 @@ of_left : (o : Option Executor) (x : Executor) → x ≢ Generic → o ≡ Some 
 of_left o x other e = of_option (option_and_then channel_of o) (OfExecutor x)
     (ap (option_and_then channel_of) e ∙ executor_has x other)
 
-told_left : (t : Transition) (x : Executor) → x ≢ Generic → t.leaves ≡ Some x
+pub told_left : (t : Transition) (x : Executor) → x ≢ Generic → t.leaves ≡ Some x
     → Contains (told_by t) (OfExecutor x)
 told_left t x other is = tells_more t (OfExecutor x)
     (Contains-append_right (made t ++ end t) (left t) (OfExecutor x) (of_left t.leaves x other is))
 
-heard_end : (t : Transition) (k : ℕ) → t.follows ≡ Some k → Contains (heard_by t) (OfEnd k)
+pub heard_end : (t : Transition) (k : ℕ) → t.follows ≡ Some k → Contains (heard_by t) (OfEnd k)
 heard_end t k is = hears_more t (OfEnd k)
     (Contains-append_left (awaited t) (entered t) (OfEnd k)
     (of_option (option_map OfEnd t.follows) (OfEnd k) (ap (option_map OfEnd) is)))
 
-heard_entered : (t : Transition) (x : Executor) → x ≢ Generic → t.enters ≡ Some x
+pub heard_entered : (t : Transition) (x : Executor) → x ≢ Generic → t.enters ≡ Some x
     → Contains (heard_by t) (OfExecutor x)
 heard_entered t x other is = hears_more t (OfExecutor x)
     (Contains-append_right (awaited t) (entered t) (OfExecutor x) (of_left t.enters x other is))
@@ -205,7 +205,7 @@ job_is i j e = cc
 end_is : (i j : ℕ) → OfEnd i ≡ OfEnd j → i ≡ j
 end_is i j e = cc
 
-executor_is : (x y : Executor) → OfExecutor x ≡ OfExecutor y → x ≡ y
+pub executor_is : (x y : Executor) → OfExecutor x ≡ OfExecutor y → x ≡ y
 executor_is x y e = cc
 
 job_not_end : (i j : ℕ) → OfJob i ≡ OfEnd j → ⊥

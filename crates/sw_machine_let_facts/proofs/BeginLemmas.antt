@@ -46,7 +46,7 @@ pub record HasClosure (state : State) (f : ℕ) : Type 0 where
 abbrev pub IsKnown : State → Instr → ℕ → Type 0
 IsKnown state i f = Contains (named_by i) f ⊎ HasClosure state f
 
-first_number : (graph : Graph) (f : ℕ) (values : List Value) (frame : Frame)
+pub first_number : (graph : Graph) (f : ℕ) (values : List Value) (frame : Frame)
     → first_frame graph f values ≡ Some frame → frame.function ≡ f
 unfolding first_frame
 first_number graph f values frame e = grind arith

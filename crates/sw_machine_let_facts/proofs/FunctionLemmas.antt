@@ -170,7 +170,7 @@ effect_jobs P state j (effect.Halt kind at) begins of = of
 effect_jobs P state j effect.Stuck begins of = of
 
 -- and a cell, which stays of its function, or adds one
-same_function : (slot : Slot) (v : Value) (h : HeapCell)
+pub same_function : (slot : Slot) (v : Value) (h : HeapCell)
     → function_of (with_slot slot v h) ≡ function_of h
 same_function slot v h = grind arith
 

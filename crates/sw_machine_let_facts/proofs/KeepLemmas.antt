@@ -62,7 +62,7 @@ reached_spares graph placed supplied items =
     step_spares graph placed supplied (reach graph items) (reached_kinded graph supplied items)
 
 -- what a step writes is a location
-writes_located : (graph : Graph) (state : State) (j : ℕ) (place : Place)
+pub writes_located : (graph : Graph) (state : State) (j : ℕ) (place : Place)
     → Writes graph state j place → IsLocation graph state place
 writes_located graph state j place = by (next_access graph state j) refl where
   by : (o : Option Access) → next_access graph state j ≡ o → IsWriteOf place o

@@ -125,7 +125,7 @@ cell_located graph world state c i kind from names goes (cell.Actor k vs) is fit
 cell_located graph world state c i kind from names goes h is fits has = cc
 
 -- a box that has a value is a location
-box_located : (graph : Graph) (state : State) (c : ℕ) → IsSome (content_of state (BoxOf c))
+pub box_located : (graph : Graph) (state : State) (c : ℕ) → IsSome (content_of state (BoxOf c))
     → IsLocation graph state (BoxOf c)
 box_located graph state c = by (slice_get state.cells c) refl where
   by : (o : Option HeapCell) → slice_get state.cells c ≡ o

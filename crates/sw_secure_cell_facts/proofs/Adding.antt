@@ -54,7 +54,7 @@ pub record HoldsItsOwn (graph : Graph) (state : State) (colours : Colours) (cell
       → (actor : ℕ) × (reference_of self ≡ Some actor) × (own ≡ OfActor (Instance actor))
 
 -- a colour of a list with one more at the end
-colour_at_end : (colours : List (Option Colour)) (o : Option Colour) (c : ℕ) (own : Colour)
+pub colour_at_end : (colours : List (Option Colour)) (o : Option Colour) (c : ℕ) (own : Colour)
     → slice_index_or (colours ++ o ∷ []) c None ≡ Some own
     → (slice_index_or colours c None ≡ Some own) ⊎ ((c ≡ length colours) × (o ≡ Some own))
 colour_at_end [] o zero own is = inr (refl, is)

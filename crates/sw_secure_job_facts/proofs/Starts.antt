@@ -92,7 +92,7 @@ no_value zero r = refl
 no_value (suc n) zero = refl
 no_value (suc n) (suc r) = no_value n r
 
-none_given : (n r : ℕ) → value_at (registers n []) r ≡ None
+pub none_given : (n r : ℕ) → value_at (registers n []) r ≡ None
 unfolding registers
 none_given n r = no_value (n - 0) r
 

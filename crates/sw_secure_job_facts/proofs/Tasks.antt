@@ -27,10 +27,10 @@ module _ (graph : Graph) (states : ℕ → List (Option Regions)) (state : State
     (frame : Frame) (made cell next : ℕ)
     (x : Executing graph states state colours q number job f function point
     (Spawn r frame made cell next)) where
-  from : SpawnsBy graph state (length job.frames) f point r frame made cell next
+  pub from : SpawnsBy graph state (length job.frames) f point r frame made cell next
   from = spawns_from graph state (length job.frames) f point r frame made cell next x.gives
 
-  makes : MakesTask graph states state colours q job f function r frame
+  pub makes : MakesTask graph states state colours q job f function r frame
   makes = record {
     secure = x.secure;
     at = from.at;

@@ -16,29 +16,7 @@ use Rattle.sw_owner_facts.specs.View.{Element, HoldsLive, IsTop, View, Frame as 
 use Rattle.sw_owner_facts.proofs.OwnerLemmas.{one_runner}
 use Rattle.sw_view_facts.specs.Views.{Colours}
 use Rattle.sw_secure_facts.specs.Memory.{keeper}
-
--- the cell in which the place lies
-abbrev pub cell_in : Place → Option ℕ
-cell_in (Prop c i) = Some c
-cell_in (BoxOf c) = Some c
-cell_in (Global g) = None
-
--- the cell in which the place lies has this colour
-pub record HasColour (colours : Colours) (place : Place) (colour : Colour) : Type 0 where
-  pub number : ℕ
-  pub inside : cell_in place ≡ Some number
-  pub is : slice_index_or colours.cells number None ≡ Some colour
-
--- The place is this actor's: a part of a cell without a colour, whose keeper it is, or a global of
--- that global actor.
-abbrev pub IsKept : Graph → State → Colours → Place → Actor → Type 0
-IsKept graph state colours (Prop c i) actor = (slice_index_or colours.cells c None ≡ None)
-    × ((cell : HeapCell) × (slice_get state.cells c ≡ Some cell)
-    × (keeper graph c cell ≡ Some actor))
-IsKept graph state colours (BoxOf c) actor = ⊥
-IsKept graph state colours (Global g) actor = (kind : GlobalKind) × (number : ℕ)
-    × (slice_get graph.globals g ≡ Some kind) × (kind.actor ≡ Some number)
-    × (actor ≡ GlobalActor number)
+use Rattle.sw_secure_race_facts.specs.Places.{HasColour, IsKept, cell_in}
 
 abbrev pub Claims : Graph → State → Colours → View → Spot → Place → Type 0
 Claims graph state colours view q place =
@@ -48,13 +26,13 @@ Claims graph state colours view q place =
     × ((view.shape q).executor ≡ On actor))
 
 -- ---- a place has one colour, or one keeper
-same_colour : (colours : Colours) (place : Place) (c d : Colour) → HasColour colours place c
+pub same_colour : (colours : Colours) (place : Place) (c d : Colour) → HasColour colours place c
     → HasColour colours place d → c ≡ d
 same_colour colours place c d one other =
     let same = some_injective (sym one.inside ∙ other.inside) in
     some_injective (sym one.is ∙ ap (λ n. slice_index_or colours.cells n None) same ∙ other.is)
 
-same_keeper : (graph : Graph) (state : State) (colours : Colours) (place : Place) (a b : Actor)
+pub same_keeper : (graph : Graph) (state : State) (colours : Colours) (place : Place) (a b : Actor)
     → IsKept graph state colours place a → IsKept graph state colours place b → a ≡ b
 same_keeper graph state colours (Prop c i) a b one other =
     let cells = some_injective (sym one.1.1 ∙ other.1.1) in
@@ -65,7 +43,7 @@ same_keeper graph state colours (Global g) a b one other =
     let numbers = some_injective (sym one.3 ∙ ap (λ (k : GlobalKind). k.actor) kinds ∙ other.3) in
     one.4 ∙ ap GlobalActor numbers ∙ sym other.4
 
-coloured_or_kept : (graph : Graph) (state : State) (colours : Colours) (place : Place)
+pub coloured_or_kept : (graph : Graph) (state : State) (colours : Colours) (place : Place)
     (colour : Colour) (actor : Actor) → HasColour colours place colour
     → IsKept graph state colours place actor → ⊥
 coloured_or_kept graph state colours (Prop c i) colour actor one other =

@@ -51,12 +51,13 @@ use Rattle.sw_secure_facts.specs.Secure.{IsSecure}
 use Rattle.sw_secure_facts.proofs.Belonging.{implied}
 use Rattle.sw_secure_race_facts.proofs.Accessing.{AccessAt, NamesBox, NamesGlobal, NamesPart, access_at}
 use Rattle.sw_secure_race_facts.proofs.Accessing.{names_box, names_global, names_part}
-use Rattle.sw_secure_race_facts.proofs.Claims.{Claims, IsKept, cell_in, one_claims}
+use Rattle.sw_secure_race_facts.specs.Places.{IsKept, cell_in}
+use Rattle.sw_secure_race_facts.proofs.Claims.{Claims, one_claims}
 use Rattle.sw_secure_race_facts.proofs.Insiders.{inside_global, inside_part}
 
 module _ (graph : Graph) (states : ℕ → List (Option Regions)) (state : State) (colours : Colours)
     (s : IsSecure graph states state colours) where
-  abbrev view : View
+  abbrev pub view : View
   view = view_of graph (annotated states state) state colours
 
   module _ (q : Spot) (job : Job) (f : Frame) (function : Function) (i : Instr)
@@ -192,7 +193,7 @@ module _ (graph : Graph) (states : ℕ → List (Option Regions)) (state : State
       ap (λ o. option_map_or (λ (k : GlobalKind). k.mutable) o false) is ∙ mutable
 
   -- a job has a claim to what it is about to access
-  claims : (j : ℕ) (access : Access) (a : AccessAt graph state j access)
+  pub claims : (j : ℕ) (access : Access) (a : AccessAt graph state j access)
       → Claims graph state colours view a.q access.place
   claims j access a = by a.instr a.stands a.gives where
     by : (i : Instr) (x : StandsAt graph state a.q a.job a.frame a.function (Middle i))
@@ -266,7 +267,7 @@ module _ (graph : Graph) (states : ℕ → List (Option Regions)) (state : State
     by (instr.Await at dst task) x gives = cc
     by (instr.Yield at dst) x gives = cc
 
-  runs : (j : ℕ) (access : Access) (a : AccessAt graph state j access)
+  pub runs : (j : ℕ) (access : Access) (a : AccessAt graph state j access)
       → IsTrue (view.running a.q.job)
   unfolding is_running
   runs j access a = ap (λ o. option_map_or is_running o false) a.stands.top.there

@@ -7,6 +7,8 @@ ghost use Rattle.sw_color_rules.specs.Machine.{colored_reach, colored_step};
 ghost use Rattle.sw_partition.specs.Regions.{Regions};
 ghost use Rattle.sw_secure_job_facts.specs.Begins.{AreAnnotated};
 ghost use Rattle.sw_owner_facts.specs.View.{Element, Frame as Spot};
+ghost use Rattle.sw_before.specs.Events.{events_of};
+ghost use Rattle.sw_before.specs.Unordered.{AreOrdered};
 ghost use Rattle.sw_owned_facts.specs.Holding.{HasLive, IsRunning, colour_with, owner_by};
 ghost use Rattle.sw_owned_facts.specs.Owned.{Owned};
 ghost use Rattle.sw_owned_facts.specs.Taking.{MayTake};
@@ -17,6 +19,13 @@ use crate::checked::Checked;
 /// writes.
 pub fn checked_graphs_never_race(checked: &Checked)
     ensures { (items : List ℕ) → ¬ Racing checked.now.graph (reach checked.now.graph items) }
+{}
+
+/// Of two accesses of one location by two jobs, of which one writes, the earlier one happens before
+/// the later, whatever the items: by a job's own order, by what makes it, by its end that another
+/// waits for, or by an actor that one leaves and another enters.
+pub fn checked_graphs_order_their_accesses(checked: &Checked)
+    ensures { (items : List ℕ) → AreOrdered (events_of checked.now.graph items) }
 {}
 
 /// The memory of each state of the coloured machine that items lead to is owned: the nine facts of

@@ -31,10 +31,10 @@ use Rattle.sw_sound_facts.proofs.Chosen.{each_annotated, states_of}
 use Rattle.sw_sound_facts.proofs.Steps.{SomeSecure, secure_step}
 
 -- the colours with which the first frames begin
-here_of : Frame → Colour
+pub here_of : Frame → Colour
 here_of frame = begun_here (actor_on frame.executor) 0 0
 
-begins : (frames : List Frame) → HeresBegin frames (map here_of frames)
+pub begins : (frames : List Frame) → HeresBegin frames (map here_of frames)
 unfolding here_of
 begins frames = record {
   count = length-map frames here_of;
