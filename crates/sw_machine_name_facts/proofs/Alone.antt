@@ -21,7 +21,6 @@ use Rattle.sw_value.specs.declared.frame.Frame.{Frame}
 use Rattle.sw_value.specs.declared.job.Job.{Job}
 use Rattle.sw_value.specs.declared.job.Status.TheVariants.{Ready}
 use Rattle.sw_value.specs.declared.state.State.{State}
-use Rattle.sw_value.specs.declared.value.Value.{Value}
 use Rattle.sw_value.specs.Act.{act_of}
 use Rattle.sw_value.specs.Effect.{instr_effect, last_effect, point_effect}
 use Rattle.sw_value.specs.Job.{top_frame, new_job}
@@ -31,7 +30,7 @@ use Rattle.sw_value.specs.Transition.{made_by}
 use Rattle.sw_value.proofs.ReachLemmas.{after_acts, step_by_act, reach_none, reach_push}
 use Rattle.sw_machine_let_facts.specs.Lets.{RunsFirst, IsPastFirsts}
 use Rattle.sw_machine_let_facts.proofs.ActLemmas.{Executes, asked}
-use Rattle.sw_machine_let_facts.proofs.BeginLemmas.{function_of, begun, HasClosure, point_begins}
+use Rattle.sw_machine_let_facts.proofs.BeginLemmas.{function_of, begun, point_begins}
 use Rattle.sw_machine_let_facts.proofs.FunctionLemmas.{CellsOf, same_function}
 use Rattle.sw_machine_let_facts.proofs.PastLemmas.{past_on}
 use Rattle.sw_machine_let_facts.proofs.RunLemmas.{further}

@@ -1,5 +1,5 @@
 -- What operators compute refers to nothing.
-use Rattle.std.proofs.Common.{◌≡◌, ℕ, ℤ, Bool, true, false, cond, Option, Some, None, List, [], refl}
+use Rattle.std.proofs.Common.{◌≡◌, ℤ, Bool, true, false, cond, Some, []}
 use Rattle.std.proofs.Common.{subst}
 use Rattle.std.specs.Prelude.{Result, Ok, Err, not, pos, ◌+ℤ◌, ◌-ℤ◌, ◌*ℤ◌, neg_ℤ, int_lt, int_le}
 use Rattle.std.specs.Prelude.{int_div, int_rem}
@@ -19,7 +19,7 @@ use Rattle.sw_value.specs.declared.value.Value.{Value, out-Value}
 use Rattle.sw_value.specs.declared.value.Value.TheOpen.{Value-F}
 use Rattle.sw_value.specs.declared.value.Value.TheOpen as layer
 use Rattle.sw_value.specs.declared.value.Value.TheVariants as value
-use Rattle.sw_value.specs.Arithmetic.{fits, unless_too_large, quotient, remainder, of_integers}
+use Rattle.sw_value.specs.Arithmetic.{fits, unless_too_large, of_integers}
 use Rattle.sw_value.specs.Arithmetic.{is_same_truth, of_truths, layer_binary, binary, layer_unary, unary}
 use Rattle.sw_value.specs.Value.{value_of}
 use Rattle.sw_reach_facts.specs.Reached.{references}

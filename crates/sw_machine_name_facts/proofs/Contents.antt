@@ -1,10 +1,10 @@
 -- What stands at a place after an act stood there before, or the act gives it.
-use Rattle.std.proofs.Common.{◌≡◌, ◌⊎◌, inl, inr, ℕ, zero, suc, Option, Some, None, List, [], ◌∷◌}
+use Rattle.std.proofs.Common.{◌≡◌, ◌⊎◌, inl, inr, ℕ, zero, suc, Some, List, [], ◌∷◌}
 use Rattle.std.proofs.Common.{length, Contains, refl, ap, sym, ◌∙◌, subst}
 use Rattle.std.specs.Prelude.{IsSome, is_some, option_and_then}
 use Rattle.std.specs.List.{slice_get, slice_set}
 use Rattle.sw_list.proofs.ListLemmas.{some_injective}
-use Rattle.sw_list.proofs.Members.{none_in, in_one, stands_at, member_at}
+use Rattle.sw_list.proofs.Members.{none_in, in_one, member_at}
 use Rattle.sw_value.specs.declared.cell.HeapCell.{HeapCell}
 use Rattle.sw_value.specs.declared.cell.HeapCell.TheVariants as cell
 use Rattle.sw_value.specs.declared.cell.Slot.{Slot}

@@ -23,7 +23,7 @@ use Rattle.sw_value.specs.Reach.{step_of}
 use Rattle.sw_value.specs.State.{result_of}
 use Rattle.sw_machine_let_facts.proofs.ActLemmas.{Executes, asked}
 use Rattle.sw_reach_facts.specs.Reached.{references}
-use Rattle.sw_machine_name_facts.specs.Given.{ActGives, IsStepped, made_cell}
+use Rattle.sw_machine_name_facts.specs.Given.{ActGives, IsStepped}
 use Rattle.sw_machine_name_facts.specs.Names.{RegistersName, JobNames, ResultNames, StandsOn}
 use Rattle.sw_machine_name_facts.proofs.Acts.{by_act}
 use Rattle.sw_machine_name_facts.proofs.Frames.{Brings, FrameAfter, turns, entered, frame_after}
@@ -87,8 +87,11 @@ jobs_name graph state j act is i k n =
           (frame_after act old n.depth n.frame
           (ap (λ (b : Job). slice_get b.frames n.depth) same ∙ at))
       by job (begins made new pushed same) at =
-          inr (inr made, inl (frame_gives act n.frame k
-          (pushed ∙ ap Some (first_frame_is new job n.depth n.frame same at)) n.names))
+          inr (
+            inr made,
+            inl (frame_gives act n.frame k
+                (pushed ∙ ap Some (first_frame_is new job n.depth n.frame same at)) n.names),
+          )
 
 -- ---- results
 unended : (crossing : Bool) (status : Status) (v : Value)
@@ -231,5 +234,8 @@ executors_stand graph state j act is i c n =
           (frame_after act old n.depth n.frame
           (ap (λ (b : Job). slice_get b.frames n.depth) same ∙ at))
       by job (begins made new pushed same) at =
-          inr (inr made, begun_on graph state j act is n.frame
-          (pushed ∙ ap Some (first_frame_is new job n.depth n.frame same at)) c n.on)
+          inr (
+            inr made,
+            begun_on graph state j act is n.frame
+                (pushed ∙ ap Some (first_frame_is new job n.depth n.frame same at)) c n.on,
+          )

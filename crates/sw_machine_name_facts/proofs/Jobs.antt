@@ -5,10 +5,8 @@ use Rattle.std.specs.List.{slice_get}
 use Rattle.std.proofs.lemmas.Option.{slice_get_within}
 use Rattle.sw_list.proofs.ListLemmas.{some_injective, slice_get_before}
 use Rattle.sw_graph.specs.declared.graph.Graph.{Graph}
-use Rattle.sw_value.specs.declared.cell.HeapCell.TheVariants as cell
 use Rattle.sw_value.specs.declared.effect.Act.{Act}
 use Rattle.sw_value.specs.declared.effect.Act.TheVariants.{Dispatch, Wake, Execute}
-use Rattle.sw_value.specs.declared.effect.Effect.{Effect}
 use Rattle.sw_value.specs.declared.effect.Effect.TheVariants as effect
 use Rattle.sw_value.specs.declared.frame.Frame.{Frame}
 use Rattle.sw_value.specs.declared.job.Job.{Job}
@@ -21,7 +19,7 @@ use Rattle.sw_value.specs.Lists.{changed_by, changed_at}
 use Rattle.sw_value.specs.Reach.{after_act, step_of}
 use Rattle.sw_value.specs.State.{in_job, add_job, add_cell, in_cell, set_global, halt}
 use Rattle.sw_value.specs.Transition.{made_by}
-use Rattle.sw_value.proofs.ListLemmas.{changed_at_found, set_back, changed_at_there}
+use Rattle.sw_value.proofs.ListLemmas.{set_back, changed_at_there}
 use Rattle.sw_machine_kind_facts.proofs.ItemLemmas.{at_end, found_within}
 use Rattle.sw_machine_name_facts.proofs.Acts.{acts, steps_by}
 use Rattle.sw_machine_name_facts.proofs.Items.{of_changed}

@@ -2,16 +2,14 @@
 use Rattle.std.proofs.Common.{◌≡◌, ◌⊎◌, inl, inr, ℕ, false, cond, Option, Some, None, length, refl, ap, sym}
 use Rattle.std.proofs.Common.{◌∙◌, subst}
 use Rattle.std.specs.Prelude.{option_and_then}
-use Rattle.std.specs.Option.{option_map}
 use Rattle.std.specs.List.{slice_get}
 use Rattle.sw_graph.specs.declared.function.Function.{Function}
 use Rattle.sw_graph.specs.declared.graph.Graph.{Graph}
 use Rattle.sw_graph.specs.declared.instr.Operand.{Operand}
-use Rattle.sw_graph.specs.Points.{Point, point_in}
+use Rattle.sw_graph.specs.Points.{point_in}
 use Rattle.sw_value.specs.declared.cell.Slot.{Slot}
 use Rattle.sw_value.specs.declared.effect.Act.{Act}
 use Rattle.sw_value.specs.declared.frame.Frame.{Frame}
-use Rattle.sw_value.specs.declared.race.Access.{Access}
 use Rattle.sw_value.specs.declared.race.Place.{Place}
 use Rattle.sw_value.specs.declared.state.State.{State}
 use Rattle.sw_value.specs.declared.value.Value.{Value}

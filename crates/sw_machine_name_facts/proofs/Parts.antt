@@ -1,6 +1,6 @@
 -- What parts of values name, and what is made of values.
 use Rattle.std.proofs.Common.{◌≡◌, ◌⊎◌, inl, inr, ℕ, List, [], Option, Some, None, flat_map, Contains}
-use Rattle.std.proofs.Common.{refl, sym, subst, ap, ◌∙◌}
+use Rattle.std.proofs.Common.{refl, sym, subst}
 use Rattle.std.specs.List.{slice_set}
 use Rattle.sw_list.proofs.Members.{none_in, one_in, in_one, in_flat_map, of_flat_map, stands_at}
 use Rattle.sw_list.proofs.Members.{member_at}

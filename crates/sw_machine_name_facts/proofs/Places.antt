@@ -1,7 +1,6 @@
 -- How a place comes by a value in a step, and what never changes of a cell.
 use Rattle.std.proofs.Common.{◌≡◌, ◌⊎◌, inl, inr, ℕ, Bool, true, false, Option, Some, None, List}
-use Rattle.std.proofs.Common.{refl, ap, sym, ◌∙◌, subst, IsTrue, arith}
-use Rattle.std.specs.Prelude.{IsSome}
+use Rattle.std.proofs.Common.{refl, ap, sym, ◌∙◌, subst, arith}
 use Rattle.std.specs.List.{slice_get}
 use Rattle.sw_graph.specs.declared.graph.Graph.{Graph}
 use Rattle.sw_graph.specs.Placed.{IsPlaced}

@@ -1,7 +1,7 @@
 -- Where an effect takes the names from that it gives.
-use Rattle.std.proofs.Common.{◌≡◌, ◌⊎◌, inl, inr, ℕ, ◌+◌, ◌-◌, Bool, true, false, cond, Option, Some}
-use Rattle.std.proofs.Common.{None, List, [], ◌∷◌, length, nat_le, Contains, refl, ap, ◌∙◌, subst, sym}
-use Rattle.std.specs.Prelude.{option_and_then, is_some, Result, Ok, Err}
+use Rattle.std.proofs.Common.{◌≡◌, inl, inr, ℕ, ◌+◌, ◌-◌, cond, Some}
+use Rattle.std.proofs.Common.{length, Contains, refl, ap, ◌∙◌, subst, sym}
+use Rattle.std.specs.Prelude.{option_and_then, is_some}
 use Rattle.std.specs.Option.{option_map}
 use Rattle.std.specs.List.{slice_get}
 use Rattle.sw_list.proofs.Members.{one_in}
@@ -12,56 +12,44 @@ use Rattle.sw_graph.specs.declared.instr.Last.{Last}
 use Rattle.sw_graph.specs.declared.instr.Last.TheVariants as last
 use Rattle.sw_graph.specs.declared.instr.Operand.{Operand}
 use Rattle.sw_graph.specs.Points.{Point, Middle, End}
-use Rattle.sw_value.specs.declared.cell.HeapCell.{HeapCell}
 use Rattle.sw_value.specs.declared.cell.HeapCell.TheVariants as cell
-use Rattle.sw_value.specs.declared.cell.Slot.{Slot}
 use Rattle.sw_value.specs.declared.cell.Slot.TheVariants.{Part, Content}
 use Rattle.sw_value.specs.declared.effect.Act.{Act}
-use Rattle.sw_value.specs.declared.effect.Act.TheVariants.{Wake, Execute}
+use Rattle.sw_value.specs.declared.effect.Act.TheVariants.{Execute}
 use Rattle.sw_value.specs.declared.effect.Effect.{Effect}
 use Rattle.sw_value.specs.declared.effect.Effect.TheVariants as effect
 use Rattle.sw_value.specs.declared.frame.Frame.{Frame}
-use Rattle.sw_value.specs.declared.frame.TheConstants.{MAX_FRAMES}
-use Rattle.sw_value.specs.declared.job.Job.{Job}
-use Rattle.sw_value.specs.declared.job.Status.{Status}
-use Rattle.sw_value.specs.declared.job.Status.TheVariants.{Ready, Running, Waiting, Ended}
-use Rattle.sw_value.specs.declared.job.TheConstants.{MAX_JOBS}
 use Rattle.sw_value.specs.declared.race.Place.{Place}
 use Rattle.sw_value.specs.declared.race.Place.TheVariants.{Prop, BoxOf, Global}
 use Rattle.sw_value.specs.declared.state.State.{State}
-use Rattle.sw_value.specs.declared.state.TrapKind.{TrapKind}
-use Rattle.sw_value.specs.declared.state.TrapKind.TheVariants.{Frames, Jobs}
 use Rattle.sw_value.specs.declared.value.Value.{Value}
-use Rattle.sw_value.specs.declared.value.Value.TheVariants as value
-use Rattle.sw_value.specs.Access.{box_at, part_at, global_at, read_by, point_access}
-use Rattle.sw_value.specs.Act.{execution_of, dispatch_of, act_by, act_of}
+use Rattle.sw_value.specs.Access.{box_at, part_at, read_by, point_access}
+use Rattle.sw_value.specs.Act.{act_of}
 use Rattle.sw_value.specs.Arithmetic.{unary, binary}
 use Rattle.sw_value.specs.Call.{called_frame, closure_frame}
 use Rattle.sw_value.specs.Cell.{task_of}
-use Rattle.sw_value.specs.Effect.{cell_at, enter_of, spawn_of, goto_of, effect_of}
-use Rattle.sw_value.specs.Effect.{needs, is_stuck, computed_of, new_of, loaded, slot_at, slot_write}
-use Rattle.sw_value.specs.Effect.{returned_value, instr_effect, last_effect, point_effect}
+use Rattle.sw_value.specs.Effect.{cell_at, enter_of, spawn_of, goto_of}
+use Rattle.sw_value.specs.Effect.{needs, computed_of, new_of, loaded}
+use Rattle.sw_value.specs.Effect.{instr_effect, last_effect, point_effect}
 use Rattle.sw_value.specs.Frame.{first_frame, start_at}
 use Rattle.sw_value.specs.Job.{top_frame}
 use Rattle.sw_value.specs.Printed.{printed_line}
-use Rattle.sw_value.specs.State.{result_of}
-use Rattle.sw_value.specs.Value.{value_of, operand_value, reference_at, value_at, values_at}
+use Rattle.sw_value.specs.Value.{value_of, operand_value, value_at, values_at}
 use Rattle.sw_value.specs.Value.{field_of, payload_of, made, truth_of, tag_of}
-use Rattle.sw_machine_access_facts.specs.Location.{location_at, IsLocation, content_of}
+use Rattle.sw_machine_access_facts.specs.Location.{content_of}
 use Rattle.sw_machine_let_facts.proofs.ActLemmas.{Executes, asked}
 use Rattle.sw_machine_let_facts.proofs.VarLemmas.{box_located}
-use Rattle.sw_reach_facts.specs.Named.{values_in}
 use Rattle.sw_reach_facts.specs.Reached.{references}
 use Rattle.sw_machine_name_facts.specs.Given.{EffectGives, Source, in_register, in_cell, in_location}
 use Rattle.sw_machine_name_facts.specs.Given.{in_global}
 use Rattle.sw_machine_name_facts.specs.Names.{RegistersName, JobNames, PlaceNames, in_part, in_capture}
-use Rattle.sw_machine_name_facts.proofs.Acts.{acts, by_act}
-use Rattle.sw_machine_name_facts.proofs.Computed.{IsPlain, literal_plain, unary_plain, binary_plain}
+use Rattle.sw_machine_name_facts.proofs.Acts.{by_act}
+use Rattle.sw_machine_name_facts.proofs.Computed.{literal_plain, unary_plain, binary_plain}
 use Rattle.sw_machine_name_facts.proofs.Jobs.{begun_frame}
 use Rattle.sw_machine_name_facts.proofs.Loads.{reads_next, cases_location, Finds, finds}
-use Rattle.sw_machine_name_facts.proofs.Needs.{of_needs, in_needs, of_and_then}
-use Rattle.sw_machine_name_facts.proofs.NewFrames.{NewFrame, point_frame}
-use Rattle.sw_machine_name_facts.proofs.Parts.{nothing_named, void_names, field_names, payload_names}
+use Rattle.sw_machine_name_facts.proofs.Needs.{of_needs, of_and_then}
+use Rattle.sw_machine_name_facts.proofs.NewFrames.{point_frame}
+use Rattle.sw_machine_name_facts.proofs.Parts.{nothing_named, field_names, payload_names}
 use Rattle.sw_machine_name_facts.proofs.Parts.{made_names}
 use Rattle.sw_machine_name_facts.proofs.Registers as register
 use Rattle.sw_machine_name_facts.proofs.Taken.{Gives, gives_free, operand_given, operands_given}

@@ -1,11 +1,10 @@
 -- The frames with which the machine begins: above the first one, of functions that give first values.
-use Rattle.std.proofs.Common.{◌≡◌, ℕ, zero, suc, inl, inr, Option, Some, None, List, [], ◌∷◌, ◌++◌}
-use Rattle.std.proofs.Common.{reverse, Contains, refl, ap, sym, ◌∙◌, subst}
+use Rattle.std.proofs.Common.{◌≡◌, ℕ, zero, suc, inl, inr, Option, Some, None, List, [], ◌∷◌}
+use Rattle.std.proofs.Common.{reverse, Contains, refl, sym, ◌∙◌, subst}
 use Rattle.std.specs.List.{slice_get, filter_map, cons_option}
 use Rattle.std.proofs.lemmas.List.Elements.{Contains-push_cases}
 use mathlib.Core.List.{reverse-cons}
-use Rattle.sw_list.proofs.ListLemmas.{some_injective}
-use Rattle.sw_list.proofs.Members.{none_in, first_in, later_in}
+use Rattle.sw_list.proofs.Members.{first_in, later_in}
 use Rattle.sw_graph.specs.declared.graph.Graph.{Graph}
 use Rattle.sw_value.specs.declared.frame.Frame.{Frame}
 use Rattle.sw_value.specs.Frame.{first_frame}

@@ -8,6 +8,6 @@
 mod laws;
 
 pub use laws::{
-    cells_and_jobs_are_numbered_in_turn, first_values_are_given_alone, names_go_from_place_to_place,
-    places_are_filled_in_three_ways, steps_give_what_they_find,
+    cells_and_jobs_are_numbered_in_turn, first_values_are_given_alone,
+    names_go_from_place_to_place, places_are_filled_in_three_ways, steps_give_what_they_find,
 };
