@@ -1,0 +1,4 @@
+pub mod LeastLemmas
+pub mod RivalLemmas
+pub mod UnheardLemmas
+pub mod LatestLemmas

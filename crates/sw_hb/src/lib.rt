@@ -1,0 +1,7 @@
+//! The machine with the clocks of happens-before: one item of a schedule at a time, and the first
+//! two accesses of the items so far that are unordered. The crate knows nothing of how an
+//! instruction is executed, of how clocks are kept in memory, of races of states or of source texts.
+#![tactic(auto)]
+
+mod entries;
+
