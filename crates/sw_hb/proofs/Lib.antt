@@ -2,3 +2,8 @@ pub mod LeastLemmas
 pub mod RivalLemmas
 pub mod UnheardLemmas
 pub mod LatestLemmas
+pub mod JobLemmas
+pub mod TableLemmas
+pub mod StubLemmas
+pub mod HistoryLemmas
+pub mod ClockedLemmas

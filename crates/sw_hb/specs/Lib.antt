@@ -1,2 +1,9 @@
 pub mod Entries
 pub mod Latest
+pub mod Table
+pub mod Events
+pub mod History
+pub mod Clocked
+pub mod StubRows
+pub mod StubLinks
+pub mod StubWith

@@ -3,5 +3,16 @@
 //! instruction is executed, of how clocks are kept in memory, of races of states or of source texts.
 #![tactic(auto)]
 
-mod entries;
 
+
+mod clocked;
+mod entries;
+mod fault;
+mod finding;
+mod history;
+mod links;
+mod stub;
+mod table;
+
+pub use clocked::{Clocked, ItemList, clock_start, clock_step};
+pub use fault::ClockFault;
