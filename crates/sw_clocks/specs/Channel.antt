@@ -1,5 +1,5 @@
--- Actors, and channels as the code has them.
-use Rattle.std.specs.Prelude.{ℕ, ◌==◌, Bool, false, Option, Some, None}
+-- Actors, and the channels of happens-before that jobs, their ends and actors stand for.
+use Rattle.std.specs.Prelude.{◌==◌, Bool, false, Option, Some, None}
 use Rattle.sw_value.specs.declared.executor.Executor.{Executor}
 use Rattle.sw_value.specs.declared.executor.Executor.TheVariants as executor
 use Rattle.sw_before.specs.Channels as before
@@ -14,22 +14,16 @@ is_same_actor (ActorOf c) (ActorOf d) = c == d
 is_same_actor (Global g) (Global h) = g == h
 is_same_actor _ _ = false
 
-abbrev pub executor_of : Actor → Executor
-executor_of (ActorOf c) = executor.ActorOf c
-executor_of (Global g) = executor.Global g
-
 -- the actor that an executor is; the generic one is none
 abbrev pub actor_of : Executor → Option Actor
 actor_of executor.Generic = None
 actor_of (executor.ActorOf c) = Some (ActorOf c)
 actor_of (executor.Global g) = Some (Global g)
 
-abbrev pub actor_channel : Executor → Option Channel
-actor_channel executor.Generic = None
-actor_channel (executor.ActorOf c) = Some (OfActor (ActorOf c))
-actor_channel (executor.Global g) = Some (OfActor (Global g))
+abbrev pub executor_of : Actor → Executor
+executor_of (ActorOf c) = executor.ActorOf c
+executor_of (Global g) = executor.Global g
 
--- the channel that one of the code stands for
 abbrev pub meant : Channel → before.Channel
 meant (OfJob j) = before.OfJob j
 meant (OfEnd j) = before.OfEnd j

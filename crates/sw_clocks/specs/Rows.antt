@@ -1,46 +1,62 @@
 -- Clocks as they are kept: rows of counts, one for each channel, and what they count.
-use Rattle.std.specs.Prelude.{◌≡◌, ◌⊎◌, ℕ, ◌+◌, ◌*◌, ◌<◌, ◌≤◌, max, nat_lt, Option, Some, None}
-use Rattle.std.specs.Prelude.{IfSome, IsSome, List, length, slice_index, position, option_map}
-use Rattle.std.specs.Prelude.{option_and_then, if◌then◌else◌}
+use Rattle.std.specs.Prelude.{◌≡◌, ◌⊎◌, ℕ, ◌+◌, ◌*◌, ◌^◌, ◌<◌, ◌≤◌, max, nat_lt, Option, Some}
+use Rattle.std.specs.Prelude.{None, IfSome, IsSome, List, length, slice_index, position}
+use Rattle.std.specs.Prelude.{option_map, option_and_then, if◌then◌else◌}
 use Rattle.std.specs.Option.{option_map_or}
-use Rattle.sw_before.specs.Channels.{Channel, OfJob, OfEnd, OfExecutor, channel_of}
+use Rattle.sw_before.specs.Channels as before
 use Rattle.sw_before.specs.Clocks.{Clocks}
 use Rattle.sw_clocks.specs.declared.links.TheConstants.{MOST_JOBS}
 use Rattle.sw_clocks.specs.declared.links.Links.{Links}
 use Rattle.sw_clocks.specs.declared.channel.Actor.{Actor}
-use Rattle.sw_clocks.specs.Channel.{is_same_actor, actor_of}
+use Rattle.sw_clocks.specs.declared.channel.Channel.{Channel}
+use Rattle.sw_clocks.specs.Channel.{is_same_actor, actor_of, meant}
 
 -- the rows of counts, one after the other, and the actors that have rows
 pub record Rows : Type 0 where
   pub counts : List ℕ
   pub actors : List Actor
 
--- The row of a channel, if it has one. The rows of jobs and of their ends are first, then those of
--- actors.
-abbrev pub row_of : List Actor → Channel → Option ℕ
-row_of actors (OfJob j) = if nat_lt j MOST_JOBS then Some (2 * j) else None
-row_of actors (OfEnd j) = if nat_lt j MOST_JOBS then Some (2 * j + 1) else None
-row_of actors (OfExecutor x) =
-    option_map (λ k. 2 * MOST_JOBS + k)
-    (option_and_then (λ actor. position (is_same_actor actor) actors) (actor_of x))
+-- The rows of jobs and of their ends are the first ones, and then come those of actors.
+abbrev pub job_row : ℕ → Option ℕ
+job_row job = if nat_lt job MOST_JOBS then Some (job * 2) else None
 
--- count `job` of a row
+abbrev pub end_row : ℕ → Option ℕ
+end_row job = if nat_lt job MOST_JOBS then Some (job * 2 + 1) else None
+
+abbrev pub actor_row : List Actor → Actor → Option ℕ
+actor_row actors actor =
+    option_map (λ k. 2 * MOST_JOBS + k) (position (is_same_actor actor) actors)
+
+-- the row of a channel, if it has one
+abbrev pub row_of : List Actor → before.Channel → Option ℕ
+row_of actors (before.OfJob j) = job_row j
+row_of actors (before.OfEnd j) = end_row j
+row_of actors (before.OfExecutor x) = option_and_then (actor_row actors) (actor_of x)
+
+-- the count of a job in a row; 0 of a job that there can't be
 abbrev pub count_at : List ℕ → ℕ → ℕ → ℕ
 count_at counts row job =
     if nat_lt job MOST_JOBS then slice_index counts (row * MOST_JOBS + job) else 0
 
--- the counts of each channel: 0 for one that has no row
+-- the counts of each channel; they are 0 if it has no row
 unfoldable pub clocks_in : Rows → Clocks
 clocks_in rows channel job =
     option_map_or (λ row. count_at rows.counts row job) (row_of rows.actors channel) 0
 
--- the actor or global actor that an event leaves has a row
+abbrev pub HasRow : List Actor → Channel → Type 0
+HasRow actors channel = IsSome (row_of actors (meant channel))
+
+-- the actor or global actor that an event leaves, if it leaves one, has a row
 abbrev pub HasRoom : Rows → Links → Type 0
 HasRoom rows links =
-    IfSome (option_and_then channel_of links.leaves) (λ channel. IsSome (row_of rows.actors channel))
+    IfSome (option_and_then actor_of links.leaves) (λ actor. IsSome (actor_row rows.actors actor))
 
--- there is a row for each job, for its end and for each of the actors, and no row counts events of
--- jobs past the first ones
+-- on each channel one more event of the job can be counted
+abbrev pub CountsFew : Clocks → ℕ → Type 0
+CountsFew clocks job = (channel : before.Channel) → clocks channel job + 1 < 2 ^ 32
+
+-- There is a row for each job, for its end and for each of the actors. No row counts events of jobs
+-- past the first ones.
 pub record AreRows (jobs : ℕ) (counts : List ℕ) (actors : List Actor) : Type 0 where
   pub rows : length counts ≡ (2 * MOST_JOBS + length actors) * MOST_JOBS
   pub few : jobs ≤ MOST_JOBS

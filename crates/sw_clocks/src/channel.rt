@@ -1,5 +1,5 @@
 ghost use Rattle.std.specs.Prelude.{◌≡◌};
-ghost use Rattle.sw_clocks.specs.Channel.{actor_channel};
+ghost use Rattle.sw_clocks.specs.Channel.{actor_of};
 
 use sw_value::Executor;
 
@@ -18,15 +18,13 @@ pub enum Channel {
     OfActor(Actor),
 }
 
-impl Channel {
-    /// The channel of an actor or a global actor. The generic executor has none.
-    pub fn of_executor(executor: Executor) -> Option<Channel>
-        ensures { result ≡ actor_channel executor }
-    {
-        match executor {
-            Executor::Generic => None,
-            Executor::ActorOf(cell) => Some(Channel::OfActor(Actor::ActorOf(cell))),
-            Executor::Global(actor) => Some(Channel::OfActor(Actor::Global(actor))),
-        }
+/// The actor or global actor that an executor is. The generic executor is none.
+pub fn actor_of(executor: Executor) -> Option<Actor>
+    ensures { result ≡ actor_of executor }
+{
+    match executor {
+        Executor::Generic => None,
+        Executor::ActorOf(cell) => Some(Actor::ActorOf(cell)),
+        Executor::Global(actor) => Some(Actor::Global(actor)),
     }
 }

@@ -1,11 +1,11 @@
-use crate::channel::{Actor, Channel};
-use crate::counts::join;
+use crate::channel::{Actor, Channel, actor_of};
+use crate::counts::{count, end_row, job_row, join};
 use crate::links::{Links, MOST_JOBS};
 use indexmap::IndexSet;
 use std::alloc::{AllocError, Global};
 use std::marker::Model;
 
-/// The clocks of the jobs, of their ends and of the actors and global actors, after some events.
+/// The clocks of the jobs, of their ends, and of the actors and global actors, after some events.
 /// Contracts say what they count by `clocks_in`.
 #[derive(Drop)]
 pub struct Clocks {
@@ -29,12 +29,16 @@ impl Model for Clocks {
 }
 
 impl Clocks {
-    ghost use Rattle.std.specs.Prelude.{◌≡◌, ◌+◌, ◌<◌, ◌^◌, [], IfOk, OnOk};
+    ghost use Rattle.std.specs.Prelude.{◌≡◌, ◌<◌, [], IfOk, OnOk, IfSome, IsSome, fold, max};
+    ghost use Rattle.std.specs.Prelude.{option_map, option_to_list};
+    ghost use Rattle.std.specs.Option.{option_map_or};
     ghost use Rattle.sw_value.specs.Transition.{Transition};
-    ghost use Rattle.sw_before.specs.Channels.{Channel};
+    ghost use Rattle.sw_before.specs.Channels.{OfExecutor};
     ghost use Rattle.sw_before.specs.Clocks.{heard, after_event, clocks_of};
+    ghost use Rattle.sw_clocks.specs.Channel.{meant, executor_of};
     ghost use Rattle.sw_clocks.specs.Links.{links_of, HasFewJobs};
-    ghost use Rattle.sw_clocks.specs.Rows.{clocks_in, HasRoom};
+    ghost use Rattle.sw_clocks.specs.Rows.{row_of, clocks_in, HasRow, HasRoom, CountsFew};
+    ghost use Rattle.sw_clocks.specs.Steps.{joined, hearing, telling, counting};
 
     /// The clocks before any event.
     pub fn new(alloc: Global) -> Result<Clocks, AllocError>
@@ -53,7 +57,10 @@ impl Clocks {
         ensures same { clocks_in self.new ≡ clocks_in self.old }
         ensures room { OnOk result (HasRoom self.new links.now) }
     {
-        Ok(())
+        match links.leaves.and_then(actor_of) {
+            None => Ok(()),
+            Some(actor) => self.add_row(actor),
+        }
     }
 
     /// How many events of a job an event with these links hears of.
@@ -61,16 +68,141 @@ impl Clocks {
         ensures { (t : Transition) → links_of t ≡ links.now
             → result ≡ heard (clocks_in self.now) t job }
     {
-        0
+        let own = self.count(Channel::OfJob(links.job), job);
+        let ended = self.count_of(links.follows.map(Channel::OfEnd), job);
+        let entered = self.count_of(
+            links.enters.and_then(actor_of).map(Channel::OfActor),
+            job,
+        );
+        own.max(ended).max(entered)
     }
 
     /// Takes in an event with these links. It takes no memory.
     pub fn take_in(&mut self, links: &Links)
         requires jobs { HasFewJobs links.now }
         requires room { HasRoom self.old links.now }
-        requires few { (channel : Channel) → clocks_in self.old channel links.now.job + 1 < 2 ^ 32 }
+        requires few { CountsFew (clocks_in self.old) links.now.job }
         ensures { (t : Transition) → links_of t ≡ links.now
             → clocks_in self.new ≡ after_event (clocks_in self.old) t }
     {
+        self.hear(links.job, links.follows.map(Channel::OfEnd));
+        self.hear(
+            links.job,
+            links.enters.and_then(actor_of).map(Channel::OfActor),
+        );
+        self.tick(links.job);
+        self.tell(links.job, links.makes.map(Channel::OfJob));
+        self.tell(links.job, links.ends.then_some(Channel::OfEnd(links.job)));
+        self.tell(
+            links.job,
+            links.leaves.and_then(actor_of).map(Channel::OfActor),
+        );
+    }
+
+    /// A job takes in what a channel counts, if there is one.
+    fn hear(&mut self, job: u32, from: Option<Channel>)
+        requires job { HasRow self.old.actors (Channel.OfJob job) }
+        ensures actors { self.new.actors ≡ self.old.actors }
+        ensures clocks { clocks_in self.new
+            ≡ fold (hearing job) (clocks_in self.old) (option_to_list (option_map meant from)) }
+    {
+        if let Some(from) = from {
+            self.join(from, Channel::OfJob(job));
+        }
+    }
+
+    /// A job counts one more event of its own.
+    fn tick(&mut self, job: u32)
+        requires job { job < MOST_JOBS }
+        requires few { CountsFew (clocks_in self.old) job }
+        ensures actors { self.new.actors ≡ self.old.actors }
+        ensures clocks { clocks_in self.new ≡ counting job (clocks_in self.old) }
+    {
+        let place = job as usize * 2 * MOST_JOBS + job as usize;
+        self.counts[place] += 1;
+        self.jobs = self.jobs.max(job as usize + 1);
+    }
+
+    /// A channel, if there is one, takes in what a job counts.
+    fn tell(&mut self, job: u32, to: Option<Channel>)
+        requires to { IfSome to (HasRow self.old.actors) }
+        ensures actors { self.new.actors ≡ self.old.actors }
+        ensures clocks { clocks_in self.new
+            ≡ fold (telling job) (clocks_in self.old) (option_to_list (option_map meant to)) }
+    {
+        if let Some(to) = to {
+            self.join(Channel::OfJob(job), to);
+        }
+    }
+
+    /// A channel takes in what another one counts.
+    fn join(&mut self, from: Channel, to: Channel)
+        requires to { HasRow self.old.actors to }
+        ensures actors { self.new.actors ≡ self.old.actors }
+        ensures clocks { clocks_in self.new ≡ joined (meant from) (meant to) (clocks_in self.old) }
+    {
+        if let Some(from) = self.row(from) {
+            if let Some(to) = self.row(to) {
+                join(&mut self.counts, from, to, self.jobs);
+            }
+        }
+    }
+
+    /// The row of a channel, if it has one.
+    fn row(&self, channel: Channel) -> Option<usize>
+        ensures { result ≡ row_of self.now.actors (meant channel) }
+    {
+        match channel {
+            Channel::OfJob(job) => job_row(job),
+            Channel::OfEnd(job) => end_row(job),
+            Channel::OfActor(actor) => self.actor_row(actor),
+        }
+    }
+
+    /// The row of an actor, if it has one.
+    fn actor_row(&self, actor: Actor) -> Option<usize>
+        ensures { result ≡ row_of self.now.actors (OfExecutor (executor_of actor)) }
+    {
+        let index = self.actors.get_index_of(&actor)?;
+        Some(2 * MOST_JOBS + index)
+    }
+
+    /// How many events of a job a channel counts.
+    fn count(&self, channel: Channel, job: u32) -> u32
+        ensures { result ≡ clocks_in self.now (meant channel) job }
+    {
+        match self.row(channel) {
+            None => 0,
+            Some(row) => count(&self.counts, row, job),
+        }
+    }
+
+    /// How many events of a job a channel counts, if there is one.
+    fn count_of(&self, channel: Option<Channel>, job: u32) -> u32
+        ensures { result ≡ option_map_or (λ c. clocks_in self.now (meant c) job) 0 channel }
+    {
+        match channel {
+            None => 0,
+            Some(channel) => self.count(channel, job),
+        }
+    }
+
+    /// Gives an actor a row of zeros, if it has none.
+    fn add_row(&mut self, actor: Actor) -> Result<(), AllocError>
+        ensures same { clocks_in self.new ≡ clocks_in self.old }
+        ensures room { OnOk result (HasRow self.new.actors (Channel.OfActor actor)) }
+    {
+        if self.actors.contains(&actor) {
+            return Ok(());
+        }
+        let length = self.counts.len();
+        self.counts.extend_from_slice(&[0; MOST_JOBS])?;
+        match self.actors.insert(actor) {
+            Ok(_) => Ok(()),
+            Err(_) => {
+                self.counts.truncate(length);
+                Err(AllocError)
+            }
+        }
     }
 }
