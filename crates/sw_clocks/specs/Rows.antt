@@ -3,13 +3,12 @@ use Rattle.std.specs.Prelude.{◌≡◌, ◌⊎◌, ℕ, ◌+◌, ◌*◌, ◌^�
 use Rattle.std.specs.Prelude.{None, IfSome, IsSome, List, length, slice_index, position}
 use Rattle.std.specs.Prelude.{option_map, option_and_then, if◌then◌else◌}
 use Rattle.std.specs.Option.{option_map_or}
-use Rattle.sw_before.specs.Channels as before
+use Rattle.sw_before.specs.Channels.{Channel, OfJob, OfEnd, OfExecutor, channel_of}
 use Rattle.sw_before.specs.Clocks.{Clocks}
 use Rattle.sw_clocks.specs.declared.links.TheConstants.{MOST_JOBS}
 use Rattle.sw_clocks.specs.declared.links.Links.{Links}
 use Rattle.sw_clocks.specs.declared.channel.Actor.{Actor}
-use Rattle.sw_clocks.specs.declared.channel.Channel.{Channel}
-use Rattle.sw_clocks.specs.Channel.{is_same_actor, actor_of, meant}
+use Rattle.sw_clocks.specs.Channel.{is_same_actor, actor_of}
 
 -- the rows of counts, one after the other, and the actors that have rows
 pub record Rows : Type 0 where
@@ -28,10 +27,10 @@ actor_row actors actor =
     option_map (λ k. 2 * MOST_JOBS + k) (position (is_same_actor actor) actors)
 
 -- the row of a channel, if it has one
-abbrev pub row_of : List Actor → before.Channel → Option ℕ
-row_of actors (before.OfJob j) = job_row j
-row_of actors (before.OfEnd j) = end_row j
-row_of actors (before.OfExecutor x) = option_and_then (actor_row actors) (actor_of x)
+abbrev pub row_of : List Actor → Channel → Option ℕ
+row_of actors (OfJob j) = job_row j
+row_of actors (OfEnd j) = end_row j
+row_of actors (OfExecutor x) = option_and_then (actor_row actors) (actor_of x)
 
 -- the count of a job in a row; 0 of a job that there can't be
 abbrev pub count_at : List ℕ → ℕ → ℕ → ℕ
@@ -44,16 +43,15 @@ clocks_in rows channel job =
     option_map_or (λ row. count_at rows.counts row job) (row_of rows.actors channel) 0
 
 abbrev pub HasRow : List Actor → Channel → Type 0
-HasRow actors channel = IsSome (row_of actors (meant channel))
+HasRow actors channel = IsSome (row_of actors channel)
 
 -- the actor or global actor that an event leaves, if it leaves one, has a row
 abbrev pub HasRoom : Rows → Links → Type 0
-HasRoom rows links =
-    IfSome (option_and_then actor_of links.leaves) (λ actor. IsSome (actor_row rows.actors actor))
+HasRoom rows links = IfSome (option_and_then channel_of links.leaves) (HasRow rows.actors)
 
 -- on each channel one more event of the job can be counted
 abbrev pub CountsFew : Clocks → ℕ → Type 0
-CountsFew clocks job = (channel : before.Channel) → clocks channel job + 1 < 2 ^ 32
+CountsFew clocks job = (channel : Channel) → clocks channel job + 1 < 2 ^ 32
 
 -- There is a row for each job, for its end and for each of the actors. No row counts events of jobs
 -- past the first ones.

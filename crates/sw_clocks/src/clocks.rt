@@ -1,4 +1,4 @@
-use crate::channel::{Actor, Channel, actor_of};
+use crate::channel::{Actor, Channel, actor_of, of_end, of_executor, of_job};
 use crate::counts::{count, end_row, job_row, join};
 use crate::links::{Links, MOST_JOBS};
 use indexmap::IndexSet;
@@ -37,7 +37,7 @@ impl Clocks {
     ghost use Rattle.sw_before.specs.Clocks.{heard, after_event, clocks_of};
     ghost use Rattle.sw_clocks.specs.Channel.{meant, executor_of};
     ghost use Rattle.sw_clocks.specs.Links.{links_of, HasFewJobs};
-    ghost use Rattle.sw_clocks.specs.Rows.{row_of, clocks_in, HasRow, HasRoom, CountsFew};
+    ghost use Rattle.sw_clocks.specs.Rows.{actor_row, row_of, clocks_in, HasRow, HasRoom, CountsFew};
     ghost use Rattle.sw_clocks.specs.Steps.{joined, hearing, telling, counting};
 
     /// The clocks before any event.
@@ -69,11 +69,8 @@ impl Clocks {
             → result ≡ heard (clocks_in self.now) t job }
     {
         let own = self.count(Channel::OfJob(links.job), job);
-        let ended = self.count_of(links.follows.map(Channel::OfEnd), job);
-        let entered = self.count_of(
-            links.enters.and_then(actor_of).map(Channel::OfActor),
-            job,
-        );
+        let ended = self.count_of(of_end(links.follows), job);
+        let entered = self.count_of(of_executor(links.enters), job);
         own.max(ended).max(entered)
     }
 
@@ -85,23 +82,17 @@ impl Clocks {
         ensures { (t : Transition) → links_of t ≡ links.now
             → clocks_in self.new ≡ after_event (clocks_in self.old) t }
     {
-        self.hear(links.job, links.follows.map(Channel::OfEnd));
-        self.hear(
-            links.job,
-            links.enters.and_then(actor_of).map(Channel::OfActor),
-        );
+        self.hear(links.job, of_end(links.follows));
+        self.hear(links.job, of_executor(links.enters));
         self.tick(links.job);
-        self.tell(links.job, links.makes.map(Channel::OfJob));
-        self.tell(links.job, links.ends.then_some(Channel::OfEnd(links.job)));
-        self.tell(
-            links.job,
-            links.leaves.and_then(actor_of).map(Channel::OfActor),
-        );
+        self.tell(links.job, of_job(links.makes));
+        self.tell(links.job, of_end(links.ends.then_some(links.job)));
+        self.tell(links.job, of_executor(links.leaves));
     }
 
     /// A job takes in what a channel counts, if there is one.
     fn hear(&mut self, job: u32, from: Option<Channel>)
-        requires job { HasRow self.old.actors (Channel.OfJob job) }
+        requires job { job < MOST_JOBS }
         ensures actors { self.new.actors ≡ self.old.actors }
         ensures clocks { clocks_in self.new
             ≡ fold (hearing job) (clocks_in self.old) (option_to_list (option_map meant from)) }
@@ -125,7 +116,7 @@ impl Clocks {
 
     /// A channel, if there is one, takes in what a job counts.
     fn tell(&mut self, job: u32, to: Option<Channel>)
-        requires to { IfSome to (HasRow self.old.actors) }
+        requires to { IfSome (option_map meant to) (HasRow self.old.actors) }
         ensures actors { self.new.actors ≡ self.old.actors }
         ensures clocks { clocks_in self.new
             ≡ fold (telling job) (clocks_in self.old) (option_to_list (option_map meant to)) }
@@ -137,7 +128,7 @@ impl Clocks {
 
     /// A channel takes in what another one counts.
     fn join(&mut self, from: Channel, to: Channel)
-        requires to { HasRow self.old.actors to }
+        requires to { HasRow self.old.actors (meant to) }
         ensures actors { self.new.actors ≡ self.old.actors }
         ensures clocks { clocks_in self.new ≡ joined (meant from) (meant to) (clocks_in self.old) }
     {
@@ -161,7 +152,7 @@ impl Clocks {
 
     /// The row of an actor, if it has one.
     fn actor_row(&self, actor: Actor) -> Option<usize>
-        ensures { result ≡ row_of self.now.actors (OfExecutor (executor_of actor)) }
+        ensures { result ≡ actor_row self.now.actors actor }
     {
         let index = self.actors.get_index_of(&actor)?;
         Some(2 * MOST_JOBS + index)
@@ -179,7 +170,7 @@ impl Clocks {
 
     /// How many events of a job a channel counts, if there is one.
     fn count_of(&self, channel: Option<Channel>, job: u32) -> u32
-        ensures { result ≡ option_map_or (λ c. clocks_in self.now (meant c) job) 0 channel }
+        ensures { result ≡ option_map_or (λ c. clocks_in self.now c job) (option_map meant channel) 0 }
     {
         match channel {
             None => 0,
@@ -190,9 +181,9 @@ impl Clocks {
     /// Gives an actor a row of zeros, if it has none.
     fn add_row(&mut self, actor: Actor) -> Result<(), AllocError>
         ensures same { clocks_in self.new ≡ clocks_in self.old }
-        ensures room { OnOk result (HasRow self.new.actors (Channel.OfActor actor)) }
+        ensures room { OnOk result (HasRow self.new.actors (OfExecutor (executor_of actor))) }
     {
-        if self.actors.contains(&actor) {
+        if self.actors.get_index_of(&actor).is_some() {
             return Ok(());
         }
         let length = self.counts.len();
