@@ -33,7 +33,7 @@ same_executor (Global a) (ActorOf b) = (λ h. cc, λ h. cc)
 same_executor (Global a) (Global b) =
     (λ h. ap Global ((Decides-eqb a b).0 h), λ h. (Decides-eqb a b).1 cc)
 
-same_channel : (c d : Channel) → Decides (is_same_channel c d) (c ≡ d)
+pub same_channel : (c d : Channel) → Decides (is_same_channel c d) (c ≡ d)
 same_channel (OfJob i) (OfJob j) =
     (λ h. ap OfJob ((Decides-eqb i j).0 h), λ h. (Decides-eqb i j).1 cc)
 same_channel (OfJob i) (OfEnd j) = (λ h. cc, λ h. cc)
@@ -84,19 +84,19 @@ of_end : (b : Bool) (d : Channel) → IsTrue b → Contains (cond b (d ∷ []) [
 of_end false d is = cc
 of_end true d is = in_one d
 
-abbrev made : Transition → List Channel
+abbrev pub made : Transition → List Channel
 made t = option_to_list (option_map OfJob t.makes)
 
-abbrev end : Transition → List Channel
+abbrev pub end : Transition → List Channel
 end t = if t.ends then OfEnd t.job ∷ [] else []
 
-abbrev left : Transition → List Channel
+abbrev pub left : Transition → List Channel
 left t = option_to_list (option_and_then channel_of t.leaves)
 
-abbrev awaited : Transition → List Channel
+abbrev pub awaited : Transition → List Channel
 awaited t = option_to_list (option_map OfEnd t.follows)
 
-abbrev entered : Transition → List Channel
+abbrev pub entered : Transition → List Channel
 entered t = option_to_list (option_and_then channel_of t.enters)
 
 data Tells (t : Transition) (c : Channel) : Type 0 where
@@ -147,7 +147,7 @@ hears t c has = elim (first_or_later (OfJob t.job) (awaited t ++ entered t) c ha
 pub tells_job : (t : Transition) → Contains (told_by t) (OfJob t.job)
 tells_job t = first_in (OfJob t.job) (made t ++ end t ++ left t)
 
-hears_job : (t : Transition) → Contains (heard_by t) (OfJob t.job)
+pub hears_job : (t : Transition) → Contains (heard_by t) (OfJob t.job)
 hears_job t = first_in (OfJob t.job) (awaited t ++ entered t)
 
 tells_more : (t : Transition) (c : Channel) → Contains (made t ++ end t ++ left t) c

@@ -18,9 +18,9 @@ use Rattle.sw_value.proofs.ReachLemmas.{reach_none, reach_push}
 use Rattle.sw_before.specs.Events.{events_of}
 use Rattle.sw_before.specs.Unordered.{AreNamed}
 use Rattle.sw_before.proofs.EventLemmas.{events_push, events_named, events_few}
-use Rattle.sw_hb.specs.declared.stub.TheConstants.{MOST_JOBS}
-use Rattle.sw_hb.specs.declared.stub.Links.{Links}
-use Rattle.sw_hb.specs.StubLinks.{links_of, HasFewJobs}
+use Rattle.sw_clocks.specs.declared.links.TheConstants.{MOST_JOBS}
+use Rattle.sw_clocks.specs.declared.links.Links.{Links}
+use Rattle.sw_clocks.specs.Links.{links_of, HasFewJobs}
 use Rattle.sw_hb.specs.declared.clocked.Clocked.{Clocked}
 use Rattle.sw_hb.specs.declared.history.History.{History}
 use Rattle.sw_hb.specs.Clocked.{HasManyJobs, IsClocked, is_one_too_many}

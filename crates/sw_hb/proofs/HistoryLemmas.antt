@@ -13,8 +13,8 @@ use Rattle.sw_before.specs.Unordered.{AreNamed, IsFirstUnordered, AreOrdered}
 use Rattle.sw_before.proofs.ClockLemmas.{are_clocks, clocks_push, heard_own}
 use Rattle.sw_before.proofs.PairLemmas.{first_stays, none_without}
 use Rattle.sw_before.proofs.RivalLemmas.{heard_all, first_unheard as found_first_pair}
-use Rattle.sw_hb.specs.StubWith.{is_same_place}
-use Rattle.sw_hb.specs.StubRows.{clocks_in}
+use Rattle.sw_race.specs.With.{is_same_place}
+use Rattle.sw_clocks.specs.Rows.{clocks_in}
 use Rattle.sw_hb.specs.declared.history.History.{History}
 use Rattle.sw_hb.specs.declared.entries.Latest.{Latest}
 use Rattle.sw_hb.specs.Entries.{first_unheard, noted}

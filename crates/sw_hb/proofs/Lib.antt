@@ -4,6 +4,5 @@ pub mod UnheardLemmas
 pub mod LatestLemmas
 pub mod JobLemmas
 pub mod TableLemmas
-pub mod StubLemmas
 pub mod HistoryLemmas
 pub mod ClockedLemmas

@@ -8,8 +8,8 @@ use Rattle.sw_value.specs.declared.race.Access.{Access}
 use Rattle.sw_value.specs.declared.race.Place.{Place}
 use Rattle.sw_value.specs.Transition.{Transition}
 use Rattle.sw_before.specs.Clocks.{count_of}
-use Rattle.sw_hb.specs.StubWith.{is_same_place}
-use Rattle.sw_hb.proofs.StubLemmas.{place_is, place_same}
+use Rattle.sw_race.specs.With.{is_same_place}
+use Rattle.sw_race.proofs.WithLemmas.{place_is, place_same}
 use Rattle.sw_hb.specs.declared.entries.Made.{Made}
 use Rattle.sw_hb.specs.declared.entries.Latest.{Latest}
 use Rattle.sw_hb.specs.Entries.{with_entry, noted}

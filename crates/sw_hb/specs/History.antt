@@ -5,9 +5,9 @@ use Rattle.sw_value.specs.declared.race.Access.{Access}
 use Rattle.sw_value.specs.Transition.{Transition}
 use Rattle.sw_before.specs.Clocks.{clocks_of}
 use Rattle.sw_before.specs.Unordered.{AreNamed, IsFirstUnordered, AreOrdered}
-use Rattle.sw_hb.specs.declared.stub.Links.{Links}
-use Rattle.sw_hb.specs.StubLinks.{links_of, HasFewJobs}
-use Rattle.sw_hb.specs.StubRows.{clocks_in, HasRoom}
+use Rattle.sw_clocks.specs.declared.links.Links.{Links}
+use Rattle.sw_clocks.specs.Links.{links_of, HasFewJobs}
+use Rattle.sw_clocks.specs.Rows.{clocks_in, HasRoom}
 use Rattle.sw_hb.specs.declared.entries.Made.{Made}
 use Rattle.sw_hb.specs.declared.history.History.{History}
 use Rattle.sw_hb.specs.Events.{accesses_in, IsFirstPair}

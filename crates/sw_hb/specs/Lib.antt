@@ -4,6 +4,3 @@ pub mod Table
 pub mod Events
 pub mod History
 pub mod Clocked
-pub mod StubRows
-pub mod StubLinks
-pub mod StubWith

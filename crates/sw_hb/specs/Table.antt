@@ -4,7 +4,7 @@ use Rattle.std.specs.Option.{unwrap_or}
 use Rattle.indexmap.specs.IndexMap.{IndexMap, get}
 use Rattle.sw_value.specs.declared.race.Place.{Place}
 use Rattle.sw_value.specs.Transition.{Transition}
-use Rattle.sw_hb.specs.StubWith.{is_same_place}
+use Rattle.sw_race.specs.With.{is_same_place}
 use Rattle.sw_hb.specs.declared.entries.Latest.{Latest}
 use Rattle.sw_hb.specs.Latest.{AreLatest}
 

@@ -12,10 +12,10 @@ use crate::fault::ClockFault;
 use crate::history::History;
 use crate::links::{links_by, made_by};
 use std::alloc::{AllocError, Global};
-use crate::stub::MOST_JOBS;
+use sw_clocks::MOST_JOBS;
 use sw_graph::Graph;
 use sw_list::ListOf;
-use crate::stub::next_access;
+use sw_race::next_access;
 use sw_step::{Event, act_of, perform};
 use sw_value::{Access, Act, State, start};
 

@@ -2,14 +2,14 @@
 ghost use Rattle.std.specs.Prelude.{◌≡◌};
 ghost use Rattle.sw_value.specs.Transition.{Transition};
 ghost use Rattle.sw_before.specs.Clocks.{heard};
-ghost use Rattle.sw_hb.specs.StubLinks.{links_of};
-ghost use Rattle.sw_hb.specs.StubRows.{clocks_in};
+ghost use Rattle.sw_clocks.specs.Links.{links_of};
+ghost use Rattle.sw_clocks.specs.Rows.{clocks_in};
 ghost use Rattle.sw_hb.specs.Entries.{first_unheard};
 ghost use Rattle.sw_hb.specs.Table.{entries_at};
 
 use crate::entries::{Latest, of_lesser_job, unheard_rival};
 use crate::table::EntriesByPlace;
-use crate::stub::{Clocks, Links};
+use sw_clocks::{Clocks, Links};
 use sw_value::Access;
 
 /// Of the latest rivals of an access of which an event with these links hasn't heard the one of the

@@ -5,9 +5,9 @@ ghost use Rattle.sw_value.specs.declared.race.Place.{Place};
 ghost use Rattle.sw_value.specs.Transition.{Transition};
 ghost use Rattle.sw_before.specs.Clocks.{heard};
 ghost use Rattle.sw_before.specs.Unordered.{AreNamed};
-ghost use Rattle.sw_hb.specs.StubLinks.{links_of};
-ghost use Rattle.sw_hb.specs.StubRows.{clocks_in};
-ghost use Rattle.sw_hb.specs.StubWith.{is_same_place};
+ghost use Rattle.sw_clocks.specs.Links.{links_of};
+ghost use Rattle.sw_clocks.specs.Rows.{clocks_in};
+ghost use Rattle.sw_race.specs.With.{is_same_place};
 ghost use Rattle.sw_hb.specs.Entries.{noted, first_unheard};
 ghost use Rattle.sw_hb.specs.History.{IsHistory, HasRoomFor, HasRoomForAccess, IsNext};
 ghost use Rattle.sw_hb.specs.History.{found_first, ranked};
@@ -18,7 +18,7 @@ use crate::finding::first_unheard;
 use crate::table::{self, EntriesByPlace};
 use indexmap::IndexMap;
 use std::alloc::{AllocError, Global};
-use crate::stub::{Clocks, Links};
+use sw_clocks::{Clocks, Links};
 use sw_value::Access;
 
 /// The clocks, the latest accesses of jobs, the first unordered pair if there is one, and how many

@@ -11,7 +11,6 @@ mod fault;
 mod finding;
 mod history;
 mod links;
-mod stub;
 mod table;
 
 pub use clocked::{Clocked, ItemList, clock_start, clock_step};

@@ -4,9 +4,9 @@ ghost use Rattle.sw_value.specs.Transition.{executor_of_top, entered_by, left_by
 ghost use Rattle.sw_value.specs.Transition.{followed_by, ends_by, is_last_frame, transition_by};
 ghost use Rattle.sw_graph.specs.declared.graph.Graph.{Graph};
 ghost use Rattle.sw_value.specs.declared.value.Value.{Value};
-ghost use Rattle.sw_hb.specs.StubLinks.{links_of};
+ghost use Rattle.sw_clocks.specs.Links.{links_of};
 
-use crate::stub::Links;
+use sw_clocks::Links;
 use sw_value::{Act, Effect, Executor, Frame, Job, State};
 
 /// The links of an act of the job with a number.

@@ -1,7 +1,7 @@
 //! The latest accesses of jobs, by location.
 ghost use Rattle.std.specs.Prelude.{◌≡◌, OnOk, OnErr, map, if◌then◌else◌};
 ghost use Rattle.sw_value.specs.declared.race.Place.{Place};
-ghost use Rattle.sw_hb.specs.StubWith.{is_same_place};
+ghost use Rattle.sw_race.specs.With.{is_same_place};
 ghost use Rattle.sw_hb.specs.Entries.{with_entry, noted};
 ghost use Rattle.sw_hb.specs.Table.{entries_at};
 

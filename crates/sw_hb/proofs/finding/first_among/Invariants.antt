@@ -1,8 +1,8 @@
 use Rattle.std.proofs.Common.{◌≡◌, take}
 use Rattle.sw_value.specs.Transition.{Transition}
 use Rattle.sw_before.specs.Clocks.{heard}
-use Rattle.sw_hb.specs.StubLinks.{links_of}
-use Rattle.sw_hb.specs.StubRows.{clocks_in}
+use Rattle.sw_clocks.specs.Links.{links_of}
+use Rattle.sw_clocks.specs.Rows.{clocks_in}
 use Rattle.sw_hb.specs.Entries.{first_unheard}
 use Rattle.sw_hb.proofs.finding.first_among.Given as goal
 

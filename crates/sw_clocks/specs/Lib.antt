@@ -1,0 +1,4 @@
+pub mod Links
+pub mod Channel
+pub mod Rows
+pub mod Steps
