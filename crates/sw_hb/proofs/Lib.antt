@@ -6,3 +6,5 @@ pub mod JobLemmas
 pub mod TableLemmas
 pub mod HistoryLemmas
 pub mod ClockedLemmas
+pub mod TurnLemmas
+pub mod OrderLemmas

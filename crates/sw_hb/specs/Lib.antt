@@ -4,3 +4,4 @@ pub mod Table
 pub mod Events
 pub mod History
 pub mod Clocked
+pub mod Replay
