@@ -1,28 +1,31 @@
 -- The history of one more event.
 use Rattle.std.proofs.Common.{◌≡◌, ◌≢◌, ℕ, zero, suc, ◌+◌, ◌<◌, ◌≤◌, ◌^◌, Bool, cond, Option, Some, None}
 use Rattle.std.proofs.Common.{List, [], ◌∷◌, ◌++◌, length, map, refl, sym, subst, ap, ◌∙◌, arith}
-use Rattle.std.specs.Prelude.{count_by, is_some}
+use Rattle.std.specs.Prelude.{count_by, is_some, Result, Ok, Err, OnOk, OnErr}
 use Rattle.std.specs.List.{slice_get}
-use Rattle.std.proofs.lemmas.List.Sums.{sum_by_push}
+use Rattle.std.specs.Bool.{◌==◌}
+use Rattle.std.proofs.lemmas.List.Sums.{sum_by_push, count_by-le-length}
 use Rattle.sw_list.proofs.ListLemmas.{some_injective, slice_get_before, at_seam}
 use Rattle.sw_value.specs.declared.race.Access.{Access}
 use Rattle.sw_value.specs.declared.race.Place.{Place}
 use Rattle.sw_value.specs.Transition.{Transition}
 use Rattle.sw_before.specs.Clocks.{Clocks, count_of, heard, after_event, clocks_of}
 use Rattle.sw_before.specs.Unordered.{AreNamed, IsFirstUnordered, AreOrdered}
-use Rattle.sw_before.proofs.ClockLemmas.{are_clocks, clocks_push, heard_own}
+use Rattle.sw_before.proofs.ClockLemmas.{are_clocks, clocks_push, heard_own, heard_within}
 use Rattle.sw_before.proofs.PairLemmas.{first_stays, none_without}
 use Rattle.sw_before.proofs.RivalLemmas.{heard_all, first_unheard as found_first_pair}
 use Rattle.sw_race.specs.With.{is_same_place}
-use Rattle.sw_clocks.specs.Rows.{clocks_in}
+use Rattle.sw_clocks.specs.declared.links.Links.{Links}
+use Rattle.sw_clocks.specs.Rows.{Rows, clocks_in, CountsFew}
+use Rattle.sw_clocks.proofs.CallerLemmas.{few_counted}
 use Rattle.sw_hb.specs.declared.history.History.{History}
 use Rattle.sw_hb.specs.declared.entries.Latest.{Latest}
-use Rattle.sw_hb.specs.Entries.{first_unheard, noted}
+use Rattle.sw_hb.specs.Entries.{first_unheard, noted, with_entry}
 use Rattle.sw_hb.specs.Events.{accesses_in, IsFirstPair}
-use Rattle.sw_hb.specs.History.{IsHistory, HasRoomForAccess, found_first, ranked}
+use Rattle.sw_hb.specs.History.{IsHistory, HasRoomForAccess, IsNext, found_first, ranked}
 use Rattle.sw_hb.specs.Latest.{HasEntry, AreLatest}
 use Rattle.sw_hb.specs.Table.{entries_at, IsTableOf}
-use Rattle.sw_hb.proofs.TableLemmas.{quiet_are, noted_are}
+use Rattle.sw_hb.proofs.TableLemmas.{ChangesAt, made_are, made_has, quiet_are, noted_are}
 use Rattle.sw_hb.proofs.UnheardLemmas.{IsFound, first_is_found}
 
 -- no event, and so no access
@@ -34,6 +37,60 @@ none_latest place = record {
   each = λ latest among. let lt = among.1 in absurd (omega (arith, lt));
   all = λ p a at same. let is = at.is_event in cc;
 }
+
+-- ---- room is made
+module _ (before after : History) (clocks : clocks_in after.clocks ≡ clocks_in before.clocks)
+    (first : after.first ≡ before.first) (accesses : after.accesses ≡ before.accesses) where
+  pub with_table : (events : List Transition) → IsHistory events before
+      → IsTableOf events after.table → IsHistory events after
+  with_table events is table = record {
+    clocks_are = clocks ∙ is.clocks_are;
+    table_is = table;
+    first_is = subst (IsFirstPair events) (sym first) is.first_is;
+    accesses_are = accesses ∙ is.accesses_are;
+  }
+
+  -- an entry was made, or memory ran out
+  pub entry_kept : {A E : Type 0} (r : Result A E) (place : Place) (job : ℕ)
+      → OnOk r (ChangesAt place (with_entry job) (entries_at before.table)
+      (entries_at after.table))
+      → OnErr r ((p : Place) → entries_at after.table p ≡ entries_at before.table p)
+      → (events : List Transition) → IsHistory events before → IsHistory events after
+  entry_kept (Ok x) place job made _ events is = with_table events is
+      (made_are events (entries_at before.table) (entries_at after.table) is.table_is place job
+      made)
+  entry_kept (Err e) place job _ same events is = with_table events is
+      (λ p. subst (AreLatest events p) (sym (same p)) (is.table_is p))
+
+pub entry_room : {A E : Type 0} (r : Result A E) (before after : History) (access : Option Access)
+    (a : Access) → access ≡ Some a
+    → OnOk r (ChangesAt a.place (with_entry a.job) (entries_at before.table)
+    (entries_at after.table)) → OnOk r (HasRoomForAccess after access)
+entry_room (Ok x) before after access a is made = subst (HasRoomForAccess after) (sym is)
+    (made_has a.place a.job (entries_at before.table) (entries_at after.table) made)
+entry_room (Err e) before after access a is made = tt
+
+-- the next event can be counted
+pub few_clocks : (history : History) (links : Links) (access : Option Access)
+    → (next : IsNext history links access) → (rows : Rows) → rows ≡ history.clocks
+    → CountsFew (clocks_in rows) links.job
+few_clocks history links access next rows same =
+    subst (λ r. CountsFew (clocks_in r) links.job) (sym same)
+    (subst (λ c. CountsFew c links.job) (sym next.is_history.clocks_are)
+    (few_counted next.events links.job next.few_events))
+
+-- what the next event hears can be counted further
+pub few_heard : (history : History) (links : Links) (access : Option Access)
+    → (next : IsNext history links access) → (job : ℕ)
+    → heard (clocks_in history.clocks) next.event job + 1 < 2 ^ 32
+few_heard history links access next job =
+    subst (λ c. heard c next.event job + 1 < 2 ^ 32) (sym next.is_history.clocks_are)
+    (omega (
+      arith,
+      heard_within next.events (clocks_of next.events) (are_clocks next.events) next.event job,
+      count_by-le-length (λ (t : Transition). t.job == job) next.events,
+      next.few_events,
+    ))
 
 module _ (events : List Transition) (e : Transition) where
   abbrev longer : List Transition

@@ -7,7 +7,7 @@ ghost use Rattle.sw_value.specs.declared.value.Value.{Value};
 ghost use Rattle.sw_clocks.specs.Links.{links_of};
 
 use sw_clocks::Links;
-use sw_value::{Act, Effect, Executor, Frame, Job, State};
+use sw_value::{Act, Effect, Executor, Job, State};
 
 /// The links of an act of the job with a number.
 #[tactic(auto, unfolding(sw_value::specs::Job::top_frame))]
