@@ -60,6 +60,14 @@ clocked_still graph before after item is none same items history =
           (subst (λ l. IsHistory l before.history) (sym events) is.history_is);
     }
 
+pub idle_few : (graph : Graph) (before : Clocked) (item : ℕ) → IsClocked graph before
+    → act_of graph before.state item ≡ None → ¬ HasManyJobs (step_of graph before.state item)
+idle_few graph before item is none many = omega (
+  arith,
+  is.few_jobs,
+  subst (λ (s : State). HasManyJobs s) (step_none graph before.state item none) many,
+)
+
 module _ (graph : Graph) (before : Clocked) (item : ℕ) (act : Act) (is : IsClocked graph before)
     (acts : act_of graph before.state item ≡ Some act) where
   abbrev event : Transition
@@ -92,13 +100,13 @@ module _ (graph : Graph) (before : Clocked) (item : ℕ) (act : Act) (is : IsClo
           → HasManyJobs (step_of graph before.state item)
       by None none many after = cc
       by (Some made) some many after =
-          let number = made_is_next graph before.state item act acts made some in
-          test (ltb made MOST_JOBS) (Decides-ltb made MOST_JOBS) many
+          test (made_is_next graph before.state item act acts made some) (ltb made MOST_JOBS)
+          (Decides-ltb made MOST_JOBS) many
         where
-          test : (b : Bool) → Decides b (made < MOST_JOBS) → not b ≡ true
+          test : made ≡ jobs_before → (b : Bool) → Decides b (made < MOST_JOBS) → not b ≡ true
               → HasManyJobs (step_of graph before.state item)
-          test true decides many = cc
-          test false decides many =
+          test number true decides many = cc
+          test number false decides many =
               let past = not_from_Decides false decides refl in
               omega (arith, past, after, number)
 
@@ -113,14 +121,14 @@ module _ (graph : Graph) (before : Clocked) (item : ℕ) (act : Act) (is : IsClo
           × IfSome o (λ made. made < MOST_JOBS)
       by None none few after = (omega (arith, after, is.few_jobs), tt)
       by (Some made) some few after =
-          let number = made_is_next graph before.state item act acts made some in
-          test (ltb made MOST_JOBS) (Decides-ltb made MOST_JOBS) few
+          test (made_is_next graph before.state item act acts made some) (ltb made MOST_JOBS)
+          (Decides-ltb made MOST_JOBS) few
         where
-          test : (b : Bool) → Decides b (made < MOST_JOBS) → not b ≡ false
+          test : made ≡ jobs_before → (b : Bool) → Decides b (made < MOST_JOBS) → not b ≡ false
               → (length (step_of graph before.state item).jobs ≤ MOST_JOBS) × (made < MOST_JOBS)
-          test true decides few =
+          test number true decides few =
               let below = decides.0 refl in (omega (arith, below, after, number), below)
-          test false decides few = cc
+          test number false decides few = cc
 
   pub still_few : is_one_too_many (made_by act) ≡ false
       → ¬ HasManyJobs (step_of graph before.state item)

@@ -1,7 +1,7 @@
 -- The history of one more event.
 use Rattle.std.proofs.Common.{◌≡◌, ◌≢◌, ℕ, zero, suc, ◌+◌, ◌<◌, ◌≤◌, ◌^◌, Bool, cond, Option, Some, None}
 use Rattle.std.proofs.Common.{List, [], ◌∷◌, ◌++◌, length, map, refl, sym, subst, ap, ◌∙◌, arith}
-use Rattle.std.specs.Prelude.{count_by, is_some, Result, Ok, Err, OnOk, OnErr}
+use Rattle.std.specs.Prelude.{count_by, is_some, IfSome, Result, Ok, Err, OnOk, OnErr}
 use Rattle.std.specs.List.{slice_get}
 use Rattle.std.specs.Bool.{◌==◌}
 use Rattle.std.proofs.lemmas.List.Sums.{sum_by_push, count_by-le-length}
@@ -62,13 +62,14 @@ module _ (before after : History) (clocks : clocks_in after.clocks ≡ clocks_in
   entry_kept (Err e) place job _ same events is = with_table events is
       (λ p. subst (AreLatest events p) (sym (same p)) (is.table_is p))
 
-pub entry_room : {A E : Type 0} (r : Result A E) (before after : History) (access : Option Access)
-    (a : Access) → access ≡ Some a
-    → OnOk r (ChangesAt a.place (with_entry a.job) (entries_at before.table)
-    (entries_at after.table)) → OnOk r (HasRoomForAccess after access)
-entry_room (Ok x) before after access a is made = subst (HasRoomForAccess after) (sym is)
-    (made_has a.place a.job (entries_at before.table) (entries_at after.table) made)
-entry_room (Err e) before after access a is made = tt
+pub entry_room : {A E : Type 0} (r : Result A E) (old new : Place → List Latest)
+    (access : Option Access) (a : Access) → access ≡ Some a
+    → OnOk r (ChangesAt a.place (with_entry a.job) old new)
+    → OnOk r (IfSome access (λ b. HasEntry (new b.place) b.job))
+entry_room (Ok x) old new access a is made =
+    subst (λ o. IfSome o (λ b. HasEntry (new b.place) b.job)) (sym is)
+    (made_has a.place a.job old new made)
+entry_room (Err e) old new access a is made = tt
 
 -- the next event can be counted
 pub few_clocks : (history : History) (links : Links) (access : Option Access)

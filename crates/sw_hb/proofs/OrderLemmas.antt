@@ -1,10 +1,11 @@
 -- Every list of items has one of the four outcomes.
 use Rattle.std.proofs.Common.{◌≡◌, ℕ, ◌<◌, ◌≤◌, inl, inr, Option, Some, None, List, length, refl, sym}
-use Rattle.std.proofs.Common.{ap, ◌∙◌, arith}
+use Rattle.std.proofs.Common.{subst, ap, ◌∙◌, arith}
 use Rattle.std.proofs.lemmas.Bool.{cases_lt}
 use Rattle.sw_graph.specs.declared.graph.Graph.{Graph}
 use Rattle.sw_list.proofs.ListLemmas.{some_injective}
 use Rattle.sw_value.specs.declared.race.Access.{Access}
+use Rattle.sw_value.specs.declared.state.State.{State}
 use Rattle.sw_value.specs.declared.state.TrapKind.{TrapKind}
 use Rattle.sw_value.specs.Reach.{reach}
 use Rattle.sw_before.specs.Events.{events_of}
@@ -15,7 +16,8 @@ use Rattle.sw_replay.specs.Output.{lines_of}
 use Rattle.sw_hb.specs.declared.ordering.OrderReplay.{OrderReplay}
 use Rattle.sw_hb.specs.declared.ordering.OrderReplay.TheVariants as replay
 use Rattle.sw_clocks.specs.declared.links.TheConstants.{MOST_JOBS}
-use Rattle.sw_hb.specs.Clocked.{HasManyJobs}
+use Rattle.sw_hb.specs.declared.clocked.Clocked.{Clocked}
+use Rattle.sw_hb.specs.Clocked.{HasManyJobs, IsClocked}
 use Rattle.sw_hb.specs.Events.{accesses_in}
 use Rattle.sw_hb.specs.Replay.{IsOrderReplay, many, unordered, trapped, ordered}
 
@@ -79,3 +81,37 @@ module _ (graph : Graph) (items : List ℕ) where
         ]
         )
   ]
+
+-- ---- what a clocked state and its lines tell
+module _ (graph : Graph) (clocked : Clocked) (is : IsClocked graph clocked) (printed : List ℕ)
+    (lines_are : printed ≡ lines_of graph clocked.items) where
+  abbrev IsReplay : (List ℕ → OrderReplay) → Type 0
+  IsReplay of = IsOrderReplay graph clocked.items (of printed)
+
+  by_lines : (of : List ℕ → OrderReplay)
+      → IsOrderReplay graph clocked.items (of (lines_of graph clocked.items)) → IsReplay of
+  by_lines of = subst (λ l. IsOrderReplay graph clocked.items (of l)) (sym lines_are)
+
+  few : ¬ HasManyJobs (reach graph clocked.items)
+  few more = omega (
+    arith,
+    is.few_jobs,
+    subst (λ (s : State). HasManyJobs s) (sym is.state_is) more,
+  )
+
+  pub unordered_is : (a b : Access) → IsFirstUnordered (events_of graph clocked.items) a b
+      → IsReplay (λ l. replay.Unordered l a b)
+  unordered_is a b first = by_lines (λ l. replay.Unordered l a b) (unordered few a b first)
+
+  pub trapped_is : AreOrdered (events_of graph clocked.items) → (kind : TrapKind) (at : ℕ)
+      → clocked.state.halted ≡ Some (kind, at) → IsReplay (λ l. replay.Trapped l kind at)
+  trapped_is all kind at trap = by_lines (λ l. replay.Trapped l kind at)
+      (trapped few all kind at (ap (λ (s : State). s.halted) (sym is.state_is) ∙ trap))
+
+  pub ordered_is : AreOrdered (events_of graph clocked.items) → clocked.state.halted ≡ None
+      → (count : ℕ) → count ≡ accesses_in (events_of graph clocked.items)
+      → IsReplay (λ l. replay.Ordered l count)
+  ordered_is all none count counts = by_lines (λ l. replay.Ordered l count)
+      (subst (λ n. IsOrderReplay graph clocked.items
+      (replay.Ordered (lines_of graph clocked.items) n)) (sym counts)
+      (ordered few all (ap (λ (s : State). s.halted) (sym is.state_is) ∙ none)))

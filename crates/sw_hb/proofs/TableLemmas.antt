@@ -114,7 +114,6 @@ module _ (events : List Transition) (old new : Place → List Latest)
     made_are = by_place (AreLatest events) place (with_entry job) old new changes
         (with_entry_are job events place (old place) (are place)) (λ p other. are p)
 
-
   -- one more event
   module _ (e : Transition) where
     pub quiet_are : e.accesses ≡ None → (p : Place) → AreLatest (events ++ e ∷ []) p (old p)

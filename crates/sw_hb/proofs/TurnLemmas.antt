@@ -21,21 +21,21 @@ pub record IsTaken (graph : Graph) (items : List ℕ) (clocked : Clocked) (lines
   pub clocked_is : IsClocked graph clocked
   pub played : IsPlayed graph items clocked.state lines
 
-pub taken_none : (graph : Graph) (clocked : Clocked) (lines : List ℕ) → clocked.items ≡ []
+pub turns_none : (graph : Graph) (clocked : Clocked) (lines : List ℕ) → clocked.items ≡ []
     → IsClocked graph clocked → lines ≡ [] → IsTaken graph [] clocked lines
-taken_none graph clocked lines none is no_lines = record {
+turns_none graph clocked lines none is no_lines = record {
   items_are = none;
   clocked_is = is;
   played = played_none graph clocked.state lines
       (is.state_is ∙ ap (reach graph) none ∙ reach_none graph) no_lines;
 }
 
-pub taken_push : (graph : Graph) (items : List ℕ) (item : ℕ) (before after : Clocked)
+pub turns_push : (graph : Graph) (items : List ℕ) (item : ℕ) (before after : Clocked)
     (lines more : List ℕ) → IsTaken graph items before lines
     → after.state ≡ step_of graph before.state item → after.items ≡ before.items ++ item ∷ []
     → IsClocked graph after → more ≡ lines ++ line_of (event_of graph before.state item)
     → IsTaken graph (items ++ item ∷ []) after more
-taken_push graph items item before after lines more is steps adds clocked prints = record {
+turns_push graph items item before after lines more is steps adds clocked prints = record {
   items_are = adds ∙ ap (λ l. l ++ item ∷ []) is.items_are;
   clocked_is = clocked;
   played = played_push graph items item before.state after.state lines more is.played steps prints;

@@ -30,12 +30,7 @@ pub fn first_unheard(
     }
 }
 
-fn first_among(
-    clocks: &Clocks,
-    links: &Links,
-    access: Access,
-    entries: &[Latest],
-) -> Option<Access>
+fn first_among(clocks: &Clocks, links: &Links, access: Access, entries: &[Latest]) -> Option<Access>
     ensures { (t : Transition) → links_of t ≡ links.now
         → result ≡ first_unheard (heard (clocks_in clocks.now) t) access entries.now }
 {

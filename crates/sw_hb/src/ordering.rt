@@ -30,7 +30,10 @@ pub enum OrderReplay {
         at: u32,
     },
     /// All accesses are ordered; so many there are.
-    Ordered { lines: Line, accesses: u64 },
+    Ordered {
+        lines: Line,
+        accesses: u64,
+    },
 }
 
 /// Lets the machine with clocks take the items of a schedule from its start, all of them, also past

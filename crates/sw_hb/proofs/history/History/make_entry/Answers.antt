@@ -1,4 +1,5 @@
 use Rattle.std.proofs.Common.{refl}
+use Rattle.sw_hb.specs.Table.{entries_at}
 use Rattle.sw_hb.proofs.HistoryLemmas.{entry_kept, entry_room}
 use Rattle.sw_hb.proofs.history.History.make_entry.Goals as goal
 
@@ -9,5 +10,6 @@ returns-in-Some-clause-kept c =
 
 pub returns-in-Some-clause-room : goal.returns-in-Some-clause-room
 returns-in-Some-clause-room c =
-    entry_room c.make_entry.result c.args.self.now _ c.args.access c.in-Some.access c.in-Some.is
+    entry_room c.make_entry.result (entries_at c.args.self.now.table)
+    (entries_at c.make_entry.new.table) c.args.access c.in-Some.access c.in-Some.is
     c.make_entry.ensures.ok
