@@ -105,7 +105,7 @@ module _ (events : List Transition) (clocks : Clocks) (are : AreClocks events cl
   abbrev longer : List Transition
   longer = events ++ e ∷ []
 
-  heard_within : (job : ℕ) → heard clocks e job ≤ count_of job events
+  pub heard_within : (job : ℕ) → heard clocks e job ≤ count_of job events
   heard_within job = elim (heard_some clocks e job) [
     | inl none ↦ omega (arith, none)
     | inr (c, has, is) ↦ omega (arith, is, are.within c job)
@@ -130,7 +130,7 @@ module _ (events : List Transition) (clocks : Clocks) (are : AreClocks events cl
       ]
 
   -- it hears of all events of its own job
-  heard_own : heard clocks e e.job ≡ count_of e.job events
+  pub heard_own : heard clocks e e.job ≡ count_of e.job events
   heard_own = elim (cases_lt 0 (count_of e.job events)) [
     | inr none ↦ omega (arith, none, heard_within e.job)
     | inl some ↦ (

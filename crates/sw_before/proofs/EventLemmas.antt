@@ -1,6 +1,6 @@
 -- The events of a list of items, one item after the other.
-use Rattle.std.proofs.Common.{◌≡◌, ℕ, zero, suc, Option, Some, None, List, [], ◌∷◌, ◌++◌, refl, sym}
-use Rattle.std.proofs.Common.{subst, ap, ◌∙◌, append_assoc, append-nil, option_to_list}
+use Rattle.std.proofs.Common.{◌≡◌, ℕ, zero, suc, ◌≤◌, Option, Some, None, List, [], ◌∷◌, ◌++◌, length}
+use Rattle.std.proofs.Common.{refl, sym, subst, ap, ◌∙◌, append_assoc, append-nil, option_to_list, arith}
 use Rattle.std.specs.List.{fold, slice_get}
 use Rattle.std.specs.Option.{option_map}
 use Rattle.sw_graph.specs.declared.graph.Graph.{Graph}
@@ -35,6 +35,24 @@ pub events_push : (graph : Graph) (items : List ℕ) (item : ℕ)
     ≡ events_of graph items ++ option_to_list (transition_of graph (reach graph items) item)
 unfolding events_of reach
 events_push graph items item = from_push graph (start_of graph) items item
+
+few_from : (graph : Graph) (items : List ℕ) (state : State)
+    → length (events_from graph state items) ≤ length items
+few_from graph [] state = omega arith
+few_from graph (item ∷ items) state =
+    by (transition_of graph state item) (few_from graph items (step_of graph state item))
+  where
+    by : (o : Option Transition) → length (events_from graph (step_of graph state item) items)
+        ≤ length items
+        → length (option_to_list o ++ events_from graph (step_of graph state item) items)
+        ≤ length (item ∷ items)
+    by None few = omega (arith, few)
+    by (Some t) few = omega (arith, few)
+
+-- there are no more events than items
+pub events_few : (graph : Graph) (items : List ℕ) → length (events_of graph items) ≤ length items
+unfolding events_of
+events_few graph items = few_from graph items (start_of graph)
 
 -- what holds of each transition holds of each event
 each_event : (P : Transition → Type 0) (graph : Graph)

@@ -26,7 +26,7 @@ access_within events p a at = slice_get_within events p at.event at.is_event
 
 -- ---- later events change no pair
 module _ (events later : List Transition) where
-  access_up : (p : ℕ) (a : Access) → AccessesAt events p a → AccessesAt (events ++ later) p a
+  pub access_up : (p : ℕ) (a : Access) → AccessesAt events p a → AccessesAt (events ++ later) p a
   access_up p a at = record {
     event = at.event;
     is_event = slice_get_before events later p at.event at.is_event;

@@ -1,0 +1,10 @@
+pub mod LeastLemmas
+pub mod RivalLemmas
+pub mod UnheardLemmas
+pub mod LatestLemmas
+pub mod JobLemmas
+pub mod TableLemmas
+pub mod HistoryLemmas
+pub mod ClockedLemmas
+pub mod TurnLemmas
+pub mod OrderLemmas
