@@ -8,9 +8,11 @@ pub mod TakingEffects
 pub mod TakingCells
 pub mod TakingCalls
 pub mod TakingTasks
+pub mod Turning
 pub mod Running
 pub mod Stepping
 pub mod Learning
+pub mod There
 pub mod Keeping
 pub mod Starting
 pub mod Taken

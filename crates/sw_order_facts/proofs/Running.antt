@@ -1,13 +1,13 @@
 -- Which jobs run on an executor after a step: those that did and haven't left it, and the job that is
 -- dispatched onto it.
 use Rattle.std.proofs.Common.{◌≡◌, ◌≢◌, ◌⊎◌, ◌<◌, inl, inr, ◌≤◌, ℕ, suc, ◌-◌, Bool, true, false, cond, Option, Some}
-use Rattle.std.proofs.Common.{None, List, [], ◌∷◌, ◌++◌, length, get_or, refl, sym, subst, ap, ◌∙◌}
+use Rattle.std.proofs.Common.{None, List, [], ◌∷◌, ◌++◌, length, refl, sym, subst, ap, ◌∙◌}
 use Rattle.std.proofs.Common.{arith, length-append}
 use Rattle.std.specs.Prelude.{option_and_then, ◌==◌}
 use Rattle.std.specs.Option.{option_map}
 use Rattle.std.specs.List.{slice_get}
 use Rattle.std.proofs.lemmas.Bool.{eq-eqb}
-use Rattle.std.proofs.lemmas.Option.{slice_get_within, slice_get-get_or}
+use Rattle.std.proofs.lemmas.Option.{slice_get_within}
 use Rattle.sw_list.proofs.ListLemmas.{slice_get_before, some_injective}
 use Rattle.sw_graph.specs.declared.function.Function.{Function}
 use Rattle.sw_graph.specs.declared.graph.Graph.{Graph}
@@ -17,27 +17,20 @@ use Rattle.sw_value.specs.declared.effect.Act.TheVariants.{Dispatch, Wake, Execu
 use Rattle.sw_value.specs.declared.effect.Effect.{Effect}
 use Rattle.sw_value.specs.declared.effect.Effect.TheVariants as effect
 use Rattle.sw_value.specs.declared.executor.Executor.{Executor}
-use Rattle.sw_value.specs.declared.executor.Executor.TheVariants as executor
 use Rattle.sw_value.specs.declared.frame.Frame.{Frame}
-use Rattle.sw_value.specs.declared.frame.TheConstants.{NO_REGISTER}
 use Rattle.sw_value.specs.declared.job.Job.{Job}
-use Rattle.sw_value.specs.declared.job.Status.{Status}
-use Rattle.sw_value.specs.declared.job.Status.TheVariants.{Ready}
 use Rattle.sw_value.specs.declared.state.State.{State}
-use Rattle.sw_value.specs.declared.value.Value.{Value}
 use Rattle.sw_value.specs.declared.value.Value.TheVariants as value
 use Rattle.sw_value.specs.Act.{act_of}
 use Rattle.sw_value.specs.Effect.{point_effect}
-use Rattle.sw_value.specs.Frame.{finish_instr, go_on, set_field, set_register, take_result}
-use Rattle.sw_value.specs.Job.{dispatch, enter, in_top, is_running, is_running_status, new_job}
-use Rattle.sw_value.specs.Job.{rest, return_to, top_frame, wait, wake}
-use Rattle.sw_value.specs.Lists.{changed_at}
+use Rattle.sw_value.specs.Frame.{finish_instr}
+use Rattle.sw_value.specs.Job.{is_running}
+use Rattle.sw_value.specs.Job.{top_frame}
 use Rattle.sw_value.specs.Reach.{after_act, step_of}
 use Rattle.sw_value.specs.Transition.{Describes, Transition, executor_of_top, gained, made_by}
 use Rattle.sw_value.specs.Transition.{runs_at, transition_by, transition_of}
 use Rattle.sw_value.proofs.JobLemmas.{leave_some}
-use Rattle.sw_value.proofs.ListLemmas.{changed_at_found, length-changed_at}
-use Rattle.sw_value.proofs.ListLemmas.{slice_get_end}
+use Rattle.sw_value.proofs.ListLemmas.{length-changed_at}
 use Rattle.sw_value.proofs.ReachLemmas.{after_acts, step_by_act}
 use Rattle.sw_value.proofs.TransitionLemmas.{transition_describes}
 use Rattle.sw_late_facts.proofs.Waiting.{others_stay}
@@ -48,13 +41,16 @@ use Rattle.sw_owner_facts.specs.View.{FrameShape, above, Frame as Spot}
 use Rattle.sw_view_facts.specs.Effects.{turn_of}
 use Rattle.sw_view_facts.specs.Standing.{StandsAt}
 use Rattle.sw_view_facts.specs.Views.{Colours, frame_at, frame_under, function_of, shape_by, shape_with}
-use Rattle.sw_view_facts.specs.Views.{stands_on, view_at}
+use Rattle.sw_view_facts.specs.Views.{view_at}
 use Rattle.sw_view_facts.proofs.TopLemmas.{ends_with, frame_was, height_is}
 use Rattle.sw_secure_facts.specs.Secure.{IsSecure}
 use Rattle.sw_secure_job_facts.proofs.Frames.{function_at}
 use Rattle.sw_sound_facts.proofs.Acting.{ExecutesAt, executes_at}
 use Rattle.sw_order_facts.proofs.Entering.{entered_stays}
 use Rattle.sw_order_facts.proofs.Holding.{RunsAt, executing_runs, runs_so, runs_there}
+use Rattle.sw_order_facts.proofs.Turning.{dispatched_top, entered_runs, entered_top}
+use Rattle.sw_order_facts.proofs.Turning.{in_top_stays, not_new, not_resting, not_waiting, not_woken}
+use Rattle.sw_order_facts.proofs.Turning.{returned, same_stand, turns_stay}
 
 pub stepped : (graph : Graph) (state : State) (j : ℕ) (act : Act) → act_of graph state j ≡ Some act
     → step_of graph state j ≡ after_act j act state
@@ -62,11 +58,6 @@ stepped graph state j act acts =
     step_by_act graph state j ∙ ap (λ o. after_acts j o state) acts
 
 -- ---- other jobs
--- a job that is made doesn't run
-not_new : (frames : List Frame) → is_running (new_job frames) ≡ true → ⊥
-unfolding is_running new_job
-not_new frames runs = cc
-
 pub other_ran : (graph : Graph) (state : State) (j i : ℕ) (act : Act)
     → act_of graph state j ≡ Some act → i ≢ j → (x : Executor)
     → runs_at (step_of graph state j) i ≡ Some x → runs_at state i ≡ Some x
@@ -106,111 +97,6 @@ other_runs graph state j i act acts apart x runs =
     })
 
 -- ---- the job that executes
--- a top frame that is changed inside
-top_in_top : (h : Frame → Frame) (job : Job) (f : Frame) → top_frame job ≡ Some f
-    → top_frame (in_top h job) ≡ Some (h f)
-unfolding top_frame in_top
-top_in_top h job f top =
-    ap (λ n. slice_get (changed_at h (length job.frames - 1) job.frames) (n - 1))
-    (length-changed_at h (length job.frames - 1) job.frames)
-    ∙ changed_at_found h (length job.frames - 1) job.frames f top
-
-turns_stay : (e : Effect) (f : Frame) → (turn_of e f).executor ≡ f.executor
-unfolding finish_instr set_field go_on
-turns_stay e f = grind arith
-
-in_top_stays : (h : Frame → Frame) (job : Job) (f g : Frame)
-    → ((k : Frame) → (h k).executor ≡ k.executor) → top_frame job ≡ Some f
-    → top_frame (in_top h job) ≡ Some g → g.executor ≡ f.executor
-in_top_stays h job f g keeps top now =
-    ap (λ (k : Frame). k.executor) (some_injective (sym now ∙ top_in_top h job f top)) ∙ keeps f
-
-taken_stays : (r : ℕ) (v : Value) (f : Frame) → (take_result r v f).executor ≡ f.executor
-unfolding take_result set_register
-taken_stays r v f = by (r == NO_REGISTER) where
-  by : (b : Bool) → (cond b f (set_register r v f)).executor ≡ f.executor
-  by true = refl
-  by false = refl
-
--- executors on which a frame stands alike are one
-same_stand : (x y : Executor) → stands_on x ≡ stands_on y → x ≡ y
-same_stand executor.Generic executor.Generic is = refl
-same_stand executor.Generic (executor.ActorOf c) is = cc
-same_stand executor.Generic (executor.Global g) is = cc
-same_stand (executor.ActorOf c) executor.Generic is = cc
-same_stand (executor.ActorOf c) (executor.ActorOf d) is = (let e : c ≡ d = cc in ap executor.ActorOf e)
-same_stand (executor.ActorOf c) (executor.Global g) is = cc
-same_stand (executor.Global g) executor.Generic is = cc
-same_stand (executor.Global g) (executor.ActorOf c) is = cc
-same_stand (executor.Global g) (executor.Global h) is = (let e : g ≡ h = cc in ap executor.Global e)
-
-entered_top : (frame g : Frame) (next : ℕ) (job : Job) → top_frame (enter frame next job) ≡ Some g
-    → g ≡ frame
-unfolding top_frame enter
-entered_top frame g next job now =
-    let below = changed_at (go_on next) (length job.frames - 1) job.frames in
-    let last : length (below ++ frame ∷ []) - 1 ≡ length below =
-    omega (arith, length-append below (frame ∷ [])) in
-    some_injective (sym now ∙ ap (slice_get (below ++ frame ∷ [])) last
-    ∙ slice_get_end below frame)
-
-entered_runs : (frame : Frame) (next : ℕ) (job : Job) → is_running (enter frame next job) ≡ true
-    → frame.crossing ≡ false
-unfolding is_running enter
-entered_runs frame next job runs = by frame.crossing runs where
-  by : (b : Bool) → is_running_status (cond b Ready job.status) ≡ true → b ≡ false
-  by true is = cc
-  by false is = refl
-
-not_waiting : (on r next : ℕ) (job : Job) → is_running (wait on r next job) ≡ true → ⊥
-unfolding is_running wait
-not_waiting on r next job runs = cc
-
-not_resting : (r next : ℕ) (job : Job) → is_running (rest r next job) ≡ true → ⊥
-unfolding is_running rest
-not_resting r next job runs = cc
-
-not_woken : (r : ℕ) (v : Value) (job : Job) → is_running (wake r v job) ≡ true → ⊥
-unfolding is_running wake
-not_woken r v job runs = cc
-
--- a dispatch leaves the frames
-dispatched_top : (job : Job) → top_frame job ≡ top_frame (dispatch job)
-unfolding top_frame dispatch
-dispatched_top job = refl
-
--- what is left where a frame returns
-record Returns (below : List Frame) (f g : Frame) : Type 0 where
-  lower : Frame
-  at : slice_get below (length below - 1) ≡ Some lower
-  stays : f.crossing ≡ false
-  is : g.executor ≡ lower.executor
-
-returned : (below : List Frame) (f g : Frame) (v : Value) (status : Status)
-    → is_running (return_to below f v status) ≡ true
-    → top_frame (return_to below f v status) ≡ Some g → Returns below f g
-unfolding is_running top_frame
-returned [] f g v status runs now = absurd (let no : ⊥ = cc in no)
-returned (b ∷ bs) f g v status runs now =
-    let lower = get_or (b ∷ bs) (length bs) b in
-    let here = slice_get-get_or (b ∷ bs) (length bs) b (omega arith) in
-    let place : length (changed_at (take_result f.result v) (length bs) (b ∷ bs)) - 1 ≡ length bs =
-    omega (arith, length-changed_at (take_result f.result v) (length bs) (b ∷ bs)) in
-    record {
-      lower = lower;
-      at = (let last : length (b ∷ bs) - 1 ≡ length bs = omega arith in
-          ap (slice_get (b ∷ bs)) last ∙ here);
-      stays = by f.crossing runs;
-      is = ap (λ (k : Frame). k.executor) (some_injective (sym now
-          ∙ ap (slice_get (changed_at (take_result f.result v) (length bs) (b ∷ bs))) place
-          ∙ changed_at_found (take_result f.result v) (length bs) (b ∷ bs) lower here))
-          ∙ taken_stays f.result v lower;
-    }
-  where
-    by : (c : Bool) → is_running_status (cond c Ready status) ≡ true → c ≡ false
-    by true is = cc
-    by false is = refl
-
 module _ (graph : Graph) (states : ℕ → List (Option Regions)) (state : State) (colours : Colours)
     (s : IsSecure graph states state colours) where
   module _ (q : Spot) (job : Job) (f : Frame) (function : Function) (point : Point)
