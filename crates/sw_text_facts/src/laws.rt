@@ -9,6 +9,8 @@ ghost use Rattle.sw_value.specs.Effect.{effect_of, is_stuck};
 ghost use Rattle.sw_value.specs.Job.{is_running, top_frame};
 ghost use Rattle.sw_value.specs.Racing.{Racing};
 ghost use Rattle.sw_value.specs.Reach.{reach, step_of};
+ghost use Rattle.sw_before.specs.Events.{events_of};
+ghost use Rattle.sw_before.specs.Unordered.{AreOrdered};
 ghost use Rattle.sw_race.specs.Step.{BringsInItsOwn, HasRival};
 ghost use Rattle.sw_machine_kind_facts.specs.Kinded.{Kinded};
 ghost use Rattle.sw_machine_kind_facts.specs.Operands.{HasNext};
@@ -85,4 +87,12 @@ pub fn texts_race_by_their_last_step()
 pub fn accepted_texts_never_race()
     ensures { (rule : AsyncDefault) (text : List ℕ) (graph : Graph) → Accepts rule text
         → IsGraphOf rule text graph → (items : List ℕ) → ¬ Racing graph (reach graph items) }
+{}
+
+/// Of two accesses of one location by two jobs of an accepted text's machine, of which one writes,
+/// the earlier one happens before the later, under each default and for every list of items, of any
+/// length.
+pub fn accepted_texts_order_their_accesses()
+    ensures { (rule : AsyncDefault) (text : List ℕ) (graph : Graph) → Accepts rule text
+        → IsGraphOf rule text graph → (items : List ℕ) → AreOrdered (events_of graph items) }
 {}

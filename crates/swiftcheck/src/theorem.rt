@@ -41,6 +41,8 @@ ghost use Rattle.sw_value.specs.declared.value.Value.{Value};
 ghost use Rattle.sw_machine_access_facts.specs.Footprint.{Writes, Reads};
 ghost use Rattle.sw_machine_access_facts.specs.Location.{IsLocation, content_of, with_content};
 ghost use Rattle.sw_machine_access_facts.specs.Location.{IsVar};
+ghost use Rattle.sw_before.specs.Events.{events_of};
+ghost use Rattle.sw_before.specs.Unordered.{AreOrdered};
 ghost use Rattle.sw_race.specs.Step.{BringsInItsOwn, HasRival};
 ghost use Rattle.sw_replay.specs.Items.{IsItems, IsFirstFault, HasItems, position_of};
 ghost use Rattle.sw_replay.specs.Output.{output_of};
@@ -245,6 +247,17 @@ pub fn accepted_texts_never_race()
         → IsGraphOf rule text graph → (items : List ℕ) → ¬ Racing graph (reach graph items) }
 {
     sw_text_facts::accepted_texts_never_race()
+}
+
+/// Nor would a detector of data races that orders what one run did find a race: of two accesses of one
+/// location by two jobs, of which one writes, the earlier one happens before the later. It is before it
+/// in one job, or it is led to by the making of a job, by its end that another job waits for, or by an
+/// actor that one job leaves and another enters (SE-0306).
+pub fn accepted_texts_order_their_accesses()
+    ensures { (rule : AsyncDefault) (text : List ℕ) (graph : Graph) → Accepts rule text
+        → IsGraphOf rule text graph → (items : List ℕ) → AreOrdered (events_of graph items) }
+{
+    sw_text_facts::accepted_texts_order_their_accesses()
 }
 
 /// What soundness rests on, without any text: the machine of a graph that is clean and supplied and
