@@ -1,5 +1,5 @@
 -- The clocked state after one more item.
-use Rattle.std.proofs.Common.{◌≡◌, ◌≢◌, ℕ, ◌+◌, ◌<◌, ◌≤◌, ◌^◌, Bool, true, false, not, ltb, Option}
+use Rattle.std.proofs.Common.{◌≡◌, ℕ, ◌+◌, ◌<◌, ◌≤◌, Bool, true, false, not, ltb, Option}
 use Rattle.std.proofs.Common.{Some, None, List, [], ◌∷◌, ◌++◌, length, option_to_list, refl, sym}
 use Rattle.std.proofs.Common.{subst, ap, ◌∙◌, arith, append-nil}
 use Rattle.std.specs.Bool.{Decides}

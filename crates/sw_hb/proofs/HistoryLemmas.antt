@@ -1,16 +1,15 @@
 -- The history of one more event.
-use Rattle.std.proofs.Common.{◌≡◌, ◌≢◌, ℕ, zero, suc, ◌+◌, ◌<◌, ◌≤◌, ◌^◌, Bool, cond, Option, Some, None}
-use Rattle.std.proofs.Common.{List, [], ◌∷◌, ◌++◌, length, map, refl, sym, subst, ap, ◌∙◌, arith}
-use Rattle.std.specs.Prelude.{count_by, is_some, IfSome, Result, Ok, Err, OnOk, OnErr}
-use Rattle.std.specs.List.{slice_get}
+use Rattle.std.proofs.Common.{◌≡◌, ℕ, suc, ◌+◌, ◌<◌, ◌^◌, cond, Option, Some, None}
+use Rattle.std.proofs.Common.{List, [], ◌∷◌, ◌++◌, length, map, sym, subst, ap, ◌∙◌, arith}
+use Rattle.std.specs.Prelude.{is_some, IfSome, Result, Ok, Err, OnOk, OnErr}
 use Rattle.std.specs.Bool.{◌==◌}
 use Rattle.std.proofs.lemmas.List.Sums.{sum_by_push, count_by-le-length}
-use Rattle.sw_list.proofs.ListLemmas.{some_injective, slice_get_before, at_seam}
+use Rattle.sw_list.proofs.ListLemmas.{slice_get_before, at_seam}
 use Rattle.sw_value.specs.declared.race.Access.{Access}
 use Rattle.sw_value.specs.declared.race.Place.{Place}
 use Rattle.sw_value.specs.Transition.{Transition}
 use Rattle.sw_before.specs.Clocks.{Clocks, count_of, heard, after_event, clocks_of}
-use Rattle.sw_before.specs.Unordered.{AreNamed, IsFirstUnordered, AreOrdered}
+use Rattle.sw_before.specs.Unordered.{AreNamed, AreOrdered}
 use Rattle.sw_before.proofs.ClockLemmas.{are_clocks, clocks_push, heard_own, heard_within}
 use Rattle.sw_before.proofs.PairLemmas.{first_stays, none_without}
 use Rattle.sw_before.proofs.RivalLemmas.{heard_all, first_unheard as found_first_pair}

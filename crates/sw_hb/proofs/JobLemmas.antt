@@ -1,5 +1,5 @@
 -- How many jobs there are after an item. An act makes one job at most, and takes none away.
-use Rattle.std.proofs.Common.{◌≡◌, ℕ, ◌+◌, ◌<◌, ◌≤◌, ◌⊎◌, inl, inr, eqb, Bool, true, false, cond}
+use Rattle.std.proofs.Common.{◌≡◌, ℕ, ◌+◌, ◌<◌, ◌≤◌, eqb, Bool, true, false, cond}
 use Rattle.std.proofs.Common.{Option, Some, None, List, [], ◌∷◌, ◌++◌, length, refl, sym, subst, ap}
 use Rattle.std.proofs.Common.{◌∙◌, arith, length-append}
 use Rattle.std.specs.Prelude.{is_some, option_and_then}
@@ -9,7 +9,6 @@ use Rattle.std.proofs.lemmas.List.Sums.{fold-append}
 use Rattle.std.proofs.lemmas.Option.{slice_get_within}
 use Rattle.sw_graph.specs.declared.graph.Graph.{Graph}
 use Rattle.sw_list.proofs.ListLemmas.{some_injective}
-use Rattle.sw_value.specs.declared.cell.HeapCell.TheVariants.{TaskOf}
 use Rattle.sw_value.specs.declared.effect.Effect.{Effect}
 use Rattle.sw_value.specs.declared.effect.Effect.TheVariants as effect
 use Rattle.sw_value.specs.declared.effect.Act.{Act}
@@ -23,7 +22,7 @@ use Rattle.sw_value.specs.Job.{in_top, dispatch, wake, enter, wait, rest, leave,
 use Rattle.sw_value.specs.Reach.{after_effect, after_act, step_of, reach}
 use Rattle.sw_value.specs.State.{in_job, add_job, add_cell, in_cell, set_global, halt}
 use Rattle.sw_value.specs.Start.{start_of}
-use Rattle.sw_value.specs.Transition.{Transition, Describes, made_by, transition_by, transition_of}
+use Rattle.sw_value.specs.Transition.{made_by, transition_by, transition_of}
 use Rattle.sw_value.proofs.ListLemmas.{length-changed_at}
 use Rattle.sw_value.proofs.ReachLemmas.{after_acts, step_by_act}
 use Rattle.sw_value.proofs.TransitionLemmas.{transition_describes}

@@ -1,20 +1,18 @@
 -- The entries of a location after one more event.
-use Rattle.std.proofs.Common.{◌≡◌, ◌≢◌, ℕ, zero, suc, ◌<◌, ◌≤◌, ◌⊎◌, inl, inr, Bool, true, false, cond}
+use Rattle.std.proofs.Common.{◌≡◌, ◌≢◌, ℕ, suc, ◌⊎◌, inl, inr, Bool, true, false, cond}
 use Rattle.std.proofs.Common.{eqb, ◌||◌, Option, Some, None, List, [], ◌∷◌, ◌++◌, Contains, length, map}
 use Rattle.std.proofs.Common.{refl, sym, subst, ap, ◌∙◌, arith}
 use Rattle.std.specs.Bool.{Decides}
 use Rattle.std.specs.List.{list_any}
-use Rattle.std.proofs.lemmas.Bool.{cases_eq}
 use Rattle.std.proofs.lemmas.Bool.Decides.{Decides-eqb, not_from_Decides}
 use Rattle.std.proofs.lemmas.List.Elements.{Contains-append_cases, Contains-append_left}
 use Rattle.std.proofs.lemmas.List.Elements.{Contains-append_right}
-use Rattle.sw_list.proofs.ListLemmas.{some_injective, slice_get_before, at_seam}
+use Rattle.sw_list.proofs.ListLemmas.{some_injective, at_seam}
 use Rattle.sw_list.proofs.Members.{none_in, one_in, in_one, first_in, later_in, first_or_later}
 use Rattle.sw_value.specs.declared.race.Access.{Access}
 use Rattle.sw_value.specs.declared.race.Place.{Place}
 use Rattle.sw_value.specs.Transition.{Transition}
 use Rattle.sw_before.specs.Clocks.{count_of, rank_of}
-use Rattle.sw_before.specs.Unordered.{AccessesAt}
 use Rattle.sw_before.proofs.CountLemmas.{rank_more, rank_end}
 use Rattle.sw_before.proofs.KnownLemmas.{at_end}
 use Rattle.sw_before.proofs.PairLemmas.{access_within, access_down, access_up}

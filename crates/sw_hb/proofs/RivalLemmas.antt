@@ -1,6 +1,6 @@
 -- The latest rival that a job made, by its entry.
 use Rattle.std.proofs.Common.{◌≡◌, ◌≢◌, ℕ, suc, ◌<◌, ◌≤◌, inl, inr, Bool, true, false, cond, ltb}
-use Rattle.std.proofs.Common.{◌||◌, IsTrue, Option, Some, None, List, take, refl, sym, subst, ap}
+use Rattle.std.proofs.Common.{◌||◌, IsTrue, Option, Some, None, List, take, refl, sym, subst}
 use Rattle.std.proofs.Common.{◌∙◌, arith}
 use Rattle.std.specs.Bool.{Decides}
 use Rattle.std.proofs.lemmas.Bool.{cases_lt}

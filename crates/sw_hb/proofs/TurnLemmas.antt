@@ -2,9 +2,7 @@
 use Rattle.std.proofs.Common.{◌≡◌, ℕ, ◌<◌, ◌≤◌, List, [], ◌∷◌, ◌++◌, length, sym, subst, ap, ◌∙◌, arith}
 use Rattle.std.proofs.Common.{length-append}
 use Rattle.sw_graph.specs.declared.graph.Graph.{Graph}
-use Rattle.sw_value.specs.declared.state.State.{State}
 use Rattle.sw_value.specs.Reach.{step_of, reach}
-use Rattle.sw_value.specs.Start.{start_of}
 use Rattle.sw_value.proofs.ReachLemmas.{reach_none, reach_push}
 use Rattle.sw_step.specs.Event.{event_of}
 use Rattle.sw_replay.specs.declared.items.TheConstants.{MAX_ITEMS}

@@ -1,12 +1,12 @@
 -- The latest rivals that a clock doesn't count, by the entries of a location.
 use Rattle.std.proofs.Common.{◌≡◌, ◌≢◌, ℕ, ◌<◌, ◌≤◌, Bool, true, false, cond, eqb, ltb, Option, Some}
-use Rattle.std.proofs.Common.{None, List, Contains, refl, sym, subst, ap, ◌∙◌, arith}
+use Rattle.std.proofs.Common.{None, List, Contains, refl, sym, subst, ◌∙◌, arith}
 use Rattle.std.specs.Bool.{Decides}
 use Rattle.std.proofs.lemmas.Bool.Decides.{Decides-eqb, Decides-ltb, not_from_Decides}
 use Rattle.sw_value.specs.declared.race.Access.{Access}
 use Rattle.sw_value.specs.Transition.{Transition}
 use Rattle.sw_before.specs.Clocks.{rank_of}
-use Rattle.sw_before.specs.Rivals.{IsRival, IsLatestRival, IsUnheard, IsFirstUnheard}
+use Rattle.sw_before.specs.Rivals.{IsLatestRival, IsUnheard, IsFirstUnheard}
 use Rattle.sw_before.specs.Unordered.{AreNamed}
 use Rattle.sw_hb.specs.declared.entries.Made.{Made}
 use Rattle.sw_hb.specs.declared.entries.Latest.{Latest}

@@ -2,7 +2,7 @@
 use Rattle.std.specs.Prelude.{◌≡◌, ℕ, ◌<◌, ◌≤◌, nat_lt, Bool, false, not, Option, Some, None, length}
 use Rattle.sw_graph.specs.declared.graph.Graph.{Graph}
 use Rattle.sw_value.specs.declared.state.State.{State}
-use Rattle.sw_value.specs.Reach.{step_of, reach}
+use Rattle.sw_value.specs.Reach.{reach}
 use Rattle.sw_before.specs.Events.{events_of}
 use Rattle.sw_clocks.specs.declared.links.TheConstants.{MOST_JOBS}
 use Rattle.sw_hb.specs.declared.clocked.Clocked.{Clocked}

@@ -1,5 +1,5 @@
 -- The accesses of a list of events: how many there are, and the first two that are unordered.
-use Rattle.std.specs.Prelude.{◌≡◌, ℕ, Option, Some, None, List, count_by, is_some}
+use Rattle.std.specs.Prelude.{ℕ, Option, Some, None, List, count_by, is_some}
 use Rattle.sw_value.specs.declared.race.Access.{Access}
 use Rattle.sw_value.specs.Transition.{Transition}
 use Rattle.sw_before.specs.Unordered.{IsFirstUnordered, AreOrdered}

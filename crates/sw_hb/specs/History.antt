@@ -1,10 +1,10 @@
 -- What is kept of a list of events, and what it means.
 use Rattle.std.specs.Prelude.{◌≡◌, ℕ, ◌+◌, ◌<◌, ◌^◌, Option, Some, None, List, [], ◌∷◌, ◌++◌, length}
-use Rattle.std.specs.Prelude.{count_by, is_some, IfSome}
+use Rattle.std.specs.Prelude.{IfSome}
 use Rattle.sw_value.specs.declared.race.Access.{Access}
 use Rattle.sw_value.specs.Transition.{Transition}
 use Rattle.sw_before.specs.Clocks.{clocks_of}
-use Rattle.sw_before.specs.Unordered.{AreNamed, IsFirstUnordered, AreOrdered}
+use Rattle.sw_before.specs.Unordered.{AreNamed}
 use Rattle.sw_clocks.specs.declared.links.Links.{Links}
 use Rattle.sw_clocks.specs.Links.{links_of, HasFewJobs}
 use Rattle.sw_clocks.specs.Rows.{clocks_in, HasRoom}

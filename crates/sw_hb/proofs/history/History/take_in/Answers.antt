@@ -1,4 +1,4 @@
-use Rattle.std.proofs.Common.{◌≡◌, subst, ap, ◌∙◌}
+use Rattle.std.proofs.Common.{subst, ap, ◌∙◌}
 use Rattle.sw_before.specs.Clocks.{after_event}
 use Rattle.sw_clocks.specs.Rows.{clocks_in}
 use Rattle.sw_hb.specs.declared.history.History.{History}
