@@ -54,16 +54,31 @@ fn tried(bytes: &[u8], numbers: &[u64], closer: u8) -> Result<(u64, usize), usiz
     Err(most)
 }
 
-/// The number that the digits at the beginning of bytes spell, if it is in a rising list and the
-/// byte closes it. It is quick, but it may overlook one.
+/// The number that bytes begin with, the byte that closes it, and the length of both. None where
+/// they begin with no number as it is written, where it has more than 64 bits, or where the bytes
+/// end with it.
+pub fn spoken(bytes: &[u8]) -> Option<(u64, u8, usize)>
+    ensures { IfSome result (λ said. BeginsWith said.0 said.1 bytes.now
+        × (said.2 ≡ length (spelled said.0 said.1))) }
+{
+    let count = digits_len(bytes);
+    let closer = *bytes.get(count)?;
+    let number = str::from_utf8(&bytes[..count]).ok()?.parse::<u64>().ok()?;
+    let len = meet(bytes, number, closer).ok()?;
+    Some((number, closer, len))
+}
+
+/// The number that bytes begin with, if it is in a rising list and the byte closes it. It is quick,
+/// but it may overlook one.
 fn guessed(bytes: &[u8], numbers: &[u64], closer: u8) -> Option<(u64, usize)>
     ensures { IfSome result (λ said.
         IsSaid (λ n c. (c ≡ closer) × Contains numbers.now n) bytes.now said.0 said.1) }
 {
-    let digits = &bytes[..digits_len(bytes)];
-    let number = str::from_utf8(digits).ok()?.parse::<u64>().ok()?;
+    let (number, found, len) = spoken(bytes)?;
     let index = numbers.binary_search(&number).ok()?;
-    let len = meet(bytes, numbers[index], closer).ok()?;
+    if found != closer {
+        return None;
+    }
     Some((numbers[index], len))
 }
 

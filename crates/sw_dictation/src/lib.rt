@@ -7,4 +7,4 @@
 
 mod choice;
 
-pub use choice::number;
+pub use choice::{number, spoken};
