@@ -11,7 +11,7 @@ use Rattle.sw_cert.specs.Choices.{MayBeNext}
 pub no_classes : AreClasses []
 no_classes = λ x lt. absurd (omega (arith, lt))
 
-push_length : (classes : List ℕ) (class : ℕ) → length (classes ++ class ∷ []) ≡ length classes + 1
+pub push_length : (classes : List ℕ) (class : ℕ) → length (classes ++ class ∷ []) ≡ length classes + 1
 push_length classes class = length-append classes (class ∷ [])
 
 pub one_class_more : (classes : List ℕ) (class : ℕ) → AreClasses classes → MayBeNext classes class

@@ -4,7 +4,8 @@ use Rattle.std.proofs.Common.{List, [], ◌∷◌, ◌++◌, length, refl, sym, 
 use Rattle.std.proofs.Common.{append_assoc, length-append}
 use Rattle.std.specs.List.{slice_get}
 use Rattle.sw_dictation.specs.Lines.{closer_before, MayFollow}
-use Rattle.sw_cert.specs.Certificate.{Spot, IsLineAt, AreClasses}
+use Rattle.sw_cert.specs.Certificate.{IsLineAt, AreClasses}
+use Rattle.sw_cert.specs.declared.line.Spot.{Spot}
 use Rattle.sw_cert.specs.Certificate.{pair_numbers}
 use Rattle.sw_cert.specs.Choices.{RisesTo, HasBlock, MayBeNext}
 use Rattle.sw_cert.specs.Form.{certificate_form, AreNumbersAt, AreFit}

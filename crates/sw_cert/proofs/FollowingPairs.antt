@@ -4,7 +4,8 @@ use Rattle.std.proofs.Common.{List, [], ◌∷◌, ◌++◌, length, refl, sym, 
 use Rattle.std.proofs.Common.{append_assoc, length-append}
 use Rattle.std.specs.List.{slice_get, AllByRecursion}
 use Rattle.sw_dictation.specs.Lines.{closer_before, MayFollow}
-use Rattle.sw_cert.specs.Certificate.{Spot, IsPairOf, AreClasses}
+use Rattle.sw_cert.specs.Certificate.{IsPairOf, AreClasses}
+use Rattle.sw_cert.specs.declared.line.Spot.{Spot}
 use Rattle.sw_cert.specs.Certificate.{pair_numbers}
 use Rattle.sw_cert.specs.Form.{certificate_form, pair_count, AreNumbersAt, AreFit, IsFit}
 use Rattle.sw_cert.specs.Choices.{RisesTo, ClosesCount, HasRank, RiseTo, MayBePair, ClosesPair}

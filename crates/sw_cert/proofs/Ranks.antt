@@ -19,7 +19,7 @@ use Rattle.sw_cert.specs.declared.line.Extent.{Extent}
 use Rattle.sw_cert.specs.declared.line.Pair.{Pair}
 
 -- a row that is before another ends before it
-rows_apart : (w row other : ℕ) → row < other → row * w + w ≤ other * w
+pub rows_apart : (w row other : ℕ) → row < other → row * w + w ≤ other * w
 rows_apart w row other lt =
     let up : (row + 1) * w ≤ other * w = mul-le-mul_right w (omega (arith, lt)) in
     let e : (row + 1) * w ≡ row * w + w = omega arith in
@@ -41,6 +41,20 @@ rank_fits extent pair rank has = record {
       (Contains-get_or extent.sites has.column 0 has.within);
 }
 
+-- the rank of a pair whose site stands at a column
+pub rank_at : (extent : Extent) (pair : Pair) (column : ℕ) → IsPairOf extent pair
+    → column < length extent.sites → slice_index extent.sites column ≡ pair.site → (rank : ℕ)
+    → rank ≡ (pair.element - 1) * length extent.sites + column → HasRank extent pair rank
+rank_at extent pair column fits within at rank is = record {
+  row = pair.element - 1;
+  column = column;
+  is_row = (let some = fits.not_here in omega (arith, some));
+  below = (let some = fits.not_here in omega (arith, some, fits.element));
+  within = within;
+  is_site = at;
+  rank_is = is;
+}
+
 pub some_rank : (extent : Extent) (pair : Pair) → IsPairOf extent pair
     → (rank : ℕ) × HasRank extent pair rank
 some_rank extent pair fits = by fits.site
@@ -48,15 +62,9 @@ some_rank extent pair fits = by fits.site
     by : Contains extent.sites pair.site → (rank : ℕ) × HasRank extent pair rank
     by (column, within, at) = (
       (pair.element - 1) * length extent.sites + column,
-      record {
-        row = pair.element - 1;
-        column = column;
-        is_row = (let some = fits.not_here in omega (arith, some));
-        below = (let some = fits.not_here in omega (arith, some, fits.element));
-        within = within;
-        is_site = get_or_default extent.sites column 0 pair.site within ∙ at;
-        rank_is = refl;
-      },
+      rank_at extent pair column fits within
+          (get_or_default extent.sites column 0 pair.site within ∙ at)
+          ((pair.element - 1) * length extent.sites + column) refl,
     )
 
 -- a pair of each rank
@@ -193,7 +201,7 @@ some_ranks extent rises (pair ∷ pairs) fit rising =
 
 -- ---- pairs of which the first are known
 -- a pair has one rank
-one_rank : (extent : Extent) → IsStrictlyIncreasing extent.sites → (pair : Pair) (r q : ℕ)
+pub one_rank : (extent : Extent) → IsStrictlyIncreasing extent.sites → (pair : Pair) (r q : ℕ)
     → HasRank extent pair r → HasRank extent pair q → r ≡ q
 one_rank extent rises pair r q first second = elim (cases_order r q) [
   | inl e ↦ e

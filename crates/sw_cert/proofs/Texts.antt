@@ -5,7 +5,8 @@ use Rattle.std.proofs.Common.{arith}
 use Rattle.std.specs.List.{AllByRecursion}
 use Rattle.std.proofs.lemmas.Option.{slice_get_within}
 use Rattle.sw_dictation.specs.Lines.{line_text, AreLines, IsText, IsReadable}
-use Rattle.sw_cert.specs.Certificate.{Spot, start, behind, IsLineAt, AreLinesFrom, IsCertificate}
+use Rattle.sw_cert.specs.Certificate.{start, behind, IsLineAt, AreLinesFrom, IsCertificate}
+use Rattle.sw_cert.specs.declared.line.Spot.{Spot}
 use Rattle.sw_cert.specs.Certificate.{IsPairOf, numbers_of, pair_numbers}
 use Rattle.sw_cert.specs.Form.{certificate_form, AreFit, IsFit, spot_behind}
 use Rattle.sw_cert.proofs.Ranks.{room, some_ranks}

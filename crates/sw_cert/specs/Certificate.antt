@@ -6,6 +6,7 @@ use Rattle.sw_dictation.specs.Lines.{line_text}
 use Rattle.sw_cert.specs.declared.line.Extent.{Extent}
 use Rattle.sw_cert.specs.declared.line.Line.{Line}
 use Rattle.sw_cert.specs.declared.line.Pair.{Pair}
+use Rattle.sw_cert.specs.declared.line.Spot.{Spot}
 
 -- the numbers of pairs: of each its element and its site
 abbrev pub pair_numbers : List Pair → List ℕ
@@ -47,11 +48,6 @@ pub record IsLineOf (extent : Extent) (line : Line) : Type 0 where
   pub classes : AreClasses line.classes
   pub pairs : AllByRecursion (IsPairOf extent) line.pairs
   pub rising : ArePairsRising line.pairs
-
--- a place between lines: the first function and block that may have a line there
-pub record Spot : Type 0 where
-  pub function : ℕ
-  pub block : ℕ
 
 abbrev pub start : Spot
 start = record { function = 0; block = 0 }

@@ -2,7 +2,8 @@
 use Rattle.std.specs.Prelude.{◌≡◌, ℕ, ◌+◌, ◌*◌, ◌<◌, ◌≤◌, ◌⊎◌, Some, List, [], ◌∷◌, length}
 use Rattle.std.specs.Prelude.{slice_get}
 use Rattle.std.specs.Prelude.{slice_index}
-use Rattle.sw_cert.specs.Certificate.{Spot, AreClasses}
+use Rattle.sw_cert.specs.Certificate.{AreClasses}
+use Rattle.sw_cert.specs.declared.line.Spot.{Spot}
 use Rattle.sw_cert.specs.Form.{pair_count}
 use Rattle.sw_cert.specs.declared.line.Extent.{Extent}
 use Rattle.sw_cert.specs.declared.line.Pair.{Pair}

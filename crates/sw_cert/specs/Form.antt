@@ -4,7 +4,8 @@ use Rattle.std.specs.Prelude.{slice_index}
 use Rattle.std.specs.List.{AllByRecursion}
 use Rattle.std.specs.List.Sorted.{IsStrictlyIncreasing}
 use Rattle.sw_dictation.specs.Lines.{LineForm}
-use Rattle.sw_cert.specs.Certificate.{Spot, IsLineAt, numbers_of}
+use Rattle.sw_cert.specs.Certificate.{IsLineAt, numbers_of}
+use Rattle.sw_cert.specs.declared.line.Spot.{Spot}
 use Rattle.sw_cert.specs.declared.line.Extent.{Extent}
 use Rattle.sw_cert.specs.declared.line.Line.{Line}
 

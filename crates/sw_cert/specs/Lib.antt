@@ -1,4 +1,14 @@
+pub mod Begun
 pub mod Certificate
 pub mod Choices
+pub mod Flows
 pub mod Form
+pub mod Pending
+pub mod ReadLines
+pub mod Reading
 pub mod Shown
+pub mod Slips
+pub mod Stating
+pub mod Tables
+pub mod Tests
+pub mod Verified

@@ -1,15 +1,20 @@
 //! Laws, without code: certificates as texts of lines of numbers, and which numbers may stand where
 //! in a line.
 ghost use Rattle.std.specs.Prelude.{◌≡◌, ℕ, ◌+◌, ◌<◌, ◌↔◌, Some, List, [], ◌∷◌, ◌++◌, length};
-ghost use Rattle.std.specs.Prelude.{slice_get};
+ghost use Rattle.std.specs.Prelude.{slice_get, Result, Ok};
 ghost use Rattle.sw_dictation.specs.Lines.{IsText, MayFollow, IsReadable};
-ghost use Rattle.sw_cert.specs.Certificate.{Spot, start, IsCertificate, AreClasses, pair_numbers};
+ghost use Rattle.sw_graph.specs.declared.graph.Graph.{Graph};
+ghost use Rattle.sw_region_flow.specs.Breaches.{AreBreaches};
+ghost use Rattle.sw_cert.specs.Certificate.{start, IsCertificate, AreClasses, pair_numbers};
+ghost use Rattle.sw_cert.specs.declared.line.Spot.{Spot};
 ghost use Rattle.sw_cert.specs.Choices.{RisesTo, HasBlock, MayBeNext, ClosesCount, RiseTo};
 ghost use Rattle.sw_cert.specs.Choices.{MayBePair, ClosesPair, HasLine, HasClasses};
 ghost use Rattle.sw_cert.specs.Form.{certificate_form, AreFit};
+ghost use Rattle.sw_cert.specs.Verified.{HasFitExtents, IsAccepted, Verified};
 ghost use Rattle.sw_cert.specs.declared.line.Extent.{Extent};
 ghost use Rattle.sw_cert.specs.declared.line.Line.{Line};
 ghost use Rattle.sw_cert.specs.declared.line.Pair.{Pair};
+ghost use Rattle.sw_cert.specs.declared.verdict.CertFault.{CertFault};
 
 /// Certificates are the texts of the form.
 pub fn certificates_are_texts()
@@ -64,4 +69,23 @@ pub fn numbers_follow()
         ∷ (classes ++ (length known + left) ∷ (pair_numbers known ++ element ∷ []))) n closer
         ↔ (ClosesPair left closer
         × MayBePair extent to left (record { element = element; site = n })) }
+{}
+
+/// Bytes are verified in one way, if the numbers of the graph's certificates are of the size that is
+/// read, as those of each graph in memory are.
+pub fn texts_are_verified_in_one_way()
+    ensures { (graph : Graph) (bytes : List ℕ) (a b : Result (Unit {0}) CertFault)
+        → HasFitExtents graph → Verified graph bytes a → Verified graph bytes b → a ≡ b }
+{}
+
+/// The answer is Ok exactly if the bytes are a certificate of the graph that gives each function a
+/// closed annotation in which each test passes.
+pub fn accepted_certificates_are_ok()
+    ensures { (graph : Graph) (bytes : List ℕ)
+        → Verified graph bytes (Ok tt) ↔ IsAccepted graph bytes }
+{}
+
+/// A graph of which a certificate is accepted has no region breach.
+pub fn accepted_certificates_show_no_breach()
+    ensures { (graph : Graph) (bytes : List ℕ) → IsAccepted graph bytes → AreBreaches graph [] }
 {}

@@ -27,3 +27,10 @@ pub struct Line {
     pub classes: ListOf<u64>,
     pub pairs: ListOf<Pair>,
 }
+
+/// A place between lines: the first function and block that may have a line there.
+#[derive(Clone, Copy, Debug, PartialEq, Eq)]
+pub struct Spot {
+    pub function: u64,
+    pub block: u64,
+}
