@@ -1,0 +1,6 @@
+use Rattle.sw_cert_making.specs.Made.{AreLinesAdded}
+use Rattle.sw_cert_making.proofs.making.add_lines.Given as goal
+
+abbrev pub invariant-loop-block : goal.invariant-loop-block
+invariant-loop-block l =
+    AreLinesAdded l.function l.states l.block l.fn.text.items l.text.items

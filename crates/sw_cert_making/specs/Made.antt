@@ -1,0 +1,57 @@
+-- The certificate of a graph while it is made.
+use Rattle.std.specs.Prelude.{◌≡◌, ℕ, ◌<◌, ◌++◌, ◌↔◌, Option, Some, None, List, length}
+use Rattle.std.specs.Prelude.{slice_get, Contains, IsSome}
+use Rattle.std.specs.List.{AllPairs}
+use Rattle.sw_graph.specs.declared.function.Function.{Function}
+use Rattle.sw_graph.specs.declared.graph.Graph.{Graph}
+use Rattle.sw_partition.specs.Regions.{Regions}
+use Rattle.sw_region_flow.specs.Analysis.{IsLeastOfFunction, targets_at}
+use Rattle.sw_region_ops.specs.Setting.{setting_of}
+use Rattle.sw_solve.specs.Annotation.{value_at}
+use Rattle.sw_solve.specs.Ways.{HasWay}
+use Rattle.sw_cert_making.specs.Printed.{IsLineBefore, IsLeastLine, HasLineOf}
+use Rattle.sw_cert.specs.ReadLines.{text_of}
+use Rattle.sw_cert.specs.Shown.{Shows, IsLineFor}
+use Rattle.sw_cert.specs.declared.line.Line.{Line}
+
+-- the text gets the line of a block, if a state stands there
+abbrev pub IsLineAdded : ℕ → ℕ → Option Regions → List ℕ → List ℕ → Type 0
+IsLineAdded function block None old new = new ≡ old
+IsLineAdded function block (Some state) old new =
+    (line : List ℕ) × IsLineFor function block state line × (new ≡ old ++ line)
+
+-- a line of a function shows what stands at its block
+pub record IsBlockLine (function : ℕ) (states : List (Option Regions)) (line : Line) : Type 0 where
+  pub function_is : line.function ≡ function
+  pub state : Regions
+  pub stands : value_at states line.block ≡ Some state
+  pub shows : Shows line state
+
+-- the text gets the lines of the blocks below a number at which a state stands, in order
+pub record AreLinesAdded (function : ℕ) (states : List (Option Regions)) (count : ℕ)
+    (old new : List ℕ) : Type 0 where
+  pub lines : List Line
+  pub of_blocks : (line : Line) → Contains lines line → IsBlockLine function states line
+  pub below : (line : Line) → Contains lines line → line.block < count
+  pub all : (block : ℕ) → block < count → IsSome (value_at states block)
+      → HasLineOf lines function block
+  pub rising : AllPairs IsLineBefore lines
+  pub added : new ≡ old ++ text_of lines
+
+-- the text gets the lines of a function
+pub record IsFunctionAdded (graph : Graph) (function : ℕ) (body : Function)
+    (old new : List ℕ) : Type 0 where
+  pub states : List (Option Regions)
+  pub least : IsLeastOfFunction (setting_of graph body) states
+  pub added : AreLinesAdded function states (length body.blocks) old new
+
+-- the text has the lines of the functions below a number
+pub record IsMadeBelow (graph : Graph) (count : ℕ) (text : List ℕ) : Type 0 where
+  pub lines : List Line
+  pub least : (line : Line) → Contains lines line → IsLeastLine graph line
+  pub below : (line : Line) → Contains lines line → line.function < count
+  pub all : (function : ℕ) (body : Function) (block : ℕ) → function < count
+      → slice_get graph.functions function ≡ Some body
+      → HasWay (targets_at body.blocks) block → HasLineOf lines function block
+  pub rising : AllPairs IsLineBefore lines
+  pub spelled : text ≡ text_of lines
