@@ -1,10 +1,10 @@
 -- A text has verdicts of one kind.
 use Rattle.std.proofs.Common.{ℕ, List, [], ◌∷◌}
 use Rattle.sw_decls.specs.declared.signature.AsyncDefault.{AsyncDefault}
-use Rattle.sw_verdict.specs.Phases.{all_phases, phases_to_size}
+use Rattle.sw_verdict.specs.Phases.{Races as RacePhase, all_phases, phases_to_size}
 use Rattle.sw_verdict.specs.Verdict.{Accepts, Breaches, Refuses}
 use Rattle.sw_verdict.proofs.LoweredTexts.{accepted_to_size}
-use Rattle.sw_verdict.proofs.Verdicts.{never_both, refused_by_all}
+use Rattle.sw_verdict.proofs.Verdicts.{never_both, refused_before}
 use Rattle.sw_check_text.specs.Verdicts.{Accepting, IsVerdictOn, NamesRaces, Refusing}
 use Rattle.sw_check_text.specs.declared.checking.Verdict.{Verdict}
 use Rattle.sw_check_text.specs.declared.checking.Verdict.TheVariants.{Accepted, Races, Refused}
@@ -17,7 +17,7 @@ module _ (rule : AsyncDefault) (text : List ℕ) where
       never_both rule all_phases text accepts (breaches, is.some, is.are)
   only_accepted (Refused breach) is accepts =
       never_both rule all_phases text accepts
-      (breach ∷ [], (λ e. cc), refused_by_all rule text (breach ∷ []) (λ e. cc) is)
+      (breach ∷ [], (λ e. cc), refused_before rule RacePhase text (breach ∷ []) (λ e. cc) is)
 
   pub only_races : (verdict : Verdict) → IsVerdictOn rule text verdict
       → Breaches rule phases_to_size text [] → Refuses rule all_phases text → NamesRaces verdict

@@ -8,17 +8,17 @@ use Rattle.sw_region_flow.specs.Passing.{IsPassed}
 use Rattle.sw_text_facts.proofs.Graphs.{accepted_clean}
 use Rattle.sw_text_facts.proofs.Supplied.{text_supplied}
 use Rattle.sw_verdict.specs.Judged.{IsJudged}
-use Rattle.sw_verdict.specs.Phases.{RacesFinds}
+use Rattle.sw_verdict.specs.Phases.{Races, RacesFinds}
 use Rattle.sw_verdict.specs.Verdict.{Accepts}
 use Rattle.sw_verdict.specs.declared.judging.Judged.{Judged}
 use Rattle.sw_verdict.proofs.Passing.{accepted_passes}
-use Rattle.sw_verdict.proofs.Verdicts.{races_decide}
+use Rattle.sw_verdict.proofs.Verdicts.{last_decides}
 use Rattle.sw_check_text.specs.Verdicts.{HasRaces, IsAccepted}
 
 module _ (rule : AsyncDefault) (text : List ℕ) (judged : Judged)
     (is : IsJudged rule text judged) where
   accepts : judged.races ≡ [] → Accepts rule text
-  accepts none = races_decide rule text [] is.made.verdict.0
+  accepts none = last_decides rule Races text [] is.made.verdict.0
       (subst (RacesFinds rule text) none is.races)
 
   pub is_accepted : judged.races ≡ []
@@ -34,7 +34,7 @@ module _ (rule : AsyncDefault) (text : List ℕ) (judged : Judged)
     passes = is.made.verdict.0;
     of_text = is.made.verdict.1;
     some = some;
-    are = races_decide rule text judged.races is.made.verdict.0 is.races;
+    are = last_decides rule Races text judged.races is.made.verdict.0 is.races;
   }
 
   -- what a checked graph asks for

@@ -15,12 +15,13 @@ use Rattle.sw_typing_facts.proofs.Lists.Listed.{in_first, in_map}
 use Rattle.sw_lower_total_facts.specs.Programs.{IsWelltyped}
 use Rattle.sw_lower_placed_facts.proofs.Graphs.Keeping.{clean_graph, placed_graph}
 use Rattle.sw_region_flow.proofs.OneSites.{no_member}
-use Rattle.sw_verdict.specs.Phases.{HasProgram, IsGraphOf, IsolationFinds, RacesFinds}
+use Rattle.sw_verdict.specs.Phases.{HasProgram, IsGraphOf, IsolationFinds, Races, RacesFinds}
 use Rattle.sw_verdict.specs.Phases.{answers_of_program, breach_of, phases_to_size}
 use Rattle.sw_verdict.specs.Verdict.{Accepts, Breaches, later, none}
 use Rattle.sw_verdict.proofs.Finding.{none_first}
 use Rattle.sw_verdict.proofs.GraphsExist.{passed}
 use Rattle.sw_verdict.proofs.LoweredTexts.{accepted_to_size}
+use Rattle.sw_verdict.proofs.Passing.{last_finds}
 use Rattle.sw_verdict.proofs.Programs.{program_apart}
 use Rattle.sw_verdict.proofs.SameProgram.{of_same, same_world}
 
@@ -37,15 +38,11 @@ none_there : (list : List Placed) → ((one : Placed) → Contains list one → 
 none_there [] never = refl
 none_there (one ∷ list) never = absurd (never one (in_first one list))
 
--- what the phase of isolation finds, and that of races
+-- what the phase of isolation finds
 isolation_found : (rule : AsyncDefault) (text : List ℕ) → Breaches rule phases_to_size text []
     → IsolationFinds rule text []
 isolation_found rule text (later _ _ _ _ _ (later _ _ _ _ _ (later _ _ _ _ _ (later _ _ _ _ _
     (later _ _ _ _ _ (later _ _ _ _ isolation (later _ _ _ _ _ (none _)))))))) = isolation
-
-races_found : (rule : AsyncDefault) (text : List ℕ) → Accepts rule text → RacesFinds rule text []
-races_found rule text (later _ _ _ _ _ (later _ _ _ _ _ (later _ _ _ _ _ (later _ _ _ _ _
-    (later _ _ _ _ _ (later _ _ _ _ _ (later _ _ _ _ _ (later _ _ _ _ found (none _))))))))) = found
 
 module _ (rule : AsyncDefault) (text : List ℕ) (graph : Graph) (of : IsGraphOf rule text graph)
   where
@@ -58,11 +55,12 @@ module _ (rule : AsyncDefault) (text : List ℕ) (graph : Graph) (of : IsGraphOf
     -- One without races shares no value that may not be.
     none_shared : RacesFinds rule text [] → in_values of.world of.decls ≡ []
     none_shared found =
+        let values = found.are_shared in
         of_same (λ world decls. in_values world decls ≡ [])
-        (same_world rule text found.has_world of.has_world)
-        (none_there (in_values found.world found.decls) (λ one has.
+        (same_world rule text values.has_world of.has_world)
+        (none_there (in_values values.world values.decls) (λ one has.
         let kept = found.are_all.complete (breach_of one)
-        (inl (in_map breach_of found.shared one (found.are_shared.covers one has))) in
+        (inl (in_map breach_of found.shared one (values.are.covers one has))) in
         no_member kept.0 kept.1))
 
     module _ (passes : Breaches rule phases_to_size text []) where
@@ -103,4 +101,4 @@ pub accepted_clean : (rule : AsyncDefault) (text : List ℕ) (graph : Graph) →
     → IsClean graph
 accepted_clean rule text graph accepts of =
     is_clean rule text graph of (accepted_to_size rule text accepts)
-    (none_shared rule text graph of (races_found rule text accepts))
+    (none_shared rule text graph of (last_finds rule Races text accepts))

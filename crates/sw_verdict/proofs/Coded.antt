@@ -2,7 +2,7 @@
 use Rattle.std.proofs.Common.{◌≡◌, ℕ, ◌≤◌, ◌+◌, ◌-◌, zero, suc, List, Option, Some, ◌⊎◌, inl, inr}
 use Rattle.std.proofs.Common.{refl, sym, subst, arith}
 use Rattle.std.specs.List.{AllByRecursion}
-use Rattle.std.specs.Prelude.{Contains}
+use Rattle.std.specs.Prelude.{Contains, map}
 use Rattle.sw_token.specs.declared.LexFault.{LexFault}
 use Rattle.sw_token.specs.declared.LexFault.TheVariants as faults
 use Rattle.sw_token.specs.Tokens.{IsLexicalFault}
@@ -24,15 +24,16 @@ use Rattle.sw_isolation_rules.proofs.SoundPrograms.{race_codes, refusal_codes}
 use Rattle.sw_lower_rules.proofs.FirstTooLarge.{too_large_code}
 use Rattle.sw_region_flow.proofs.Codes.{breach_code}
 use Rattle.sw_region_flow.proofs.OneList.{each_breach}
-use Rattle.sw_verdict.specs.Phases.{Declarations, Encoding, Finds, FindsFirst, FirstRefusal}
-use Rattle.sw_verdict.specs.Phases.{FirstTooLarge, IsRaceBreach, Isolation, Lexis, Phase, Races}
-use Rattle.sw_verdict.specs.Phases.{RacesFinds, Size, Syntax, Types, answers_of_program}
+use Rattle.sw_verdict.specs.Phases.{AreSharedIn, Declarations, Encoding, Finds, FindsFirst}
+use Rattle.sw_verdict.specs.Phases.{FirstRefusal, FirstTooLarge, IsRaceBreach, Isolation, Lexis}
+use Rattle.sw_verdict.specs.Phases.{Phase, Races, RacesFinds, Sharing, SharingFinds, Size, Syntax}
+use Rattle.sw_verdict.specs.Phases.{Types, answers_of_program, breach_of}
 use Rattle.sw_verdict.specs.Phases.{breaks_one, has_fault, has_syntax_fault, has_tokens, is_utf8}
 use Rattle.sw_verdict.specs.Phases.{keeps_all, lexical_code, not_utf8, not_utf8_code}
 use Rattle.sw_verdict.specs.Phases.{spells_program, syntax_code, tables_of_program}
 use Rattle.sw_verdict.specs.Verdict.{Breaches, first, later, none}
 use Rattle.sw_verdict.proofs.Finding.{memory_is_no_fault}
-use Rattle.sw_verdict.proofs.Races.{Shared, of_each}
+use Rattle.sw_verdict.proofs.Races.{of_each}
 
 -- the codes that these phases name have texts
 syntax_is_code : (tokens : List Spelled) (fault : ParseFault) → IsSyntaxFault tokens fault
@@ -139,11 +140,11 @@ sharing_codes : IsCode 601 × IsCode 602 × IsCode 603 × IsCode 604 × IsCode 6
 unfolding text_of texts
 sharing_codes = (refl, refl, refl, refl, refl, refl)
 
-shared_is_code : (world : World) (decls : List Decl) (shared : List Placed) (placed : Placed)
-    → Shared world decls shared → Contains shared placed → IsCode placed.code
-shared_is_code world decls shared placed all has =
-    let within = race_codes world (answers_of_program world decls) decls placed
-    (all.from placed has) in
+shared_is_code : (rule : AsyncDefault) (text : List ℕ) (shared : List Placed) (placed : Placed)
+    → AreSharedIn rule text shared → Contains shared placed → IsCode placed.code
+shared_is_code rule text shared placed is has =
+    let within = race_codes is.world (answers_of_program is.world is.decls) is.decls placed
+    (is.are.from placed has) in
     let code = placed.code in
     or_later IsCode 601 code within.0 sharing_codes.0
     (λ a. or_later IsCode 602 code a sharing_codes.1
@@ -153,6 +154,18 @@ shared_is_code world decls shared placed all has =
     (λ e. or_later IsCode 606 code e sharing_codes.5
     (λ f. absurd (omega (arith, f, within.1))))))))
 
+shared_coded : (rule : AsyncDefault) (text : List ℕ) (shared : List Placed)
+    → AreSharedIn rule text shared → (breach : Breach) → Contains (map breach_of shared) breach
+    → IsCode breach.code
+shared_coded rule text shared are =
+    of_each shared IsCode (λ placed has. shared_is_code rule text shared placed are has)
+
+sharing_coded : (rule : AsyncDefault) (text : List ℕ) (list : List Breach)
+    → SharingFinds rule text list → AllByRecursion (λ breach. IsCode breach.code) list
+sharing_coded rule text list is =
+    each_breach (λ breach. IsCode breach.code) list (λ breach has.
+    shared_coded rule text is.shared is.are_shared breach (is.are_all.sound breach has))
+
 races_coded : (rule : AsyncDefault) (text : List ℕ) (list : List Breach) → RacesFinds rule text list
     → AllByRecursion (λ breach. IsCode breach.code) list
 races_coded rule text list is =
@@ -160,9 +173,7 @@ races_coded rule text list is =
     (λ breach has. by breach (is.are_all.sound breach has))
   where
     by : (breach : Breach) → IsRaceBreach is.shared is.graph breach → IsCode breach.code
-    by breach (inl is_shared) = of_each is.shared IsCode
-        (λ placed has. shared_is_code is.world is.decls is.shared placed is.are_shared has) breach
-        is_shared
+    by breach (inl is_shared) = shared_coded rule text is.shared is.are_shared breach is_shared
     by breach (inr of_graph) = breach_code is.graph breach of_graph
 
 first_coded : {IsFirst : Option Placed → Type 0} {list : List Breach}
@@ -185,6 +196,7 @@ codes_found rule Declarations text list is = first_coded (declaration_is_code is
 codes_found rule Types text list is = first_coded (ill_is_code is.world is.decls) is.finds
 codes_found rule Isolation text list is = first_coded (refusal_is_code is.world is.decls) is.finds
 codes_found rule Size text list is = first_coded (first_size_is_code is.world is.decls) is.finds
+codes_found rule Sharing text list finds = sharing_coded rule text list finds
 codes_found rule Races text list finds = races_coded rule text list finds
 
 pub have_codes : (rule : AsyncDefault) (phases : List Phase) (text : List ℕ) (list : List Breach)

@@ -1,6 +1,5 @@
 -- What the phases up to the size of functions find in a text, and the graph of its program.
-use Rattle.std.proofs.Common.{ℕ, ◌++◌, ◌⊎◌, inl, inr, List, [], ◌∷◌, subst}
-use Rattle.sw_breach.specs.declared.Breach.{Breach}
+use Rattle.std.proofs.Common.{ℕ, ◌++◌, ◌⊎◌, List, [], ◌∷◌, subst}
 use Rattle.sw_graph.specs.declared.graph.Graph.{Graph}
 use Rattle.sw_isolation_table.specs.Known.{answers_of}
 use Rattle.sw_decls.specs.declared.signature.AsyncDefault.{AsyncDefault}
@@ -9,7 +8,8 @@ use Rattle.sw_typing_rules.specs.Worlds.{world_of}
 use Rattle.sw_lower_known.specs.Knowledge.{isolation_of}
 use Rattle.sw_lower_rules.specs.Bodies.{Lowered}
 use Rattle.sw_verdict.specs.Decided.{IsAnalysed, IsSpelledText}
-use Rattle.sw_verdict.specs.Phases.{IsGraphOf, Phase, answers_of_program, phases_to_size}
+use Rattle.sw_verdict.specs.Phases.{IsGraphOf, Phase, answers_of_program, phases_to_sharing}
+use Rattle.sw_verdict.specs.Phases.{phases_to_size}
 use Rattle.sw_verdict.specs.Verdict.{Accepts, Breaches, Refuses, later, none}
 use Rattle.sw_verdict.specs.declared.judging.Analysed.{Analysed}
 use Rattle.sw_verdict.specs.declared.judging.Spelled.{Spelled as Read}
@@ -17,7 +17,7 @@ use Rattle.sw_verdict.proofs.Finding.{read_world}
 use Rattle.sw_verdict.proofs.GraphsExist.{some_graph}
 use Rattle.sw_verdict.proofs.OneLowered.{HasGraph, numbered_bodies}
 use Rattle.sw_verdict.proofs.Tables.{isolation_is_said}
-use Rattle.sw_verdict.proofs.Verdicts.{some_to_size}
+use Rattle.sw_verdict.proofs.Verdicts.{none_or_some, some_to_size}
 
 -- where all phases find none, so do the first of them
 first_pass : (rule : AsyncDefault) (phases more : List Phase) (text : List ℕ)
@@ -31,13 +31,14 @@ pub accepted_to_size : (rule : AsyncDefault) (text : List ℕ) → Accepts rule 
     → Breaches rule phases_to_size text []
 accepted_to_size rule text accepts = first_pass rule phases_to_size _ text accepts
 
+-- the same of those up to sharing
+pub sharing_to_size : (rule : AsyncDefault) (text : List ℕ)
+    → Breaches rule phases_to_sharing text [] → Breaches rule phases_to_size text []
+sharing_to_size rule text found = first_pass rule phases_to_size _ text found
+
 pub decided_to_size : (rule : AsyncDefault) (text : List ℕ)
     → Breaches rule phases_to_size text [] ⊎ Refuses rule phases_to_size text
-decided_to_size rule text = let (list, found) = some_to_size rule text in by list found where
-  by : (list : List Breach) → Breaches rule phases_to_size text list
-      → Breaches rule phases_to_size text [] ⊎ Refuses rule phases_to_size text
-  by [] found = inl found
-  by (breach ∷ others) found = inr (breach ∷ others, (λ e. cc), found)
+decided_to_size rule text = none_or_some rule phases_to_size text (some_to_size rule text)
 
 pub some_graph_of : (rule : AsyncDefault) (text : List ℕ) → Accepts rule text → (graph : Graph)
     × IsGraphOf rule text graph

@@ -23,13 +23,13 @@ use Rattle.sw_isolation_rules.specs.Programs.{refusals}
 use Rattle.sw_lower_rules.proofs.FirstTooLarge.{one_too_large}
 use Rattle.sw_verdict.specs.Phases.{Declarations, DeclarationsFinds, Encoding, EncodingFinds, Finds}
 use Rattle.sw_verdict.specs.Phases.{FindsFirst, FindsIn, FirstRefusal, FirstTooLarge, HasProgram}
-use Rattle.sw_verdict.specs.Phases.{Isolation, Lexis, LexisFinds, Phase, Races, Size, Syntax}
+use Rattle.sw_verdict.specs.Phases.{Isolation, Lexis, LexisFinds, Phase, Races, Sharing, Size, Syntax}
 use Rattle.sw_verdict.specs.Phases.{SyntaxFinds, Types, answers_of_program, breach_at, breaks_one}
 use Rattle.sw_verdict.specs.Phases.{has_fault, has_syntax_fault, has_tokens, is_utf8, keeps_all}
 use Rattle.sw_verdict.specs.Phases.{lexical_code, not_utf8, spells_program, syntax_code}
 use Rattle.sw_verdict.specs.Phases.{tables_of_program, token_of, token_position}
 use Rattle.sw_verdict.specs.Verdict.{Breaches, first, later, none}
-use Rattle.sw_verdict.proofs.Races.{races_one}
+use Rattle.sw_verdict.proofs.Races.{races_one, sharing_one}
 use Rattle.sw_verdict.proofs.SameProgram.{of_same, same_decls, same_world}
 
 -- each phase finds one list
@@ -115,6 +115,7 @@ one_found rule Isolation text a b is_a is_b =
 one_found rule Size text a b is_a is_b =
     one_in_world FirstTooLarge
     (λ world decls. one_too_large (tables_of_program world decls) decls) rule text a b is_a is_b
+one_found rule Sharing text a b is_a is_b = sharing_one rule text a b is_a is_b
 one_found rule Races text a b is_a is_b = races_one rule text a b is_a is_b
 
 -- and so do phases in order
@@ -136,18 +137,19 @@ few_first : {IsFirst : Option Placed → Type 0} {list : List Breach} → FindsF
 few_first (keeps_all _) = omega arith
 few_first (breaks_one _ _) = omega arith
 
--- Each phase but that of races finds one breach at most.
+-- Each phase but those of sharing and of races finds one breach at most.
 pub few_found : (rule : AsyncDefault) (phase : Phase) (text : List ℕ) (list : List Breach)
-    → phase ≢ Races
+    → phase ≢ Sharing → phase ≢ Races
     → Finds rule phase text list → length list ≤ 1
-few_found rule Encoding text _ other (is_utf8 _) = omega arith
-few_found rule Encoding text _ other (not_utf8 _) = omega arith
-few_found rule Lexis text _ other (has_tokens _ _) = omega arith
-few_found rule Lexis text _ other (has_fault _ _) = omega arith
-few_found rule Syntax text _ other (spells_program _ _) = omega arith
-few_found rule Syntax text _ other (has_syntax_fault _ _ _ _) = omega arith
-few_found rule Declarations text list other finds = few_first finds.finds
-few_found rule Types text list other finds = few_first finds.finds
-few_found rule Isolation text list other finds = few_first finds.finds
-few_found rule Size text list other finds = few_first finds.finds
-few_found rule Races text list other finds = absurd (other refl)
+few_found rule Encoding text _ not other (is_utf8 _) = omega arith
+few_found rule Encoding text _ not other (not_utf8 _) = omega arith
+few_found rule Lexis text _ not other (has_tokens _ _) = omega arith
+few_found rule Lexis text _ not other (has_fault _ _) = omega arith
+few_found rule Syntax text _ not other (spells_program _ _) = omega arith
+few_found rule Syntax text _ not other (has_syntax_fault _ _ _ _) = omega arith
+few_found rule Declarations text list not other finds = few_first finds.finds
+few_found rule Types text list not other finds = few_first finds.finds
+few_found rule Isolation text list not other finds = few_first finds.finds
+few_found rule Size text list not other finds = few_first finds.finds
+few_found rule Sharing text list not other finds = absurd (not refl)
+few_found rule Races text list not other finds = absurd (other refl)

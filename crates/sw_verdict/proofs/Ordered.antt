@@ -6,11 +6,11 @@ use Rattle.sw_breach.specs.Order.{breach_cmp}
 use Rattle.sw_decl_words.specs.declared.placed.Placed.{Placed}
 use Rattle.sw_decls.specs.declared.signature.AsyncDefault.{AsyncDefault}
 use Rattle.sw_verdict.specs.Phases.{Declarations, Encoding, Finds, FindsFirst, Isolation, Lexis}
-use Rattle.sw_verdict.specs.Phases.{Phase, Races, Size, Syntax, Types, breaks_one, has_fault}
-use Rattle.sw_verdict.specs.Phases.{has_syntax_fault, has_tokens, is_utf8, keeps_all, not_utf8}
-use Rattle.sw_verdict.specs.Phases.{spells_program}
+use Rattle.sw_verdict.specs.Phases.{Phase, Races, Sharing, Size, Syntax, Types, breaks_one}
+use Rattle.sw_verdict.specs.Phases.{has_fault, has_syntax_fault, has_tokens, is_utf8, keeps_all}
+use Rattle.sw_verdict.specs.Phases.{not_utf8, spells_program}
 use Rattle.sw_verdict.specs.Verdict.{Breaches, first, later, none}
-use Rattle.sw_verdict.proofs.Races.{races_in_order}
+use Rattle.sw_verdict.proofs.Races.{races_in_order, sharing_in_order}
 
 first_in_order : {IsFirst : Option Placed → Type 0} {list : List Breach} → FindsFirst IsFirst list
     → IsStrictlySortedBy breach_cmp list
@@ -32,6 +32,7 @@ found_in_order rule Declarations text list finds = first_in_order finds.finds
 found_in_order rule Types text list finds = first_in_order finds.finds
 found_in_order rule Isolation text list finds = first_in_order finds.finds
 found_in_order rule Size text list finds = first_in_order finds.finds
+found_in_order rule Sharing text list finds = sharing_in_order rule text list finds
 found_in_order rule Races text list finds = races_in_order rule text list finds
 
 pub breaches_in_order : (rule : AsyncDefault) (phases : List Phase) (text : List ℕ)

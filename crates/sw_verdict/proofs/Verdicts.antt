@@ -1,6 +1,6 @@
 -- Every text has one verdict.
-use Rattle.std.proofs.Common.{◌≡◌, ◌≢◌, ℕ, ◌^◌, ◌<◌, ◌≤◌, Bool, true, false, List, [], ◌∷◌, length}
-use Rattle.std.proofs.Common.{Result, Ok, Err, ◌⊎◌, inl, inr, refl, ap, subst, ◌∙◌, arith}
+use Rattle.std.proofs.Common.{◌≡◌, ◌≢◌, ℕ, ◌^◌, ◌<◌, ◌≤◌, Bool, true, false, List, [], ◌∷◌, ◌++◌}
+use Rattle.std.proofs.Common.{length, Result, Ok, Err, ◌⊎◌, inl, inr, refl, ap, subst, ◌∙◌, arith}
 use Rattle.std.proofs.Common.{Option, Some, None}
 use Rattle.std.specs.Str.{IsUtf8, is_utf8 as test_utf8}
 use Rattle.std.proofs.lemmas.Str.{IsUtf8-from_is_utf8, is_utf8-from_IsUtf8}
@@ -11,6 +11,7 @@ use Rattle.sw_token.specs.Reading.{tokens_or_fault}
 use Rattle.sw_token.specs.Spelling.{spelling_of}
 use Rattle.sw_token.proofs.TokenLaws.{IsTokens-few, tokens_or_fault-HasTokens}
 use Rattle.sw_breach.specs.declared.Breach.{Breach}
+use Rattle.sw_graph.specs.declared.graph.Graph.{Graph}
 use Rattle.sw_tree.specs.declared.decl.Decl.{Decl}
 use Rattle.sw_parse_decl.specs.declared.fault.ParseFault.{ParseFault}
 use Rattle.sw_parse_decl.specs.Programs.{IsProgramOf, IsSyntaxFault, texts_of}
@@ -29,15 +30,15 @@ use Rattle.sw_grammar_forms.proofs.TokensSpelled.{tokens_spelled}
 use Rattle.sw_text.specs.declared.TheConstants.{MAX_LENGTH}
 use Rattle.sw_verdict.specs.Phases.{Declarations, Encoding, Finds, FindsFirst, FindsIn, FirstRefusal}
 use Rattle.sw_verdict.specs.Phases.{FirstTooLarge, HasProgram, HasWorld, Isolation, Lexis, Phase}
-use Rattle.sw_verdict.specs.Phases.{Races, RacesFinds, Size, Syntax, Types, all_phases}
+use Rattle.sw_verdict.specs.Phases.{IsGraphOf, Races, Sharing, Size, Syntax, Types, all_phases}
 use Rattle.sw_verdict.specs.Phases.{answers_of_program, breaks_one, has_fault, has_syntax_fault}
-use Rattle.sw_verdict.specs.Phases.{has_tokens, is_utf8, keeps_all, not_utf8, phases_to_size}
-use Rattle.sw_verdict.specs.Phases.{spells_program, tables_of_program}
+use Rattle.sw_verdict.specs.Phases.{has_tokens, is_utf8, keeps_all, not_utf8, phases_to_sharing}
+use Rattle.sw_verdict.specs.Phases.{phases_to_size, spells_program, tables_of_program}
 use Rattle.sw_verdict.specs.Verdict.{Accepts, Breaches, Refuses, first, later, none}
 use Rattle.sw_verdict.proofs.GraphsExist.{some_graph}
 use Rattle.sw_verdict.proofs.InOrder.{decided_before, decided_later, passed}
 use Rattle.sw_verdict.proofs.OneLists.{one_list}
-use Rattle.sw_verdict.proofs.Races.{some_races}
+use Rattle.sw_verdict.proofs.Races.{some_races, some_sharing}
 use Rattle.sw_verdict.specs.Decided.{IsSpelledText}
 use Rattle.sw_verdict.specs.declared.judging.Spelled.{Spelled as Read}
 
@@ -151,48 +152,58 @@ some_to_size rule text = by (test_utf8 text) refl where
       and_before rule Encoding (Lexis ∷ after_lexis) text (is_utf8 utf8)
       (lexis_decides rule text utf8 (tokens_or_fault text) (tokens_or_fault-HasTokens text utf8))
 
--- the phase of races alone
-by_races : (rule : AsyncDefault) (text : List ℕ) (list : List Breach) → RacesFinds rule text list
-    → Breaches rule (Races ∷ []) text list
-by_races rule text [] finds = later Races [] text [] finds (none text)
-by_races rule text (breach ∷ others) finds = first Races [] text breach others finds
+-- a phase alone
+by_one : (rule : AsyncDefault) (phase : Phase) (text : List ℕ) (list : List Breach)
+    → Finds rule phase text list → Breaches rule (phase ∷ []) text list
+by_one rule phase text [] finds = later phase [] text [] finds (none text)
+by_one rule phase text (breach ∷ others) finds = first phase [] text breach others finds
 
--- Where the phases up to the size of functions find none, the races decide.
-pub races_decide : (rule : AsyncDefault) (text : List ℕ) (list : List Breach)
-    → Breaches rule phases_to_size text [] → RacesFinds rule text list
-    → Breaches rule all_phases text list
-races_decide rule text list found finds =
-    decided_later rule phases_to_size (Races ∷ []) text list
-    (passed rule phases_to_size text found) (by_races rule text list finds)
+-- The phases up to the size of functions, and one more.
+module _ (rule : AsyncDefault) (last : Phase) (text : List ℕ) where
+  -- where those find none, the last decides
+  pub last_decides : (list : List Breach) → Breaches rule phases_to_size text []
+      → Finds rule last text list → Breaches rule (phases_to_size ++ last ∷ []) text list
+  last_decides list found finds =
+      decided_later rule phases_to_size (last ∷ []) text list
+      (passed rule phases_to_size text found) (by_one rule last text list finds)
 
--- Where they find some, these are all.
-pub refused_by_all : (rule : AsyncDefault) (text : List ℕ) (list : List Breach) → list ≢ []
-    → Breaches rule phases_to_size text list → Breaches rule all_phases text list
-refused_by_all rule text list some found =
-    decided_before rule phases_to_size (Races ∷ []) text list some found
+  -- where they find some, these are all
+  pub refused_before : (list : List Breach) → list ≢ [] → Breaches rule phases_to_size text list
+      → Breaches rule (phases_to_size ++ last ∷ []) text list
+  refused_before list some found =
+      decided_before rule phases_to_size (last ∷ []) text list some found
 
--- Where those find none, the text has a graph, and so its races.
-with_races : (rule : AsyncDefault) (text : List ℕ) (list : List Breach)
-    → Breaches rule phases_to_size text list
-    → SomeList rule all_phases text
-with_races rule text [] found =
-    let (graph, of_text) = some_graph rule text found in
-    let (list, finds) = some_races rule text graph of_text in
-    (list, races_decide rule text list found finds)
-with_races rule text (breach ∷ others) found =
-    (breach ∷ others, refused_by_all rule text (breach ∷ others) (λ e. cc) found)
+  -- Where those find none, the text has a graph, and the last finds a list.
+  with_last : ((graph : Graph) → IsGraphOf rule text graph
+      → (list : List Breach) × Finds rule last text list)
+      → (list : List Breach) → Breaches rule phases_to_size text list
+      → SomeList rule (phases_to_size ++ last ∷ []) text
+  with_last finds_some [] found =
+      let (graph, of_text) = some_graph rule text found in
+      let (list, finds) = finds_some graph of_text in
+      (list, last_decides list found finds)
+  with_last finds_some (breach ∷ others) found =
+      (breach ∷ others, refused_before (breach ∷ others) (λ e. cc) found)
 
--- every text has a list of breaches
-some_list : (rule : AsyncDefault) (text : List ℕ) → SomeList rule all_phases text
-some_list rule text = let (list, found) = some_to_size rule text in with_races rule text list found
+-- phases with a list find no breach, or some
+pub none_or_some : (rule : AsyncDefault) (phases : List Phase) (text : List ℕ)
+    → SomeList rule phases text → Breaches rule phases text [] ⊎ Refuses rule phases text
+none_or_some rule phases text ([], found) = inl found
+none_or_some rule phases text (breach ∷ others, found) = inr (breach ∷ others, (λ e. cc), found)
 
 pub decided : (rule : AsyncDefault) (text : List ℕ) → Accepts rule text
     ⊎ Refuses rule all_phases text
-decided rule text = let (list, found) = some_list rule text in by list found where
-  by : (list : List Breach) → Breaches rule all_phases text list → Accepts rule text
-      ⊎ Refuses rule all_phases text
-  by [] found = inl found
-  by (breach ∷ others) found = inr (breach ∷ others, (λ e. cc), found)
+decided rule text =
+    let (list, found) = some_to_size rule text in
+    none_or_some rule all_phases text
+    (with_last rule Races text (some_races rule text) list found)
+
+pub decided_to_sharing : (rule : AsyncDefault) (text : List ℕ)
+    → Breaches rule phases_to_sharing text [] ⊎ Refuses rule phases_to_sharing text
+decided_to_sharing rule text =
+    let (list, found) = some_to_size rule text in
+    none_or_some rule phases_to_sharing text
+    (with_last rule Sharing text (some_sharing rule text) list found)
 
 pub never_both : (rule : AsyncDefault) (phases : List Phase) (text : List ℕ)
     → Breaches rule phases text []

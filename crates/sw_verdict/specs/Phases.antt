@@ -45,6 +45,8 @@ pub data Phase : Type 0 where
   Isolation : Phase
   -- the program's functions are no larger than those of a graph
   Size : Phase
+  -- no value is shared that may not be
+  Sharing : Phase
   -- no value is shared that may not be, and the program's graph has no region breach
   Races : Phase
 
@@ -53,7 +55,12 @@ pub data Phase : Type 0 where
 abbrev pub phases_to_size : List Phase
 phases_to_size = Encoding ∷ Lexis ∷ Syntax ∷ Declarations ∷ Types ∷ Isolation ∷ Size ∷ []
 
--- all phases, in order
+-- Those by which the text of a certificate's program is judged. Its regions are tested by the
+-- certificate.
+abbrev pub phases_to_sharing : List Phase
+phases_to_sharing = phases_to_size ++ (Sharing ∷ [])
+
+-- All phases, in order. The last finds what that of sharing finds, too.
 abbrev pub all_phases : List Phase
 all_phases = phases_to_size ++ (Races ∷ [])
 
@@ -188,6 +195,20 @@ pub record IsGraphOf (rule : AsyncDefault) (text : List ℕ) (graph : Graph) : T
       decls graph
   pub numbered : AreNumbered lowered.ordered
 
+-- the text's program shares these values under this default, and may not
+pub record AreSharedIn (rule : AsyncDefault) (text : List ℕ) (shared : List Placed) : Type 0 where
+  pub decls : List Decl
+  pub world : World
+  pub has_world : HasWorld rule text decls world
+  pub are : AreRaces world (answers_of_program world decls) decls shared
+
+-- The breaches are all values that may not be shared, by position and then by code, each once
+-- (SE-0302).
+pub record SharingFinds (rule : AsyncDefault) (text : List ℕ) (list : List Breach) : Type 0 where
+  pub shared : List Placed
+  pub are_shared : AreSharedIn rule text shared
+  pub are_all : AreAll (Contains (map breach_of shared)) list
+
 -- a breach of a value that may not be shared, or of the regions of a graph
 abbrev pub IsRaceBreach : List Placed → Graph → Breach → Type 0
 IsRaceBreach shared graph breach = Contains (map breach_of shared) breach ⊎ IsBreachOf graph breach
@@ -195,11 +216,8 @@ IsRaceBreach shared graph breach = Contains (map breach_of shared) breach ⊎ Is
 -- The breaches are all values that may not be shared, and all region breaches of the text's graph,
 -- by position and then by code, each once, with the least note (SE-0302, SE-0414, SE-0430).
 pub record RacesFinds (rule : AsyncDefault) (text : List ℕ) (list : List Breach) : Type 0 where
-  pub decls : List Decl
-  pub world : World
-  pub has_world : HasWorld rule text decls world
   pub shared : List Placed
-  pub are_shared : AreRaces world (answers_of_program world decls) decls shared
+  pub are_shared : AreSharedIn rule text shared
   pub graph : Graph
   pub of_text : IsGraphOf rule text graph
   pub are_all : AreAll (IsRaceBreach shared graph) list
@@ -214,4 +232,5 @@ Finds rule Declarations text list = DeclarationsFinds text list
 Finds rule Types text list = TypesFinds rule text list
 Finds rule Isolation text list = IsolationFinds rule text list
 Finds rule Size text list = SizeFinds rule text list
+Finds rule Sharing text list = SharingFinds rule text list
 Finds rule Races text list = RacesFinds rule text list

@@ -15,17 +15,18 @@ ghost use Rattle.sw_tree.specs.Names.{main_actor_id};
 ghost use Rattle.sw_typing_rules.specs.Worlds.{world_of};
 ghost use Rattle.sw_verdict.specs.ActorNames.{actor_names};
 ghost use Rattle.sw_verdict.specs.Decided.{Decided, IsAnalysed, IsMeaning, IsSpelledText};
-ghost use Rattle.sw_verdict.specs.Judged.{IsJudged, IsNamedGraphOf};
+ghost use Rattle.sw_verdict.specs.Judged.{IsJudged, IsJudgedBySharing, IsNamedGraphOf, IsSharedOf};
 ghost use Rattle.sw_verdict.specs.Phases.{Declarations, Encoding, HasProgram, Isolation, Lexis};
 ghost use Rattle.sw_verdict.specs.Phases.{Size, Syntax, Types, phases_to_size};
 ghost use Rattle.sw_verdict.specs.Verdict.{IsVerdict};
 
 use crate::names::names_of;
 use crate::phases::{
-    Refusal, declarations, encoding, isolation, lexis, races, size, syntax, types,
+    Refusal, declarations, encoding, isolation, lexis, races, sharing, size, syntax, types,
 };
 use std::alloc::{AllocError, Global};
 use sw_breach::Breach;
+use sw_decl_words::Placed;
 use sw_decls::{AsyncDefault, Decls};
 use sw_graph::Graph;
 use sw_isolation::{Isolated, race_forms};
@@ -142,7 +143,28 @@ fn graph_with_names(
     Ok(NamedGraph { graph, actors })
 }
 
-/// A text's graph, and all breaches that the phase of races finds in it.
+/// What a text shares and may not, and its graph.
+#[derive(Drop)]
+pub struct Shared {
+    shared: ListOf<Placed>,
+    made: NamedGraph,
+}
+
+/// Looks in a text for values that are shared and may not be, by the phases up to the size of
+/// functions.
+fn shared_of(alloc: Global, text: &[u8], default: AsyncDefault) -> Result<Shared, Refusal>
+    requires { length text.now ≤ MAX_LENGTH }
+    ensures found { IfOk result (IsSharedOf default text.now) }
+    ensures breached { (breach : Breach) → IsErrOf result (Refusal.Breached breach)
+        → IsVerdict default phases_to_size text.now (Err (breach ∷ [])) }
+{
+    let Meaning { spelled, found } = meaning_of(alloc, text, default)?;
+    let shared = race_forms(alloc, &found.declared, &found.typed, &found.isolated)?;
+    let made = graph_with_names(alloc, &spelled.program, found)?;
+    Ok(Shared { shared, made })
+}
+
+/// A text's graph, and all breaches that the last phase by which it is judged finds in it.
 #[derive(Drop)]
 pub struct Judged {
     pub made: NamedGraph,
@@ -157,10 +179,21 @@ pub fn judge(alloc: Global, text: &[u8], default: AsyncDefault) -> Result<Judged
     ensures breached { (breach : Breach) → IsErrOf result (Refusal.Breached breach)
         → IsVerdict default phases_to_size text.now (Err (breach ∷ [])) }
 {
-    let Meaning { spelled, found } = meaning_of(alloc, text, default)?;
-    let shared = race_forms(alloc, &found.declared, &found.typed, &found.isolated)?;
-    let made = graph_with_names(alloc, &spelled.program, found)?;
+    let Shared { shared, made } = shared_of(alloc, text, default)?;
     let races = races(alloc, shared.as_slice(), &made.graph)?;
+    Ok(Judged { made, races })
+}
+
+/// Judges a text under a default by the phases up to that of sharing. Its regions aren't looked at:
+/// nothing is solved.
+pub fn judge_sharing(alloc: Global, text: &[u8], default: AsyncDefault) -> Result<Judged, Refusal>
+    requires { length text.now ≤ MAX_LENGTH }
+    ensures judged { IfOk result (IsJudgedBySharing default text.now) }
+    ensures breached { (breach : Breach) → IsErrOf result (Refusal.Breached breach)
+        → IsVerdict default phases_to_size text.now (Err (breach ∷ [])) }
+{
+    let Shared { shared, made } = shared_of(alloc, text, default)?;
+    let races = sharing(alloc, shared.as_slice())?;
     Ok(Judged { made, races })
 }
 

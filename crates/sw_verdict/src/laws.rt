@@ -6,15 +6,16 @@ ghost use Rattle.sw_breach.specs.declared.Breach.{Breach};
 ghost use Rattle.sw_breach.specs.Codes.{IsCode};
 ghost use Rattle.sw_breach.specs.Order.{breach_cmp};
 ghost use Rattle.sw_decls.specs.declared.signature.AsyncDefault.{AsyncDefault};
+ghost use Rattle.sw_region_flow.specs.Breaches.{AreBreaches};
 ghost use Rattle.sw_region_flow.specs.Passing.{IsPassed};
 ghost use Rattle.sw_verdict.specs.ActorNames.{HasActorNames};
-ghost use Rattle.sw_verdict.specs.Phases.{Finds, IsGraphOf, Phase, Races, all_phases};
-ghost use Rattle.sw_verdict.specs.Phases.{phases_to_size};
+ghost use Rattle.sw_verdict.specs.Phases.{Finds, IsGraphOf, Phase, Races, Sharing, all_phases};
+ghost use Rattle.sw_verdict.specs.Phases.{phases_to_sharing, phases_to_size};
 ghost use Rattle.sw_verdict.specs.Verdict.{Accepts, Breaches, Refuses};
 
 /// Under each default for asynchronous functions every text is accepted or refused, and never both.
 /// A text has one list of breaches, by position and then by code, each with a code that has a
-/// message. A phase finds one breach at most, but for that of races, which finds all.
+/// message. A phase finds one breach at most, but for those of sharing and of races, which find all.
 pub fn texts_have_one_verdict()
     ensures decided { (rule : AsyncDefault) (text : List ℕ)
         → Accepts rule text ⊎ Refuses rule all_phases text }
@@ -23,7 +24,8 @@ pub fn texts_have_one_verdict()
     ensures one_list { (rule : AsyncDefault) (phases : List Phase) (text : List ℕ)
         (a b : List Breach) → Breaches rule phases text a → Breaches rule phases text b → a ≡ b }
     ensures one_breach { (rule : AsyncDefault) (phase : Phase) (text : List ℕ)
-        (list : List Breach) → phase ≢ Races → Finds rule phase text list → length list ≤ 1 }
+        (list : List Breach) → phase ≢ Sharing → phase ≢ Races → Finds rule phase text list
+        → length list ≤ 1 }
     ensures in_order { (rule : AsyncDefault) (phases : List Phase) (text : List ℕ)
         (list : List Breach) → Breaches rule phases text list
         → IsStrictlySortedBy breach_cmp list }
@@ -46,6 +48,14 @@ pub fn texts_have_one_graph()
         → Breaches rule phases_to_size text [] → (graph : Graph) × IsGraphOf rule text graph }
     ensures one_graph { (rule : AsyncDefault) (text : List ℕ) (a b : Graph)
         → IsGraphOf rule text a → IsGraphOf rule text b → a ≡ b }
+{}
+
+/// A text that shares no value that may not be shared, and whose graph has no region breach, is
+/// accepted.
+pub fn texts_without_breaches_are_accepted()
+    ensures { (rule : AsyncDefault) (text : List ℕ) (graph : Graph)
+        → Breaches rule phases_to_sharing text [] → IsGraphOf rule text graph
+        → AreBreaches graph [] → Accepts rule text }
 {}
 
 /// In the graph of a text that is accepted under a default each test of the regions passes, at each

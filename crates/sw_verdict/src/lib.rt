@@ -9,8 +9,9 @@ mod laws;
 mod names;
 mod phases;
 
-pub use judging::{Judged, NamedGraph, judge, lower_text};
+pub use judging::{Judged, NamedGraph, judge, judge_sharing, lower_text};
 pub use laws::{
     accepted_graphs_pass, global_actors_have_names, texts_have_one_graph, texts_have_one_verdict,
+    texts_without_breaches_are_accepted,
 };
 pub use phases::Refusal;

@@ -1,7 +1,7 @@
 //! One function for each phase.
 
 ghost use Rattle.std.specs.Prelude.{◌≡◌, ◌≢◌, ◌≤◌, ◌<◌, ◌^◌, ℕ, List, IfOk, OnOk, None, length};
-ghost use Rattle.std.specs.Prelude.{map};
+ghost use Rattle.std.specs.Prelude.{Contains, map};
 ghost use Rattle.sw_token.specs.declared.Token.{Token};
 ghost use Rattle.sw_token.specs.Tokens.{IsTokens, position_of};
 ghost use Rattle.sw_token.specs.Spelling.{spelling_of};
@@ -281,6 +281,14 @@ fn breaches_of(alloc: Global, shared: &[Placed]) -> Result<Vec<Breach>, AllocErr
         list.push(breach_of(*placed))?;
     }
     Ok(list.into_vec())
+}
+
+/// The breaches of all values that are shared, by position and then by code.
+pub fn sharing(alloc: Global, shared: &[Placed]) -> Result<ListOf<Breach>, AllocError>
+    ensures { IfOk result (λ list. AreAll (Contains (map breach_of shared.now)) list) }
+{
+    let list = breaches_of(alloc, shared)?;
+    Ok(ListOf::from_vec(in_order(list)))
 }
 
 /// All values that are shared, and all region breaches of a graph. The blank is that of a counter

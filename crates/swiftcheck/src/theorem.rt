@@ -51,12 +51,13 @@ ghost use Rattle.sw_replay.specs.declared.output.Replay.{Replay};
 ghost use Rattle.sw_replay.specs.declared.text.SchedFault.{SchedFault};
 ghost use Rattle.sw_region_ops.specs.declared.op.TheConstants.{ISOLATED_TO_ACTOR, ISOLATED_TO_TASK};
 ghost use Rattle.sw_region_ops.specs.declared.op.TheConstants.{NOT_DISCONNECTED};
+ghost use Rattle.sw_region_flow.specs.Breaches.{AreBreaches};
 ghost use Rattle.sw_region_flow.specs.Passing.{IsPassed};
 ghost use Rattle.sw_machine_kind_facts.specs.Kinded.{Kinded};
 ghost use Rattle.sw_machine_kind_facts.specs.Operands.{HasNext};
 ghost use Rattle.sw_machine_let_facts.specs.Lets.{IsPastFirsts, IsLet};
-ghost use Rattle.sw_verdict.specs.Phases.{Finds, Phase, Races, all_phases, IsGraphOf};
-ghost use Rattle.sw_verdict.specs.Phases.{phases_to_size, answers_of_program};
+ghost use Rattle.sw_verdict.specs.Phases.{Finds, Phase, Races, Sharing, all_phases, IsGraphOf};
+ghost use Rattle.sw_verdict.specs.Phases.{phases_to_sharing, phases_to_size, answers_of_program};
 ghost use Rattle.sw_verdict.specs.ActorNames.{HasActorNames};
 ghost use Rattle.sw_verdict.specs.Verdict.{Accepts, Breaches, Refuses};
 ghost use Rattle.sw_check_text.specs.Verdicts.{Accepting, IsVerdictOn, NamesRaces, Refusing};
@@ -77,7 +78,7 @@ use sw_value::{MAX_FRAMES, MAX_JOBS, NO_REGISTER};
 
 /// Under each default for asynchronous functions every text is accepted or refused, and never both.
 /// A text has one list of breaches, by position and then by code, each with a code that has a
-/// message. A phase finds one breach at most, but for that of races, which finds all.
+/// message. A phase finds one breach at most, but for those of sharing and of races, which find all.
 pub fn texts_have_one_verdict()
     ensures decided { (rule : AsyncDefault) (text : List ℕ)
         → Accepts rule text ⊎ Refuses rule all_phases text }
@@ -86,7 +87,8 @@ pub fn texts_have_one_verdict()
     ensures one_list { (rule : AsyncDefault) (phases : List Phase) (text : List ℕ)
         (a b : List Breach) → Breaches rule phases text a → Breaches rule phases text b → a ≡ b }
     ensures one_breach { (rule : AsyncDefault) (phase : Phase) (text : List ℕ)
-        (list : List Breach) → phase ≢ Races → Finds rule phase text list → length list ≤ 1 }
+        (list : List Breach) → phase ≢ Sharing → phase ≢ Races → Finds rule phase text list
+        → length list ≤ 1 }
     ensures in_order { (rule : AsyncDefault) (phases : List Phase) (text : List ℕ)
         (list : List Breach) → Breaches rule phases text list
         → IsStrictlySortedBy breach_cmp list }
@@ -113,6 +115,16 @@ pub fn texts_have_one_graph()
         → IsGraphOf rule text a → IsGraphOf rule text b → a ≡ b }
 {
     sw_verdict::texts_have_one_graph()
+}
+
+/// A text that shares no value that may not be shared, and whose graph has no region breach, is
+/// accepted.
+pub fn texts_without_breaches_are_accepted()
+    ensures { (rule : AsyncDefault) (text : List ℕ) (graph : Graph)
+        → Breaches rule phases_to_sharing text [] → IsGraphOf rule text graph
+        → AreBreaches graph [] → Accepts rule text }
+{
+    sw_verdict::texts_without_breaches_are_accepted()
 }
 
 /// The verdict that `check_text` gives accepts exactly the texts in which no phase finds a breach. It

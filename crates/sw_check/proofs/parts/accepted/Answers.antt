@@ -2,9 +2,9 @@ use Rattle.std.proofs.Common.{[], ◌∷◌, List, ap, subst, sym, ◌∙◌}
 use Rattle.std.specs.List.{AllByRecursion}
 use Rattle.sw_breach.specs.Codes.{IsCode}
 use Rattle.sw_breach.specs.declared.Breach.{Breach}
-use Rattle.sw_verdict.specs.Phases.{all_phases, phases_to_size}
+use Rattle.sw_verdict.specs.Phases.{Races, all_phases, phases_to_size}
 use Rattle.sw_verdict.proofs.Coded.{have_codes}
-use Rattle.sw_verdict.proofs.Verdicts.{refused_by_all}
+use Rattle.sw_verdict.proofs.Verdicts.{refused_before}
 use Rattle.sw_check_text.specs.Verdicts.{IsVerdictOn}
 use Rattle.sw_check.specs.Programs.{seen_graph}
 use Rattle.sw_check.specs.Reply.{passes, refusal}
@@ -49,4 +49,4 @@ returns c =
     let list = c.in-Refused.breach ∷ [] in
     judged_refused c.args.default all_phases c.args.text.now list _
     c.in_ok-refusal-in-Refused.ensures
-    ((λ e. cc), refused_by_all c.args.default c.args.text.now list (λ e. cc) is)
+    ((λ e. cc), refused_before c.args.default Races c.args.text.now list (λ e. cc) is)
