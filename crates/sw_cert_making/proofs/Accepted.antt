@@ -4,7 +4,7 @@ use Rattle.std.proofs.Common.{IsSome, List, [], ◌∷◌, ◌++◌, length, sli
 use Rattle.std.proofs.Common.{refl, sym, subst, ap, ◌∙◌, arith}
 use Rattle.std.proofs.lemmas.Bool.{cases_eq}
 use Rattle.std.proofs.lemmas.List.{get_or_append_left, get_or_push, length-append}
-use Rattle.std.proofs.lemmas.Option.{slice_get_within}
+use Rattle.std.proofs.lemmas.Option.{same_Some, slice_get_within}
 use Rattle.std.specs.List.{slice_get}
 use Rattle.sw_graph.specs.declared.function.Function.{Function}
 use Rattle.sw_graph.specs.declared.graph.Graph.{Graph}
@@ -27,7 +27,7 @@ use Rattle.sw_solve.specs.Layout.{IsLeastOfBlocks}
 use Rattle.sw_partition.specs.Regions.{IsWithin}
 use Rattle.sw_cert_making.proofs.Bared.{bounds, least_is_reached}
 use Rattle.sw_cert_making.proofs.LeastLines.{are_extents, are_lines, body_at, extent_for, extents_for}
-use Rattle.sw_cert_making.proofs.LeastLines.{same_function, state_sites, state_size}
+use Rattle.sw_cert_making.proofs.LeastLines.{state_sites, state_size}
 use Rattle.sw_cert_making.specs.Printed.{HasLineOf, IsLeastCertificate, IsLeastLine}
 use Rattle.sw_cert.specs.Reading.{AreStated, IsReading, IsStated, states_of}
 use Rattle.sw_cert.specs.Shown.{Shows}
@@ -87,16 +87,13 @@ one_least setting s t first second block x stands =
       y.1,
       record {
         same = within_both y.0 x
-            (subst (IsWithin y.0) (one back.0 x (sym back.1 ∙ stands)) back.2) y.2;
+            (subst (IsWithin y.0) (same_Some back.0 x (sym back.1 ∙ stands)) back.2) y.2;
         sized = state_size setting s first block x stands
             ∙ ap (λ sites. element_count setting.elements ∷ sites)
             (sites_are_one setting first.sites second.sites first.fits.sites second.fits.sites)
             ∙ sym (state_size setting t second block y.0 y.1);
       },
     )
-  where
-    one : (a b : Regions) → Some a ≡ Some b → a ≡ b
-    one a b e = cc
 
 -- ---- whether lines have one of a block
 tell_line : (lines : List Line) (function block : ℕ) → Decided (HasLineOf lines function block)
@@ -170,7 +167,7 @@ module _ (graph : Graph) (text : List ℕ) (made : IsLeastCertificate graph text
       let is = made.least has.line has.is_line in (
         is.states,
         λ other at. subst (λ (b : Function). IsLeastOfFunction (setting_of graph b) is.states)
-            (same_function is.body other
+            (same_Some is.body other
             (sym is.is_body ∙ ap (slice_get graph.functions) has.function_is ∙ at)) is.least,
       )
 
@@ -197,7 +194,7 @@ module _ (graph : Graph) (text : List ℕ) (made : IsLeastCertificate graph text
           → IsLeastOfFunction (setting_of graph body) is.states
       least_of line is function_is =
           subst (λ (b : Function). IsLeastOfFunction (setting_of graph b) is.states)
-          (same_function is.body body
+          (same_Some is.body body
           (sym is.is_body ∙ ap (slice_get graph.functions) function_is ∙ at)) is.least
 
       some_is : (x : Regions) (o : Option Regions) → o ≡ Some x → IsSome o
@@ -209,7 +206,7 @@ module _ (graph : Graph) (text : List ℕ) (made : IsLeastCertificate graph text
           let is = made.least has.line has.is_line in
           let other = one_least (setting_of graph body) states is.states least
           (least_of has.line is has.function_is) block state stands in
-          let here = same_state is.state other.0
+          let here = same_Some is.state other.0
           (sym is.stands ∙ ap (value_at is.states) has.block_is ∙ other.1) in record {
             line = has.line;
             is_line = has.is_line;
@@ -218,9 +215,6 @@ module _ (graph : Graph) (text : List ℕ) (made : IsLeastCertificate graph text
             shows = shows_copy has.line other.0 state other.2
                 (subst (Shows has.line) here is.shows);
           }
-        where
-          same_state : (a b : Regions) → Some a ≡ Some b → a ≡ b
-          same_state a b e = cc
       by block state stands (inr none) = absurd (least_is_reached
           (record { setting = setting_of graph body; sites = least.sites }) least.fits states
           least.least block state stands (λ way. none (made.all number body block at way)))

@@ -10,7 +10,7 @@ use Rattle.std.proofs.lemmas.List.Elements.{Contains-append_right, Contains-get_
 use Rattle.std.proofs.lemmas.List.Elements.{Contains-push_cases}
 use Rattle.std.proofs.lemmas.List.Kept.{AllPairs-cons}
 use Rattle.std.proofs.lemmas.List.Quantifiers.{all_pairs_push}
-use Rattle.std.proofs.lemmas.Option.{slice_get_within}
+use Rattle.std.proofs.lemmas.Option.{same_Some, slice_get_within}
 use Rattle.std.specs.List.{AllPairs, slice_get}
 use Rattle.sw_dictation.specs.Lines.{line_text}
 use Rattle.sw_graph.specs.declared.function.Function.{Function}
@@ -199,15 +199,12 @@ made_more graph count body was new is so_far more = record {
       ∙ sym (text_append so_far.lines more.added.lines);
 }
   where
-    same : (a b : Function) → Some a ≡ Some b → a ≡ b
-    same a b e = cc
-
     here : (function block : ℕ) (other : Function) → function ≡ count
         → slice_get graph.functions function ≡ Some other
         → HasWay (targets_at other.blocks) block
         → HasLineOf (so_far.lines ++ more.added.lines) function block
     here function block other e is_other way =
-        let one = same other body (sym is_other ∙ ap (slice_get graph.functions) e ∙ is) in
+        let one = same_Some other body (sym is_other ∙ ap (slice_get graph.functions) e ∙ is) in
         let path = subst (λ (b : Function). HasWay (targets_at b.blocks) block) one way in
         let some = stands_on_way (record {
           setting = setting_of graph body;

@@ -6,6 +6,7 @@ use Rattle.std.proofs.Common.{subst, ap, ◌∙◌, arith}
 use Rattle.std.proofs.lemmas.List.Elements.{All-head, All-tail}
 use Rattle.std.proofs.lemmas.Bool.{cases_eq, cases_lt, ne_eqb}
 use Rattle.std.proofs.lemmas.List.{get_or_past}
+use Rattle.std.proofs.lemmas.Option.{none-some, same_Some}
 use Rattle.std.specs.List.{All}
 use Rattle.std.specs.Option.{option_map}
 use Rattle.sw_partition.specs.Effects.{stand_in}
@@ -159,15 +160,13 @@ if_some : (P : Regions → Type 0) (o : Option Regions) → ((y : Regions) → o
 if_some P None each = tt
 if_some P (Some y) each = each y refl
 
-within_list : (s : List (Option Regions)) (p : ℕ) (x : Regions) → value_at s p ≡ Some x
+-- where something stands, that is within the list
+pub within_list : (s : List (Option Regions)) (p : ℕ) (x : Regions) → value_at s p ≡ Some x
     → p < length s
 within_list s p x e = elim (cases_lt p (length s)) [
   | inl lt ↦ lt
-  | inr past ↦ absurd (never (value_at s p) (get_or_past s p None past) e)
+  | inr past ↦ absurd (none-some x (sym (get_or_past s p None past) ∙ e))
 ]
-  where
-    never : (o : Option Regions) → o ≡ None → o ≡ Some x → ⊥
-    never o none some = cc
 
 -- the operations of a block fit the states of the flow
 pub ops_fit_at : (analysis : Analysis) → IsAnalysis analysis → (b : ℕ)
@@ -223,23 +222,14 @@ module _ (analysis : Analysis) (fits : IsAnalysis analysis) (s : List (Option Re
         by (inl h) (Some x) d o is = (
           x,
           o,
-          some (bared x) (sym (ap (λ n. cond (test n) (option_map bared (value_at s p)) None) d
-              ∙ ap (option_map bared) o) ∙ is),
+          sym (same_Some (bared x) y (sym (ap (λ n. cond (test n) (option_map bared (value_at s p)) None) d
+              ∙ ap (option_map bared) o) ∙ is)),
           h.1,
         )
-          where
-            some : (a : Regions) → Some a ≡ Some y → y ≡ a
-            some a same = cc
-        by (inl h) None d o is = absurd (never (sym (ap (λ n. cond (test n)
+        by (inl h) None d o is = absurd (none-some y (sym (ap (λ n. cond (test n)
             (option_map bared (value_at s p)) None) d ∙ ap (option_map bared) o) ∙ is))
-          where
-            never : None ≡ Some y → ⊥
-            never same = cc
-        by (inr non) o d o_is is = absurd (never (sym (ap (λ n. cond (test n)
+        by (inr non) o d o_is is = absurd (none-some y (sym (ap (λ n. cond (test n)
             (option_map bared (value_at s p)) None) d) ∙ is))
-          where
-            never : None ≡ Some y → ⊥
-            never same = cc
 
     below_lower : (p : ℕ) (x : Regions) → Way p → IsBare x → IsBelow IsWithin x (value_at s p)
         → IsBelow IsWithin x (value_at lower p)

@@ -38,18 +38,7 @@ use Rattle.sw_solve.proofs.Spreading.{some_from_below}
 use Rattle.sw_solve.specs.Annotation.{value_at, IsBelow, IsAtMost}
 use Rattle.sw_solve.specs.Layout.{BlocksBound, BlocksClosed, IsLeastOfBlocks}
 use Rattle.sw_solve.specs.Ways.{IsWay}
-use Rattle.sw_cert_making.proofs.Bared.{ops_fit_at}
-
--- where something stands, that is within the list
-pub some_within : {X : Type 0} (list : List (Option X)) (k : ℕ) (x : X) → value_at list k ≡ Some x
-    → k < length list
-some_within {X} list k x e = elim (cases_lt k (length list)) [
-  | inl lt ↦ lt
-  | inr past ↦ absurd (never (value_at list k) (get_or_past list k None past) e)
-]
-  where
-    never : (o : Option X) → o ≡ None → o ≡ Some x → ⊥
-    never o none some = cc
+use Rattle.sw_cert_making.proofs.Bared.{ops_fit_at, within_list}
 
 -- ---- the flow of the blocks, with nothing to do past the last
 module _ (analysis : Analysis) (fits : IsAnalysis analysis) where
@@ -152,7 +141,7 @@ module _ (analysis : Analysis) (fits : IsAnalysis analysis) where
       least_within : (b : ℕ) (x : Regions) → value_at least b ≡ Some x → b < count
       unfolding least
       least_within b x e =
-          let h = some_within (take count a) b x e in
+          let h = within_list (take count a) b x e in
           let k = length-take count a in omega (arith, h, k)
 
       least_closed : BlocksClosed (layout analysis) least

@@ -5,7 +5,7 @@ use Rattle.std.proofs.Common.{subst}
 use Rattle.std.proofs.Common.{ap, ◌∙◌, arith}
 use Rattle.std.proofs.lemmas.List.{get_or_default, length-map}
 use Rattle.std.proofs.lemmas.List.Elements.{Contains-get_or, recursion_from_All}
-use Rattle.std.proofs.lemmas.Option.{slice_get-map}
+use Rattle.std.proofs.lemmas.Option.{none-some, same_Some, slice_get-map}
 use Rattle.std.specs.List.{AllByRecursion, AllPairs, slice_get}
 use Rattle.std.specs.Option.{option_map}
 use Rattle.sw_graph.specs.declared.function.Function.{Function}
@@ -47,9 +47,6 @@ extent_for setting = record {
 abbrev pub extents_for : Graph → List Extent
 extents_for graph = map (λ body. extent_for (setting_of graph body)) graph.functions
 
-pub same_function : (a b : Function) → Some a ≡ Some b → a ≡ b
-same_function a b e = cc
-
 pub extent_at : (graph : Graph) (number : ℕ) (body : Function)
     → slice_get graph.functions number ≡ Some body
     → slice_get (extents_for graph) number ≡ Some (extent_for (setting_of graph body))
@@ -69,27 +66,21 @@ body_at graph number extent is = by (slice_get graph.functions number) refl
         (slice_get graph.functions number) ≡ Some extent
         → (body : Function) × (slice_get graph.functions number ≡ Some body)
         × (extent ≡ extent_for (setting_of graph body))
-    by None e at = absurd (never
+    by None e at = absurd (none-some extent
         (sym (ap (option_map (λ body. extent_for (setting_of graph body))) e) ∙ at))
-      where
-        never : None ≡ Some extent → ⊥
-        never h = cc
     by (Some body) e at = (
       body,
       e,
-      one (extent_for (setting_of graph body))
-          (sym (ap (option_map (λ body. extent_for (setting_of graph body))) e) ∙ at),
+      sym (same_Some (extent_for (setting_of graph body)) extent
+          (sym (ap (option_map (λ body. extent_for (setting_of graph body))) e) ∙ at)),
     )
-      where
-        one : (other : Extent) → Some other ≡ Some extent → extent ≡ other
-        one other h = cc
 
 pub are_extents : (graph : Graph) → AreExtentsOf graph (extents_for graph)
 are_extents graph = record {
   count = length-map graph.functions (λ body. extent_for (setting_of graph body));
   each = λ number body extent is at.
       let w = body_at graph number extent at in
-      let same = same_function w.0 body (sym w.1 ∙ is) in
+      let same = same_Some w.0 body (sym w.1 ∙ is) in
       subst (IsExtentOf (setting_of graph body))
       (sym (w.2 ∙ ap (λ (b : Function). extent_for (setting_of graph b)) same)) (record {
         blocks = refl;

@@ -1,5 +1,5 @@
 -- The certificate of a graph while it is made.
-use Rattle.std.specs.Prelude.{◌≡◌, ℕ, ◌<◌, ◌++◌, ◌↔◌, Option, Some, None, List, length}
+use Rattle.std.specs.Prelude.{◌≡◌, ℕ, ◌<◌, ◌++◌, Option, Some, None, List, length}
 use Rattle.std.specs.Prelude.{slice_get, Contains, IsSome}
 use Rattle.std.specs.List.{AllPairs}
 use Rattle.sw_graph.specs.declared.function.Function.{Function}

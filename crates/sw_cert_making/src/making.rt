@@ -1,11 +1,9 @@
 //! The certificate of a graph.
 ghost use Rattle.std.specs.Prelude.{◌≡◌, ◌<◌, Some, length, slice_get, option_map, IfOk, OnOk};
 ghost use Rattle.sw_graph.specs.declared.function.Function.{Function};
-ghost use Rattle.sw_region_flow.specs.Analysis.{IsLeastOfFunction, targets_at};
-ghost use Rattle.sw_region_ops.specs.Setting.{setting_of};
 ghost use Rattle.sw_solve.specs.Annotation.{value_at};
 ghost use Rattle.sw_cert_making.specs.Made.{IsLineAdded, AreLinesAdded, IsFunctionAdded};
-ghost use Rattle.sw_cert_making.specs.Printed.{IsLeastCertificate, IsPrinted};
+ghost use Rattle.sw_cert_making.specs.Printed.{IsPrinted};
 
 use std::alloc::{AllocError, Global};
 use std::marker::Brand;
