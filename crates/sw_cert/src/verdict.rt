@@ -17,7 +17,7 @@ pub enum CertFault {
     #[error("entry of function {function}")]
     Entry { function: u32 },
     /// The line that begins at this byte is the first that doesn't hold: a test of its block fails.
-    #[error("test fails at {at}")]
+    #[error("not passed at {at}")]
     Fails { at: u32 },
     /// The line that begins at this byte is the first that doesn't hold: a block that follows its
     /// block has no line, or one with a state that doesn't include the state there.
