@@ -1,10 +1,16 @@
 pub mod DepthLemmas
 pub mod Filling
 pub mod Firsts
+pub mod Grouping
 pub mod LawLemmas
+pub mod Linking
 pub mod Looking
+pub mod Members
+pub mod Moving
 pub mod RankLemmas
 pub mod Searching
+pub mod Settling
+pub mod Stepping
 pub mod UnmarkedLemmas
 pub mod Walking
 pub mod WithinLemmas

@@ -1,10 +1,9 @@
 -- Ranks from an order.
-use Rattle.std.proofs.Common.{◌≡◌, ◌↔◌, ℕ, ◌<◌, ◌≤◌, List, length, get_or, Contains, nat_eq, sym}
-use Rattle.std.proofs.Common.{subst, ◌∙◌, arith, inl, inr, true, false, replicate}
+use Rattle.std.proofs.Common.{◌≡◌, ℕ, ◌<◌, ◌≤◌, List, length, get_or, Contains, nat_eq, sym}
+use Rattle.std.proofs.Common.{subst, ◌∙◌, arith, inl, inr}
 use Rattle.std.specs.List.{position_or_len}
 use Rattle.std.proofs.lemmas.Bool.{cases_lt, eqb-true, eq-eqb, false≢true}
-use Rattle.std.proofs.lemmas.List.{get_or-take, length-take, get_or_past, get_or-replicate}
-use Rattle.std.proofs.lemmas.List.{length-replicate}
+use Rattle.std.proofs.lemmas.List.{get_or-take, length-take}
 use Rattle.std.proofs.lemmas.List.Sums.{fails_before_first, passes_at_first}
 use Rattle.sw_types.specs.Paths.{IsEdge, Path, one, more, AreRanked, IsOrder}
 use Rattle.sw_types.proofs.Searching.{path_begins}
@@ -60,17 +59,3 @@ path_falls edges are a b (more c d path leads) =
 -- ranked numbers don't lead back to themselves
 pub no_return : (edges : List (List ℕ)) → AreRanked edges → (a : ℕ) → Path edges a a → ⊥
 no_return edges are a path = let falls = path_falls edges are a a path in omega arith
-
--- no number of an order leads back to itself
-pub none_return : (edges : List (List ℕ)) (order : List ℕ) → IsOrder edges order → (n k : ℕ)
-    → (get_or (replicate n false) k false ≡ true) ↔ Path edges k k
-none_return edges order is n k = (
-  λ marked. absurd (false≢true (sym unmarked ∙ marked)),
-  λ path. absurd (no_return edges (ranked edges order is) k path),
-)
-  where
-    unmarked : get_or (replicate n false) k false ≡ false
-    unmarked = elim (cases_lt k n) [
-      | inl lt ↦ get_or-replicate n k false false lt
-      | inr le ↦ get_or_past (replicate n false) k false (omega (arith, length-replicate n false))
-    ]

@@ -5,7 +5,6 @@ pub mod Held
 pub mod Named
 pub mod Parts
 pub mod Paths
-pub mod Searches
 pub mod Sendable
 pub mod Walks
 pub mod CallKinds

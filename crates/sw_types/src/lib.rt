@@ -7,7 +7,6 @@ mod holding;
 mod isolation;
 mod laws;
 mod ordering;
-mod returning;
 mod shape;
 mod shapes;
 mod tables;

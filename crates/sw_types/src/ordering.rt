@@ -1,8 +1,7 @@
-ghost use Rattle.std.specs.Prelude.{◌≡◌, ◌≢◌, ℕ, ◌<◌, ◌^◌, [], ◌∷◌, ◌++◌, length, replicate, All};
-ghost use Rattle.std.specs.Prelude.{IfOk};
-ghost use Rattle.std.specs.Prelude.{OnOk, IfSome, IfNone, false, slice_index};
-ghost use Rattle.sw_types.specs.Paths.{AreInRange, Path};
-ghost use Rattle.sw_types.specs.Walks.{IsSorting};
+ghost use Rattle.std.specs.Prelude.{◌≡◌, ◌↔◌, ℕ, ◌<◌, ◌^◌, ◌++◌, ◌∷◌, [], length, replicate};
+ghost use Rattle.std.specs.Prelude.{IfOk, OnOk, IsTrue, true, false, slice_index, slice_index_or};
+ghost use Rattle.std.specs.Prelude.{All};
+ghost use Rattle.sw_types.specs.Paths.{AreInRange, IsOrder, Path};
 
 use std::alloc::{AllocError, Global};
 use sw_list::ListOf;
@@ -10,53 +9,81 @@ use sw_list::ListOf;
 /// How far a number has come.
 #[derive(Clone, Copy)]
 enum Progress {
-    /// No walk has come to it.
+    /// The walk has not come to it.
     Fresh,
-    /// It is on the path of the walk.
-    Open,
-    /// All that it leads to is settled, and it is in the order.
+    /// It stands at this place among the open numbers.
+    Open(usize),
+    /// It is in the order, and all that it leads to is settled too.
     Settled,
 }
 
-/// A number on the path of a walk, and how many of its targets were found settled.
+/// Open numbers that lead to each other: the place of the first, and how many targets waited when
+/// it was opened. The members are the open numbers from there to the next group.
 #[derive(Clone, Copy)]
-struct Visit {
-    number: u32,
-    from: usize,
+struct Group {
+    first: usize,
+    waiting: usize,
 }
 
-/// Numbers in an order in which each stands after those that it leads to, or one that leads back
-/// to itself.
+/// Numbers in an order, and which of them lead back to themselves.
 #[derive(Drop)]
-pub enum Sorting {
-    Ordered(ListOf<u32>),
-    Circular(u32),
+pub struct Sorting {
+    pub order: ListOf<u32>,
+    pub returns: ListOf<bool>,
 }
 
-/// A walk along edges: how far each number has come, the path from where it began to where it
-/// stands, and the settled numbers in order.
+/// A walk along edges: how far each number has come, the open numbers in the order in which they
+/// were opened, their groups, the targets that wait for a look, and of the settled numbers an order
+/// and which lead back to themselves.
 #[derive(Drop)]
 struct Walk {
     progress: ListOf<Progress>,
-    path: ListOf<Visit>,
+    opened: ListOf<u32>,
+    groups: ListOf<Group>,
+    waiting: ListOf<u32>,
     order: ListOf<u32>,
+    returns: ListOf<bool>,
+}
+
+/// The numbers below `count`.
+fn numbers_below(alloc: Global, count: u32) -> Result<ListOf<u32>, AllocError>
+    ensures all { IfOk result (λ numbers. length numbers ≡ count) }
+    ensures each { IfOk result (λ numbers. (k : ℕ) → k < count → slice_index numbers k ≡ k) }
+{
+    let mut numbers = ListOf::new(alloc);
+    for number in 0..count {
+        numbers.push(number)?;
+    }
+    Ok(numbers)
+}
+
+/// No marks, for the numbers below `count`.
+pub fn no_marks(alloc: Global, count: usize) -> Result<ListOf<bool>, AllocError>
+    ensures { IfOk result (λ marks. marks ≡ replicate count false) }
+{
+    Ok(ListOf::from_vec(vec![in alloc; false; count]?))
 }
 
 impl Walk {
-    ghost use Rattle.sw_types.specs.Walks.{IsWalk, StaysTouched, is_fresh, progress_at};
-    ghost use Rattle.sw_types.specs.Walks.{steps_left, with_open, with_settled, with_visit};
-    ghost use Rattle.sw_types.specs.declared.ordering.Progress.{Progress};
+    ghost use Rattle.std.specs.Prelude.{◌+◌, ◌≤◌, Contains, Some, slice_get};
+    ghost use Rattle.std.specs.List.{AllWithin};
+    ghost use Rattle.sw_types.specs.Walks.{AllWait, AreInOrder, AreMoved, IsBegun, IsWalk, LeadBack};
+    ghost use Rattle.sw_types.specs.Walks.{fresh_count, progress_at, steps_left};
+    ghost use Rattle.sw_types.specs.Walks.{with_group, with_open, with_waiting};
+    ghost use Rattle.sw_types.specs.declared.ordering.Progress.TheVariants.{Open};
 
-    /// A walk that has come to none of the numbers below `count`.
+    /// A walk for which each number below `count` waits.
     fn new(alloc: Global, count: usize) -> Result<Walk, AllocError>
-        ensures progress { IfOk result (λ walk. walk.progress ≡ replicate count Progress.Fresh) }
-        ensures path { IfOk result (λ walk. walk.path ≡ []) }
-        ensures order { IfOk result (λ walk. walk.order ≡ []) }
+        requires { count < 2 ^ 32 }
+        ensures { IfOk result (IsBegun count) }
     {
         Ok(Walk {
             progress: ListOf::from_vec(vec![in alloc; Progress::Fresh; count]?),
-            path: ListOf::new(alloc),
+            opened: ListOf::new(alloc),
+            groups: ListOf::new(alloc),
+            waiting: numbers_below(alloc, count as u32)?,
             order: ListOf::new(alloc),
+            returns: no_marks(alloc, count)?,
         })
     }
 
@@ -68,137 +95,149 @@ impl Walk {
         self.progress.as_slice()[number as usize]
     }
 
-    /// The first place from `from` on whose number isn't settled.
-    fn next_unsettled(&self, targets: &[u32], from: usize) -> Option<usize>
-        requires sized { All (λ k. k < length self.now.progress) targets.now }
-        requires passed { (k : ℕ) → k < from
-            → progress_at self.now.progress (slice_index targets.now k) ≡ Progress.Settled }
-        ensures none { IfNone result ((k : ℕ) → k < length targets.now
-            → progress_at self.now.progress (slice_index targets.now k) ≡ Progress.Settled) }
-        ensures within { IfSome result (λ place. place < length targets.now) }
-        ensures passed { IfSome result (λ place. (k : ℕ) → k < place
-            → progress_at self.now.progress (slice_index targets.now k) ≡ Progress.Settled) }
-        ensures unsettled { IfSome result (λ place.
-            progress_at self.now.progress (slice_index targets.now place) ≢ Progress.Settled) }
+    /// Puts targets at the end of those that wait.
+    fn wait(&mut self, targets: &[u32]) -> Result<(), AllocError>
+        ensures { OnOk result (self.new ≡ with_waiting self.old targets.now) }
     {
-        for place in from..targets.len() {
-            match self.progress_of(targets[place]) {
-                Progress::Settled => {}
-                Progress::Fresh | Progress::Open => return Some(place),
-            }
+        for target in targets {
+            self.waiting.push(*target)?;
         }
-        None
+        Ok(())
     }
 
-    /// Puts a visit at the end of the path.
-    fn keep(&mut self, visit: Visit) -> Result<(), AllocError>
-        ensures { OnOk result (self.new ≡ with_visit self.old visit) }
-    {
-        self.path.push(visit)
-    }
-
-    /// Comes to a number, at the end of the path.
-    fn open(&mut self, number: u32) -> Result<(), AllocError>
+    /// Comes to a number, whose targets then wait.
+    fn open(&mut self, number: u32, targets: &[u32]) -> Result<(), AllocError>
         requires { number < length self.old.progress }
-        ensures { OnOk result (self.new ≡ with_open self.old number) }
+        ensures { OnOk result (self.new ≡ with_waiting (with_open self.old number) targets.now) }
     {
-        self.progress.set(number as usize, Progress::Open);
-        self.path.push(Visit { number, from: 0 })
-    }
-
-    /// Puts a number at the end of the order.
-    fn settle(&mut self, number: u32) -> Result<(), AllocError>
-        requires { number < length self.old.progress }
-        ensures { OnOk result (self.new ≡ with_settled self.old number) }
-    {
-        self.progress.set(number as usize, Progress::Settled);
-        self.order.push(number)
-    }
-
-    /// Goes on from the last visit of the path, which was taken off. Answers a number that leads
-    /// back to itself, if it finds one.
-    fn advance(&mut self, edges: &[ListOf<u32>], visit: Visit) -> Result<Option<u32>, AllocError>
-        requires edges { AreInRange edges.now }
-        requires walk { IsWalk edges.now (with_visit self.old visit) }
-        ensures walk { IfOk result (λ found. IfNone found (IsWalk edges.now self.new)) }
-        ensures touched { IfOk result (λ found. IfNone found (StaysTouched self.old self.new)) }
-        ensures fewer { IfOk result (λ found. IfNone found
-            (steps_left self.new < steps_left (with_visit self.old visit))) }
-        ensures found { IfOk result (λ found. IfSome found (λ k. Path edges.now k k)) }
-    {
-        let targets = edges[visit.number as usize].as_slice();
-        let Some(place) = self.next_unsettled(targets, visit.from) else {
-            self.settle(visit.number)?;
-            return Ok(None);
+        let group = Group {
+            first: self.opened.len(),
+            waiting: self.waiting.len(),
         };
-        let next = targets[place];
-        match self.progress_of(next) {
-            Progress::Settled => unreachable!(),
-            Progress::Open => Ok(Some(next)),
-            Progress::Fresh => {
-                self.keep(Visit {
-                    from: place,
-                    ..visit
-                })?;
-                self.open(next)?;
-                Ok(None)
-            }
-        }
+        self.progress
+            .set(number as usize, Progress::Open(group.first));
+        self.opened.push(number)?;
+        self.groups.push(group)?;
+        self.wait(targets)
     }
 
-    /// Walks until the path is empty, or to a number that leads back to itself.
-    fn finish(&mut self, edges: &[ListOf<u32>]) -> Result<Option<u32>, AllocError>
-        requires edges { AreInRange edges.now }
-        requires walk { IsWalk edges.now self.old }
-        ensures walk { IfOk result (λ found. IfNone found (IsWalk edges.now self.new)) }
-        ensures path { IfOk result (λ found. IfNone found (self.new.path ≡ [])) }
-        ensures touched { IfOk result (λ found. IfNone found (StaysTouched self.old self.new)) }
-        ensures found { IfOk result (λ found. IfSome found (λ k. Path edges.now k k)) }
+    /// How many groups begin no later than at a place.
+    fn groups_until(&self, place: usize) -> usize
+        requires { AreInOrder self.now.groups }
+        ensures within { result ≤ length self.now.groups }
+        ensures until { AllWithin (λ group. group.first ≤ place) self.now.groups 0 result }
+        ensures after { AllWithin (λ group. place < group.first) self.now.groups result
+            (length self.now.groups) }
     {
-        while let Some(visit) = self.path.pop() {
-            if let Some(number) = self.advance(edges, visit)? {
-                return Ok(Some(number));
-            }
+        let groups = self.groups.as_slice();
+        let mut count = groups.len();
+        while count > 0 && groups[count - 1].first > place {
+            count -= 1;
         }
-        Ok(None)
+        count
     }
 
-    /// Walks from a number that no walk has come to.
-    fn visit(&mut self, edges: &[ListOf<u32>], number: u32) -> Result<Option<u32>, AllocError>
+    /// Looks at a target of the last group, which was taken off those that wait: a fresh one is
+    /// opened, and the groups from that of an open one on are united.
+    fn look(&mut self, edges: &[ListOf<u32>], target: u32) -> Result<(), AllocError>
         requires edges { AreInRange edges.now }
-        requires number { number < length edges.now }
-        requires walk { IsWalk edges.now self.old }
-        requires path { self.old.path ≡ [] }
-        ensures walk { IfOk result (λ found. IfNone found (IsWalk edges.now self.new)) }
-        ensures path { IfOk result (λ found. IfNone found (self.new.path ≡ [])) }
-        ensures touched { IfOk result (λ found. IfNone found (StaysTouched self.old self.new)) }
-        ensures come { IfOk result (λ found. IfNone found
-            (is_fresh (progress_at self.new.progress number) ≡ false)) }
-        ensures found { IfOk result (λ found. IfSome found (λ k. Path edges.now k k)) }
+        requires walk { IsWalk edges.now (with_waiting self.old (target ∷ [])) }
+        requires last { AllWait (with_waiting self.old (target ∷ [])) }
+        ensures walk { OnOk result (IsWalk edges.now self.new) }
+        ensures fewer { OnOk result (steps_left edges.now self.new
+            < steps_left edges.now (with_waiting self.old (target ∷ []))) }
     {
-        match self.progress_of(number) {
-            Progress::Open | Progress::Settled => Ok(None),
-            Progress::Fresh => {
-                self.open(number)?;
-                self.finish(edges)
+        match self.progress_of(target) {
+            Progress::Settled => {}
+            Progress::Open(place) => {
+                let count = self.groups_until(place);
+                self.groups.truncate(count);
             }
+            Progress::Fresh => self.open(target, edges[target as usize].as_slice())?,
         }
+        Ok(())
+    }
+
+    /// Whether the open numbers from the place `first` on, which lead to each other, lead back to
+    /// themselves.
+    fn lead_back(&self, edges: &[ListOf<u32>], first: usize) -> bool
+        requires first { first < length self.now.opened }
+        requires within { slice_index self.now.opened first < length edges.now }
+        ensures { IsTrue result ↔ LeadBack edges.now self.now.opened first }
+    {
+        let number = self.opened.as_slice()[first];
+        self.opened.len() - first > 1 || edges[number as usize].as_slice().contains(&number)
+    }
+
+    /// Puts the open numbers from the place `first` on into the order, and says of each whether it
+    /// leads back to itself.
+    fn move_from(&mut self, first: usize, returns: bool) -> Result<(), AllocError>
+        requires first { first ≤ length self.old.opened }
+        requires placed { (k place : ℕ) → slice_get self.old.opened place ≡ Some k
+            → progress_at self.old.progress k ≡ Open place }
+        requires sized { length self.old.returns ≡ length self.old.progress }
+        ensures { OnOk result
+            (AreMoved first (length self.old.opened) returns self.old self.new) }
+    {
+        for place in first..self.opened.len() {
+            let number = self.opened.as_slice()[place];
+            self.progress.set(number as usize, Progress::Settled);
+            self.returns.set(number as usize, returns);
+            self.order.push(number)?;
+        }
+        Ok(())
+    }
+
+    /// Settles the members of the last group, which was taken off and for which no target waits.
+    fn settle(&mut self, edges: &[ListOf<u32>], group: Group) -> Result<(), AllocError>
+        requires walk { IsWalk edges.now (with_group self.old group) }
+        requires done { length self.old.waiting ≤ group.waiting }
+        ensures walk { OnOk result (IsWalk edges.now self.new) }
+        ensures groups { OnOk result (self.new.groups ≡ self.old.groups) }
+        ensures left { OnOk result (steps_left edges.now self.new
+            ≡ steps_left edges.now self.old) }
+    {
+        let returns = self.lead_back(edges, group.first);
+        self.move_from(group.first, returns)?;
+        self.opened.truncate(group.first);
+        Ok(())
+    }
+
+    /// Settles the last groups, as far as no target waits for them.
+    fn settle_last(&mut self, edges: &[ListOf<u32>]) -> Result<(), AllocError>
+        requires walk { IsWalk edges.now self.old }
+        ensures walk { OnOk result (IsWalk edges.now self.new) }
+        ensures waits { OnOk result (AllWait self.new) }
+        ensures left { OnOk result (steps_left edges.now self.new
+            ≡ steps_left edges.now self.old) }
+    {
+        while let Some(group) = self.groups.pop() {
+            if group.waiting < self.waiting.len() {
+                return self.groups.push(group);
+            }
+            self.settle(edges, group)?;
+        }
+        Ok(())
     }
 }
 
-/// Puts the numbers into an order in which each stands after those that it leads to, in a time
-/// that is linear in the edges, or finds a number that leads back to itself.
+/// Puts the numbers into an order, and says which lead back to themselves, in a time that is linear
+/// in the numbers and edges. Where none does, each number stands after those that it leads to.
 pub fn sorting_of(alloc: Global, edges: &[ListOf<u32>]) -> Result<Sorting, AllocError>
     requires edges { AreInRange edges.now }
     requires small { length edges.now < 2 ^ 32 }
-    ensures { IfOk result (IsSorting edges.now) }
+    ensures sized { IfOk result (λ sorting. length sorting.returns ≡ length edges.now) }
+    ensures returns { IfOk result (λ sorting. (k : ℕ)
+        → (slice_index_or sorting.returns k false ≡ true) ↔ Path edges.now k k) }
+    ensures order { IfOk result (λ sorting.
+        ((k : ℕ) → slice_index_or sorting.returns k false ≡ false)
+        → IsOrder edges.now sorting.order) }
 {
     let mut walk = Walk::new(alloc, edges.len())?;
-    for number in 0..edges.len() as u32 {
-        if let Some(number) = walk.visit(edges, number)? {
-            return Ok(Sorting::Circular(number));
-        }
+    while let Some(target) = walk.waiting.pop() {
+        walk.look(edges, target)?;
+        walk.settle_last(edges)?;
     }
-    let Walk { order, .. } = walk;
-    Ok(Sorting::Ordered(order))
+    let Walk { order, returns, .. } = walk;
+    Ok(Sorting { order, returns })
 }

@@ -1,11 +1,11 @@
 ghost use Rattle.std.specs.Prelude.{◌≡◌, ◌↔◌, ℕ, ◌<◌, ◌≤◌, ◌^◌, true, false, length, nat_lt, IfOk};
+ghost use Rattle.std.specs.Prelude.{IfSome, IfNone};
 ghost use Rattle.std.specs.Prelude.{slice_index_or};
 ghost use Rattle.sw_types.specs.Cycles.{HoldsItself, place_of};
 ghost use Rattle.sw_types.specs.Held.{AreWithin};
 
 use crate::holding::edges_of;
 use crate::ordering::{Sorting, sorting_of};
-use crate::returning::{no_marks, returning};
 use crate::shape::{Shape, ShapeList};
 use crate::tables::{parts_table, properties_parts, sends_table, type_parts, type_sends};
 use crate::ty::Ty;
@@ -79,8 +79,8 @@ impl Shapes {
     ghost use Rattle.sw_types.specs.Paths.{AreRanked, IsOrder};
     ghost use Rattle.sw_types.specs.Sendable.{is_sendable};
 
-    /// Checks the shapes of a program, by number, in a time that is linear in what they hold where
-    /// they are taken. A refusal drops the list.
+    /// Checks the shapes of a program, by number, in a time that is linear in what they hold. A
+    /// refusal drops the list.
     pub fn new(alloc: Global, list: ShapeList) -> Result<Shapes, ShapeFault>
         requires small { length list < 2 ^ 32 }
         requires in_range { AreWithin list }
@@ -89,13 +89,13 @@ impl Shapes {
         ensures refused { IfErr result (IsShapeFault list) }
     {
         let edges = edges_of(alloc, list.as_slice())?;
-        match sorting_of(alloc, edges.as_slice())? {
-            Sorting::Circular(number) => {
-                let marks = returning(alloc, edges.as_slice())?;
-                let shape = first_marked(list.as_slice(), marks.as_slice(), number);
+        let Sorting { order, returns } = sorting_of(alloc, edges.as_slice())?;
+        match some_marked(returns.as_slice()) {
+            Some(number) => {
+                let shape = first_marked(list.as_slice(), returns.as_slice(), number);
                 Err(ShapeFault::Cycle { shape })
             }
-            Sorting::Ordered(order) => Ok(Shapes::in_order(alloc, list, order.as_slice())?),
+            None => Ok(Shapes::in_order(alloc, list, order.as_slice())?),
         }
     }
 
@@ -147,8 +147,8 @@ impl Shapes {
     }
 }
 
-/// Which structs and enums hold themselves through structs and enums, by number. Its time is linear
-/// in what the shapes hold where none does.
+/// Which structs and enums hold themselves through structs and enums, by number, in a time that is
+/// linear in what the shapes hold.
 pub fn which_hold_themselves(alloc: Global, shapes: &[Shape]) -> Result<ListOf<bool>, AllocError>
     requires small { length shapes.now < 2 ^ 32 }
     requires in_range { AreWithin shapes.now }
@@ -156,10 +156,8 @@ pub fn which_hold_themselves(alloc: Global, shapes: &[Shape]) -> Result<ListOf<b
         → (slice_index_or marks k false ≡ true) ↔ HoldsItself shapes.now k) }
 {
     let edges = edges_of(alloc, shapes)?;
-    match sorting_of(alloc, edges.as_slice())? {
-        Sorting::Circular(_) => returning(alloc, edges.as_slice()),
-        Sorting::Ordered(_) => no_marks(alloc, shapes.len()),
-    }
+    let Sorting { returns, .. } = sorting_of(alloc, edges.as_slice())?;
+    Ok(returns)
 }
 
 /// Whether the word of the one shape stands before that of the other.
@@ -169,6 +167,20 @@ fn stands_before(shapes: &[Shape], one: u32, other: u32) -> bool
     ensures { result ≡ nat_lt (place_of shapes.now one) (place_of shapes.now other) }
 {
     shapes[one as usize].at < shapes[other as usize].at
+}
+
+/// The number of a mark, if there is one.
+fn some_marked(marks: &[bool]) -> Option<u32>
+    requires { length marks.now < 2 ^ 32 }
+    ensures none { IfNone result ((k : ℕ) → slice_index_or marks.now k false ≡ false) }
+    ensures some { IfSome result (λ number. slice_index_or marks.now number false ≡ true) }
+{
+    for number in 0..marks.len() as u32 {
+        if marks[number as usize] {
+            return Some(number);
+        }
+    }
+    None
 }
 
 /// Of the marked shapes the one whose word stands first; one of them is `some`.

@@ -11,7 +11,7 @@ ghost use Rattle.sw_types.specs.Sendable.{sends_at, shape_sends, type_sends};
 ghost use Rattle.sw_types.specs.declared.shape.CaseShape.{CaseShape};
 ghost use Rattle.sw_types.specs.declared.shape.Part.{Part};
 
-use crate::returning::no_marks;
+use crate::ordering::no_marks;
 use crate::shape::{CaseShape, Part, Shape, ShapeKind};
 use crate::ty::Ty;
 use std::alloc::{AllocError, Global};

@@ -8,8 +8,3 @@ pub sorting_of-requires-clause-edges : goal.sorting_of-requires-clause-edges
 sorting_of-requires-clause-edges c =
     subst AreInRange (sym (c.as_slice-2.ensures ∙ c.in_ok-edges.ensures
     ∙ ap edges_of c.as_slice.ensures)) (edges_within c.args.list c.requires.in_range)
-
-pub returning-requires-clause-edges : goal.returning-requires-clause-edges
-returning-requires-clause-edges c =
-    subst AreInRange (sym (c.as_slice-in-Circular.ensures ∙ c.in_ok-edges.ensures
-    ∙ ap edges_of c.as_slice.ensures)) (edges_within c.args.list c.requires.in_range)
