@@ -1,1 +1,3 @@
 pub mod CodeLemmas
+pub mod LineSearch
+pub mod LineSteps

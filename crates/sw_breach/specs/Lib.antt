@@ -1,3 +1,4 @@
 pub mod Codes
+pub mod LineStarts
 pub mod Lines
 pub mod Order

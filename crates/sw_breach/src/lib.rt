@@ -4,6 +4,7 @@
 #![tactic(auto)]
 
 mod codes;
+mod line_table;
 mod order;
 mod rendering;
 

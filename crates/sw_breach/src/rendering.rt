@@ -6,20 +6,19 @@ ghost use Rattle.sw_breach.specs.Lines.{verdict_text};
 
 use crate::Breach;
 use crate::codes::{GIVEN_AWAY, text_of};
+use crate::line_table::LineTable;
 use std::alloc::{AllocError, Global};
-use sw_text::shown_position;
 
-/// The line of a breach of the text `bytes`.
+/// The line of a breach of the text.
 #[tactic(auto, unfolding(crate::specs::Lines::breach_line))]
-fn breach_line(alloc: Global, bytes: &[u8], breach: &Breach) -> Result<String, AllocError>
-    requires short { length bytes.now < 4294967295 }
-    requires code { IsCode breach.now.code }
-    ensures { IfOk result (λ line. string_bytes line ≡ breach_line bytes.now breach.now) }
+fn breach_line(alloc: Global, text: &LineTable, breach: &Breach) -> Result<String, AllocError>
+    requires { IsCode breach.now.code }
+    ensures { IfOk result (λ line. string_bytes line ≡ breach_line text.now breach.now) }
 {
-    let position = shown_position(alloc, bytes, breach.at)?;
+    let position = text.shown_position(alloc, breach.at)?;
     let code = breach.code;
-    let text = text_of(code);
-    format!(in alloc; "{position}: error E{code}: {text}\n")
+    let meaning = text_of(code);
+    format!(in alloc; "{position}: error E{code}: {meaning}\n")
 }
 
 /// The position of the note that is shown.
@@ -35,21 +34,19 @@ fn shown_note(breach: &Breach) -> Option<u32>
 
 /// The line of a note.
 #[tactic(auto, unfolding(crate::specs::Lines::note_line))]
-fn note_line(alloc: Global, bytes: &[u8], at: u32) -> Result<String, AllocError>
-    requires { length bytes.now < 4294967295 }
-    ensures { IfOk result (λ line. string_bytes line ≡ note_line bytes.now at) }
+fn note_line(alloc: Global, text: &LineTable, at: u32) -> Result<String, AllocError>
+    ensures { IfOk result (λ line. string_bytes line ≡ note_line text.now at) }
 {
-    let position = shown_position(alloc, bytes, at)?;
+    let position = text.shown_position(alloc, at)?;
     format!(in alloc; "{position}: note: given away here\n")
 }
 
 /// The line of the note, where there is one.
-fn note_lines(alloc: Global, bytes: &[u8], note: Option<u32>) -> Result<String, AllocError>
-    requires { length bytes.now < 4294967295 }
-    ensures { IfOk result (λ lines. string_bytes lines ≡ note_lines bytes.now note) }
+fn note_lines(alloc: Global, text: &LineTable, note: Option<u32>) -> Result<String, AllocError>
+    ensures { IfOk result (λ lines. string_bytes lines ≡ note_lines text.now note) }
 {
     match note {
-        Some(at) => note_line(alloc, bytes, at),
+        Some(at) => note_line(alloc, text, at),
         None => Ok(String::new(alloc)),
     }
 }
@@ -58,17 +55,16 @@ fn note_lines(alloc: Global, bytes: &[u8], note: Option<u32>) -> Result<String, 
 fn add_lines(
     alloc: Global,
     lines: &mut Vec<u8>,
-    bytes: &[u8],
+    text: &LineTable,
     breach: &Breach,
 ) -> Result<(), AllocError>
-    requires short { length bytes.now < 4294967295 }
-    requires code { IsCode breach.now.code }
+    requires { IsCode breach.now.code }
     ensures { OnOk result (lines.new.items ≡ lines.old.items
-        ++ (breach_line bytes.now breach.now ++ note_lines bytes.now (shown_note breach.now))) }
+        ++ (breach_line text.now breach.now ++ note_lines text.now (shown_note breach.now))) }
 {
-    let line = breach_line(alloc, bytes, breach)?;
+    let line = breach_line(alloc, text, breach)?;
     lines.extend_from_slice(line.as_bytes())?;
-    let note = note_lines(alloc, bytes, shown_note(breach))?;
+    let note = note_lines(alloc, text, shown_note(breach))?;
     lines.extend_from_slice(note.as_bytes())?;
     Ok(())
 }
@@ -90,9 +86,10 @@ pub fn render(alloc: Global, bytes: &[u8], list: &[Breach]) -> Result<Vec<u8>, A
     requires codes { AllByRecursion (λ breach. IsCode breach.code) list.now }
     ensures { IfOk result (λ text. text.items ≡ verdict_text bytes.now list.now) }
 {
+    let table = LineTable::new(alloc, bytes)?;
     let mut text = Vec::new(alloc);
     for breach in list {
-        add_lines(alloc, &mut text, bytes, breach)?;
+        add_lines(alloc, &mut text, &table, breach)?;
     }
     let last = count_line(alloc, list.len())?;
     text.extend_from_slice(last.as_bytes())?;
