@@ -1,10 +1,11 @@
 -- A search among the offsets at which a text's lines begin finds the line of a position.
 use Rattle.std.proofs.Common.{◌≡◌, ◌≤◌, ◌<◌, ◌+◌, ◌-◌, ℕ, zero, suc, List, length, get_or, ap, arith}
-use Rattle.std.proofs.Common.{inl, inr}
+use Rattle.std.proofs.Common.{inl, inr, min, take, take_all, count_by, sym, ◌∙◌}
 use Rattle.std.proofs.lemmas.Bool.{cases_lt}
 use Rattle.std.proofs.lemmas.List.Sorted.{IsNonDecreasingBy-from_default}
+use Rattle.std.specs.List.{after_last}
 use Rattle.std.specs.List.Sorted.{IsNonDecreasing}
-use Rattle.sw_text.specs.Text.{line_of, column_of}
+use Rattle.sw_text.specs.Text.{is_line_feed, line_of, column_of}
 use Rattle.sw_breach.specs.LineStarts.{AreLineStarts}
 use Rattle.sw_breach.proofs.LineSteps.{later_offset}
 
@@ -79,26 +80,43 @@ on_last_line bytes starts at last table within inside begun ahead =
     let column = later.1 (omega (arith, line, begins)) in
     (line, omega (arith, column, table.first_column last inside))
 
--- what a search that gives `line` says of the position
-pub record IsFound (bytes starts : List ℕ) (at line : ℕ) : Type 0 where
-  pub some : 1 ≤ line
-  pub begun : get_or starts (line - 1) 0 ≤ at
-  pub line_is : line ≡ line_of bytes at
-  pub column_is : at - get_or starts (line - 1) 0 + 1 ≡ column_of bytes at
+-- a position after the end is shown as the end
+clamped : (bytes : List ℕ) (at : ℕ) → take (min at (length bytes)) bytes ≡ take at bytes
+clamped bytes at = elim (cases_lt at (length bytes)) [
+  | inl before ↦
+      let same : min at (length bytes) ≡ at = omega (arith, before) in
+      ap (λ k. take k bytes) same
+  | inr after ↦
+      let same : min at (length bytes) ≡ length bytes = omega (arith, after) in
+      take_all (min at (length bytes)) bytes (omega (arith, same)) ∙ sym (take_all at bytes after)
+]
 
-pub found : (bytes starts : List ℕ) (at line : ℕ) → AreLineStarts bytes (length bytes) starts
-    → at ≤ length bytes → line ≤ length starts
-    → ((k : ℕ) → k < line → get_or starts k 0 ≤ at)
-    → ((k : ℕ) → line ≤ k → k < length starts → at < get_or starts k 0)
-    → IsFound bytes starts at line
-found bytes starts at line table within inside before ahead =
-    let some = some_line bytes starts at line table ahead in
+-- what a search for the position `within` that gives `line` says of the position `at`
+pub record IsFound (bytes starts : List ℕ) (at within line : ℕ) : Type 0 where
+  pub some : 1 ≤ line
+  pub begun : get_or starts (line - 1) 0 ≤ within
+  pub line_is : line ≡ line_of bytes at
+  pub column_is : within - get_or starts (line - 1) 0 + 1 ≡ column_of bytes at
+
+pub found : (bytes starts : List ℕ) (at within line : ℕ)
+    → AreLineStarts bytes (length bytes) starts → within ≡ min at (length bytes)
+    → line ≤ length starts → ((k : ℕ) → k < line → get_or starts k 0 ≤ within)
+    → ((k : ℕ) → line ≤ k → k < length starts → within < get_or starts k 0)
+    → IsFound bytes starts at within line
+found bytes starts at within line table least inside before ahead =
+    let some = some_line bytes starts within line table ahead in
     let begun = before (line - 1) (omega (arith, some)) in
-    let position = on_last_line bytes starts at (line - 1) table within
+    let position = on_last_line bytes starts within (line - 1) table (omega (arith, least))
     (omega (arith, some, inside)) begun (λ k next. ahead k (omega (arith, some, next))) in
+    let text = ap (λ k. take k bytes) least ∙ clamped bytes at in
     record {
       some = some;
       begun = begun;
-      line_is = omega (arith, position.0, some);
-      column_is = omega (arith, position.1, begun);
+      line_is = omega (arith, position.0, some, ap (λ before. count_by is_line_feed before) text);
+      column_is = omega (
+        arith,
+        position.1,
+        begun,
+        ap (λ before. length (after_last is_line_feed before)) text,
+      );
     }

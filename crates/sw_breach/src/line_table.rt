@@ -45,8 +45,7 @@ impl<'a> LineTable<'a> {
     pub fn shown_position(&self, alloc: Global, at: u32) -> Result<String, AllocError>
         ensures { IfOk result (λ text. string_bytes text ≡ shown_position self.now at) }
     {
-        let within = at.min(self.bytes.len() as u32);
-        let (line, column) = line_col_in(self.bytes, self.starts.as_slice(), within);
+        let (line, column) = line_col_in(self.bytes, self.starts.as_slice(), at);
         format!(in alloc; "{line}:{column}")
     }
 }
@@ -77,14 +76,14 @@ fn lines_begun(starts: &[u32], at: u32) -> usize
     starts.partition_point(|start| *start <= at)
 }
 
-/// The line and the column of a position in a text whose lines begin at `starts`.
+/// The line and the column of the position `at` in a text whose lines begin at `starts`.
 fn line_col_in(bytes: &[u8], starts: &[u32], at: u32) -> (u32, u32)
-    requires within { at ≤ length bytes.now }
     requires short { length bytes.now < 4294967295 }
     requires starts { AreLineStarts bytes.now (length bytes.now) starts.now }
     ensures line { result.0 ≡ line_of bytes.now at }
     ensures column { result.1 ≡ column_of bytes.now at }
 {
-    let line = lines_begun(starts, at);
-    (line as u32, at - starts[line - 1] + 1)
+    let within = at.min(bytes.len() as u32);
+    let line = lines_begun(starts, within);
+    (line as u32, within - starts[line - 1] + 1)
 }

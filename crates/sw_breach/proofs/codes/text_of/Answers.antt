@@ -1,4 +1,4 @@
-use Rattle.std.proofs.Common.{◌≡◌, ◌∙◌, sym, ap, subst, map, IsSome, option_map}
+use Rattle.std.proofs.Common.{◌∙◌, sym, ap, subst, map, IsSome, option_map}
 use Rattle.sw_breach.specs.Codes.{text_of, text_in, texts}
 use Rattle.sw_breach.proofs.CodeLemmas.{text_in-map, some-option_map}
 use Rattle.sw_breach.proofs.codes.text_of.Goals as goal
