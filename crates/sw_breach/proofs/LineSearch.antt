@@ -1,6 +1,6 @@
 -- A search among the offsets at which a text's lines begin finds the line of a position.
-use Rattle.std.proofs.Common.{◌≡◌, ◌≤◌, ◌<◌, ◌+◌, ◌-◌, ℕ, zero, suc, List, length, get_or, ap, arith}
-use Rattle.std.proofs.Common.{inl, inr, min, take, take_all, count_by, sym, ◌∙◌}
+use Rattle.std.proofs.Common.{◌≡◌, ◌≤◌, ◌<◌, ◌+◌, ◌-◌, ℕ, zero, suc, List, length, get_or, ap}
+use Rattle.std.proofs.Common.{arith, inl, inr, min, take, take_all, count_by, sym, ◌∙◌}
 use Rattle.std.proofs.lemmas.Bool.{cases_lt}
 use Rattle.std.proofs.lemmas.List.Sorted.{IsNonDecreasingBy-from_default}
 use Rattle.std.specs.List.{after_last}
