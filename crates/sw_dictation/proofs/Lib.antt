@@ -1,4 +1,6 @@
+pub mod Numerals
 pub mod Prefixes
 pub mod Reading
 pub mod Sharing
 pub mod Among
+pub mod Deciding

@@ -1,13 +1,12 @@
--- Beginnings of lists, and digits.
-use Rattle.std.proofs.Common.{◌≡◌, ℕ, ◌+◌, ◌<◌, ◌≤◌, ◌^◌, ◌%◌, true, false, leb}
-use Rattle.std.proofs.Common.{append_assoc}
-use Rattle.std.proofs.Common.{◌&&◌, List, [], ◌∷◌, ◌++◌, length, decimal, refl, sym, ap, ◌∙◌, arith}
+-- Beginnings of lists, and numbers at the beginning of bytes.
+use Rattle.std.proofs.Common.{◌≡◌, ℕ, ◌≤◌, true, false, append_assoc, List, [], ◌∷◌, ◌++◌, length}
+use Rattle.std.proofs.Common.{refl, sym, ap, ◌∙◌, arith}
 use Rattle.std.specs.List.{list_all}
-use Rattle.std.proofs.lemmas.Bool.{eq-eqb, and_from, and_parts, le-leb, both_ways}
-use Rattle.std.proofs.lemmas.Fmt.{decimal_by_steps, decimal_injective}
-use Rattle.std.proofs.lemmas.List.Folds.{list_all-append}
+use Rattle.std.proofs.lemmas.Bool.{eq-eqb, and_parts, both_ways}
 use Rattle.sw_scan.specs.Classes.{is_digit}
 use Rattle.sw_dictation.specs.Numbers.{spelled, common_len}
+use Rattle.sw_dictation.specs.Numerals.{numeral}
+use Rattle.sw_dictation.proofs.Numerals.{numeral_digits, one_numeral}
 
 -- of two beginnings of a list the shorter one is one of the other
 pub shorter : {A : Type 0} (xs ys us vs : List A) → xs ++ us ≡ ys ++ vs → length xs ≤ length ys
@@ -48,26 +47,12 @@ one_run (x ∷ ds) (y ∷ es) c f rest more d e c_not f_not same =
     let h = one_run ds es c f rest more (all_tail x ds d) (all_tail y es e) c_not f_not tails in
     (ap (λ z. z ∷ ds) heads ∙ ap (λ l. y ∷ l) h.0, h.1, h.2)
 
--- numbers are written in digits
-digit_of : (k : ℕ) → k < 10 → is_digit (48 + k) ≡ true
-unfolding is_digit
-digit_of k small = and_from (leb 48 (48 + k)) (leb (48 + k) 57) (le-leb 48 (48 + k) (omega arith))
-    (le-leb (48 + k) 57 (omega (arith, small)))
-
-decimal_digits : (n : ℕ) → n < 2 ^ 64 → list_all is_digit (decimal n) ≡ true
-decimal_digits n small = decimal_by_steps (λ n ds. list_all is_digit ds ≡ true)
-    (λ n lt. and_from (is_digit (48 + n)) true (digit_of n lt) refl)
-    (λ n ds le all. list_all-append is_digit ds ((48 + n % 10) ∷ [])
-    ∙ and_from (list_all is_digit ds) (is_digit (48 + n % 10) && true) all
-    (and_from (is_digit (48 + n % 10)) true (digit_of (n % 10) (omega arith)) refl)) n small
-
 -- a number and the byte that closes it are read in one way
-pub one_number : (m n c f : ℕ) (rest more : List ℕ) → m < 2 ^ 64 → n < 2 ^ 64
-    → is_digit c ≡ false → is_digit f ≡ false → spelled m c ++ rest ≡ spelled n f ++ more
-    → (m ≡ n) × (c ≡ f) × (rest ≡ more)
-one_number m n c f rest more m_small n_small c_not f_not same =
-    let h = one_run (decimal m) (decimal n) c f rest more (decimal_digits m m_small)
-    (decimal_digits n n_small) c_not f_not
-    (sym (append_assoc (decimal m) (c ∷ []) rest) ∙ same
-    ∙ append_assoc (decimal n) (f ∷ []) more) in
-    (decimal_injective m n m_small n_small h.0, h.1, h.2)
+pub one_number : (m n c f : ℕ) (rest more : List ℕ) → is_digit c ≡ false → is_digit f ≡ false
+    → spelled m c ++ rest ≡ spelled n f ++ more → (m ≡ n) × (c ≡ f) × (rest ≡ more)
+one_number m n c f rest more c_not f_not same =
+    let h = one_run (numeral m) (numeral n) c f rest more (numeral_digits m) (numeral_digits n)
+    c_not f_not
+    (sym (append_assoc (numeral m) (c ∷ []) rest) ∙ same
+    ∙ append_assoc (numeral n) (f ∷ []) more) in
+    (one_numeral m n h.0, h.1, h.2)

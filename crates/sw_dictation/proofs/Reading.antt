@@ -1,21 +1,18 @@
 -- Where a text that is made of lines of numbers goes wrong.
-use Rattle.std.proofs.Common.{◌≡◌, ◌≢◌, ℕ, suc, ◌+◌, ◌<◌, ◌≤◌, ◌^◌, ◌⊎◌, inl, inr, false, List}
-use Rattle.std.proofs.Common.{[], ◌∷◌, ◌++◌, length, take, drop, decimal, refl, sym, subst, ap, ◌∙◌}
+use Rattle.std.proofs.Common.{◌≡◌, ◌≢◌, ℕ, suc, ◌+◌, ◌<◌, ◌≤◌, ◌⊎◌, inl, inr, false, List}
+use Rattle.std.proofs.Common.{[], ◌∷◌, ◌++◌, length, take, drop, refl, sym, subst, ap, ◌∙◌}
 use Rattle.std.proofs.Common.{arith}
 use Rattle.std.proofs.Common.{length-append, append_assoc, flat_map}
 use Rattle.std.proofs.Math.Seq.{take-append-add}
 use Rattle.std.proofs.lemmas.Bool.{cases_lt}
 use Rattle.std.proofs.lemmas.List.{append-nil, take-append-drop, length-take-le}
-use Rattle.std.specs.List.{AllByRecursion}
 use Rattle.sw_scan.specs.Classes.{is_digit}
 use Rattle.sw_dictation.specs.Lines.{closer_before, line_text, begun_line, LineForm, AreLines}
 use Rattle.sw_dictation.specs.Lines.{IsText}
 use Rattle.sw_dictation.specs.Lines.{Begins, IsBadPlace, MayFollow, IsReadable}
 use Rattle.sw_dictation.specs.Numbers.{spelled, common_len, IsNone}
+use Rattle.sw_dictation.specs.Numerals.{numeral}
 use Rattle.sw_dictation.proofs.Prefixes.{shorter, common_beginning, one_number}
-
-abbrev AreSmall : List ℕ → Type 0
-AreSmall ns = AllByRecursion (λ n. n < 2 ^ 64) ns
 
 -- no digit closes a number
 no_digit : (ns : List ℕ) → is_digit (closer_before ns) ≡ false
@@ -32,17 +29,17 @@ none_taken [] = refl
 none_taken (b ∷ bytes) = refl
 
 -- a line is read in one way
-pub one_line : (ms ns : List ℕ) (x y : List ℕ) → AreSmall ms → AreSmall ns → ms ≢ [] → ns ≢ []
+pub one_line : (ms ns : List ℕ) (x y : List ℕ) → ms ≢ [] → ns ≢ []
     → line_text ms ++ x ≡ line_text ns ++ y → (ms ≡ ns) × (x ≡ y)
-one_line [] ns x y ms_small ns_small some some_too e = absurd (some refl)
-one_line (m ∷ ms) [] x y ms_small ns_small some some_too e = absurd (some_too refl)
-one_line (m ∷ ms) (n ∷ ns) x y ms_small ns_small some some_too e =
+one_line [] ns x y some some_too e = absurd (some refl)
+one_line (m ∷ ms) [] x y some some_too e = absurd (some_too refl)
+one_line (m ∷ ms) (n ∷ ns) x y some some_too e =
     let h = one_number m n (closer_before ms) (closer_before ns) (line_text ms ++ x)
-    (line_text ns ++ y) ms_small.0 ns_small.0 (no_digit ms) (no_digit ns)
+    (line_text ns ++ y) (no_digit ms) (no_digit ns)
     (sym (append_assoc (spelled m (closer_before ms)) (line_text ms) x) ∙ e
     ∙ append_assoc (spelled n (closer_before ns)) (line_text ns) y) in
     tails ms ns h.0 h.1 h.2
-    (λ more more_too. one_line ms ns x y ms_small.1 ns_small.1 more more_too h.2)
+    (λ more more_too. one_line ms ns x y more more_too h.2)
   where
     tails : (ms ns : List ℕ) → m ≡ n → closer_before ms ≡ closer_before ns
         → line_text ms ++ x ≡ line_text ns ++ y
@@ -55,17 +52,17 @@ one_line (m ∷ ms) (n ∷ ns) x y ms_small ns_small some some_too e =
         (ap (λ i. i ∷ j ∷ ms) same ∙ ap (λ l. n ∷ l) h.0, h.1)
 
 -- a line that begins with numbers goes on with others
-pub goes_on : (ns line x y : List ℕ) → AreSmall ns → AreSmall line → line ≢ []
+pub goes_on : (ns line x y : List ℕ) → line ≢ []
     → line_text line ++ x ≡ begun_line ns ++ y
     → (rest : List ℕ) × (line ≡ ns ++ rest) × (rest ≢ []) × (line_text rest ++ x ≡ y)
-goes_on [] line x y ns_small small some e = (line, refl, some, e)
-goes_on (n ∷ ns) [] x y ns_small small some e = absurd (some refl)
-goes_on (n ∷ ns) (m ∷ line) x y ns_small small some e =
+goes_on [] line x y some e = (line, refl, some, e)
+goes_on (n ∷ ns) [] x y some e = absurd (some refl)
+goes_on (n ∷ ns) (m ∷ line) x y some e =
     let h = one_number m n (closer_before line) 32 (line_text line ++ x) (begun_line ns ++ y)
-    small.0 ns_small.0 (no_digit line) blank_no_digit
+    (no_digit line) blank_no_digit
     (sym (append_assoc (spelled m (closer_before line)) (line_text line) x) ∙ e
     ∙ append_assoc (spelled n 32) (begun_line ns) y) in
-    let t = goes_on ns line x y ns_small.1 small.1 (going line h.1) h.2 in
+    let t = goes_on ns line x y (going line h.1) h.2 in
     (t.0, ap (λ k. k ∷ line) h.0 ∙ ap (λ l. n ∷ l) t.1, t.2, t.3)
   where
     going : (line : List ℕ) → closer_before line ≡ 32 → line ≢ []
@@ -109,7 +106,7 @@ module _ {A : Type 0} (form : LineForm A) (readable : IsReadable form) where
         ap length none,
         length-append (line_text (n ∷ ns)) rest,
         length-append (spelled n (closer_before ns)) (line_text ns),
-        length-append (decimal n) (closer_before ns ∷ []),
+        length-append (numeral n) (closer_before ns ∷ []),
       )
 
       by : (lines : List (List ℕ)) → AreLines form before lines
@@ -118,7 +115,6 @@ module _ {A : Type 0} (form : LineForm A) (readable : IsReadable form) where
       by [] are same = absurd (lengths line rest (readable.some before line is) same)
       by (first ∷ lines) are same =
           let h = one_line line first rest (flat_map line_text lines)
-          (readable.small before line is) (readable.small before first are.0)
           (readable.some before line is) (readable.some before first are.0) same in
           record {
             lines = lines;
@@ -157,7 +153,7 @@ module _ {A : Type 0} (form : LineForm A) (readable : IsReadable form) where
           ∙ append_assoc (line_text line) (take k rest) more
 
   -- A bad place in a line, behind numbers that may go on.
-  module _ (before : A) (so_far : List ℕ) (small : AreSmall so_far) (bytes : List ℕ) (at : ℕ)
+  module _ (before : A) (so_far bytes : List ℕ) (at : ℕ)
       (none : IsNone (MayFollow form before so_far) bytes at)
       (viable : (so_far ≡ []) ⊎ ((n closer : ℕ) × MayFollow form before so_far n closer))
       (unfinished : bytes ≡ [] → so_far ≢ []) where
@@ -209,11 +205,11 @@ module _ {A : Type 0} (form : LineForm A) (readable : IsReadable form) where
           ap length e,
           length-append (begun_line (n ∷ ns)) tail,
           length-append (spelled n 32) (begun_line ns),
-          length-append (decimal n) (32 ∷ []),
+          length-append (numeral n) (32 ∷ []),
         )
     next_number (line ∷ lines) tail are e more =
-        let h = goes_on so_far line (flat_map line_text lines) tail small
-        (readable.small before line are.0) (readable.some before line are.0) e in
+        let h = goes_on so_far line (flat_map line_text lines) tail
+        (readable.some before line are.0) e in
         first h.0 h.1 h.2 h.3
       where
         first : (rest : List ℕ) → line ≡ so_far ++ rest → rest ≢ []

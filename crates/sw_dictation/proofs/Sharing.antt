@@ -3,11 +3,12 @@ use Rattle.std.proofs.Common.{◌≡◌, ℕ, zero, suc, ◌+◌, ◌<◌, ◌�
 use Rattle.std.proofs.Common.{eqb}
 use Rattle.std.proofs.Common.{cond, List, [], ◌∷◌, ◌++◌, length, take, drop, get_or, min, refl, sym}
 use Rattle.std.proofs.Common.{ap, ◌∙◌, arith}
-use Rattle.std.proofs.Common.{length-append, decimal, ◌-◌}
+use Rattle.std.proofs.Common.{length-append, decimal, ◌-◌, ◌^◌}
 use Rattle.std.proofs.lemmas.Bool.{eq-eqb, ne_eqb, cases_lt, eqb-true}
 use Rattle.std.proofs.lemmas.List.{take_all}
 use Rattle.std.proofs.lemmas.List.Sums.{common_prefix_len-drop_yes, common_prefix_len-drop_no}
 use Rattle.sw_dictation.specs.Numbers.{common_len, spelled}
+use Rattle.sw_dictation.proofs.Numerals.{numeral_is_decimal}
 
 pub one_more : (xs ys : List ℕ) (i : ℕ) → i < length xs → i < length ys
     → get_or xs i 0 ≡ get_or ys i 0
@@ -90,9 +91,9 @@ past_min a b i past = elim (cases_lt a b) [
   | inr ge ↦ inr (omega (arith, ge, past))
 ]
 
-pub text_is : (from n closer : ℕ) (left : List ℕ) → from + length (decimal n) ≡ 20
+pub text_is : (from n closer : ℕ) (left : List ℕ) → n < 2 ^ 64 → from + length (decimal n) ≡ 20
     → left ≡ decimal n ++ closer ∷ [] → take (21 - from) left ≡ spelled n closer
-text_is from n closer left at is =
+text_is from n closer left small at is =
     take_all (21 - from) left
     (omega (arith, at, ap length is, length-append (decimal n) (closer ∷ [])))
-    ∙ is
+    ∙ is ∙ ap (λ ds. ds ++ closer ∷ []) (sym (numeral_is_decimal n small))

@@ -1,8 +1,7 @@
 -- Texts that are made of lines of numbers in decimal, with a blank between two numbers and a line
 -- feed at the end of a line, and the place at which bytes stop being the beginning of such a text.
-use Rattle.std.specs.Prelude.{◌≡◌, ◌≢◌, ℕ, suc, ◌^◌, ◌<◌, ◌≤◌, List, [], ◌∷◌, ◌++◌, length, take}
+use Rattle.std.specs.Prelude.{◌≡◌, ◌≢◌, ℕ, suc, ◌<◌, ◌≤◌, List, [], ◌∷◌, ◌++◌, length, take}
 use Rattle.std.specs.Prelude.{flat_map}
-use Rattle.std.specs.List.{AllByRecursion}
 use Rattle.sw_dictation.specs.Numbers.{spelled}
 
 -- the byte that closes a number, before these numbers of its line
@@ -57,8 +56,6 @@ pub record MayFollow {A : Type 0} (form : LineForm A) (before : A) (so_far : Lis
   pub is_line : form.IsLine before (so_far ++ n ∷ rest)
   pub closer_is : closer ≡ closer_before rest
 
--- each line has a number, and its numbers have 64 bits
+-- each line has a number
 pub record IsReadable {A : Type 0} (form : LineForm A) : Type 0 where
   pub some : (before : A) (line : List ℕ) → form.IsLine before line → line ≢ []
-  pub small : (before : A) (line : List ℕ) → form.IsLine before line
-      → AllByRecursion (λ n. n < 2 ^ 64) line

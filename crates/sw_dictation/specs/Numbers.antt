@@ -1,12 +1,12 @@
 -- A number in decimal at the beginning of bytes, of those that may stand there, and the byte that
 -- closes it.
 use Rattle.std.specs.Prelude.{◌≡◌, ℕ, ◌≤◌, ◌⊎◌, eqb, List, [], ◌∷◌, ◌++◌, length, take, Contains}
-use Rattle.std.specs.Prelude.{decimal}
 use Rattle.std.specs.List.{common_prefix_len}
+use Rattle.sw_dictation.specs.Numerals.{numeral}
 
 -- a number and the byte that closes it
 abbrev pub spelled : ℕ → ℕ → List ℕ
-spelled n closer = decimal n ++ closer ∷ []
+spelled n closer = numeral n ++ closer ∷ []
 
 -- how many bytes two texts have in common at their beginnings
 abbrev pub common_len : List ℕ → List ℕ → ℕ

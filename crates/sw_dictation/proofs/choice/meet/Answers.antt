@@ -15,7 +15,7 @@ write_digits-start-requires c = (
 pub returns-then-met-text-clause-ok : goal.returns-then-met-text-clause-ok
 returns-then-met-text-clause-ok c =
     let text = text_is c.write_digits-start.result c.args.number c.args.closer
-    (drop c.write_digits-start.result c.write_digits-start.new.buf)
+    (drop c.write_digits-start.result c.write_digits-start.new.buf) (omega (arith, c.ranges.number))
     c.write_digits-start.ensures.start c.write_digits-start.ensures.written in
     let met : c.common-met.result ≡ common_len c.args.bytes.now
     (spelled c.args.number c.args.closer) =
@@ -32,7 +32,7 @@ returns-then-met-text-clause-ok c =
 pub returns-clause-none : goal.returns-clause-none
 returns-clause-none c = λ h.
     let text = text_is c.write_digits-start.result c.args.number c.args.closer
-    (drop c.write_digits-start.result c.write_digits-start.new.buf)
+    (drop c.write_digits-start.result c.write_digits-start.new.buf) (omega (arith, c.ranges.number))
     c.write_digits-start.ensures.start c.write_digits-start.ensures.written in
     let met : c.common-met.result ≡ common_len c.args.bytes.now
     (spelled c.args.number c.args.closer) =
@@ -40,3 +40,10 @@ returns-clause-none c = λ h.
     c.if-met-text.false (met
     ∙ ap (λ l. common_len l (spelled c.args.number c.args.closer)) h.1
     ∙ begins (spelled c.args.number c.args.closer) h.0 ∙ ap length (sym text))
+
+pub returns-clause-common : goal.returns-clause-common
+returns-clause-common c =
+    let text = text_is c.write_digits-start.result c.args.number c.args.closer
+    (drop c.write_digits-start.result c.write_digits-start.new.buf) (omega (arith, c.ranges.number))
+    c.write_digits-start.ensures.start c.write_digits-start.ensures.written in
+    c.common-met.ensures ∙ ap (common_len c.args.bytes.now) text
