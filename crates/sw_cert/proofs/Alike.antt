@@ -1,12 +1,12 @@
 -- The bytes of a certificate give the blocks of each function one state.
 use Rattle.std.proofs.Common.{◌≡◌, ℕ, zero, suc, ◌<◌, inl, inr, Option, Some}
 use Rattle.std.proofs.Common.{None, List, [], ◌∷◌, ◌++◌, length, slice_index, Contains, IsSome, refl}
-use Rattle.std.proofs.Common.{decimal}
 use Rattle.std.proofs.Common.{sym, subst, ap, ◌∙◌, arith}
 use Rattle.std.proofs.lemmas.Option.{slice_get_within}
 use Rattle.std.specs.List.{slice_get}
 use Rattle.sw_dictation.proofs.Reading.{one_line}
 use Rattle.sw_dictation.specs.Lines.{line_text}
+use Rattle.sw_dictation.specs.Numerals.{numeral}
 use Rattle.sw_graph.specs.declared.graph.Graph.{Graph}
 use Rattle.sw_partition.specs.Regions.{Regions, Together, IsWithin}
 use Rattle.sw_partition.specs.Laws.{within_both}
@@ -18,7 +18,6 @@ use Rattle.sw_solve.specs.Annotation.{value_at}
 use Rattle.sw_cert.proofs.Texts.{form_is_readable}
 use Rattle.sw_cert.specs.Certificate.{IsLineAt, AreLinesFrom, behind, numbers_of, pair_numbers}
 use Rattle.sw_cert.specs.Choices.{RisesTo}
-use Rattle.sw_cert.specs.Form.{AreFit}
 use Rattle.sw_cert.specs.ReadLines.{text_of}
 use Rattle.sw_cert.specs.Reading.{AreExtentsOf, AreStated}
 use Rattle.sw_cert.specs.Shown.{Shows, AreClassesOf}
@@ -79,6 +78,19 @@ parts_of (x ∷ xs) (y ∷ ys) us vs len e =
     let h = parts_of xs ys us vs (omega (arith, len)) tail in
     (ap (λ z. z ∷ xs) head ∙ ap (λ zs. y ∷ zs) h.0, h.1)
 
+-- a line is its parts
+pub same_parts : (a b : Line) → a.function ≡ b.function → a.block ≡ b.block
+    → a.classes ≡ b.classes → a.pairs ≡ b.pairs → a ≡ b
+same_parts a b function block classes pairs =
+    ap (λ n. record { function = n; block = a.block; classes = a.classes; pairs = a.pairs })
+    function
+    ∙ ap (λ n. record { function = b.function; block = n; classes = a.classes; pairs = a.pairs })
+    block
+    ∙ ap (λ c. record { function = b.function; block = b.block; classes = c; pairs = a.pairs })
+    classes
+    ∙ ap (λ p. record { function = b.function; block = b.block; classes = b.classes; pairs = p })
+    pairs
+
 same_line : (a b : Line) → numbers_of a ≡ numbers_of b → a ≡ b
 same_line a b e =
     let function : a.function ≡ b.function = cc in
@@ -90,43 +102,31 @@ same_line a b e =
     (length b.pairs ∷ pair_numbers b.pairs) count rest in
     let tails = parts.1 in
     let numbers : pair_numbers a.pairs ≡ pair_numbers b.pairs = cc in
-    let pairs = pairs_of a.pairs b.pairs numbers in
-    ap (λ n. record { function = n; block = a.block; classes = a.classes; pairs = a.pairs })
-    function
-    ∙ ap (λ n. record { function = b.function; block = n; classes = a.classes; pairs = a.pairs })
-    block
-    ∙ ap (λ c. record { function = b.function; block = b.block; classes = c; pairs = a.pairs })
-    parts.0
-    ∙ ap (λ p. record { function = b.function; block = b.block; classes = b.classes; pairs = p })
-    pairs
+    same_parts a b function block parts.0 (pairs_of a.pairs b.pairs numbers)
 
 closed_some : (xs ys zs : List ℕ) (c : ℕ) → ((xs ++ c ∷ []) ++ ys) ++ zs ≡ [] → ⊥
 closed_some [] ys zs c e = cc
 closed_some (x ∷ xs) ys zs c e = cc
 
 not_empty : (line : Line) (more : List ℕ) → line_text (numbers_of line) ++ more ≡ [] → ⊥
-not_empty line more e = closed_some (decimal line.function)
+not_empty line more e = closed_some (numeral line.function)
     (line_text (line.block ∷ length line.classes
     ∷ (line.classes ++ length line.pairs ∷ pair_numbers line.pairs))) more 32 e
 
-pub one_lines : (extents : List Extent) → AreFit extents → (spot : Spot) (a b : List Line)
+pub one_lines : (extents : List Extent) (spot : Spot) (a b : List Line)
     → AreLinesFrom extents spot a → AreLinesFrom extents spot b → text_of a ≡ text_of b → a ≡ b
-one_lines extents fit spot [] [] first second e = refl
-one_lines extents fit spot [] (line ∷ b) first second e =
+one_lines extents spot [] [] first second e = refl
+one_lines extents spot [] (line ∷ b) first second e =
     absurd (not_empty line (text_of b) (sym e))
-one_lines extents fit spot (line ∷ a) [] first second e = absurd (not_empty line (text_of a) e)
-one_lines extents fit spot (x ∷ a) (y ∷ b) (first, firsts) (second, seconds) e =
-    let readable = form_is_readable extents fit in
-    let small = λ (line : Line) (at : IsLineAt extents spot line).
-    readable.small spot (numbers_of line)
-    (record { line = line; is_at = at; numbers_are = refl }) in
+one_lines extents spot (line ∷ a) [] first second e = absurd (not_empty line (text_of a) e)
+one_lines extents spot (x ∷ a) (y ∷ b) (first, firsts) (second, seconds) e =
     let some = λ (line : Line) (at : IsLineAt extents spot line).
-    readable.some spot (numbers_of line)
+    (form_is_readable extents).some spot (numbers_of line)
     (record { line = line; is_at = at; numbers_are = refl }) in
-    let h = one_line (numbers_of x) (numbers_of y) (text_of a) (text_of b) (small x first)
-    (small y second) (some x first) (some y second) e in
+    let h = one_line (numbers_of x) (numbers_of y) (text_of a) (text_of b) (some x first)
+    (some y second) e in
     let same = same_line x y h.0 in
-    let rest = one_lines extents fit (behind x) a b firsts
+    let rest = one_lines extents (behind x) a b firsts
     (subst (λ l. AreLinesFrom extents (behind l) b) (sym same) seconds) h.1 in
     ap (λ l. l ∷ a) same ∙ ap (λ ls. y ∷ ls) rest
 

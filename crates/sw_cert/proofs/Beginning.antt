@@ -1,8 +1,7 @@
 -- The numbers of a line that is being read, one after the other.
-use Rattle.std.proofs.Common.{◌≡◌, ℕ, ◌+◌, ◌<◌, ◌^◌, ◌⊎◌, inl, inr, ◌↔◌, List, [], ◌∷◌, ◌++◌}
+use Rattle.std.proofs.Common.{◌≡◌, ℕ, ◌+◌, ◌<◌, ◌⊎◌, inl, inr, ◌↔◌, List, [], ◌∷◌, ◌++◌}
 use Rattle.std.proofs.Common.{length, take, drop, Contains, refl, sym, subst, ap, ◌∙◌, arith}
 use Rattle.std.proofs.Common.{length-append, append_assoc}
-use Rattle.std.specs.List.{AllByRecursion}
 use Rattle.std.proofs.lemmas.Grind.{flat_map-append}
 use Rattle.std.proofs.lemmas.List.{append-nil, length-drop}
 use Rattle.sw_dictation.proofs.Reading.{line_split, bad_here}
@@ -10,7 +9,7 @@ use Rattle.sw_dictation.specs.Lines.{line_text, begun_line, MayFollow, IsBadPlac
 use Rattle.sw_dictation.specs.Numbers.{spelled, IsOffered, IsNone}
 use Rattle.sw_cert.proofs.Texts.{form_is_readable}
 use Rattle.sw_cert.specs.Begun.{IsBegun, IsNext, IsStuck}
-use Rattle.sw_cert.specs.Form.{certificate_form, AreFit}
+use Rattle.sw_cert.specs.Form.{certificate_form}
 use Rattle.sw_cert.specs.Slips.{IfBad}
 use Rattle.sw_cert.specs.declared.line.Extent.{Extent}
 use Rattle.sw_cert.specs.declared.line.Spot.{Spot}
@@ -132,20 +131,8 @@ ending_offered ending P same n c = (forth, λ (feed, is). inl (feed, (same n).1 
     forth (inr (blank, (k, within, at))) = absurd (omega (arith, within))
 
 -- ---- a place at which no number that may follow stands
-module _ (extents : List Extent) (fit : AreFit extents) (spot : Spot) (text so_far : List ℕ)
-    (at : ℕ) (begun : IsBegun text so_far at) where
-  first_small : (ns ms : List ℕ) → AllByRecursion (λ n. n < 2 ^ 64) (ns ++ ms)
-      → AllByRecursion (λ n. n < 2 ^ 64) ns
-  first_small [] ms small = tt
-  first_small (n ∷ ns) ms small = (small.0, first_small ns ms small.1)
-
-  begun_small : (so_far ≡ [])
-      ⊎ ((n closer : ℕ) × MayFollow (certificate_form extents) spot so_far n closer)
-      → AllByRecursion (λ n. n < 2 ^ 64) so_far
-  begun_small (inl none) = subst (AllByRecursion (λ n. n < 2 ^ 64)) (sym none) tt
-  begun_small (inr (n, c, may)) = first_small so_far (n ∷ may.rest)
-      ((form_is_readable extents fit).small spot (so_far ++ n ∷ may.rest) may.is_line)
-
+module _ (extents : List Extent) (spot : Spot) (text so_far : List ℕ) (at : ℕ)
+    (begun : IsBegun text so_far at) where
   pub stuck_is_bad : (place : ℕ)
       → (so_far ≡ [])
       ⊎ ((n closer : ℕ) × MayFollow (certificate_form extents) spot so_far n closer)
@@ -153,8 +140,8 @@ module _ (extents : List Extent) (fit : AreFit extents) (spot : Spot) (text so_f
       → IsStuck (MayFollow (certificate_form extents) spot so_far) text at place
       → IsBadPlace (certificate_form extents) spot text place
   stuck_is_bad place viable some stuck =
-      let bad = bad_here (certificate_form extents) (form_is_readable extents fit) spot so_far
-      (begun_small viable) (drop at text) stuck.over stuck.none viable
+      let bad = bad_here (certificate_form extents) (form_is_readable extents) spot so_far
+      (drop at text) stuck.over stuck.none viable
       (λ empty none. omega (arith, ap length empty, length-drop at text, some none)) in
       subst (λ t. IsBadPlace (certificate_form extents) spot t place) (sym begun.begins)
       (subst (λ p. IsBadPlace (certificate_form extents) spot (begun_line so_far ++ drop at text) p)

@@ -13,7 +13,8 @@ use Rattle.sw_region_ops.specs.Setting.{FunctionSetting}
 use Rattle.sw_region_ops.specs.declared.op.Op.{Op}
 use Rattle.sw_region_ops.specs.declared.op.Op.TheVariants.{Need, Free, Fresh, Put, Join, Give}
 use Rattle.sw_region_ops.proofs.RunLemmas.{does_size, does_monotone}
-use Rattle.sw_solve.specs.Annotation.{value_at, IsBelow}
+use Rattle.sw_solve.proofs.Spreading.{below_down}
+use Rattle.sw_solve.specs.Annotation.{value_at}
 use Rattle.sw_cert.specs.Tests.{IsAllBelow}
 use Rattle.sw_cert.specs.Verified.{PassesAt, ClosedAt}
 
@@ -78,11 +79,6 @@ closed_at setting table block state copied made is copy runs below other is_othe
   below = below;
 }
 
-below_copy : (o : Option Regions) (a b : Regions) → IsWithin b a → IsBelow IsWithin a o
-    → IsBelow IsWithin b o
-below_copy None a b within below = below
-below_copy (Some c) a b within below = within_trans b a c within below
-
 pub closed_not : (setting : FunctionSetting) (table : List (Option Regions)) (block : ℕ)
     (state copied made : Regions) → value_at table block ≡ Some state → IsCopy state copied
     → Runs (block_ops_at setting block) copied made
@@ -94,7 +90,7 @@ closed_not setting table block state copied made is copy runs gap closed =
     on.leads_to.is_copy in
     let alike = runs_same (block_ops_at setting block) copied on.leads_to.copied made on.made same
     runs on.leads_to.runs in
-    gap (λ next follows. below_copy (value_at table next) on.made made
+    gap (λ next follows. below_down IsWithin within_trans made on.made (value_at table next)
     (same_within made on.made alike.same).0 (on.below next follows))
 
 -- ---- options and answers

@@ -1,10 +1,11 @@
 -- The first function that isn't entered is one of few: each function before it has a line.
 use Rattle.std.proofs.Common.{◌≡◌, ◌≢◌, ℕ, zero, suc, ◌+◌, ◌^◌, ◌<◌, ◌≤◌, inl, inr, Option, Some, None}
-use Rattle.std.proofs.Common.{List, [], ◌∷◌, ◌++◌, length, Contains, decimal, refl, ap, ◌∙◌, arith}
+use Rattle.std.proofs.Common.{List, [], ◌∷◌, ◌++◌, length, Contains, refl, ap, ◌∙◌, arith}
 use Rattle.std.proofs.lemmas.Bool.{cases_lt}
 use Rattle.std.proofs.lemmas.List.{length-append}
 use Rattle.sw_dictation.specs.Lines.{line_text}
 use Rattle.sw_dictation.specs.Numbers.{spelled}
+use Rattle.sw_dictation.specs.Numerals.{numeral}
 use Rattle.sw_partition.specs.Regions.{Regions, IsWithin}
 use Rattle.sw_region_flow.proofs.OneSites.{no_member}
 use Rattle.sw_region_flow.proofs.Places.{element_at}
@@ -38,7 +39,7 @@ lines_few (line ∷ lines) = omega (
       length-append (spelled line.function 32)
           (line_text (line.block ∷ length line.classes
           ∷ (line.classes ++ length line.pairs ∷ pair_numbers line.pairs))),
-      length-append (decimal line.function) (32 ∷ []),
+      length-append (numeral line.function) (32 ∷ []),
     )
 
 -- functions from one on that have lines

@@ -33,7 +33,7 @@ module _ (form : Form) (is : IsForm form) (spot : Spot) (text so_far : List ℕ)
   pub not_said : (place : ℕ) → (so_far ≡ []) ⊎ ((n : ℕ) × P n) → (so_far ≡ [] → at < length text)
       → IsStuck (IsOffered [] going) text at place
       → IsBadPlace (certificate_form form.extents) spot text place
-  not_said place some inside stuck = stuck_is_bad form.extents is.fit spot text so_far at begun
+  not_said place some inside stuck = stuck_is_bad form.extents spot text so_far at begun
       place (viable some) inside
       (stuck_same (IsOffered [] going) (MayFollow (certificate_form form.extents) spot so_far) text
       at place (λ n c. (

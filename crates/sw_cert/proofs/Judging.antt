@@ -11,15 +11,15 @@ use Rattle.sw_graph.specs.declared.graph.Graph.{Graph}
 use Rattle.sw_list.proofs.ListLemmas.{some_injective}
 use Rattle.sw_partition.specs.Laws.{within_trans}
 use Rattle.sw_partition.specs.Regions.{Regions, size_of, IsWithin}
-use Rattle.sw_region_flow.proofs.OneSites.{sites_are_one}
 use Rattle.sw_region_flow.proofs.Places.{element_at}
 use Rattle.sw_region_flow.specs.Certified.{IsCertified}
-use Rattle.sw_region_flow.specs.Laws.{entries_within}
 use Rattle.sw_region_ops.specs.Entry.{IsEntry, IsEntryOf}
 use Rattle.sw_region_ops.specs.Setting.{setting_of}
 use Rattle.sw_region_ops.specs.Sites.{AreSites}
-use Rattle.sw_solve.specs.Annotation.{value_at, IsBelow}
+use Rattle.sw_solve.proofs.Spreading.{below_down}
+use Rattle.sw_solve.specs.Annotation.{value_at}
 use Rattle.sw_cert.proofs.Alike.{one_extents}
+use Rattle.sw_cert.proofs.EntriesDecided.{one_entry_within}
 use Rattle.sw_cert.proofs.Forming.{size_parts, extent_is}
 use Rattle.sw_cert.specs.Certificate.{AreLinesFrom, IsCertificate, behind}
 use Rattle.sw_cert.specs.Flows.{AreFlows, AreSized, extent_for}
@@ -41,7 +41,8 @@ use Rattle.sw_cert.specs.declared.verdict.CertFault.{CertFault}
 use Rattle.sw_cert.specs.declared.verdict.CertFault.TheVariants as faults
 
 -- ---- the lines of a certificate
-lines_from_in : (extents : List Extent) (spot : Spot) (lines : List Line)
+-- each is one of a function with one of the extents
+pub lines_from_in : (extents : List Extent) (spot : Spot) (lines : List Line)
     → AreLinesFrom extents spot lines → AllByRecursion (IsLineIn extents) lines
 lines_from_in extents spot [] are = tt
 lines_from_in extents spot (line ∷ lines) (is, are) = (
@@ -130,18 +131,6 @@ module _ (graph : Graph) (flows : List FunctionFlow) (are : AreFlows graph flows
             h.is_entry);
       }
 
-  below_trans : (o : Option Regions) (a b : Regions) → IsWithin a b → IsBelow IsWithin b o
-      → IsBelow IsWithin a o
-  below_trans None a b within below = below
-  below_trans (Some c) a b within below = within_trans a b c within below
-
-  entry_within : (body : Function) (a b : Regions) → IsEntryOf graph body a → IsEntryOf graph body b
-      → IsWithin a b
-  entry_within body a b first second =
-      let same = sites_are_one (setting_of graph body) a.sites b.sites first.sites second.sites in
-      entries_within (setting_of graph body) b.sites a b
-      (subst (λ sites. IsEntry (setting_of graph body) sites a) same first.entry) second.entry
-
   enters_at : (tables : Annotations) (n : ℕ) → EntersBy flows tables n → EntersAt graph tables n
   enters_at tables n by body is =
       let h = flow_at n body is in
@@ -155,8 +144,9 @@ module _ (graph : Graph) (flows : List FunctionFlow) (are : AreFlows graph flows
   enters_by tables n at flow is_flow =
       let h = body_at n flow is_flow in
       let e = at h.0 h.1 in
-      below_trans (value_at (states_of tables n) 0) flow.entry e.entry
-      (entry_within h.0 flow.entry e.entry (entry_at n h.0 flow h.1 is_flow) e.is_entry) e.within
+      below_down IsWithin within_trans flow.entry e.entry (value_at (states_of tables n) 0)
+      (one_entry_within graph h.0 flow.entry e.entry (entry_at n h.0 flow h.1 is_flow) e.is_entry)
+      e.within
 
   -- a line
   setting_at : (n : ℕ) (body : Function) (flow : FunctionFlow)

@@ -15,7 +15,7 @@ use Rattle.sw_cert.proofs.Texts.{form_is_readable}
 use Rattle.sw_cert.specs.Begun.{IsRead}
 use Rattle.sw_cert.specs.Certificate.{start, behind, IsLineAt, AreLinesFrom, IsCertificate}
 use Rattle.sw_cert.specs.Certificate.{numbers_of}
-use Rattle.sw_cert.specs.Form.{certificate_form, AreFit}
+use Rattle.sw_cert.specs.Form.{certificate_form}
 use Rattle.sw_cert.specs.ReadLines.{text_of, AreLinesTo, AreStarts, AreLinesRead}
 use Rattle.sw_cert.specs.declared.line.Extent.{Extent}
 use Rattle.sw_cert.specs.declared.line.Line.{Line}
@@ -42,18 +42,18 @@ text_push lines line =
     ∙ ap (λ t. text_of lines ++ t) (append-nil (line_text (numbers_of line)))
 
 -- a bad place behind lines
-bad_behind : (extents : List Extent) → AreFit extents → (from : Spot) (lines : List Line) (to : Spot)
-    (rest : List ℕ) (at : ℕ) → AreLinesTo extents from lines to
+bad_behind : (extents : List Extent) (from : Spot) (lines : List Line) (to : Spot) (rest : List ℕ)
+    (at : ℕ) → AreLinesTo extents from lines to
     → IsBadPlace (certificate_form extents) to rest at
     → IsBadPlace (certificate_form extents) from (text_of lines ++ rest)
     (length (text_of lines) + at)
-bad_behind extents fit from [] to rest at e bad =
+bad_behind extents from [] to rest at e bad =
     let place : at ≡ 0 + at = omega arith in
     subst (IsBadPlace (certificate_form extents) from rest) place
     (subst (λ s. IsBadPlace (certificate_form extents) s rest at) e bad)
-bad_behind extents fit from (line ∷ lines) to rest at (is, are) bad =
-    let later = bad_behind extents fit (behind line) lines to rest at are bad in
-    let first = bad_past (certificate_form extents) (form_is_readable extents fit) from
+bad_behind extents from (line ∷ lines) to rest at (is, are) bad =
+    let later = bad_behind extents (behind line) lines to rest at are bad in
+    let first = bad_past (certificate_form extents) (form_is_readable extents) from
     (numbers_of line) (text_of lines ++ rest) (length (text_of lines) + at)
     (record { line = line; is_at = is; numbers_are = refl }) later in
     subst (λ t. IsBadPlace (certificate_form extents) from t
@@ -90,7 +90,7 @@ starts_push lines starts line at are at_is = record {
     first_lines k e = take-append-le k lines (line ∷ []) (omega (arith, e))
         ∙ ap (λ n. take n lines) e ∙ take-length lines
 
-module _ (extents : List Extent) (fit : AreFit extents) (bytes : List ℕ) where
+module _ (extents : List Extent) (bytes : List ℕ) where
   pub none_read : AreLinesRead extents bytes
       (record { lines = []; starts = []; spot = start; at = 0 })
   none_read = record {
@@ -173,7 +173,7 @@ module _ (extents : List Extent) (fit : AreFit extents) (bytes : List ℕ) where
       subst (λ t. IsBadPlace (certificate_form extents) start t (read.at + over)) (sym are.splits)
       (subst (λ n. IsBadPlace (certificate_form extents) start
       (text_of read.lines ++ drop read.at bytes) (n + over)) (sym are.at_is)
-      (bad_behind extents fit start read.lines read.spot (drop read.at bytes) over are.are_lines
+      (bad_behind extents start read.lines read.spot (drop read.at bytes) over are.are_lines
       bad))
 
   pub all_read : (read : Lines) → AreLinesRead extents bytes read → length bytes ≤ read.at

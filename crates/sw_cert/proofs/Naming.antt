@@ -180,7 +180,7 @@ module _ (form : Form) (is : IsForm form) (spot : Spot) (text : List ℕ) (head 
       read.has_line.is_extent head.block read.has_line.within read.has_line.rises classes
       (omega (arith, more, read.count_is, elements_here count classes at read))
       read.are_classes in
-      stuck_is_bad form.extents is.fit spot text
+      stuck_is_bad form.extents spot text
       (head.function ∷ head.block ∷ read.extent.elements ∷ classes) at read.begun bad
       (inr (length classes, 32, (follows (length classes) 32).1 (refl, inl refl)))
       (λ none. cc)

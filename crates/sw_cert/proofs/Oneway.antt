@@ -21,7 +21,7 @@ use Rattle.sw_cert.proofs.Texts.{text_of_certificate}
 use Rattle.sw_cert.specs.Certificate.{start, AreLinesFrom}
 use Rattle.sw_cert.specs.Form.{certificate_form}
 use Rattle.sw_cert.specs.Reading.{states_of, IsReading}
-use Rattle.sw_cert.specs.Verified.{Annotations, IsNotInForm, EntersAt, HasFitExtents, Holds}
+use Rattle.sw_cert.specs.Verified.{Annotations, IsNotInForm, EntersAt, Holds}
 use Rattle.sw_cert.specs.Verified.{IsAccepted, Verified, accepted, bad_form, entry, fails}
 use Rattle.sw_cert.specs.Verified.{open_at}
 use Rattle.sw_cert.specs.declared.line.Line.{Line}
@@ -70,12 +70,12 @@ record IsJudged (graph : Graph) (bytes : List ℕ) (r : Result (Unit {0}) CertFa
   is_reading : IsReading graph bytes lines states
   outcome : Outcome graph lines states r
 
-module _ (graph : Graph) (fit : HasFitExtents graph) (bytes : List ℕ) where
+module _ (graph : Graph) (bytes : List ℕ) where
   lines_same : (a b : List Line) (first second : Annotations) → IsReading graph bytes a first
       → IsReading graph bytes b second → a ≡ b
   lines_same a b first second one other =
       let same = one_extents graph other.extents one.extents other.are_extents one.are_extents in
-      one_lines one.extents (fit one.extents one.are_extents) start a b one.is_certificate.are_lines
+      one_lines one.extents start a b one.is_certificate.are_lines
       (subst (λ es. AreLinesFrom es start b) same other.is_certificate.are_lines)
       (sym one.is_certificate.spelled ∙ other.is_certificate.spelled)
 
@@ -189,9 +189,9 @@ module _ (graph : Graph) (fit : HasFitExtents graph) (bytes : List ℕ) where
       }
       )
 
-  pub verified_one_way : (a b : Result (Unit {0}) CertFault) → Verified graph bytes a
+  pub one_verified : (a b : Result (Unit {0}) CertFault) → Verified graph bytes a
       → Verified graph bytes b → a ≡ b
-  verified_one_way a b first second = elim (read_or_not a first) [
+  one_verified a b first second = elim (read_or_not a first) [
     | inl one ↦ elim (read_or_not b second) [
       | inl other ↦ one_outcome graph one.lines one.states a b one.outcome
           (outcome_moved other.lines one.lines other.states one.states other.is_reading

@@ -106,7 +106,7 @@ module _ (form : Form) (is : IsForm form) (spot : Spot) (text : List ℕ) where
 
     pub count_not_said : (bad : ℕ) → IsStuck (MayBeCount (pair_count read.extent)) text at bad
         → IsBadPlace (certificate_form form.extents) spot text bad
-    count_not_said bad stuck = stuck_is_bad form.extents is.fit spot text numbers at read.begun bad
+    count_not_said bad stuck = stuck_is_bad form.extents spot text numbers at read.begun bad
         (inr (0, 10, (follows 0 10).1 (inl (refl, refl)))) (λ none. cc)
         (stuck_same (MayBeCount (pair_count read.extent)) _ text at bad
         (λ n c. ((follows n c).1, (follows n c).0)) stuck)
@@ -197,7 +197,7 @@ module _ (form : Form) (is : IsForm form) (spot : Spot) (text : List ℕ) where
 
     pub element_not_said : (bad : ℕ) → IsStuck (MayBeElement read.extent to left) text at bad
         → IsBadPlace (certificate_form form.extents) spot text bad
-    element_not_said bad stuck = stuck_is_bad form.extents is.fit spot text before at read.begun bad
+    element_not_said bad stuck = stuck_is_bad form.extents spot text before at read.begun bad
         (inr (
           first.0.element,
           32,
@@ -242,7 +242,7 @@ module _ (form : Form) (is : IsForm form) (spot : Spot) (text : List ℕ) where
 
         pub site_not_said : (bad : ℕ) → IsStuck (MayBeSite read.extent to left element) text end bad
             → IsBadPlace (certificate_form form.extents) spot text bad
-        site_not_said bad stuck = stuck_is_bad form.extents is.fit spot text behind end begun_behind
+        site_not_said bad stuck = stuck_is_bad form.extents spot text behind end begun_behind
             bad (inr (pair.site, closer.0, (site_may pair.site closer.0).1 (closer.1, may)))
             (λ none. cc)
             (stuck_same (MayBeSite read.extent to left element) _ text end bad

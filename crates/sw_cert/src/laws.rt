@@ -10,7 +10,7 @@ ghost use Rattle.sw_cert.specs.declared.line.Spot.{Spot};
 ghost use Rattle.sw_cert.specs.Choices.{RisesTo, HasBlock, MayBeNext, ClosesCount, RiseTo};
 ghost use Rattle.sw_cert.specs.Choices.{MayBePair, ClosesPair, HasLine, HasClasses};
 ghost use Rattle.sw_cert.specs.Form.{certificate_form, AreFit};
-ghost use Rattle.sw_cert.specs.Verified.{HasFitExtents, IsAccepted, Verified};
+ghost use Rattle.sw_cert.specs.Verified.{IsAccepted, Verified};
 ghost use Rattle.sw_cert.specs.declared.line.Extent.{Extent};
 ghost use Rattle.sw_cert.specs.declared.line.Line.{Line};
 ghost use Rattle.sw_cert.specs.declared.line.Pair.{Pair};
@@ -21,8 +21,7 @@ pub fn certificates_are_texts()
     ensures lines { (extents : List Extent) (bytes : List ℕ)
         → IsText (certificate_form extents) start bytes
         ↔ ((lines : List Line) × IsCertificate extents bytes lines) }
-    ensures readable { (extents : List Extent) → AreFit extents
-        → IsReadable (certificate_form extents) }
+    ensures readable { (extents : List Extent) → IsReadable (certificate_form extents) }
 {}
 
 /// Which numbers may stand behind the first numbers of a line, and what closes them.
@@ -71,11 +70,12 @@ pub fn numbers_follow()
         × MayBePair extent to left (record { element = element; site = n })) }
 {}
 
-/// Bytes are verified in one way, if the numbers of the graph's certificates are of the size that is
-/// read, as those of each graph in memory are.
+/// All bytes are verified in one way.
 pub fn texts_are_verified_in_one_way()
-    ensures { (graph : Graph) (bytes : List ℕ) (a b : Result (Unit {0}) CertFault)
-        → HasFitExtents graph → Verified graph bytes a → Verified graph bytes b → a ≡ b }
+    ensures some { (graph : Graph) (bytes : List ℕ)
+        → (result : Result (Unit {0}) CertFault) × Verified graph bytes result }
+    ensures one { (graph : Graph) (bytes : List ℕ) (a b : Result (Unit {0}) CertFault)
+        → Verified graph bytes a → Verified graph bytes b → a ≡ b }
 {}
 
 /// The answer is Ok exactly if the bytes are a certificate of the graph that gives each function a

@@ -15,7 +15,7 @@ overflow_add-spot c =
 
 pub returns-in_ok-push-in-Ok-2-clause-read : goal.returns-in_ok-push-in-Ok-2-clause-read
 returns-in_ok-push-in-Ok-2-clause-read c =
-    line_more c.args.form.now.extents c.requires.form.fit c.args.bytes.now c.args.read.now _
+    line_more c.args.form.now.extents c.args.bytes.now c.args.read.now _
     c.in-Ok.line c.in-Ok.len c.requires.read
     (subst (λ l. IsRead c.args.form.now.extents c.args.read.now.spot l c.in-Ok.line c.in-Ok.len)
     (rest_is c.args.bytes.now c.args.read.now.at) c.in-Ok.ensures.line)
@@ -23,7 +23,7 @@ returns-in_ok-push-in-Ok-2-clause-read c =
 
 pub returns-in-Err-Bad-clause-bad : goal.returns-in-Err-Bad-clause-bad
 returns-in-Err-Bad-clause-bad c =
-    bad_line c.args.form.now.extents c.requires.form.fit c.args.bytes.now c.args.read.now
+    bad_line c.args.form.now.extents c.args.bytes.now c.args.read.now
     c.in-Err-Bad.over c.requires.read
     (subst (λ l. IsBadPlace (certificate_form c.args.form.now.extents) c.args.read.now.spot l
     c.in-Err-Bad.over) (rest_is c.args.bytes.now c.args.read.now.at)
