@@ -1,18 +1,16 @@
 -- The certificate that is made for a graph without region breaches is accepted.
-use Rattle.std.proofs.Common.{◌≡◌, ℕ, zero, suc, ◌+◌, ◌<◌, inl, inr, Option, Some}
-use Rattle.std.proofs.Common.{IsSome, List, [], ◌∷◌, ◌++◌, length, slice_index_or}
-use Rattle.std.proofs.Common.{refl, sym, subst, ap, ◌∙◌, arith}
-use Rattle.std.proofs.lemmas.Bool.{cases_eq}
-use Rattle.std.proofs.lemmas.List.{get_or_append_left, get_or_push, length-append}
+use Rattle.std.proofs.Common.{◌≡◌, ℕ, ◌<◌, inl, inr, Option, Some}
+use Rattle.std.proofs.Common.{IsSome, List, [], ◌∷◌, length, slice_index_or, Contains}
+use Rattle.std.proofs.Common.{refl, sym, subst, ap, ◌∙◌}
 use Rattle.std.proofs.lemmas.Option.{same_Some, slice_get_within}
 use Rattle.std.specs.List.{slice_get}
 use Rattle.sw_graph.specs.declared.function.Function.{Function}
 use Rattle.sw_graph.specs.declared.graph.Graph.{Graph}
 use Rattle.sw_partition.specs.Laws.{within_both}
 use Rattle.sw_partition.specs.Regions.{Regions}
-use Rattle.sw_region_flow.proofs.Deciding.{Decided, both_decided, same_decided}
+use Rattle.sw_region_flow.proofs.Deciding.{Decided}
 use Rattle.sw_region_flow.proofs.Exact.{breaches_are, stands_above, at_some}
-use Rattle.sw_region_flow.proofs.OneSites.{sites_are_one, member_cases, no_member}
+use Rattle.sw_region_flow.proofs.OneSites.{sites_are_one, no_member}
 use Rattle.sw_region_flow.proofs.Passing.{pass_if_none}
 use Rattle.sw_region_flow.proofs.Places.{element_at}
 use Rattle.sw_region_flow.specs.Analysis.{Analysis, IsLeastOfFunction, layout}
@@ -26,16 +24,18 @@ use Rattle.sw_solve.specs.Annotation.{value_at, IsAtMostEverywhere}
 use Rattle.sw_solve.specs.Layout.{IsLeastOfBlocks}
 use Rattle.sw_partition.specs.Regions.{IsWithin}
 use Rattle.sw_cert_making.proofs.Bared.{bounds, least_is_reached}
-use Rattle.sw_cert_making.proofs.LeastLines.{are_extents, are_lines, body_at, extent_for, extents_for}
-use Rattle.sw_cert_making.proofs.LeastLines.{state_sites, state_size}
+use Rattle.sw_cert_making.proofs.LeastLines.{are_lines, state_sites, state_size}
 use Rattle.sw_cert_making.specs.Printed.{HasLineOf, IsLeastCertificate, IsLeastLine}
+use Rattle.sw_cert.proofs.Extents.{are_extents, body_at, extent_for, extents_for}
+use Rattle.sw_cert.proofs.Listed.{listed}
+use Rattle.sw_cert.proofs.ShownLines.{find_line}
 use Rattle.sw_cert.specs.Reading.{AreStated, IsReading, IsStated, states_of}
 use Rattle.sw_cert.specs.Shown.{Shows}
 use Rattle.sw_cert.specs.Verified.{IsAccepted}
 use Rattle.sw_cert.specs.declared.line.Line.{Line}
 
 -- ---- a line that shows a state shows each copy of it
-shows_copy : (line : Line) (a b : Regions) → IsCopy a b → Shows line a → Shows line b
+pub shows_copy : (line : Line) (a b : Regions) → IsCopy a b → Shows line a → Shows line b
 shows_copy line a b copy shows = record {
   classes = record {
     elements = shows.classes.elements ∙ sym elements;
@@ -73,7 +73,7 @@ lowest_of_two setting s t first second =
     (sites_are_one setting second.sites first.sites second.fits.sites first.fits.sites)
     second.least))
 
-one_least : (setting : FunctionSetting) (s t : List (Option Regions))
+pub one_least : (setting : FunctionSetting) (s t : List (Option Regions))
     → IsLeastOfFunction setting s → IsLeastOfFunction setting t → (block : ℕ) (x : Regions)
     → value_at s block ≡ Some x → (y : Regions) × (value_at t block ≡ Some y) × IsCopy y x
 one_least setting s t first second block x stands =
@@ -96,61 +96,16 @@ one_least setting s t first second block x stands =
     )
 
 -- ---- whether lines have one of a block
-tell_line : (lines : List Line) (function block : ℕ) → Decided (HasLineOf lines function block)
-tell_line [] function block = inr (λ has. no_member has.line has.is_line)
-tell_line (line ∷ lines) function block = by
-    (both_decided (same_decided line.function function) (same_decided line.block block))
-    (tell_line lines function block)
+pub tell_line : (lines : List Line) (function block : ℕ) → Decided (HasLineOf lines function block)
+tell_line lines function block = by (find_line lines function block)
   where
-    by : Decided ((line.function ≡ function) × (line.block ≡ block))
+    by : Decided ((line : Line) × Contains lines line
+        × ((line.function ≡ function) × (line.block ≡ block)))
         → Decided (HasLineOf lines function block)
-        → Decided (HasLineOf (line ∷ lines) function block)
-    by (inl (f, b)) rest = inl (record {
-      line = line;
-      is_line = (0, omega arith, refl);
-      function_is = f;
-      block_is = b;
-    })
-    by (inr non) (inl has) = inl (record {
-      line = has.line;
-      is_line = let (k, within, e) = has.is_line in (suc k, omega (arith, within), e);
-      function_is = has.function_is;
-      block_is = has.block_is;
-    })
-    by (inr non) (inr none) = inr (λ has. elim (member_cases line lines has.line has.is_line) [
-      | inl e ↦ non (
-        ap (λ (l : Line). l.function) (sym e) ∙ has.function_is,
-        ap (λ (l : Line). l.block) (sym e) ∙ has.block_is,
-      )
-      | inr later ↦ none (record {
-        line = has.line;
-        is_line = later;
-        function_is = has.function_is;
-        block_is = has.block_is;
-      })
-    ])
-
--- ---- a list of what there is for each number
-gathered : {X : Type 0} (n : ℕ) (P : ℕ → List X → Type 0)
-    → ((k : ℕ) → k < n → (xs : List X) × P k xs)
-    → (all : List (List X)) × (length all ≡ n)
-    × ((k : ℕ) → k < n → P k (slice_index_or all k []))
-gathered zero P each = ([], refl, λ k lt. absurd (omega (arith, lt)))
-gathered (suc n) P each =
-    let before = gathered n P (λ k lt. each k (omega (arith, lt))) in
-    let last = each n (omega arith) in (
-      before.0 ++ last.0 ∷ [],
-      length-append before.0 (last.0 ∷ []) ∙ ap (λ m. m + 1) before.1 ∙ next,
-      λ k lt. elim (cases_eq k n) [
-        | inl e ↦ subst (λ m. P m (slice_index_or (before.0 ++ last.0 ∷ []) m [])) (sym e)
-            (subst (P n) (sym (get_or_push before.0 last.0 [] n before.1)) last.1)
-        | inr other ↦ subst (P k) (sym (get_or_append_left before.0 (last.0 ∷ []) [] k
-            (omega (arith, lt, other, before.1)))) (before.2 k (omega (arith, lt, other)))
-      ],
-    )
-  where
-    next : n + 1 ≡ suc n
-    next = omega arith
+    by (inl (line, has, of)) =
+        inl (record { line = line; is_line = has; function_is = of.0; block_is = of.1 })
+    by (inr none) =
+        inr (λ has. none (has.line, has.is_line, (has.function_is, has.block_is)))
 
 -- ---- the certificate
 module _ (graph : Graph) (text : List ℕ) (made : IsLeastCertificate graph text) where
@@ -172,8 +127,9 @@ module _ (graph : Graph) (text : List ℕ) (made : IsLeastCertificate graph text
       )
 
   annotations : (all : List (List (Option Regions))) × (length all ≡ length graph.functions)
-      × ((k : ℕ) → k < length graph.functions → IsFor k (slice_index_or all k []))
-  annotations = gathered (length graph.functions) IsFor some_states
+      × ((k : ℕ) (d : List (Option Regions)) → k < length graph.functions
+      → IsFor k (slice_index_or all k d))
+  annotations = listed IsFor (length graph.functions) some_states
 
   are_stated : (number : ℕ) (body : Function) (states : List (Option Regions))
       → slice_get graph.functions number ≡ Some body
@@ -231,7 +187,7 @@ module _ (graph : Graph) (text : List ℕ) (made : IsLeastCertificate graph text
         let w = body_at graph number extent at in
         subst (λ e. AreStated e made.lines number (states_of annotations.0 number)) (sym w.2)
         (are_stated number w.0 (states_of annotations.0 number) w.1
-        (annotations.2 number (slice_get_within graph.functions number w.0 w.1) w.0 w.1));
+        (annotations.2 number [] (slice_get_within graph.functions number w.0 w.1) w.0 w.1));
   }
 
   module _ (none : AreBreaches graph []) where
@@ -276,5 +232,5 @@ module _ (graph : Graph) (text : List ℕ) (made : IsLeastCertificate graph text
       annotations = annotations.0;
       is_reading = reading;
       certified = λ number body at. certified number body (states_of annotations.0 number) at
-          (annotations.2 number (slice_get_within graph.functions number body at) body at);
+          (annotations.2 number [] (slice_get_within graph.functions number body at) body at);
     }

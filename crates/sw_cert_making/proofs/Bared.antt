@@ -16,9 +16,6 @@ use Rattle.sw_region_flow.proofs.Deciding.{Decided, both_decided, not_decided, s
 use Rattle.sw_region_flow.proofs.Deciding.{holds_test}
 use Rattle.sw_region_flow.proofs.Doing.{tell_together, tell_pair, itself, turned, along, pair_there}
 use Rattle.sw_region_flow.proofs.Exact.{stands_above, at_some, size_at}
-use Rattle.sw_region_flow.proofs.Flows.{ops_fit}
-use Rattle.sw_region_flow.proofs.Laid.{ops_are}
-use Rattle.sw_region_flow.proofs.Places.{element_at}
 use Rattle.sw_region_flow.proofs.Tabled.{IsState, IsMade, made, is_made}
 use Rattle.sw_region_flow.specs.Analysis.{Analysis, IsAnalysis, layout, facts_of, targets_at}
 use Rattle.sw_region_flow.specs.Analysis.{block_ops_at}
@@ -30,6 +27,7 @@ use Rattle.sw_solve.proofs.Spreading.{below_down}
 use Rattle.sw_solve.specs.Annotation.{value_at, IsBelow}
 use Rattle.sw_solve.specs.Layout.{IsLeastOfBlocks, BlocksBound}
 use Rattle.sw_solve.specs.Ways.{HasWay}
+use Rattle.sw_cert.proofs.OpsDecided.{ops_fit_at}
 
 -- `Here` has no pair
 abbrev pub IsBare : Regions → Type 0
@@ -167,15 +165,6 @@ within_list s p x e = elim (cases_lt p (length s)) [
   | inl lt ↦ lt
   | inr past ↦ absurd (none-some x (sym (get_or_past s p None past) ∙ e))
 ]
-
--- the operations of a block fit the states of the flow
-pub ops_fit_at : (analysis : Analysis) → IsAnalysis analysis → (b : ℕ)
-    → b < length analysis.setting.body.blocks
-    → All (Fits (facts_of analysis)) (block_ops_at analysis.setting b)
-ops_fit_at analysis fits b within =
-    let block = element_at analysis.setting.body.blocks b within in
-    subst (All (Fits (facts_of analysis))) (sym (ops_are analysis.setting b block.0 block.1))
-    (ops_fit analysis b block.0 _ fits block.1 refl)
 
 module _ (analysis : Analysis) (fits : IsAnalysis analysis) (s : List (Option Regions))
     (least : IsLeastOfBlocks (layout analysis) s) where

@@ -3,7 +3,7 @@ use Rattle.std.proofs.Common.{◌≡◌, ℕ, zero, suc, ◌<◌, ◌≤◌, ◌
 use Rattle.std.proofs.Common.{IsSome, List, [], ◌∷◌, length, take, Contains, refl, sym, subst, ap}
 use Rattle.std.proofs.Common.{◌∙◌, arith}
 use Rattle.std.proofs.lemmas.Bool.{cases_lt}
-use Rattle.std.proofs.lemmas.List.{get_or_past, get_or-take, length-take}
+use Rattle.std.proofs.lemmas.List.{get_or-take, length-take}
 use Rattle.std.proofs.lemmas.List.Elements.{All-nil, All-contains}
 use Rattle.std.proofs.lemmas.Option.{slice_get_past}
 use Rattle.std.specs.List.{All, slice_get}
@@ -38,7 +38,8 @@ use Rattle.sw_solve.proofs.Spreading.{some_from_below}
 use Rattle.sw_solve.specs.Annotation.{value_at, IsBelow, IsAtMost}
 use Rattle.sw_solve.specs.Layout.{BlocksBound, BlocksClosed, IsLeastOfBlocks}
 use Rattle.sw_solve.specs.Ways.{IsWay}
-use Rattle.sw_cert_making.proofs.Bared.{ops_fit_at, within_list}
+use Rattle.sw_cert.proofs.OpsDecided.{ops_fit_at}
+use Rattle.sw_cert_making.proofs.Bared.{within_list}
 
 -- ---- the flow of the blocks, with nothing to do past the last
 module _ (analysis : Analysis) (fits : IsAnalysis analysis) where

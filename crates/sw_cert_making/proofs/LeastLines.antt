@@ -1,14 +1,11 @@
 -- The lines of least annotations are lines of a certificate of the graph.
 use Rattle.std.proofs.Common.{◌≡◌, ℕ, zero, suc, ◌<◌, ◌≤◌, inl, inr, Option, Some}
-use Rattle.std.proofs.Common.{None, List, [], ◌∷◌, length, map, slice_index, get_or, Contains, refl, sym}
+use Rattle.std.proofs.Common.{List, [], ◌∷◌, length, slice_index, get_or, Contains, refl}
 use Rattle.std.proofs.Common.{subst}
-use Rattle.std.proofs.Common.{ap, ◌∙◌, arith}
-use Rattle.std.proofs.lemmas.List.{get_or_default, length-map}
+use Rattle.std.proofs.Common.{◌∙◌, arith}
+use Rattle.std.proofs.lemmas.List.{get_or_default}
 use Rattle.std.proofs.lemmas.List.Elements.{Contains-get_or, recursion_from_All}
-use Rattle.std.proofs.lemmas.Option.{none-some, same_Some, slice_get-map}
-use Rattle.std.specs.List.{AllByRecursion, AllPairs, slice_get}
-use Rattle.std.specs.Option.{option_map}
-use Rattle.sw_graph.specs.declared.function.Function.{Function}
+use Rattle.std.specs.List.{AllByRecursion, AllPairs}
 use Rattle.sw_graph.specs.declared.graph.Graph.{Graph}
 use Rattle.sw_partition.specs.Regions.{Regions, size_of, HasPair}
 use Rattle.sw_region_flow.proofs.Doing.{itself, along}
@@ -20,13 +17,12 @@ use Rattle.sw_region_ops.specs.Elements.{element_count}
 use Rattle.sw_region_ops.specs.Setting.{FunctionSetting, setting_of}
 use Rattle.sw_solve.specs.Annotation.{value_at}
 use Rattle.sw_cert_making.proofs.Bared.{least_is_bare}
+use Rattle.sw_cert.proofs.Extents.{extent_for, extents_for, extent_at}
 use Rattle.sw_cert.specs.Certificate.{IsLineOf, IsPairOf, AreClasses, AreLinesFrom}
 use Rattle.sw_cert.specs.Certificate.{start, behind}
 use Rattle.sw_cert.specs.Choices.{RisesTo}
 use Rattle.sw_cert_making.specs.Printed.{IsLineBefore, IsLeastLine}
-use Rattle.sw_cert.specs.Reading.{IsExtentOf, AreExtentsOf}
 use Rattle.sw_cert.specs.Shown.{AreClassesOf}
-use Rattle.sw_cert.specs.declared.line.Extent.{Extent}
 use Rattle.sw_cert.specs.declared.line.Line.{Line}
 use Rattle.sw_cert.specs.declared.line.Pair.{Pair}
 use Rattle.sw_cert.specs.declared.line.Spot.{Spot}
@@ -35,59 +31,6 @@ all_by : {X : Type 0} (P : X → Type 0) (xs : List X) → ((x : X) → Contains
     → AllByRecursion P xs
 all_by P xs each = recursion_from_All P xs
     (λ k d within. each (get_or xs k d) (Contains-get_or xs k d within))
-
--- ---- what a certificate depends on
-abbrev pub extent_for : FunctionSetting → Extent
-extent_for setting = record {
-  blocks = length setting.body.blocks;
-  elements = element_count setting.elements;
-  sites = (some_sites setting).0;
-}
-
-abbrev pub extents_for : Graph → List Extent
-extents_for graph = map (λ body. extent_for (setting_of graph body)) graph.functions
-
-pub extent_at : (graph : Graph) (number : ℕ) (body : Function)
-    → slice_get graph.functions number ≡ Some body
-    → slice_get (extents_for graph) number ≡ Some (extent_for (setting_of graph body))
-extent_at graph number body is =
-    slice_get-map (λ body. extent_for (setting_of graph body)) graph.functions number
-    ∙ ap (option_map (λ body. extent_for (setting_of graph body))) is
-
-pub body_at : (graph : Graph) (number : ℕ) (extent : Extent)
-    → slice_get (extents_for graph) number ≡ Some extent
-    → (body : Function) × (slice_get graph.functions number ≡ Some body)
-    × (extent ≡ extent_for (setting_of graph body))
-body_at graph number extent is = by (slice_get graph.functions number) refl
-    (sym (slice_get-map (λ body. extent_for (setting_of graph body)) graph.functions number) ∙ is)
-  where
-    by : (o : Option Function) → slice_get graph.functions number ≡ o
-        → option_map (λ body. extent_for (setting_of graph body))
-        (slice_get graph.functions number) ≡ Some extent
-        → (body : Function) × (slice_get graph.functions number ≡ Some body)
-        × (extent ≡ extent_for (setting_of graph body))
-    by None e at = absurd (none-some extent
-        (sym (ap (option_map (λ body. extent_for (setting_of graph body))) e) ∙ at))
-    by (Some body) e at = (
-      body,
-      e,
-      sym (same_Some (extent_for (setting_of graph body)) extent
-          (sym (ap (option_map (λ body. extent_for (setting_of graph body))) e) ∙ at)),
-    )
-
-pub are_extents : (graph : Graph) → AreExtentsOf graph (extents_for graph)
-are_extents graph = record {
-  count = length-map graph.functions (λ body. extent_for (setting_of graph body));
-  each = λ number body extent is at.
-      let w = body_at graph number extent at in
-      let same = same_Some w.0 body (sym w.1 ∙ is) in
-      subst (IsExtentOf (setting_of graph body))
-      (sym (w.2 ∙ ap (λ (b : Function). extent_for (setting_of graph b)) same)) (record {
-        blocks = refl;
-        elements = refl;
-        sites = (some_sites (setting_of graph body)).1;
-      });
-}
 
 -- ---- the line of a state
 shown_classes : (r : Regions) (classes : List ℕ) → AreClassesOf r classes → AreClasses classes

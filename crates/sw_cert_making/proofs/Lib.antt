@@ -4,4 +4,8 @@ pub mod Bared
 pub mod LeastBlocks
 pub mod LeastLines
 pub mod Lined
+pub mod OneCertificate
+pub mod OnePrinted
+pub mod OneShown
+pub mod Rising
 pub mod Whole

@@ -7,7 +7,7 @@ use Rattle.std.specs.List.{slice_get}
 use Rattle.std.specs.List.Sorted.{IsStrictlyIncreasing}
 use Rattle.sw_dictation.specs.Lines.{line_text, closer_before}
 use Rattle.sw_dictation.specs.Numbers.{spelled}
-use Rattle.std.specs.Fmt.{decimal}
+use Rattle.sw_dictation.specs.Numerals.{numeral}
 use Rattle.sw_graph.specs.declared.function.Function.{Function}
 use Rattle.sw_graph.specs.declared.function.TheConstants.{MAX_POINTS}
 use Rattle.sw_graph.specs.declared.graph.Graph.{Graph}
@@ -42,7 +42,7 @@ lines_longer line lines = omega (
     begins n ns = omega (
       arith,
       length-append (spelled n (closer_before ns)) (line_text ns),
-      length-append (decimal n) (closer_before ns ∷ []),
+      length-append (numeral n) (closer_before ns ∷ []),
     )
 
 -- a function adds at least a byte
