@@ -3,7 +3,7 @@ use Rattle.std.specs.Prelude.{◌≡◌, ◌⊎◌, ℕ, Bool, true, false, List
 use Rattle.sw_check_parts.specs.declared.exit.Exit.{Exit}
 use Rattle.sw_check_parts.specs.declared.exit.Exit.TheVariants.{Done, Breached, Usage, NotRead, TooLong}
 use Rattle.sw_check_parts.specs.declared.exit.Exit.TheVariants.{NotWritten, Memory, Trapped, BadSchedule}
-use Rattle.sw_check_parts.specs.declared.exit.Exit.TheVariants.{Raced}
+use Rattle.sw_check_parts.specs.declared.exit.Exit.TheVariants.{Raced, ManyJobs, Unordered}
 
 abbrev pub status_of : Exit → ℕ
 status_of Done = 0
@@ -16,6 +16,8 @@ status_of Memory = 6
 status_of Trapped = 7
 status_of BadSchedule = 8
 status_of Raced = 9
+status_of ManyJobs = 12
+status_of Unordered = 13
 
 -- the exits that say how the outside or memory failed, and no reply to the words
 abbrev pub is_failure : Exit → Bool

@@ -1,5 +1,4 @@
-/// How a call ends. The numbers are the program's exit statuses, from 0 in the order of the
-/// variants.
+/// How a call ends. The numbers of the variants are the program's exit statuses.
 #[derive(Clone, Copy, Debug, PartialEq, Eq)]
 pub enum Exit {
     /// The reply was written: `accepted`, or a replay that ran to the end of its schedule.
@@ -22,6 +21,10 @@ pub enum Exit {
     BadSchedule,
     /// The replay met a race.
     Raced,
+    /// The schedule makes more jobs than are put in order.
+    ManyJobs = 12,
+    /// The replay made two accesses that nothing orders.
+    Unordered,
 }
 
 impl Exit {
