@@ -12,7 +12,7 @@ use Rattle.clap.proofs.OnLiterals.{clap_on_literals}
 use Rattle.clap.proofs.FaultLemmas.{stopped_fault}
 use Rattle.clap.proofs.WalkLemmas.{walk_stopped}
 use Rattle.sw_check_words.specs.Tool.{tool, check_app, replay_app, demo_app}
-use Rattle.sw_check_words.specs.Words.{Run, Trace, Owners, command_of, form_of}
+use Rattle.sw_check_words.specs.Words.{Run, Trace, Owners, Order, command_of, form_of}
 use Rattle.sw_check_words.specs.Read.{command_by, read_rows}
 use Rattle.sw_check_words.proofs.Leaves.{IsWord, name, option, Agrees, taken, refused, leaf}
 use Rattle.sw_check_words.proofs.Leaves.{leaf_fault, leaf_rows, names_in, others_in}
@@ -86,6 +86,16 @@ to_owners words = record {
   rows = rw (← walk_stopped rules verbs start (codes "owners") [] words) refl;
 }
 
+to_order : (words : List Text) → GoesTo (codes "order") (replay_app (codes "order")) words
+unfolding clap_on_literals
+to_order words = record {
+  fault = rw (
+    ← walk_stopped rules verbs start (codes "order") [] words,
+    stopped_fault (built tool).top verbs start (codes "order", []) words,
+  ) (or_nothing _);
+  rows = rw (← walk_stopped rules verbs start (codes "order") [] words) refl;
+}
+
 to_demo : (words : List Text) → GoesTo (codes "demo") demo_app words
 unfolding clap_on_literals
 to_demo words = record {
@@ -107,6 +117,14 @@ by_leaf : (verb : Text) (app : App) (words : List Text) → GoesTo verb app word
 unfolding command_of
 by_leaf verb app words goes agrees = rw (goes.fault, goes.rows) agrees
 
+-- it is one word, or another
+decide : {A : Type 0} (verb word : List ℕ) → (verb ≡ word → A)
+    → (bytes_eq verb word ≡ false → A) → A
+decide {A} verb word same other = by (bytes_eq verb word) refl where
+  by : (is : Bool) → bytes_eq verb word ≡ is → A
+  by true is = same ((bytes_eq-Decides verb word).0 is)
+  by false is = other is
+
 module _ (words : List Text) (are : AllByRecursion IsWord words) where
   -- the first word is no command
   unknown : (first : ℕ) (rest : List ℕ) → (first == 45) ≡ false
@@ -114,72 +132,37 @@ module _ (words : List Text) (are : AllByRecursion IsWord words) where
       → bytes_eq (codes "run") (first ∷ rest) ≡ false
       → bytes_eq (codes "trace") (first ∷ rest) ≡ false
       → bytes_eq (codes "owners") (first ∷ rest) ≡ false
+      → bytes_eq (codes "order") (first ∷ rest) ≡ false
       → bytes_eq (codes "demo") (first ∷ rest) ≡ false
       → AgreesOn ((first ∷ rest) ∷ words)
   unfolding clap_on_literals command_of
-  unknown first rest e check run trace owners demo =
-      refused (simp (check, run, trace, owners, demo, e) refl)
-      (simp (check, run, trace, owners, demo) refl)
+  unknown first rest e check run trace owners order demo =
+      refused (simp (check, run, trace, owners, order, demo, e) refl)
+      (simp (check, run, trace, owners, order, demo) refl)
 
   first_word : (first : ℕ) (rest : List ℕ) → (first == 45) ≡ false
       → AgreesOn ((first ∷ rest) ∷ words)
-  first_word first rest e = by_check (bytes_eq (codes "check") (first ∷ rest)) refl where
-    -- the first word is this
-    is : (verb : List ℕ) → bytes_eq verb (first ∷ rest) ≡ true → AgreesOn (verb ∷ words)
-        → AgreesOn ((first ∷ rest) ∷ words)
-    is verb same agrees =
-        subst (λ verb. AgreesOn (verb ∷ words)) ((bytes_eq-Decides verb (first ∷ rest)).0 same)
-        agrees
-
-    by_demo : bytes_eq (codes "check") (first ∷ rest) ≡ false
-        → bytes_eq (codes "run") (first ∷ rest) ≡ false
-        → bytes_eq (codes "trace") (first ∷ rest) ≡ false
-        → bytes_eq (codes "owners") (first ∷ rest) ≡ false
-        → (demo : Bool) → bytes_eq (codes "demo") (first ∷ rest) ≡ demo
-        → AgreesOn ((first ∷ rest) ∷ words)
-    by_demo check run trace owners true demo =
-        is (codes "demo") demo
-        (by_leaf (codes "demo") demo_app words (to_demo words) (demo_agrees words are))
-    by_demo check run trace owners false demo = unknown first rest e check run trace owners demo
-
-    by_owners : bytes_eq (codes "check") (first ∷ rest) ≡ false
-        → bytes_eq (codes "run") (first ∷ rest) ≡ false
-        → bytes_eq (codes "trace") (first ∷ rest) ≡ false
-        → (owners : Bool) → bytes_eq (codes "owners") (first ∷ rest) ≡ owners
-        → AgreesOn ((first ∷ rest) ∷ words)
-    by_owners check run trace true owners =
-        is (codes "owners") owners
-        (by_leaf (codes "owners") (replay_app (codes "owners")) words (to_owners words)
-        (replay_agrees (codes "owners") Owners words are))
-    by_owners check run trace false owners =
-        by_demo check run trace owners (bytes_eq (codes "demo") (first ∷ rest)) refl
-
-    by_trace : bytes_eq (codes "check") (first ∷ rest) ≡ false
-        → bytes_eq (codes "run") (first ∷ rest) ≡ false
-        → (trace : Bool) → bytes_eq (codes "trace") (first ∷ rest) ≡ trace
-        → AgreesOn ((first ∷ rest) ∷ words)
-    by_trace check run true trace =
-        is (codes "trace") trace
-        (by_leaf (codes "trace") (replay_app (codes "trace")) words (to_trace words)
-        (replay_agrees (codes "trace") Trace words are))
-    by_trace check run false trace =
-        by_owners check run trace (bytes_eq (codes "owners") (first ∷ rest)) refl
-
-    by_run : bytes_eq (codes "check") (first ∷ rest) ≡ false
-        → (run : Bool) → bytes_eq (codes "run") (first ∷ rest) ≡ run
-        → AgreesOn ((first ∷ rest) ∷ words)
-    by_run check true run =
-        is (codes "run") run
-        (by_leaf (codes "run") (replay_app (codes "run")) words (to_run words)
-        (replay_agrees (codes "run") Run words are))
-    by_run check false run = by_trace check run (bytes_eq (codes "trace") (first ∷ rest)) refl
-
-    by_check : (check : Bool) → bytes_eq (codes "check") (first ∷ rest) ≡ check
-        → AgreesOn ((first ∷ rest) ∷ words)
-    by_check true check =
-        is (codes "check") check
-        (by_leaf (codes "check") check_app words (to_check words) (check_agrees words are))
-    by_check false check = by_run check (bytes_eq (codes "run") (first ∷ rest)) refl
+  first_word first rest e =
+      by (codes "check") check_app (to_check words) (check_agrees words are) (λ check.
+      by (codes "run") (replay_app (codes "run")) (to_run words)
+      (replay_agrees (codes "run") Run words are) (λ run.
+      by (codes "trace") (replay_app (codes "trace")) (to_trace words)
+      (replay_agrees (codes "trace") Trace words are) (λ trace.
+      by (codes "owners") (replay_app (codes "owners")) (to_owners words)
+      (replay_agrees (codes "owners") Owners words are) (λ owners.
+      by (codes "order") (replay_app (codes "order")) (to_order words)
+      (replay_agrees (codes "order") Order words are) (λ order.
+      by (codes "demo") demo_app (to_demo words) (demo_agrees words are) (λ demo.
+      unknown first rest e check run trace owners order demo)))))) where
+        -- the first word is the name of this command, or another
+        by : (verb : List ℕ) (app : App) → GoesTo verb app words
+            → Agrees (form_of verb (names_in words) (others_in words)) (leaf_fault (leaf app) words)
+            (command_by verb (leaf_rows (leaf app) words))
+            → (bytes_eq verb (first ∷ rest) ≡ false → AgreesOn ((first ∷ rest) ∷ words))
+            → AgreesOn ((first ∷ rest) ∷ words)
+        by verb app goes agrees other = decide verb (first ∷ rest)
+            (λ same. subst (λ word. AgreesOn (word ∷ words)) same
+            (by_leaf verb app words goes agrees)) other
 
 -- what `clap` makes of words that may stand agrees with their command
 pub agreed : (words : List Text) → AllByRecursion IsWord words → AgreesOn words

@@ -1,5 +1,5 @@
--- `run FILE SCHEDULE`, and likewise `trace` and `owners`: what `clap` makes of the words after the
--- first.
+-- `run FILE SCHEDULE`, and likewise `trace`, `owners` and `order`: what `clap` makes of the words
+-- after the first.
 use Rattle.std.proofs.Common.{◌≡◌, ◌∙◌, ℕ, List, [], ◌∷◌, Some, refl, sym, codes}
 use Rattle.std.specs.List.{AllByRecursion}
 use Rattle.clap.specs.Walk.{Row, Text, first_of}

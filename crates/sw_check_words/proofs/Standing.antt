@@ -5,7 +5,7 @@ use Rattle.std.proofs.Common.{None, refl, sym, ap, subst, bytes_eq, codes, if◌
 use Rattle.std.specs.List.{AllByRecursion, list_all}
 use Rattle.std.specs.Cmp.{unsigned_Decides}
 use Rattle.std.proofs.lemmas.Slice.Eq.{bytes_eq-Decides}
-use Rattle.sw_check_words.specs.Words.{Command, Run, Trace, Owners, command_of, file_form}
+use Rattle.sw_check_words.specs.Words.{Command, Run, Trace, Owners, Order, command_of, file_form}
 use Rattle.sw_check_words.specs.Words.{check_form}
 use Rattle.sw_check_words.specs.Words.{replay_form, demo_form, default_by, is_name, may_stand}
 use Rattle.sw_check_words.specs.Words.{nonsending_default}
@@ -72,19 +72,21 @@ bad_others (word ∷ words) e = by (is_name word) refl (bad_others words) where
   by false is others = by_option is (bytes_eq word nonsending_default) refl others
 
 -- under no default and beside no number there is no form
-no_form_by : (check run trace owners demo : Bool) (names others : List (List ℕ))
+no_form_by : (check run trace owners order demo : Bool) (names others : List (List ℕ))
     → default_by others ≡ None → demo_form names others ≡ None
     → ◌≡◌ {A = Option Command} (if check then file_form (check_form names) others
     else if run then file_form (replay_form Run names) others
     else if trace then file_form (replay_form Trace names) others
     else if owners then file_form (replay_form Owners names) others
+    else if order then file_form (replay_form Order names) others
     else if demo then demo_form names others else None) None
-no_form_by true run trace owners demo names others no_default no_demo = rw no_default refl
-no_form_by false true trace owners demo names others no_default no_demo = rw no_default refl
-no_form_by false false true owners demo names others no_default no_demo = rw no_default refl
-no_form_by false false false true demo names others no_default no_demo = rw no_default refl
-no_form_by false false false false true names others no_default no_demo = no_demo
-no_form_by false false false false false names others no_default no_demo = refl
+no_form_by true run trace owners order demo names others no_default _ = rw no_default refl
+no_form_by false true trace owners order demo names others no_default _ = rw no_default refl
+no_form_by false false true owners order demo names others no_default _ = rw no_default refl
+no_form_by false false false true order demo names others no_default _ = rw no_default refl
+no_form_by false false false false true demo names others no_default _ = rw no_default refl
+no_form_by false false false false false true names others no_default no_demo = no_demo
+no_form_by false false false false false false names others no_default no_demo = refl
 
 no_demo : (names others : List (List ℕ)) → Bad others → demo_form names others ≡ None
 no_demo names others bad = rw bad.is (by names) where
@@ -108,7 +110,8 @@ no_command ((first ∷ rest) ∷ words) e = by (first == 45) refl where
       let bad = bad_others words (rw is at e) in
       no_form_by (bytes_eq (codes "check") (first ∷ rest)) (bytes_eq (codes "run") (first ∷ rest))
       (bytes_eq (codes "trace") (first ∷ rest)) (bytes_eq (codes "owners") (first ∷ rest))
-      (bytes_eq (codes "demo") (first ∷ rest)) (names_in words) (others_in words) bad.none
+      (bytes_eq (codes "order") (first ∷ rest)) (bytes_eq (codes "demo") (first ∷ rest))
+      (names_in words) (others_in words) bad.none
       (no_demo (names_in words) (others_in words) bad)
 
 -- a test of each text, as the words are lent

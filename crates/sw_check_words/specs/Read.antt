@@ -9,8 +9,8 @@ use Rattle.clap.specs.declared.parser.matches.ArgMatches.{ArgMatches}
 use Rattle.sw_check_words.specs.Tool.{tool}
 use Rattle.sw_decls.specs.declared.signature.AsyncDefault.{AsyncDefault}
 use Rattle.sw_decls.specs.declared.signature.AsyncDefault.TheVariants.{Concurrent, Caller}
-use Rattle.sw_check_words.specs.Words.{Action, Check, Run, Trace, Owners, Command, OnFile, Demo}
-use Rattle.sw_check_words.specs.Words.{actors_of}
+use Rattle.sw_check_words.specs.Words.{Action, Check, Run, Trace, Owners, Order, Command}
+use Rattle.sw_check_words.specs.Words.{OnFile, Demo, actors_of}
 
 -- the default that the text of the option stands for
 abbrev pub default_text : Option Text → AsyncDefault
@@ -41,6 +41,7 @@ command_by name rows =
     else if bytes_eq name (codes "run") then on_files Run rows
     else if bytes_eq name (codes "trace") then on_files Trace rows
     else if bytes_eq name (codes "owners") then on_files Owners rows
+    else if bytes_eq name (codes "order") then on_files Order rows
     else if bytes_eq name (codes "demo") then demo_by rows
     else None
 

@@ -17,7 +17,7 @@ option_rule = record (new_rule (codes "default")) {
 abbrev pub check_app : App
 check_app = with_rule (with_rule (new_app (codes "check")) option_rule) (required (codes "file"))
 
--- `run`, `trace` and `owners` have the same arguments
+-- `run`, `trace`, `owners` and `order` have the same arguments
 abbrev pub replay_app : List ℕ → App
 replay_app name =
     with_rule (with_rule (with_rule (new_app name) option_rule) (required (codes "file")))
@@ -36,7 +36,11 @@ bare_app = record (new_app (codes "swiftcheck")) {
   };
 }
 
+-- `app` and, behind its commands, one that replays a program
+abbrev pub with_replay : App → List ℕ → App
+with_replay app name = with_subcommand app (replay_app name).top
+
 abbrev pub tool : App
-tool = with_subcommand (with_subcommand (with_subcommand (with_subcommand (with_subcommand bare_app
-    check_app.top) (replay_app (codes "run")).top) (replay_app (codes "trace")).top)
-    (replay_app (codes "owners")).top) demo_app.top
+tool = with_subcommand (with_replay (with_replay (with_replay (with_replay
+    (with_subcommand bare_app check_app.top) (codes "run")) (codes "trace")) (codes "owners"))
+    (codes "order")) demo_app.top

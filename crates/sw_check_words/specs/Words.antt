@@ -23,6 +23,8 @@ pub data Action : Type 0 where
   -- run it, where it is accepted, by the schedule in the other file, and say who owns its coloured
   -- cells
   Owners : (schedule_file : List ℕ) → Action
+  -- run it by the schedule in the other file, and look for accesses that nothing orders
+  Order : (schedule_file : List ℕ) → Action
 
 -- What the words ask for.
 pub data Command : Type 0 where
@@ -57,7 +59,7 @@ abbrev pub check_form : List (List ℕ) → Option (List ℕ × Action)
 check_form (file ∷ []) = Some (file, Check)
 check_form names = None
 
--- `run FILE SCHEDULE`, and likewise `trace` and `owners`
+-- `run FILE SCHEDULE`, and likewise `trace`, `owners` and `order`
 abbrev pub replay_form : (List ℕ → Action) → List (List ℕ) → Option (List ℕ × Action)
 replay_form action (file ∷ schedule_file ∷ []) = Some (file, action schedule_file)
 replay_form action names = None
@@ -88,12 +90,13 @@ form_of verb names others =
     else if bytes_eq (codes "run") verb then file_form (replay_form Run names) others
     else if bytes_eq (codes "trace") verb then file_form (replay_form Trace names) others
     else if bytes_eq (codes "owners") verb then file_form (replay_form Owners names) others
+    else if bytes_eq (codes "order") verb then file_form (replay_form Order names) others
     else if bytes_eq (codes "demo") verb then demo_form names others
     else None
 
--- `check FILE`, `run FILE SCHEDULE`, `trace FILE SCHEDULE` and `owners FILE SCHEDULE`, with the
--- option anywhere after the first word, and `demo N` are the forms. Any other list of words has
--- none.
+-- `check FILE`, `run FILE SCHEDULE`, `trace FILE SCHEDULE`, `owners FILE SCHEDULE` and
+-- `order FILE SCHEDULE`, with the option anywhere after the first word, and `demo N` are the forms.
+-- Any other list of words has none.
 unfoldable pub command_of : List (List ℕ) → Option Command
 command_of [] = None
 command_of (verb ∷ words) =

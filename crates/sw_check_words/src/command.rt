@@ -11,6 +11,9 @@ pub enum Action<'a> {
     Trace { schedule_file: &'a str },
     /// Run it, where it is accepted, by a schedule, and say who owns its coloured cells.
     Owners { schedule_file: &'a str },
+    /// Run it by a schedule, also where jobs of it may race, and look for accesses that nothing
+    /// orders.
+    Order { schedule_file: &'a str },
 }
 
 /// What the words ask for.

@@ -64,6 +64,10 @@ fn command<'a>(name: &str, found: &ArgMatches<'a>) -> Option<Command<'a>>
             let schedule_file = text_of(found, "schedule")?;
             on_file(found, Action::Owners { schedule_file })
         }
+        "order" => {
+            let schedule_file = text_of(found, "schedule")?;
+            on_file(found, Action::Order { schedule_file })
+        }
         "demo" => {
             let actors = actors_of(text_of(found, "actors")?)?;
             Some(Command::Demo { actors })

@@ -37,7 +37,7 @@ fn check<'a>(alloc: Global) -> Result<Command<'a>, AllocError>
         .arg(required(alloc, "file"))
 }
 
-/// `run FILE SCHEDULE`, and likewise `trace` and `owners`.
+/// `run FILE SCHEDULE`, and likewise `trace`, `owners` and `order`.
 fn replay<'a>(alloc: Global, name: &'a str) -> Result<Command<'a>, AllocError>
     ensures { IfOk result (λ command. (app_of command ≡ replay_app name.entry.now)
         × ((out-Command command).has_globals ≡ false)) }
@@ -76,5 +76,6 @@ pub fn tool<'a>(alloc: Global) -> Result<Command<'a>, AllocError>
         .subcommand(replay(alloc, "run")?)?
         .subcommand(replay(alloc, "trace")?)?
         .subcommand(replay(alloc, "owners")?)?
+        .subcommand(replay(alloc, "order")?)?
         .subcommand(demo(alloc)?)
 }

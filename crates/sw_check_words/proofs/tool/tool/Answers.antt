@@ -13,7 +13,9 @@ returns c =
     ∙ ap₂ with_subcommand second (ap (λ (a : App). a.top) c.in_ok-replay-2.ensures.0) in
     let fourth = c.in_ok-subcommand-4.ensures.shape c.in_ok-replay-3.ensures.1
     ∙ ap₂ with_subcommand third (ap (λ (a : App). a.top) c.in_ok-replay-3.ensures.0) in
-    IfOk-weaker c.subcommand-5.result _ _
+    let fifth = c.in_ok-subcommand-5.ensures.shape c.in_ok-replay-4.ensures.1
+    ∙ ap₂ with_subcommand fourth (ap (λ (a : App). a.top) c.in_ok-replay-4.ensures.0) in
+    IfOk-weaker c.subcommand-6.result _ _
     (λ command added. added.shape c.in_ok-demo.ensures.1
-    ∙ ap₂ with_subcommand fourth (ap (λ (a : App). a.top) c.in_ok-demo.ensures.0))
-    c.subcommand-5.ensures
+    ∙ ap₂ with_subcommand fifth (ap (λ (a : App). a.top) c.in_ok-demo.ensures.0))
+    c.subcommand-6.ensures
