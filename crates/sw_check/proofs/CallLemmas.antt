@@ -6,7 +6,7 @@ use Rattle.sw_graph.specs.declared.graph.Graph.{Graph}
 use Rattle.sw_outside.specs.Shelf.{KnownShelf, file_of}
 use Rattle.sw_check_parts.specs.declared.TheConstants.{PROGRAM_LIMIT}
 use Rattle.sw_check_parts.specs.declared.exit.Exit.{Exit}
-use Rattle.sw_check_parts.specs.declared.exit.Exit.TheVariants.{Done, Breached, Raced}
+use Rattle.sw_check_parts.specs.declared.exit.Exit.TheVariants.{Done, Breached, Raced, Unordered}
 use Rattle.sw_check_parts.specs.declared.outcome.Outcome.{Outcome}
 use Rattle.sw_check_parts.specs.Course.{Read, AreOf}
 use Rattle.sw_check_parts.specs.Exit.{IsOneOf}
@@ -14,11 +14,11 @@ use Rattle.sw_decls.specs.declared.signature.AsyncDefault.{AsyncDefault}
 use Rattle.sw_verdict.specs.Phases.{all_phases, IsGraphOf}
 use Rattle.sw_verdict.specs.Verdict.{Accepts, Refuses}
 use Rattle.sw_check.specs.Call.{Answered}
-use Rattle.sw_check.specs.Claims.{NeverRaces, ExitSays, ProgramFits, default_of, phases_of}
-use Rattle.sw_check.specs.Claims.{program_of}
+use Rattle.sw_check.specs.Claims.{NeverRaces, ExitSays, ExitSaysOf, ProgramFits, default_of}
+use Rattle.sw_check.specs.Claims.{phases_of, program_of}
 use Rattle.sw_check.specs.Reply.{Reply, exits_of}
-use Rattle.sw_check_words.specs.Words.{Command, Check, OnFile, command_of, command_in}
-use Rattle.sw_check.proofs.ClaimLemmas.{reply_says, says_no_race}
+use Rattle.sw_check_words.specs.Words.{Command, Check, OnFile, Order, command_of, command_in}
+use Rattle.sw_check.proofs.ClaimLemmas.{reply_says, says_in_order, says_no_race}
 use Rattle.sw_check.proofs.Courses.{one_reply}
 use Rattle.sw_check.proofs.ExitLemmas.{exits_unraced}
 use Rattle.sw_check.proofs.OneExit.{one_exit, says_accepted, says_breached}
@@ -123,3 +123,15 @@ pub answer_accepted : {command : Option Command} {before after : Option KnownShe
 answer_accepted {outcome = outcome} answered known rule file is same =
     says_accepted (file_of known.files) rule file outcome.exit
     (answer_says_of answered known (OnFile rule file Check) is same)
+
+pub answer_in_order : {command : Option Command} {before after : Option KnownShelf}
+    {outcome : Outcome}
+    → Answered command before outcome after → (known : KnownShelf) (rule : AsyncDefault)
+    (file schedule_file : List ℕ) → before ≡ Some known
+    → command ≡ Some (OnFile rule file (Order schedule_file))
+    → Accepts rule (file_of known.files file) → outcome.exit ≢ Unordered
+answer_in_order answered known rule file schedule_file is same accepts unordered =
+    let command = OnFile rule file (Order schedule_file) in
+    says_in_order (file_of known.files) rule file schedule_file
+    (subst (ExitSaysOf (file_of known.files) command) unordered
+    (answer_says_of answered known command is same)) accepts

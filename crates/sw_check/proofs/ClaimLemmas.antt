@@ -2,6 +2,9 @@
 use Rattle.std.proofs.Common.{◌≡◌, ◌≢◌, ℕ, ◌<◌, ◌≤◌, inl, inr, List, [], length, Option, Some, None}
 use Rattle.std.proofs.Common.{Result, Ok, Err, refl, sym, ap, subst, arith}
 use Rattle.sw_graph.specs.declared.graph.Graph.{Graph}
+use Rattle.sw_hb.specs.declared.ordering.OrderReplay.{OrderReplay}
+use Rattle.sw_hb.specs.declared.ordering.OrderReplay.TheVariants as replays
+use Rattle.sw_hb.specs.Replay.{IsOrderReplay, many, ordered, trapped, unordered}
 use Rattle.sw_value.specs.declared.race.Race.{Race}
 use Rattle.sw_replay.specs.declared.text.TheConstants.{SCHEDULE_LIMIT}
 use Rattle.sw_replay.specs.declared.output.End.{End}
@@ -14,97 +17,42 @@ use Rattle.sw_check_parts.specs.declared.exit.Exit.TheVariants.{Done, Breached, 
 use Rattle.sw_check_parts.specs.declared.exit.Exit.TheVariants.{TooLong}
 use Rattle.sw_check_parts.specs.declared.exit.Exit.TheVariants.{NotWritten, Memory, Trapped}
 use Rattle.sw_check_parts.specs.declared.exit.Exit.TheVariants.{BadSchedule}
-use Rattle.sw_check_parts.specs.declared.exit.Exit.TheVariants.{Raced}
+use Rattle.sw_check_parts.specs.declared.exit.Exit.TheVariants.{Raced, ManyJobs, Unordered}
 use Rattle.sw_check_parts.specs.declared.outcome.Outcome.{Outcome}
-use Rattle.sw_check_parts.specs.Course.{Read, AreOf, Ended, Part, Alone, Then, refused, goes_on}
-use Rattle.sw_check_parts.specs.Course.{too_long_file, ◌>>=◌}
+use Rattle.sw_check_parts.specs.Course.{Read, AreOf, Ended, Part, Alone, ◌>>=◌}
 use Rattle.sw_check_parts.proofs.Inversions.{EndsAfterFetch, too_long, fetched, after_fetch}
-use Rattle.sw_check_parts.proofs.ReadLemmas.{AreOf-prefix}
 use Rattle.sw_check_parts.proofs.Inversions.{EndsAfterRule, refuses, gives, after_rule, by_rule}
 use Rattle.sw_decls.specs.declared.signature.AsyncDefault.{AsyncDefault}
 use Rattle.sw_decls.specs.declared.signature.AsyncDefault.TheVariants.{Concurrent}
 use Rattle.sw_verdict.specs.Phases.{all_phases, IsGraphOf}
-use Rattle.sw_verdict.specs.Verdict.{Breaches}
+use Rattle.sw_verdict.specs.Verdict.{Accepts, Breaches}
 use Rattle.sw_verdict.proofs.LoweredTexts.{some_graph_of}
-use Rattle.sw_text_facts.proofs.Sound.{accepted_never_races}
+use Rattle.sw_text_facts.proofs.Sound.{accepted_never_races, accepted_ordered}
 use Rattle.sw_check.specs.Claims.{NeverRaces, Ends, EndsSo, ProgramPasses, ExitSays, ExitSaysOf}
-use Rattle.sw_check.specs.Claims.{RunsTo}
+use Rattle.sw_check.specs.Claims.{Clashes, RunsTo, order_ending}
 use Rattle.sw_check.specs.Claims.{Fits, IsLong, ProgramFits, SecondFits, SecondIsLong, Stands}
 use Rattle.sw_check.specs.Claims.{ScheduleIsBad, default_of, ending_by, phases_of, program_file_of}
 use Rattle.sw_check.specs.Claims.{program_of}
-use Rattle.sw_check.proofs.Pieces.{program_then}
+use Rattle.sw_check.proofs.AfterItems.{EndsAfterItems, after_items, bad_schedule, has_schedule}
+use Rattle.sw_check.proofs.AfterItems.{long_schedule}
+use Rattle.sw_check.proofs.Pieces.{outcome_of, program_then}
 use Rattle.sw_replay.specs.declared.output.Output.{Output}
 use Rattle.sw_replay.specs.Output.{output_of}
 use Rattle.sw_check.specs.Programs.{Passed}
 use Rattle.sw_check.specs.Reply.{usage, accepted, end_outcome, EndsWithReply, IsJudgement, passes}
-use Rattle.sw_check.specs.Reply.{bad_schedule_outcome, breached, by_items, items_in, run_outcome}
-use Rattle.sw_check.specs.Reply.{Scheduled, has_items, has_fault, Runs, Traces, ends, course_of}
+use Rattle.sw_check.specs.Reply.{Orders, breached, by_items, in_order, order_outcome, run_outcome}
+use Rattle.sw_check.specs.Reply.{Runs, Traces, ends, course_of}
 use Rattle.sw_check.specs.Reply.{Reply, at_end, before_end, demo_end, demo_items, demo_outcome}
 use Rattle.sw_check.specs.Reply.{Owns, owners_reply, phases_for, watched_outcome}
 use Rattle.sw_gen.specs.Program.{program}
-use Rattle.sw_check_words.specs.Words.{Action, Check, Run, Trace, Owners, Command, OnFile, Demo}
-
--- the reply with which a command ends
-abbrev outcome_of : Result Outcome Outcome → Outcome
-outcome_of (Ok outcome) = outcome
-outcome_of (Err outcome) = outcome
+use Rattle.sw_check_words.specs.Words.{Action, Check, Run, Trace, Owners, Order, Command, OnFile}
+use Rattle.sw_check_words.specs.Words.{Demo}
 
 -- a file that is within its limit isn't too long
 pub fits_or_long : (files : List ℕ → List ℕ) (limit : ℕ) (file : Option (List ℕ))
     → Fits files limit file → IsLong files limit file → ⊥
 fits_or_long files limit None fits long = long
 fits_or_long files limit (Some name) fits long = omega (arith, fits, long)
-
--- how a part ends that begins with a schedule
-data EndsAfterItems (files : List ℕ → List ℕ) (file : List ℕ) (second : List ℕ → Part Outcome)
-    : Result Outcome Outcome → Type 0 where
-  long_schedule : SCHEDULE_LIMIT < length (files file)
-      → EndsAfterItems files file second (Err too_long_file)
-  bad_schedule : length (files file) ≤ SCHEDULE_LIMIT → (fault : SchedFault)
-      → IsFirstFault (files file) fault
-      → EndsAfterItems files file second (Err (bad_schedule_outcome (files file) fault))
-  has_schedule : (others : List Read) (result : Result Outcome Outcome) (items : List ℕ)
-      → length (files file) ≤ SCHEDULE_LIMIT → IsItems (files file) items
-      → second items others (Ended result) → EndsAfterItems files file second result
-
-module _ (files : List ℕ → List ℕ) (file : List ℕ) (second : List ℕ → Part Outcome) where
-  items_refused : (result : Result (List ℕ) Outcome) (outcome : Outcome)
-      → EndsAfterFetch files file SCHEDULE_LIMIT (λ schedule. Alone (Scheduled schedule)) result
-      → result ≡ Err outcome → EndsAfterItems files file second (Err outcome)
-  items_refused _ outcome (too_long long) e =
-      subst (λ outcome. EndsAfterItems files file second (Err outcome)) (cc e) (long_schedule long)
-  items_refused _ outcome (fetched others result short of_files ended) e =
-      by result (by_rule (Scheduled (files file)) others result ended) e where
-        by : (result : Result (List ℕ) Outcome) → Scheduled (files file) result
-            → result ≡ Err outcome → EndsAfterItems files file second (Err outcome)
-        by _ (has_items items are) e = cc
-        by _ (has_fault fault is) e =
-            subst (λ outcome. EndsAfterItems files file second (Err outcome)) (cc e)
-            (bad_schedule short fault is)
-
-  items_given : (result : Result (List ℕ) Outcome) (items : List ℕ)
-      → EndsAfterFetch files file SCHEDULE_LIMIT (λ schedule. Alone (Scheduled schedule)) result
-      → result ≡ Ok items → (length (files file) ≤ SCHEDULE_LIMIT) × IsItems (files file) items
-  items_given _ items (too_long long) e = cc
-  items_given _ items (fetched others result short of_files ended) e =
-      (short, by result (by_rule (Scheduled (files file)) others result ended) e) where
-        by : (result : Result (List ℕ) Outcome) → Scheduled (files file) result
-            → result ≡ Ok items → IsItems (files file) items
-        by _ (has_items others are) e = subst (IsItems (files file)) (cc e) are
-        by _ (has_fault fault is) e = cc
-
-  after_items : (reads : List Read) (result : Result Outcome Outcome) → AreOf files reads
-      → Then (items_in file) second reads (Ended result)
-      → EndsAfterItems files file second result
-  after_items _ _ of_files (refused reads outcome first) =
-      items_refused (Err outcome) outcome
-      (after_fetch files file SCHEDULE_LIMIT (λ schedule. Alone (Scheduled schedule)) reads
-      (Err outcome) of_files first) refl
-  after_items _ result of_files (goes_on reads others items _ first rest) =
-      let (short, are) = items_given (Ok items) items
-      (after_fetch files file SCHEDULE_LIMIT (λ schedule. Alone (Scheduled schedule)) reads
-      (Ok items) (AreOf-prefix files reads others of_files) first) refl in
-      has_schedule others result items short are rest
 
 module _ (files : List ℕ → List ℕ) (rule : AsyncDefault) (file : List ℕ) (action : Action) where
   abbrev on_file : Command
@@ -240,7 +188,7 @@ module _ (files : List ℕ → List ℕ) (rule : AsyncDefault) (file schedule_fi
       }))
 
   runs_say : ProgramPasses files (OnFile rule file (Run schedule_file)) → (items : List ℕ)
-      (result : Result Outcome Outcome) → length (files schedule_file) ≤ SCHEDULE_LIMIT
+      (result : Result Outcome Outcome) → SecondFits files (OnFile rule file (Run schedule_file))
       → IsItems (files schedule_file) items → Runs (files file) graph items result
       → ExitSaysOf files (OnFile rule file (Run schedule_file)) (outcome_of result).exit
   runs_say whole items result fits are is =
@@ -250,7 +198,7 @@ module _ (files : List ℕ → List ℕ) (rule : AsyncDefault) (file schedule_fi
 
   owners_say : (names : List (List ℕ)) → ProgramPasses files (OnFile rule file (Owners schedule_file))
       → (items : List ℕ)
-      (result : Result Outcome Outcome) → length (files schedule_file) ≤ SCHEDULE_LIMIT
+      (result : Result Outcome Outcome) → SecondFits files (OnFile rule file (Owners schedule_file))
       → IsItems (files schedule_file) items
       → Owns (files file) (record { graph = graph; actors = names }) items result
       → ExitSaysOf files (OnFile rule file (Owners schedule_file)) (outcome_of result).exit
@@ -260,7 +208,7 @@ module _ (files : List ℕ → List ℕ) (rule : AsyncDefault) (file schedule_fi
       (run_says (Owners schedule_file) whole fits items (λ so. so) are)
 
   traces_say : ProgramPasses files (OnFile rule file (Trace schedule_file)) → (items : List ℕ)
-      (result : Result Outcome Outcome) → length (files schedule_file) ≤ SCHEDULE_LIMIT
+      (result : Result Outcome Outcome) → SecondFits files (OnFile rule file (Trace schedule_file))
       → IsItems (files schedule_file) items → Traces (files file) graph items result
       → ExitSaysOf files (OnFile rule file (Trace schedule_file)) (outcome_of result).exit
   traces_say whole items _ fits are (ends replay is) =
@@ -272,6 +220,27 @@ module _ (files : List ℕ → List ℕ) (rule : AsyncDefault) (file schedule_fi
         are_items = are;
         ends = (replay, is, refl);
       })
+
+  orders_say : ProgramPasses files (OnFile rule file (Order schedule_file)) → (items : List ℕ)
+      (result : Result Outcome Outcome) → SecondFits files (OnFile rule file (Order schedule_file))
+      → IsItems (files schedule_file) items → Orders (files file) graph items result
+      → ExitSaysOf files (OnFile rule file (Order schedule_file)) (outcome_of result).exit
+  orders_say whole items _ fits are (in_order replay is) =
+      by replay (record {
+        graph = graph;
+        of_text = of_text;
+        items = items;
+        are_items = are;
+        ends = (replay, is, refl);
+      }) where
+    by : (replay : OrderReplay)
+        → Ends (order_ending replay) files (OnFile rule file (Order schedule_file))
+        → ExitSaysOf files (OnFile rule file (Order schedule_file))
+        (order_outcome (files file) replay).exit
+    by replays.ManyJobs so = (whole, fits, so)
+    by (replays.Unordered lines first second) so = (whole, fits, first, second, so)
+    by (replays.Trapped lines kind at) so = (whole, fits, kind, at, so)
+    by (replays.Ordered lines accesses) so = (whole, fits, so)
 
 -- a generated program, which was judged, is run
 module _ (files : List ℕ → List ℕ) (actors : ℕ) where
@@ -333,6 +302,15 @@ says files (Some (OnFile rule file (Owners schedule_file))) reads result of_file
     (λ fits. fits) (λ fault is. (fault, is)) (λ long. long)
     (owners_say files rule file schedule_file passed.graph of_text passed.actors whole) reads result
     of_files) reads result of_files ended
+says files (Some (OnFile rule file (Order schedule_file))) reads result of_files ended =
+    says_program files rule file (Order schedule_file)
+    (λ text passed. by_items schedule_file (Orders text passed.graph))
+    (λ passed reads result of_files whole of_text.
+    says_by files rule file (Order schedule_file) schedule_file whole
+    (Orders (files file) passed.graph)
+    (λ fits. fits) (λ fault is. (fault, is)) (λ long. long)
+    (orders_say files rule file schedule_file passed.graph of_text whole) reads result of_files) reads
+    result of_files ended
 says files (Some (Demo actors)) reads result of_files ended =
     says_demo files actors reads result
     (after_rule (IsJudgement Concurrent all_phases (program actors))
@@ -358,6 +336,8 @@ passes_at files command TooLong (inr says) _ _ = says.0
 passes_at files command Trapped says _ _ = says.0
 passes_at files command BadSchedule says _ _ = says.0
 passes_at files command Raced says _ _ = says.0
+passes_at files command ManyJobs says _ _ = says.0
+passes_at files command Unordered says _ _ = says.0
 passes_at files command Usage says _ _ = absurd says
 passes_at files command NotRead says _ _ = absurd says
 passes_at files command NotWritten says _ _ = absurd says
@@ -376,3 +356,17 @@ says_no_race files command exit says all short not_breached =
       of_text,
       accepted_never_races (default_of command) (program_of files command) graph accepts of_text,
     )
+
+-- `order` names no two accesses of a program that is accepted
+pub says_in_order : (files : List ℕ → List ℕ) (rule : AsyncDefault) (file schedule_file : List ℕ)
+    → ExitSaysOf files (OnFile rule file (Order schedule_file)) Unordered
+    → Accepts rule (files file) → ⊥
+says_in_order files rule file schedule_file (whole, fits, first, second, so) accepts =
+    by so.ends.0 so.ends.1 so.ends.2 where
+      by : (replay : OrderReplay) → IsOrderReplay so.graph so.items replay
+          → Clashes first second ≡ order_ending replay → ⊥
+      by _ (many too_many) e = cc (e)
+      by _ (unordered few a b is) e =
+          accepted_ordered rule (files file) so.graph accepts so.of_text so.items is.p is.q a b is.is
+      by _ (trapped few all kind at trap) e = cc (e)
+      by _ (ordered few all none) e = cc (e)

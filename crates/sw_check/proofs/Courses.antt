@@ -17,14 +17,16 @@ use Rattle.sw_verdict.proofs.Verdicts.{decided}
 use Rattle.sw_check.specs.Programs.{Passed}
 use Rattle.sw_check.specs.Reply.{usage, accepted, EndsWithReply, IsJudgement, Owns, Runs, Scheduled}
 use Rattle.sw_check.specs.Reply.{Traces, after_verdict, by_items, course_of, demo_course, demo_items}
-use Rattle.sw_check.specs.Reply.{demo_outcome, items_in, owners_reply, phases_for}
+use Rattle.sw_check.specs.Reply.{Orders, demo_outcome, items_in, owners_reply, phases_for}
 use Rattle.sw_check.specs.Reply.{run_outcome}
 use Rattle.sw_check.specs.Reply.{Reply, at_end, before_end}
 use Rattle.sw_gen.specs.Program.{program}
-use Rattle.sw_check_words.specs.Words.{Action, Check, Run, Trace, Owners, Command, OnFile, Demo}
+use Rattle.sw_check_words.specs.Words.{Action, Check, Run, Trace, Owners, Order, Command, OnFile}
+use Rattle.sw_check_words.specs.Words.{Demo}
 use Rattle.sw_check.proofs.Pieces.{program_then}
 use Rattle.sw_check.proofs.RuleLemmas.{answers_one, answers_some, judged_one, judged_some}
-use Rattle.sw_check.proofs.RuleLemmas.{scheduled_one, scheduled_some, traces_one, traces_some}
+use Rattle.sw_check.proofs.RuleLemmas.{orders_one, orders_some, scheduled_one, scheduled_some}
+use Rattle.sw_check.proofs.RuleLemmas.{traces_one, traces_some}
 
 -- a program is fetched and judged, and something goes on from its text and what passes
 module _ (rule : AsyncDefault) (phases : List Phase) (file : List ℕ)
@@ -88,6 +90,8 @@ lawful_after (Trace file) text passed =
     lawful_by file (Traces text passed.graph) (traces_one text passed.graph)
 lawful_after (Owners file) text passed =
     lawful_by file (Owns text passed) (λ items. answers_one (owners_reply text passed items))
+lawful_after (Order file) text passed =
+    lawful_by file (Orders text passed.graph) (orders_one text passed.graph)
 
 can_end_after : (action : Action) (text : List ℕ) (passed : Passed)
     → CanEnd (after_verdict action text passed)
@@ -99,6 +103,8 @@ can_end_after (Trace file) text passed =
     can_end_by file (Traces text passed.graph) (traces_some text passed.graph)
 can_end_after (Owners file) text passed =
     can_end_by file (Owns text passed) (λ items. answers_some (owners_reply text passed items))
+can_end_after (Order file) text passed =
+    can_end_by file (Orders text passed.graph) (orders_some text passed.graph)
 
 -- the phases of an action accept or refuse a text, and one that they accept has a graph
 decided_for : (rule : AsyncDefault) (action : Action) (text : List ℕ)
@@ -107,6 +113,7 @@ decided_for rule Check = decided rule
 decided_for rule (Run schedule_file) = decided rule
 decided_for rule (Trace schedule_file) = decided_to_size rule
 decided_for rule (Owners schedule_file) = decided rule
+decided_for rule (Order schedule_file) = decided_to_size rule
 
 -- where they find none, those up to the size of functions don't
 to_size_for : (rule : AsyncDefault) (action : Action) (text : List ℕ)
@@ -115,6 +122,7 @@ to_size_for rule Check = accepted_to_size rule
 to_size_for rule (Run schedule_file) = accepted_to_size rule
 to_size_for rule (Trace schedule_file) = λ text passes. passes
 to_size_for rule (Owners schedule_file) = accepted_to_size rule
+to_size_for rule (Order schedule_file) = λ text passes. passes
 
 -- a program is generated, judged and run
 module _ (actors : ℕ) where

@@ -23,6 +23,8 @@ use Rattle.sw_check_parts.proofs.Inversions.{EndsBy, refuses_alone}
 use Rattle.sw_check_parts.proofs.Inversions.{refuses_fetched, refuses_then, ends_alone, ends_then}
 use Rattle.sw_decls.specs.declared.signature.AsyncDefault.{AsyncDefault}
 use Rattle.sw_decls.specs.declared.signature.AsyncDefault.TheVariants.{Concurrent}
+use Rattle.sw_hb.specs.declared.ordering.OrderReplay.{OrderReplay}
+use Rattle.sw_hb.specs.declared.ordering.OrderReplay.TheVariants as replays
 use Rattle.sw_verdict.specs.Phases.{Phase, all_phases, phases_to_size}
 use Rattle.sw_owners.specs.Lines.{owner_lines}
 use Rattle.sw_owners.specs.Replay.{owner_replay}
@@ -33,9 +35,10 @@ use Rattle.sw_check.specs.Reply.{Scheduled, has_fault, Runs, Traces, ends, cours
 use Rattle.sw_check.specs.Reply.{before_end, by_items, demo_course, demo_end, demo_exits, demo_items}
 use Rattle.sw_check.specs.Reply.{demo_outcome, exits_of, file_course, file_exits, items_in}
 use Rattle.sw_check.specs.Reply.{Owns, owners_reply, replay_outcome, run_exits, run_outcome}
-use Rattle.sw_check.specs.Reply.{watched_outcome}
+use Rattle.sw_check.specs.Reply.{Orders, in_order, order_outcome, watched_outcome}
 use Rattle.sw_gen.specs.Program.{program}
-use Rattle.sw_check_words.specs.Words.{Action, Check, Run, Trace, Owners, Command, OnFile, Demo}
+use Rattle.sw_check_words.specs.Words.{Action, Check, Run, Trace, Owners, Order, Command, OnFile}
+use Rattle.sw_check_words.specs.Words.{Demo}
 use Rattle.sw_check.proofs.Pieces.{program_then}
 
 -- a reply that has one of these exits: it reports no failure, and nothing is written where the exit
@@ -75,6 +78,10 @@ answers_nothing_else Q outcome other is = cc
 traces_nothing_else : (Q : Outcome → Type 0) (text : List ℕ) (graph : Graph) (items : List ℕ)
     (other : Outcome) → Traces text graph items (Err other) → Q other
 traces_nothing_else Q text graph items other is = elim is [ ]
+
+orders_nothing_else : (Q : Outcome → Type 0) (text : List ℕ) (graph : Graph) (items : List ℕ)
+    (other : Outcome) → Orders text graph items (Err other) → Q other
+orders_nothing_else Q text graph items other is = elim is [ ]
 
 -- a program that is fetched and judged, and the rest
 program_refusals : (among : List Exit) (rule : AsyncDefault) (phases : List Phase) (file : List ℕ)
@@ -124,6 +131,10 @@ file_refusals rule file (Owners schedule_file) =
     (λ text passed. items_refusals _ schedule_file (Owns text passed) (inl refl)
     (inr (inr (inl refl)))
     (λ items. answers_nothing_else _ (owners_reply text passed items)))
+file_refusals rule file (Order schedule_file) =
+    program_refusals _ rule phases_to_size file _ (inl refl) (inr (inl refl))
+    (λ text passed. items_refusals _ schedule_file (Orders text passed.graph) (inl refl)
+    (inr (inr (inl refl))) (orders_nothing_else _ text passed.graph))
 
 demo_refusals : (actors : ℕ) → RefusesBy (HasExit demo_exits) (demo_course actors)
 demo_refusals actors =
@@ -202,6 +213,21 @@ items_end among file Answers each =
     ends_then (HasEndExit among) (items_in file) _
     (λ _ items _. ends_alone (HasEndExit among) (Answers items) (each items))
 
+-- the reply about an order
+order_ends : (schedule_file text : List ℕ) (graph : Graph) (items : List ℕ) (outcome : Outcome)
+    → Orders text graph items (Ok outcome) → HasEndExit (file_exits (Order schedule_file)) outcome
+order_ends schedule_file text graph items _ (in_order replay is) = by replay where
+  by : (replay : OrderReplay)
+      → HasEndExit (file_exits (Order schedule_file)) (order_outcome text replay)
+  by replays.ManyJobs =
+      record { exit = inr (inr (inr (inr (inr (inl refl))))); plain = refl; speaks = refl }
+  by (replays.Unordered lines first second) =
+      record { exit = inr (inr (inr (inr (inr (inr (inl refl)))))); plain = refl; speaks = refl }
+  by (replays.Trapped lines kind at) =
+      record { exit = inr (inr (inr (inr (inl refl)))); plain = refl; speaks = refl }
+  by (replays.Ordered lines accesses) =
+      record { exit = inr (inr (inr (inl refl))); plain = refl; speaks = refl }
+
 file_ends : (rule : AsyncDefault) (file : List ℕ) (action : Action)
     → EndsBy (HasEndExit (file_exits action)) (file_course rule file action)
 file_ends rule file Check =
@@ -226,6 +252,11 @@ file_ends rule file (Owners schedule_file) =
     (with_lines (owner_lines passed.actors (owner_replay passed.graph items).owners)
     (run_outcome text (output_of passed.graph items))
     (a_run_ends text (output_of passed.graph items))) is))
+file_ends rule file (Order schedule_file) =
+    program_ends _ rule phases_to_size file
+    (λ text passed. by_items schedule_file (Orders text passed.graph))
+    (λ text passed. items_end _ schedule_file (Orders text passed.graph)
+    (order_ends schedule_file text passed.graph))
 
 at_ends : (command : Option Command) → EndsBy (HasEndExit (exits_of command)) (course_of command)
 at_ends None = ends_alone _ (EndsWithReply usage)
@@ -258,6 +289,7 @@ exits_unraced (OnFile rule file Check) all is =
 exits_unraced (OnFile rule file (Run schedule_file)) all is = runs_unraced is
 exits_unraced (OnFile rule file (Owners schedule_file)) all is = runs_unraced is
 exits_unraced (OnFile rule file (Trace schedule_file)) all is = omega (arith, ap length all)
+exits_unraced (OnFile rule file (Order schedule_file)) all is = omega (arith, ap length all)
 exits_unraced (Demo actors) all is = unraced demo_exits (λ e. cc, (λ e. cc, (λ e. cc, tt))) is
 
 pub end_exit : (command : Option Command) (reads : List Read) (outcome : Outcome)

@@ -1,3 +1,4 @@
+pub mod AfterItems
 pub mod CallLemmas
 pub mod ClaimLemmas
 pub mod Courses

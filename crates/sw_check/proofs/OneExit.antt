@@ -16,17 +16,20 @@ use Rattle.sw_check_parts.specs.declared.exit.Exit.TheVariants.{Done, Breached, 
 use Rattle.sw_check_parts.specs.declared.exit.Exit.TheVariants.{TooLong}
 use Rattle.sw_check_parts.specs.declared.exit.Exit.TheVariants.{NotWritten, Memory, Trapped}
 use Rattle.sw_check_parts.specs.declared.exit.Exit.TheVariants.{BadSchedule}
-use Rattle.sw_check_parts.specs.declared.exit.Exit.TheVariants.{Raced}
+use Rattle.sw_check_parts.specs.declared.exit.Exit.TheVariants.{Raced, ManyJobs, Unordered}
+use Rattle.sw_hb.proofs.OrderLemmas.{one_order}
 use Rattle.sw_decls.specs.declared.signature.AsyncDefault.{AsyncDefault}
 use Rattle.sw_decls.specs.declared.signature.AsyncDefault.TheVariants.{Concurrent}
 use Rattle.sw_verdict.specs.Verdict.{Accepts, Refuses}
 use Rattle.sw_verdict.proofs.Verdicts.{never_both}
-use Rattle.sw_check.specs.Claims.{Ending, Ends, EndsSo, ProgramIsRefused, ProgramPasses, Races}
+use Rattle.sw_check.specs.Claims.{Clashes, Crowds, Ending, Ends, EndsSo, OrdersTo, order_ending}
+use Rattle.sw_check.specs.Claims.{ProgramIsRefused, ProgramPasses, Races}
 use Rattle.sw_check.specs.Claims.{ExitSays, ExitSaysOf, IsLong, ProgramFits, RunsTo, ScheduleIsBad}
-use Rattle.sw_check.specs.Claims.{SecondFits, SecondIsLong, Stands, TracesTo, default_of, ending_by}
-use Rattle.sw_check.specs.Claims.{phases_of, program_of, program_file_of, schedule_file_of}
+use Rattle.sw_check.specs.Claims.{SecondFits, SecondIsLong, Stands, TracesTo, default_of}
+use Rattle.sw_check.specs.Claims.{ending_by, phases_of, program_file_of, program_of}
+use Rattle.sw_check.specs.Claims.{schedule_file_of}
 use Rattle.sw_gen.specs.Program.{program}
-use Rattle.sw_check_words.specs.Words.{Command, Check, Run, Trace, Owners, OnFile, Demo}
+use Rattle.sw_check_words.specs.Words.{Check, Run, Trace, Owners, Order, Command, OnFile, Demo}
 use Rattle.sw_check.specs.Reply.{demo_items}
 use Rattle.sw_check.proofs.ClaimLemmas.{fits_or_long}
 
@@ -56,6 +59,11 @@ traces_to_one a b graph items (replay, is, ends_a) (other, is_other, ends_b) =
     (one_replay graph items replay other is is_other)
     ∙ sym ends_b
 
+orders_to_one : (a b : Ending) (graph : Graph) (items : List ℕ) → OrdersTo a graph items
+    → OrdersTo b graph items → a ≡ b
+orders_to_one a b graph items (replay, is, ends_a) (other, is_other, ends_b) =
+    ends_a ∙ ap order_ending (one_order graph items replay other is is_other) ∙ sym ends_b
+
 -- a command ends in one way
 pub one_ending : (files : List ℕ → List ℕ) (command : Command) (a b : Ending)
     → Ends a files command → Ends b files command → a ≡ b
@@ -69,6 +77,9 @@ one_ending files (OnFile rule file (Trace schedule_file)) a b is_a is_b =
 one_ending files (OnFile rule file (Owners schedule_file)) a b is_a is_b =
     both_so (IsItems (files schedule_file)) (one_items (files schedule_file)) (RunsTo a) (RunsTo b)
     (a ≡ b) (runs_to_one a b) rule (files file) is_a is_b
+one_ending files (OnFile rule file (Order schedule_file)) a b is_a is_b =
+    both_so (IsItems (files schedule_file)) (one_items (files schedule_file)) (OrdersTo a)
+    (OrdersTo b) (a ≡ b) (orders_to_one a b) rule (files file) is_a is_b
 one_ending files (Demo actors) a b is_a is_b =
     both_so (λ items. items ≡ demo_items actors) (λ items others is_those are. is_those ∙ sym are)
     (RunsTo a) (RunsTo b) (a ≡ b) (runs_to_one a b) Concurrent (program actors) is_a is_b
@@ -83,6 +94,8 @@ ends_or_bad files (OnFile rule file (Trace schedule_file)) ending so (fault, is)
     items_and_fault (files schedule_file) so.items fault so.are_items is
 ends_or_bad files (OnFile rule file (Owners schedule_file)) ending so (fault, is) =
     items_and_fault (files schedule_file) so.items fault so.are_items is
+ends_or_bad files (OnFile rule file (Order schedule_file)) ending so (fault, is) =
+    items_and_fault (files schedule_file) so.items fault so.are_items is
 ends_or_bad files (Demo actors) ending so bad = bad
 
 -- the exit of each ending
@@ -90,6 +103,8 @@ abbrev exit_of : Ending → Exit
 exit_of (Stands ends.Ran) = Done
 exit_of (Stands (ends.Trapped kind at)) = Trapped
 exit_of (Races race) = Raced
+exit_of Crowds = ManyJobs
+exit_of (Clashes first second) = Unordered
 
 -- why a command has an exit over these files
 data Cause (files : List ℕ → List ℕ) (command : Command) : Exit → Type 0 where
@@ -112,6 +127,9 @@ module _ (files : List ℕ → List ℕ) (command : Command) where
       ended (Stands (ends.Trapped kind at)) passes fits is
   cause_of BadSchedule (passes, fits, is_bad) = bad passes fits is_bad
   cause_of Raced (passes, fits, race, is) = ended (Races race) passes fits is
+  cause_of ManyJobs (passes, fits, is) = ended Crowds passes fits is
+  cause_of Unordered (passes, fits, first, second, is) =
+      ended (Clashes first second) passes fits is
   cause_of Usage says = absurd says
   cause_of NotRead says = absurd says
   cause_of NotWritten says = absurd says

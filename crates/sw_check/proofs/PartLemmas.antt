@@ -2,6 +2,8 @@
 use Rattle.std.proofs.Common.{◌≡◌, ◌≢◌, ◌<◌, ℕ, List, [], ◌∷◌, length, Option, None, Result, Ok}
 use Rattle.std.proofs.Common.{Err, IfOk, refl, sym, subst, arith}
 use Rattle.std.specs.declared.alloc.AllocError.{AllocError}
+use Rattle.sw_hb.specs.Replay.{IsOrderReplay}
+use Rattle.sw_hb.specs.declared.ordering.OrderReplay.{OrderReplay}
 use Rattle.sw_graph.specs.declared.graph.Graph.{Graph}
 use Rattle.sw_breach.specs.declared.Breach.{Breach}
 use Rattle.sw_replay.specs.declared.text.SchedFault.{SchedFault}
@@ -24,7 +26,8 @@ use Rattle.sw_check_words.specs.Words.{Action, Command}
 use Rattle.sw_check.specs.Programs.{Passed}
 use Rattle.sw_check.specs.Reply.{usage, course_of, EndsWithReply, refusal, bad_schedule_outcome}
 use Rattle.sw_check.specs.Reply.{IsJudgement, breached, Scheduled, has_fault}
-use Rattle.sw_check.specs.Reply.{Traces, after_verdict, ends, replay_outcome}
+use Rattle.sw_check.specs.Reply.{Orders, Traces, after_verdict, ends, in_order, order_outcome}
+use Rattle.sw_check.specs.Reply.{replay_outcome}
 
 pub judged_refused : (rule : AsyncDefault) (phases : List Phase) (text : List ℕ)
     (breaches : List Breach)
@@ -50,6 +53,14 @@ pub trace_answered : (text : List ℕ) (graph : Graph) (items : List ℕ) (repla
 trace_answered text graph items replay (Ok outcome) is same =
     subst (λ outcome. Traces text graph items (Ok outcome)) (sym same) (ends replay is)
 trace_answered text graph items replay (Err error) is same = tt
+
+pub order_answered : (text : List ℕ) (graph : Graph) (items : List ℕ) (replay : OrderReplay)
+    (result : Result Outcome AllocError) → IsOrderReplay graph items replay
+    → IfOk result (λ outcome. outcome ≡ order_outcome text replay)
+    → IfOk result (λ outcome. Orders text graph items (Ok outcome))
+order_answered text graph items replay (Ok outcome) is same =
+    subst (λ outcome. Orders text graph items (Ok outcome)) (sym same) (in_order replay is)
+order_answered text graph items replay (Err error) is same = tt
 
 -- what follows the verdict, for a text that was lent
 pub follows_lent : {text lent : List ℕ} {before after : SeenShelf} {result : Result Outcome Stop}

@@ -1,6 +1,7 @@
 -- The parts that read no file have a result, and no two.
 use Rattle.std.proofs.Common.{◌⊎◌, inl, inr, ℕ, List, [], Result, Ok, Err, refl, sym, ap, ◌∙◌}
 use Rattle.sw_graph.specs.declared.graph.Graph.{Graph}
+use Rattle.sw_hb.proofs.OrderLemmas.{one_order, some_order}
 use Rattle.sw_replay.specs.declared.text.SchedFault.{SchedFault}
 use Rattle.sw_replay.specs.Items.{HasItems}
 use Rattle.sw_replay.specs.Reading.{items_or_fault}
@@ -19,7 +20,7 @@ use Rattle.sw_verdict.proofs.OneLists.{one_list as one_verdict}
 use Rattle.sw_verdict.proofs.Verdicts.{never_both}
 use Rattle.sw_check.specs.Programs.{Passed}
 use Rattle.sw_check.specs.Reply.{refusal, bad_schedule_outcome, EndsWithReply}
-use Rattle.sw_check.specs.Reply.{IsJudgement}
+use Rattle.sw_check.specs.Reply.{IsJudgement, Orders, in_order, order_outcome}
 use Rattle.sw_check.specs.Reply.{passes, breached, Scheduled, has_items, has_fault, Traces, ends}
 use Rattle.sw_check.specs.Reply.{replay_outcome}
 
@@ -78,3 +79,13 @@ module _ (text : List ℕ) (graph : Graph) (items : List ℕ) where
   pub traces_some : HasResult (Traces text graph items)
   traces_some =
       let (replay, is) = some_replay graph items in (Ok (replay_outcome text replay), ends replay is)
+
+module _ (text : List ℕ) (graph : Graph) (items : List ℕ) where
+  pub orders_one : HasOneResult (Orders text graph items)
+  orders_one _ _ (in_order a is_a) (in_order b is_b) =
+      ap (λ replay. Ok (order_outcome text replay)) (one_order graph items a b is_a is_b)
+
+  pub orders_some : HasResult (Orders text graph items)
+  orders_some =
+      let (replay, is) = some_order graph items in
+      (Ok (order_outcome text replay), in_order replay is)

@@ -1,6 +1,7 @@
 -- What each exit says of the files.
 use Rattle.std.specs.Prelude.{◌≡◌, ℕ, ◌<◌, ◌≤◌, ◌⊎◌, List, [], length, Option, Some, None}
 use Rattle.sw_graph.specs.declared.graph.Graph.{Graph}
+use Rattle.sw_value.specs.declared.race.Access.{Access}
 use Rattle.sw_value.specs.declared.race.Race.{Race}
 use Rattle.sw_value.specs.declared.state.TrapKind.{TrapKind}
 use Rattle.sw_value.specs.Racing.{Racing}
@@ -18,7 +19,10 @@ use Rattle.sw_check_parts.specs.declared.exit.Exit.TheVariants.{Done, Breached, 
 use Rattle.sw_check_parts.specs.declared.exit.Exit.TheVariants.{TooLong}
 use Rattle.sw_check_parts.specs.declared.exit.Exit.TheVariants.{NotWritten, Memory, Trapped}
 use Rattle.sw_check_parts.specs.declared.exit.Exit.TheVariants.{BadSchedule}
-use Rattle.sw_check_parts.specs.declared.exit.Exit.TheVariants.{Raced}
+use Rattle.sw_check_parts.specs.declared.exit.Exit.TheVariants.{Raced, ManyJobs, Unordered}
+use Rattle.sw_hb.specs.Replay.{IsOrderReplay}
+use Rattle.sw_hb.specs.declared.ordering.OrderReplay.{OrderReplay}
+use Rattle.sw_hb.specs.declared.ordering.OrderReplay.TheVariants as replays
 use Rattle.sw_check_parts.specs.declared.TheConstants.{PROGRAM_LIMIT}
 use Rattle.sw_decls.specs.declared.signature.AsyncDefault.{AsyncDefault}
 use Rattle.sw_decls.specs.declared.signature.AsyncDefault.TheVariants.{Concurrent}
@@ -26,7 +30,8 @@ use Rattle.sw_verdict.specs.Phases.{Phase, all_phases, IsGraphOf}
 use Rattle.sw_verdict.specs.Verdict.{Breaches, Refuses}
 use Rattle.sw_replay.specs.Replay.{IsReplay}
 use Rattle.sw_gen.specs.Program.{program}
-use Rattle.sw_check_words.specs.Words.{Action, Check, Run, Trace, Owners, Command, OnFile, Demo}
+use Rattle.sw_check_words.specs.Words.{Action, Check, Run, Trace, Owners, Order, Command, OnFile}
+use Rattle.sw_check_words.specs.Words.{Demo}
 use Rattle.sw_check.specs.Reply.{demo_items, phases_for}
 
 -- The machine of the graph isn't racing after any list of items, of any length.
@@ -59,6 +64,7 @@ schedule_file_in Check = None
 schedule_file_in (Run schedule_file) = Some schedule_file
 schedule_file_in (Trace schedule_file) = Some schedule_file
 schedule_file_in (Owners schedule_file) = Some schedule_file
+schedule_file_in (Order schedule_file) = Some schedule_file
 
 -- that of a command
 abbrev pub schedule_file_of : Command → Option (List ℕ)
@@ -94,6 +100,10 @@ pub data Ending : Type 0 where
   Stands : (end : End) → Ending
   -- two jobs are about to race
   Races : (race : Race) → Ending
+  -- the items make too many jobs
+  Crowds : Ending
+  -- nothing orders these two accesses
+  Clashes : (first second : Access) → Ending
 
 -- how a replay ends that is watched
 abbrev pub ending_by : Output → Option Race → Ending
@@ -117,6 +127,17 @@ pub record EndsSo (rule : AsyncDefault) (text : List ℕ) (AreItems : List ℕ �
   pub are_items : AreItems items
   pub ends : EndsBy graph items
 
+-- how a replay ends that puts accesses in order
+abbrev pub order_ending : OrderReplay → Ending
+order_ending replays.ManyJobs = Crowds
+order_ending (replays.Unordered lines first second) = Clashes first second
+order_ending (replays.Trapped lines kind at) = Stands (ends.Trapped kind at)
+order_ending (replays.Ordered lines accesses) = Stands ends.Ran
+
+abbrev pub OrdersTo : Ending → Graph → List ℕ → Type 0
+OrdersTo ending graph items =
+    (replay : OrderReplay) × IsOrderReplay graph items replay × (ending ≡ order_ending replay)
+
 -- How a command on a file ends that goes to its end. `check` has no schedule, and ends in one way.
 abbrev pub FileEnds : Ending → (List ℕ → List ℕ) → AsyncDefault → List ℕ → Action → Type 0
 FileEnds ending files rule file Check = ending ≡ Stands ends.Ran
@@ -126,6 +147,8 @@ FileEnds ending files rule file (Trace schedule_file) =
     EndsSo rule (files file) (IsItems (files schedule_file)) (TracesTo ending)
 FileEnds ending files rule file (Owners schedule_file) =
     EndsSo rule (files file) (IsItems (files schedule_file)) (RunsTo ending)
+FileEnds ending files rule file (Order schedule_file) =
+    EndsSo rule (files file) (IsItems (files schedule_file)) (OrdersTo ending)
 
 -- how a command ends that goes to its end
 abbrev pub Ends : Ending → (List ℕ → List ℕ) → Command → Type 0
@@ -154,7 +177,7 @@ ScheduleIsBad files command = HasFault files (schedule_file_of command)
 -- what holds of the same command and files. Those that report a failure say nothing of them; they
 -- are no exits of a reply.
 abbrev pub ExitSaysOf : (List ℕ → List ℕ) → Command → Exit → Type 0
--- the program passes, and `check` accepts it, or all items are taken and no trap halts it
+-- the program passes, and `check` accepts it, or all items are taken and no trap halts the machine
 ExitSaysOf files command Done =
     ProgramPasses files command × SecondFits files command × Ends (Stands ends.Ran) files command
 ExitSaysOf files command Breached = ProgramIsRefused files command
@@ -170,6 +193,12 @@ ExitSaysOf files command BadSchedule =
 -- the program passes, and its replay, which is watched, ends with a race
 ExitSaysOf files command Raced = ProgramPasses files command × SecondFits files command
     × (race : Race) × Ends (Races race) files command
+-- the program passes, and the items make too many jobs
+ExitSaysOf files command ManyJobs =
+    ProgramPasses files command × SecondFits files command × Ends Crowds files command
+-- the program passes, and nothing orders two accesses of its replay
+ExitSaysOf files command Unordered = ProgramPasses files command × SecondFits files command
+    × (first : Access) × (second : Access) × Ends (Clashes first second) files command
 ExitSaysOf files command Usage = ⊥
 ExitSaysOf files command NotRead = ⊥
 ExitSaysOf files command NotWritten = ⊥

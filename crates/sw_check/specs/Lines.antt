@@ -45,14 +45,27 @@ unfoldable pub deed : ℕ → Bool → List ℕ
 deed job writes = codes "job "
     ++ (decimal job ++ (if writes then codes " writes" else codes " reads"))
 
--- `LINE:COLUMN: race: job J writes`
-unfoldable pub access_line : List ℕ → Access → List ℕ
-access_line text access = shown_position text access.at
-    ++ (codes ": race: " ++ (deed access.job access.writes ++ line_feed))
+-- `LINE:COLUMN: WORD: job J writes`
+unfoldable pub access_line : List ℕ → List ℕ → Access → List ℕ
+access_line text word access = shown_position text access.at
+    ++ (codes ": " ++ (word ++ (codes ": " ++ (deed access.job access.writes ++ line_feed))))
 
--- the lines of the two accesses, the lower job's first
-unfoldable pub race_lines : List ℕ → Race → List ℕ
-race_lines text race = access_line text race.first ++ access_line text race.second
+-- the lines of two accesses
+unfoldable pub access_lines : List ℕ → List ℕ → Access → Access → List ℕ
+access_lines text word first second = access_line text word first ++ access_line text word second
+
+-- those of a race, the lower job's first
+abbrev pub race_lines : List ℕ → Race → List ℕ
+race_lines text race = access_lines text (codes "race") race.first race.second
+
+-- those of accesses that nothing orders, the earlier first
+abbrev pub unordered_lines : List ℕ → Access → Access → List ℕ
+unordered_lines text first second = access_lines text (codes "unordered") first second
+
+-- `ordered: A accesses`: how many accesses there are
+unfoldable pub ordered_line : ℕ → List ℕ
+ordered_line accesses =
+    codes "ordered: " ++ (decimal accesses ++ (codes " accesses" ++ line_feed))
 
 -- what is wrong with a schedule's text
 abbrev pub schedule_text : SchedFault → List ℕ

@@ -27,11 +27,16 @@ use Rattle.sw_replay.specs.Replay.{IsReplay}
 use Rattle.sw_owners.specs.declared.replaying.OwnerReplay.{OwnerReplay}
 use Rattle.sw_owners.specs.Lines.{owner_lines}
 use Rattle.sw_owners.specs.Replay.{owner_replay}
+use Rattle.sw_hb.specs.Replay.{IsOrderReplay}
+use Rattle.sw_hb.specs.declared.ordering.OrderReplay.{OrderReplay}
+use Rattle.sw_hb.specs.declared.ordering.OrderReplay.TheVariants as replays
 use Rattle.sw_check.specs.Programs.{Passed}
-use Rattle.sw_check.specs.Lines.{demo_line, summary, trap_line, race_lines, schedule_line}
+use Rattle.sw_check.specs.Lines.{demo_line, ordered_line, race_lines, schedule_line, summary}
+use Rattle.sw_check.specs.Lines.{trap_line, unordered_lines}
 use Rattle.sw_gen.specs.Program.{program}
 use Rattle.sw_gen.specs.Schedule.{runs}
-use Rattle.sw_check_words.specs.Words.{Action, Check, Run, Trace, Owners, Command, OnFile, Demo}
+use Rattle.sw_check_words.specs.Words.{Action, Check, Run, Trace, Owners, Order, Command, OnFile}
+use Rattle.sw_check_words.specs.Words.{Demo}
 
 -- the one line about words that have no form
 abbrev pub usage : Outcome
@@ -93,6 +98,18 @@ watched_outcome text output (Some race) =
 abbrev pub replay_outcome : List ℕ → Replay → Outcome
 replay_outcome text replay = watched_outcome text replay.output replay.race
 
+-- Items that were taken whatever races there are: they make too many jobs, or the first two accesses
+-- that nothing orders are the last lines, or a trap halted the machine, or each access is ordered.
+abbrev pub order_outcome : List ℕ → OrderReplay → Outcome
+order_outcome text replays.ManyJobs =
+    record { exit = exits.ManyJobs; bytes = codes "order: more than 256 jobs" ++ line_feed }
+order_outcome text (replays.Unordered lines first second) =
+    record { exit = exits.Unordered; bytes = lines ++ unordered_lines text first second }
+order_outcome text (replays.Trapped lines kind at) =
+    record { exit = exits.Trapped; bytes = lines ++ trap_line text kind at }
+order_outcome text (replays.Ordered lines accesses) =
+    record { exit = exits.Done; bytes = lines ++ ordered_line accesses }
+
 -- The part ends with this reply.
 abbrev pub EndsWithReply : Outcome → Result Outcome Outcome → Type 0
 EndsWithReply outcome result = result ≡ Ok outcome
@@ -121,6 +138,12 @@ pub data Traces (text : List ℕ) (graph : Graph) (items : List ℕ)
   ends : (replay : Replay) → IsReplay graph items replay
       → Traces text graph items (Ok (replay_outcome text replay))
 
+-- It takes all of them, and this is answered about the order of the accesses.
+pub data Orders (text : List ℕ) (graph : Graph) (items : List ℕ)
+    : Result Outcome Outcome → Type 0 where
+  in_order : (replay : OrderReplay) → IsOrderReplay graph items replay
+      → Orders text graph items (Ok (order_outcome text replay))
+
 -- The coloured machine takes them, all of them, and the answer of a run is followed by the lines on
 -- who owns the coloured cells.
 abbrev pub owners_reply : List ℕ → Passed → List ℕ → Outcome
@@ -148,6 +171,7 @@ phases_for Check = all_phases
 phases_for (Run schedule_file) = all_phases
 phases_for (Trace schedule_file) = phases_to_size
 phases_for (Owners schedule_file) = all_phases
+phases_for (Order schedule_file) = phases_to_size
 
 -- What follows the verdict on a text that has a graph. A program of which all phases find nothing
 -- never races, and its run isn't watched.
@@ -156,6 +180,7 @@ after_verdict Check text passed = Alone (EndsWithReply accepted)
 after_verdict (Run schedule_file) text passed = by_items schedule_file (Runs text passed.graph)
 after_verdict (Trace schedule_file) text passed = by_items schedule_file (Traces text passed.graph)
 after_verdict (Owners schedule_file) text passed = by_items schedule_file (Owns text passed)
+after_verdict (Order schedule_file) text passed = by_items schedule_file (Orders text passed.graph)
 
 -- A program is fetched and judged by the phases that count, and then comes what follows the verdict.
 abbrev pub file_course : AsyncDefault → List ℕ → Action → Part Outcome
@@ -198,6 +223,9 @@ file_exits (Owners schedule_file) = run_exits
 file_exits (Trace schedule_file) =
     exits.TooLong ∷ exits.Breached ∷ exits.BadSchedule ∷ exits.Done ∷ exits.Trapped ∷ exits.Raced
     ∷ []
+file_exits (Order schedule_file) =
+    exits.TooLong ∷ exits.Breached ∷ exits.BadSchedule ∷ exits.Done ∷ exits.Trapped ∷ exits.ManyJobs
+    ∷ exits.Unordered ∷ []
 
 -- the exits of the replies to `demo`
 abbrev pub demo_exits : List Exit

@@ -9,7 +9,7 @@ ghost use Rattle.sw_check.specs.Reply.{after_verdict, course_of, demo_course, fi
 ghost use Rattle.sw_check.specs.Reply.{phases_for};
 ghost use Rattle.sw_check.specs.Programs.{seen_graph};
 
-use crate::parts::{Phases, demonstrate, judged, owners, run, scheduled, trace};
+use crate::parts::{Phases, demonstrate, judged, order, owners, run, scheduled, trace};
 use std::alloc::Global;
 use sw_check_parts::{Exit, Outcome, PROGRAM_LIMIT, Stop, fetch, lines};
 use sw_check_words::{Action, Command, read};
@@ -26,7 +26,7 @@ fn phases_for(action: Action<'_>) -> Phases
 {
     match action {
         Action::Check | Action::Run { .. } | Action::Owners { .. } => Phases::All,
-        Action::Trace { .. } => Phases::ToSize,
+        Action::Trace { .. } | Action::Order { .. } => Phases::ToSize,
     }
 }
 
@@ -65,6 +65,10 @@ fn after_verdict<S: Shelf>(
         Action::Owners { schedule_file } => {
             let items = items_in(alloc, schedule_file, shelf)?;
             Ok(owners(alloc, text, made, &items)?)
+        }
+        Action::Order { schedule_file } => {
+            let items = items_in(alloc, schedule_file, shelf)?;
+            Ok(order(alloc, text, &made.graph, &items)?)
         }
     }
 }

@@ -19,7 +19,7 @@ ghost use Rattle.sw_check.specs.Call.{Interrupted, Replied, Unanswered};
 ghost use Rattle.sw_check.specs.Claims.{NeverRaces, ExitSays, ProgramFits, default_of, phases_of};
 ghost use Rattle.sw_check.specs.Claims.{program_of};
 ghost use Rattle.sw_check.specs.Reply.{Reply, exits_of};
-ghost use Rattle.sw_check_words.specs.Words.{Check, Command, OnFile, command_in};
+ghost use Rattle.sw_check_words.specs.Words.{Check, Command, OnFile, Order, command_in};
 
 mod commands;
 mod laws;
@@ -27,7 +27,7 @@ mod lines;
 mod parts;
 mod reply;
 
-pub use laws::{program_limit, words_have_one_reply};
+pub use laws::{order_limit, program_limit, words_have_one_reply};
 use reply::{NoReply, reply};
 use std::alloc::Global;
 use sw_check_parts::write_all;
@@ -102,6 +102,12 @@ pub fn run_words<S: Shelf, K: Sink>(
     // No command for which all phases count stops at a race, whatever the files hold.
     ensures not_raced { (command : Command) → command_in words.now.items ≡ Some command
         → phases_of command ≡ all_phases → result ≢ Exit.Raced }
+
+    // `order` names no two accesses of a program that is accepted.
+    ensures ordered { (known : KnownShelf) (rule : AsyncDefault) (file schedule_file : List ℕ)
+        → S.known shelf.old ≡ Some known
+        → command_in words.now.items ≡ Some (OnFile rule file (Order schedule_file))
+        → Accepts rule (file_of known.files file) → result ≢ Exit.Unordered }
 
     // After a failed fetch the command is under way, and the file whose fetch failed was requested.
     ensures not_read { result ≡ Exit.NotRead

@@ -2,9 +2,10 @@
 
 ghost use Rattle.std.specs.Prelude.{◌≡◌, ◌<◌, IfOk, length, string_bytes};
 ghost use Rattle.sw_replay.specs.Items.{position_of};
-ghost use Rattle.sw_check.specs.Lines.{access_line, deed, demo_line, line_count, race_lines};
-ghost use Rattle.sw_check.specs.Lines.{schedule_line, schedule_text};
-ghost use Rattle.sw_check.specs.Lines.{summary, trap_line, trap_text};
+ghost use Rattle.sw_check.specs.Lines.{access_line, access_lines, deed, demo_line, line_count};
+ghost use Rattle.sw_check.specs.Lines.{ordered_line, race_lines};
+ghost use Rattle.sw_check.specs.Lines.{schedule_line, schedule_text, summary, trap_line, trap_text};
+ghost use Rattle.sw_check.specs.Lines.{unordered_lines};
 
 use std::alloc::{AllocError, Global};
 use sw_replay::{Output, SchedFault};
@@ -79,26 +80,67 @@ fn deed(alloc: Global, job: u32, writes: bool) -> Result<String, AllocError>
     }
 }
 
-/// The line about an access of the program with the text `bytes`.
+/// The line about an access of the program with the text `bytes`; the word says what is wrong.
 #[tactic(auto, unfolding(crate::specs::Lines::access_line))]
-fn access_line(alloc: Global, bytes: &[u8], access: Access) -> Result<String, AllocError>
+fn access_line(
+    alloc: Global,
+    bytes: &[u8],
+    word: &str,
+    access: Access,
+) -> Result<String, AllocError>
     requires { length bytes.now < 4294967295 }
-    ensures { IfOk result (λ text. string_bytes text ≡ access_line bytes.now access) }
+    ensures { IfOk result (λ text. string_bytes text ≡ access_line bytes.now word.now access) }
 {
     let position = shown_position(alloc, bytes, access.at)?;
     let deed = deed(alloc, access.job, access.writes)?;
-    format!(in alloc; "{position}: race: {deed}\n")
+    format!(in alloc; "{position}: {word}: {deed}\n")
+}
+
+/// The lines about two accesses.
+#[tactic(auto, unfolding(crate::specs::Lines::access_lines))]
+fn access_lines(
+    alloc: Global,
+    bytes: &[u8],
+    word: &str,
+    first: Access,
+    second: Access,
+) -> Result<String, AllocError>
+    requires { length bytes.now < 4294967295 }
+    ensures { IfOk result (λ text.
+        string_bytes text ≡ access_lines bytes.now word.now first second) }
+{
+    let first = access_line(alloc, bytes, word, first)?;
+    let second = access_line(alloc, bytes, word, second)?;
+    format!(in alloc; "{first}{second}")
 }
 
 /// The lines about the two accesses of a race.
-#[tactic(auto, unfolding(crate::specs::Lines::race_lines))]
 pub fn race_lines(alloc: Global, bytes: &[u8], race: Race) -> Result<String, AllocError>
     requires { length bytes.now < 4294967295 }
     ensures { IfOk result (λ text. string_bytes text ≡ race_lines bytes.now race) }
 {
-    let first = access_line(alloc, bytes, race.first)?;
-    let second = access_line(alloc, bytes, race.second)?;
-    format!(in alloc; "{first}{second}")
+    access_lines(alloc, bytes, "race", race.first, race.second)
+}
+
+/// The lines about two accesses that nothing orders.
+pub fn unordered_lines(
+    alloc: Global,
+    bytes: &[u8],
+    first: Access,
+    second: Access,
+) -> Result<String, AllocError>
+    requires { length bytes.now < 4294967295 }
+    ensures { IfOk result (λ text. string_bytes text ≡ unordered_lines bytes.now first second) }
+{
+    access_lines(alloc, bytes, "unordered", first, second)
+}
+
+/// `ordered: A accesses`.
+#[tactic(auto, unfolding(crate::specs::Lines::ordered_line))]
+pub fn ordered_line(alloc: Global, accesses: u64) -> Result<String, AllocError>
+    ensures { IfOk result (λ text. string_bytes text ≡ ordered_line accesses) }
+{
+    format!(in alloc; "ordered: {accesses} accesses\n")
 }
 
 /// The byte offset that a fault of a schedule names.

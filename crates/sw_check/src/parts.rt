@@ -8,18 +8,22 @@ ghost use Rattle.sw_verdict.specs.Phases.{all_phases, phases_to_size};
 ghost use Rattle.sw_check.specs.Lines.{schedule_line};
 ghost use Rattle.sw_check.specs.Phases.{list_of};
 ghost use Rattle.sw_check.specs.Programs.{seen_graph, seen_result};
-ghost use Rattle.sw_check.specs.Reply.{IsJudgement, Owns, Runs, Scheduled, Traces};
-ghost use Rattle.sw_check.specs.Reply.{bad_schedule_outcome, demo_outcome, refusal, replay_outcome, run_outcome};
+ghost use Rattle.sw_check.specs.Reply.{IsJudgement, Orders, Owns, Runs, Scheduled, Traces};
+ghost use Rattle.sw_check.specs.Reply.{bad_schedule_outcome, demo_outcome, order_outcome, refusal};
+ghost use Rattle.sw_check.specs.Reply.{replay_outcome, run_outcome};
 ghost use Rattle.sw_replay.specs.Output.{output_of};
 ghost use Rattle.sw_gen.specs.Program.{program};
 
-use crate::lines::{demo_line, race_lines, schedule_line, summary, trap_line};
+use crate::lines::{
+    demo_line, ordered_line, race_lines, schedule_line, summary, trap_line, unordered_lines,
+};
 use std::alloc::{AllocError, Global};
 use sw_breach::{Breach, render};
 use sw_check_parts::{Exit, Outcome, PROGRAM_LIMIT, Stop, lines, with_last_line};
 use sw_check_text::{Verdict, check_text};
 use sw_decls::AsyncDefault;
 use sw_graph::Graph;
+use sw_hb::{OrderReplay, order_replay};
 use sw_list::ListOf;
 use sw_owners::{OwnerReplay, color_replay, owner_lines};
 use sw_replay::{
@@ -204,6 +208,53 @@ pub fn trace(
 {
     let replay = replay(alloc, graph, items)?;
     trace_ending(alloc, text, replay)
+}
+
+/// The reply about a replay whose accesses were put in order.
+fn order_ending(alloc: Global, text: &[u8], replay: OrderReplay) -> Result<Outcome, AllocError>
+    requires { length text.now ≤ PROGRAM_LIMIT }
+    ensures { IfOk result (λ outcome. outcome ≡ order_outcome text.now replay) }
+{
+    match replay {
+        OrderReplay::ManyJobs => lines(alloc, Exit::ManyJobs, "order: more than 256 jobs\n"),
+        OrderReplay::Unordered {
+            lines: printed,
+            first,
+            second,
+        } => {
+            let last = unordered_lines(alloc, text, first, second)?;
+            with_last_line(Exit::Unordered, printed, last.as_str())
+        }
+        OrderReplay::Trapped {
+            lines: printed,
+            kind,
+            at,
+        } => {
+            let last = trap_line(alloc, text, kind, at)?;
+            with_last_line(Exit::Trapped, printed, last.as_str())
+        }
+        OrderReplay::Ordered {
+            lines: printed,
+            accesses,
+        } => {
+            let last = ordered_line(alloc, accesses)?;
+            with_last_line(Exit::Done, printed, last.as_str())
+        }
+    }
+}
+
+/// The reply to a replay of a graph by all items about the order of its accesses.
+pub fn order(
+    alloc: Global,
+    text: &[u8],
+    graph: &Graph,
+    items: &Schedule,
+) -> Result<Outcome, AllocError>
+    requires { length text.now ≤ PROGRAM_LIMIT }
+    ensures { IfOk result (λ outcome. Orders text.now graph.now items.now (Ok outcome)) }
+{
+    let replay = order_replay(alloc, graph, items)?;
+    order_ending(alloc, text, replay)
 }
 
 /// The reply to a run of the program that was generated for a number of actors, by its graph.

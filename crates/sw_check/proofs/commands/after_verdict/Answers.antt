@@ -3,7 +3,7 @@ use Rattle.std.proofs.lemmas.Result.{err_from_is_err_and}
 use Rattle.sw_check_parts.specs.declared.stop.Stop.TheVariants.{Memory}
 use Rattle.sw_check_parts.proofs.Doing.{does_on, does_stop, does_alone}
 use Rattle.sw_check.specs.Programs.{seen_graph}
-use Rattle.sw_check.specs.Reply.{EndsWithReply, Owns, Runs, Traces, accepted}
+use Rattle.sw_check.specs.Reply.{EndsWithReply, Orders, Owns, Runs, Traces, accepted}
 use Rattle.sw_check.proofs.commands.after_verdict.Goals as goal
 
 pub returns-in_err-lines-in-Check : goal.returns-in_err-lines-in-Check
@@ -82,3 +82,25 @@ returns-in_ok-owners-in-Owners g c =
     rw c.in-Owners.is
     (does_on c.in_ok-items-in-Owners.ensures
     (does_alone Answers (Ok c.in_ok-owners-in-Owners.field-0) c.in_ok-owners-in-Owners.ensures))
+
+pub returns-in_err-items-in-Order : goal.returns-in_err-items-in-Order
+returns-in_err-items-in-Order g c =
+    let p = err_from_is_err_and c.from_residual-in_err-items-in-Order.result
+    c.from_residual-in_err-items-in-Order.ensures.1 in
+    rw (p.1, p.2, c.in-Order.is)
+    (does_stop _ c.in_err-items-in-Order.field-0.0 c.in_err-items-in-Order.ensures)
+
+pub returns-in_err-order-in-Order : goal.returns-in_err-order-in-Order
+returns-in_err-order-in-Order g c =
+    let p = err_from_is_err_and c.from_residual-in_err-order-in-Order.result
+    c.from_residual-in_err-order-in-Order.ensures.1 in
+    let Answers = Orders c.args.text.now c.args.made.now.graph c.in_ok-items-in-Order.items in
+    rw (p.1, p.2, c.in-Order.is)
+    (does_on c.in_ok-items-in-Order.ensures (does_alone Answers (Err Memory) tt))
+
+pub returns-in_ok-order-in-Order : goal.returns-in_ok-order-in-Order
+returns-in_ok-order-in-Order g c =
+    let Answers = Orders c.args.text.now c.args.made.now.graph c.in_ok-items-in-Order.items in
+    rw c.in-Order.is
+    (does_on c.in_ok-items-in-Order.ensures
+    (does_alone Answers (Ok c.in_ok-order-in-Order.field-0) c.in_ok-order-in-Order.ensures))
