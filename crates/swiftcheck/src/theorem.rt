@@ -49,6 +49,8 @@ ghost use Rattle.sw_replay.specs.Output.{output_of};
 ghost use Rattle.sw_replay.specs.Replay.{IsRacingAt, IsReplay};
 ghost use Rattle.sw_replay.specs.declared.output.Replay.{Replay};
 ghost use Rattle.sw_replay.specs.declared.text.SchedFault.{SchedFault};
+ghost use Rattle.sw_hb.specs.Replay.{IsOrderReplay};
+ghost use Rattle.sw_hb.specs.declared.ordering.OrderReplay.{OrderReplay};
 ghost use Rattle.sw_region_ops.specs.declared.op.TheConstants.{ISOLATED_TO_ACTOR, ISOLATED_TO_TASK};
 ghost use Rattle.sw_region_ops.specs.declared.op.TheConstants.{NOT_DISCONNECTED};
 ghost use Rattle.sw_region_flow.specs.Breaches.{AreBreaches};
@@ -69,6 +71,7 @@ ghost use Rattle.sw_check.specs.Reply.{Reply, course_of};
 ghost use Rattle.sw_check_words.specs.Words.{Command};
 
 use sw_check::{PROGRAM_LIMIT, Verdict};
+use sw_clocks::MOST_JOBS;
 use sw_graph::{MAX_POINTS, MAX_REGISTERS};
 use sw_replay::{MAX_ITEMS, SCHEDULE_LIMIT};
 use sw_token::MOST_TOKENS;
@@ -437,6 +440,17 @@ pub fn items_have_one_replay()
     sw_replay::items_have_one_replay()
 }
 
+/// Every list of items has one of the four outcomes of accesses that are put in order, for every
+/// graph: too many jobs, a first pair that is unordered, a trap, or ordered accesses.
+pub fn items_have_one_order()
+    ensures some { (graph : Graph) (items : List ℕ)
+        → (replay : OrderReplay) × IsOrderReplay graph items replay }
+    ensures one { (graph : Graph) (items : List ℕ) (a b : OrderReplay)
+        → IsOrderReplay graph items a → IsOrderReplay graph items b → a ≡ b }
+{
+    sw_hb::items_have_one_order()
+}
+
 /// Over any files the words have one reply, and the same files are read for it.
 pub fn words_have_one_reply()
     ensures some_reply { (command : Option Command) (files : List ℕ → List ℕ)
@@ -470,6 +484,13 @@ pub fn program_limit()
     ensures bytes { PROGRAM_LIMIT ≡ 262144 }
 {
     sw_check::program_limit()
+}
+
+/// The number of jobs up to which their accesses are put in order.
+pub fn order_limit()
+    ensures jobs { MOST_JOBS ≡ 256 }
+{
+    sw_check::order_limit()
 }
 
 /// The limit that the definitions of tokens take from here.
