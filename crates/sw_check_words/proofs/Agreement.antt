@@ -11,13 +11,15 @@ use Rattle.clap.specs.Kinds.{Kinds, or_else}
 use Rattle.clap.proofs.OnLiterals.{clap_on_literals}
 use Rattle.clap.proofs.FaultLemmas.{stopped_fault}
 use Rattle.clap.proofs.WalkLemmas.{walk_stopped}
-use Rattle.sw_check_words.specs.Tool.{tool, check_app, replay_app, demo_app}
-use Rattle.sw_check_words.specs.Words.{Run, Trace, Owners, Order, command_of, form_of}
+use Rattle.sw_check_words.specs.Tool.{tool, check_app, pair_app, demo_app}
+use Rattle.sw_check_words.specs.Words.{Verify, Run, Trace, Owners, Order, command_of}
+use Rattle.sw_check_words.specs.Words.{form_of}
 use Rattle.sw_check_words.specs.Read.{command_by, read_rows}
-use Rattle.sw_check_words.proofs.Leaves.{IsWord, name, option, Agrees, taken, refused, leaf}
-use Rattle.sw_check_words.proofs.Leaves.{leaf_fault, leaf_rows, names_in, others_in}
+use Rattle.sw_check_words.proofs.Leaves.{IsWord, name, default_option, certificate_option}
+use Rattle.sw_check_words.proofs.Leaves.{Agrees, taken, refused, leaf, leaf_fault, leaf_rows}
+use Rattle.sw_check_words.proofs.Leaves.{names_in, others_in}
 use Rattle.sw_check_words.proofs.Checks.{check_agrees}
-use Rattle.sw_check_words.proofs.Replays.{replay_agrees}
+use Rattle.sw_check_words.proofs.Pairs.{pair_agrees}
 use Rattle.sw_check_words.proofs.Demos.{demo_agrees}
 
 -- `tool` is a command of which `clap` says exactly what it does
@@ -56,7 +58,17 @@ to_check words = record {
   rows = rw (← walk_stopped rules verbs start (codes "check") [] words) refl;
 }
 
-to_run : (words : List Text) → GoesTo (codes "run") (replay_app (codes "run")) words
+to_verify : (words : List Text) → GoesTo (codes "verify") (pair_app (codes "verify")) words
+unfolding clap_on_literals
+to_verify words = record {
+  fault = rw (
+    ← walk_stopped rules verbs start (codes "verify") [] words,
+    stopped_fault (built tool).top verbs start (codes "verify", []) words,
+  ) (or_nothing _);
+  rows = rw (← walk_stopped rules verbs start (codes "verify") [] words) refl;
+}
+
+to_run : (words : List Text) → GoesTo (codes "run") (pair_app (codes "run")) words
 unfolding clap_on_literals
 to_run words = record {
   fault = rw (
@@ -66,7 +78,7 @@ to_run words = record {
   rows = rw (← walk_stopped rules verbs start (codes "run") [] words) refl;
 }
 
-to_trace : (words : List Text) → GoesTo (codes "trace") (replay_app (codes "trace")) words
+to_trace : (words : List Text) → GoesTo (codes "trace") (pair_app (codes "trace")) words
 unfolding clap_on_literals
 to_trace words = record {
   fault = rw (
@@ -76,7 +88,7 @@ to_trace words = record {
   rows = rw (← walk_stopped rules verbs start (codes "trace") [] words) refl;
 }
 
-to_owners : (words : List Text) → GoesTo (codes "owners") (replay_app (codes "owners")) words
+to_owners : (words : List Text) → GoesTo (codes "owners") (pair_app (codes "owners")) words
 unfolding clap_on_literals
 to_owners words = record {
   fault = rw (
@@ -86,7 +98,7 @@ to_owners words = record {
   rows = rw (← walk_stopped rules verbs start (codes "owners") [] words) refl;
 }
 
-to_order : (words : List Text) → GoesTo (codes "order") (replay_app (codes "order")) words
+to_order : (words : List Text) → GoesTo (codes "order") (pair_app (codes "order")) words
 unfolding clap_on_literals
 to_order words = record {
   fault = rw (
@@ -129,6 +141,7 @@ module _ (words : List Text) (are : AllByRecursion IsWord words) where
   -- the first word is no command
   unknown : (first : ℕ) (rest : List ℕ) → (first == 45) ≡ false
       → bytes_eq (codes "check") (first ∷ rest) ≡ false
+      → bytes_eq (codes "verify") (first ∷ rest) ≡ false
       → bytes_eq (codes "run") (first ∷ rest) ≡ false
       → bytes_eq (codes "trace") (first ∷ rest) ≡ false
       → bytes_eq (codes "owners") (first ∷ rest) ≡ false
@@ -136,24 +149,26 @@ module _ (words : List Text) (are : AllByRecursion IsWord words) where
       → bytes_eq (codes "demo") (first ∷ rest) ≡ false
       → AgreesOn ((first ∷ rest) ∷ words)
   unfolding clap_on_literals command_of
-  unknown first rest e check run trace owners order demo =
-      refused (simp (check, run, trace, owners, order, demo, e) refl)
-      (simp (check, run, trace, owners, order, demo) refl)
+  unknown first rest e check verify run trace owners order demo =
+      refused (simp (check, verify, run, trace, owners, order, demo, e) refl)
+      (simp (check, verify, run, trace, owners, order, demo) refl)
 
   first_word : (first : ℕ) (rest : List ℕ) → (first == 45) ≡ false
       → AgreesOn ((first ∷ rest) ∷ words)
   first_word first rest e =
       by (codes "check") check_app (to_check words) (check_agrees words are) (λ check.
-      by (codes "run") (replay_app (codes "run")) (to_run words)
-      (replay_agrees (codes "run") Run words are) (λ run.
-      by (codes "trace") (replay_app (codes "trace")) (to_trace words)
-      (replay_agrees (codes "trace") Trace words are) (λ trace.
-      by (codes "owners") (replay_app (codes "owners")) (to_owners words)
-      (replay_agrees (codes "owners") Owners words are) (λ owners.
-      by (codes "order") (replay_app (codes "order")) (to_order words)
-      (replay_agrees (codes "order") Order words are) (λ order.
+      by (codes "verify") (pair_app (codes "verify")) (to_verify words)
+      (pair_agrees (codes "verify") Verify words are) (λ verify.
+      by (codes "run") (pair_app (codes "run")) (to_run words)
+      (pair_agrees (codes "run") Run words are) (λ run.
+      by (codes "trace") (pair_app (codes "trace")) (to_trace words)
+      (pair_agrees (codes "trace") Trace words are) (λ trace.
+      by (codes "owners") (pair_app (codes "owners")) (to_owners words)
+      (pair_agrees (codes "owners") Owners words are) (λ owners.
+      by (codes "order") (pair_app (codes "order")) (to_order words)
+      (pair_agrees (codes "order") Order words are) (λ order.
       by (codes "demo") demo_app (to_demo words) (demo_agrees words are) (λ demo.
-      unknown first rest e check run trace owners order demo)))))) where
+      unknown first rest e check verify run trace owners order demo))))))) where
         -- the first word is the name of this command, or another
         by : (verb : List ℕ) (app : App) → GoesTo verb app words
             → Agrees (form_of verb (names_in words) (others_in words)) (leaf_fault (leaf app) words)
@@ -168,5 +183,6 @@ module _ (words : List Text) (are : AllByRecursion IsWord words) where
 pub agreed : (words : List Text) → AllByRecursion IsWord words → AgreesOn words
 unfolding clap_on_literals command_of
 agreed [] _ = taken refl refl
-agreed (_ ∷ words) (option, are) = refused refl refl
+agreed (_ ∷ words) (default_option, are) = refused refl refl
+agreed (_ ∷ words) (certificate_option, are) = refused refl refl
 agreed (_ ∷ words) (name first rest e, are) = first_word words are first rest e

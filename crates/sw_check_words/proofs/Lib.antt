@@ -3,5 +3,5 @@ pub mod Checks
 pub mod Demos
 pub mod Found
 pub mod Leaves
-pub mod Replays
+pub mod Pairs
 pub mod Standing

@@ -1,24 +1,36 @@
 -- Words that may stand, and lists in which some word may not.
-use Rattle.std.proofs.Common.{◌≡◌, ◌==◌, ℕ, Bool, true, false, ◌&&◌, List, [], ◌∷◌}
-use Rattle.std.proofs.Common.{map}
+use Rattle.std.proofs.Common.{◌≡◌, ◌==◌, ℕ, Bool, true, false, ◌&&◌, ◌||◌, List, [], ◌∷◌}
+use Rattle.std.proofs.Common.{map, not, option_map}
 use Rattle.std.proofs.Common.{None, refl, sym, ap, subst, bytes_eq, codes, if◌then◌else◌, Option}
 use Rattle.std.specs.List.{AllByRecursion, list_all}
 use Rattle.std.specs.Cmp.{unsigned_Decides}
 use Rattle.std.proofs.lemmas.Slice.Eq.{bytes_eq-Decides}
-use Rattle.sw_check_words.specs.Words.{Command, Run, Trace, Owners, Order, command_of, file_form}
-use Rattle.sw_check_words.specs.Words.{check_form}
-use Rattle.sw_check_words.specs.Words.{replay_form, demo_form, default_by, is_name, may_stand}
-use Rattle.sw_check_words.specs.Words.{nonsending_default}
-use Rattle.sw_check_words.proofs.Leaves.{IsWord, name, option, names_in, others_in}
+use Rattle.sw_check_words.specs.Words.{Action, Command, Verify, Run, Trace, Owners, Order}
+use Rattle.sw_check_words.specs.Words.{are_options, certificate, check_form, check_options}
+use Rattle.sw_check_words.specs.Words.{command_of, demo_form, file_form, file_options, is_among}
+use Rattle.sw_check_words.specs.Words.{is_name, may_stand, nonsending_default, pair_form}
+use Rattle.sw_check_words.proofs.Leaves.{IsWord, name, default_option, certificate_option}
+use Rattle.sw_check_words.proofs.Leaves.{names_in, others_in, wrong_behind}
+
+-- a word that is one of the options
+option_of : (word : List ℕ) → is_among check_options word ≡ true → IsWord word
+option_of word e = by (bytes_eq word certificate) refl where
+  default_of : (is : Bool) → bytes_eq word nonsending_default ≡ is → (is || false) ≡ true
+      → IsWord word
+  default_of true is e =
+      subst IsWord (sym ((bytes_eq-Decides word nonsending_default).0 is)) default_option
+  default_of false is e = cc (e)
+
+  by : (is : Bool) → bytes_eq word certificate ≡ is → IsWord word
+  by true is = subst IsWord (sym ((bytes_eq-Decides word certificate).0 is)) certificate_option
+  by false is = default_of (bytes_eq word nonsending_default) refl (rw is at e)
 
 word_of : (word : List ℕ) → may_stand word ≡ true → IsWord word
 word_of [] e = cc
 word_of (first ∷ rest) e = by (first == 45) refl where
   by : (hyphen : Bool) → (first == 45) ≡ hyphen → IsWord (first ∷ rest)
   by false is = name first rest is
-  by true is =
-      let same : bytes_eq (first ∷ rest) nonsending_default ≡ true = rw is (rw is at e) in
-      subst IsWord (sym ((bytes_eq-Decides (first ∷ rest) nonsending_default).0 same)) option
+  by true is = option_of (first ∷ rest) (rw is (rw is at e))
 
 -- each word may stand
 pub stand : (words : List (List ℕ)) → list_all may_stand words ≡ true → AllByRecursion IsWord words
@@ -30,63 +42,80 @@ stand (word ∷ words) e = by (may_stand word) refl (stand words) where
   by true is others = (word_of word is, others (rw is at e))
   by false is others = let no : false ≡ true = rw is at e in cc (no)
 
--- Words that aren't names name no default, and there are some.
+-- Some word isn't an option of any command: there is a word that isn't a name, and those that
+-- aren't are no options.
 record Bad (others : List (List ℕ)) : Type 0 where
   first : List ℕ
   rest : List (List ℕ)
   is : others ≡ first ∷ rest
-  none : default_by others ≡ None
+  of_check : are_options check_options others ≡ false
+  of_file : are_options file_options others ≡ false
 
-no_option : (word : List ℕ) (others : List (List ℕ)) → bytes_eq word nonsending_default ≡ false
-    → default_by (word ∷ others) ≡ None
-no_option word [] e = rw e refl
-no_option word (second ∷ others) e = refl
+-- after such words, too
+bad_behind : (word : List ℕ) (others : List (List ℕ)) → Bad others → Bad (word ∷ others)
+bad_behind word others bad = record {
+  first = word;
+  rest = others;
+  is = refl;
+  of_check = wrong_behind check_options word others bad.of_check;
+  of_file = wrong_behind file_options word others bad.of_file;
+}
 
-two_others : (word : List ℕ) (others : List (List ℕ)) → Bad others
-    → default_by (word ∷ others) ≡ None
-two_others word others bad = rw bad.is refl
+-- the options of the other commands are options of `check`
+of_check_too : (certificate default : Bool) → (certificate || (default || false)) ≡ false
+    → (default || false) ≡ false
+of_check_too true default e = cc (e)
+of_check_too false default e = e
+
+bad_first : (word : List ℕ) (others : List (List ℕ)) → is_among check_options word ≡ false
+    → Bad (word ∷ others)
+bad_first word others none =
+    let none_of_file = of_check_too (bytes_eq word certificate) (bytes_eq word nonsending_default)
+    none in
+    record {
+      first = word;
+      rest = others;
+      is = refl;
+      of_check = rw none refl;
+      of_file = rw none_of_file refl;
+    }
 
 bad_others : (words : List (List ℕ)) → list_all may_stand words ≡ false → Bad (others_in words)
 bad_others [] e = cc
 bad_others (word ∷ words) e = by (is_name word) refl (bad_others words) where
-  by_option : is_name word ≡ false → (is : Bool) → bytes_eq word nonsending_default ≡ is
+  by_option : is_name word ≡ false → (is : Bool) → is_among check_options word ≡ is
       → (list_all may_stand words ≡ false → Bad (others_in words))
       → Bad (others_in (word ∷ words))
-  by_option not_name false other others = rw not_name (record {
-    first = word;
-    rest = others_in words;
-    is = refl;
-    none = no_option word (others_in words) other;
-  })
-  by_option not_name true same others = rw not_name (record {
-    first = word;
-    rest = others_in words;
-    is = refl;
-    none = two_others word (others_in words) (others (rw (not_name, same) at e));
-  })
+  by_option not_name false other others = rw not_name (bad_first word (others_in words) other)
+  by_option not_name true same others =
+      rw not_name (bad_behind word (others_in words) (others (rw (not_name, same) at e)))
 
   by : (named : Bool) → is_name word ≡ named
       → (list_all may_stand words ≡ false → Bad (others_in words))
       → Bad (others_in (word ∷ words))
   by true is others = rw is (others (rw is at e))
-  by false is others = by_option is (bytes_eq word nonsending_default) refl others
+  by false is others = by_option is (is_among check_options word) refl others
 
--- under no default and beside no number there is no form
-no_form_by : (check run trace owners order demo : Bool) (names others : List (List ℕ))
-    → default_by others ≡ None → demo_form names others ≡ None
-    → ◌≡◌ {A = Option Command} (if check then file_form (check_form names) others
-    else if run then file_form (replay_form Run names) others
-    else if trace then file_form (replay_form Trace names) others
-    else if owners then file_form (replay_form Owners names) others
-    else if order then file_form (replay_form Order names) others
+-- beside words that are no options there is no form
+no_form_by : (check verify run trace owners order demo : Bool) (names others : List (List ℕ))
+    → are_options check_options others ≡ false → are_options file_options others ≡ false
+    → demo_form names others ≡ None
+    → ◌≡◌ {A = Option Command} (if check
+    then file_form check_options (check_form others names) others
+    else if verify then file_form file_options (pair_form Verify names) others
+    else if run then file_form file_options (pair_form Run names) others
+    else if trace then file_form file_options (pair_form Trace names) others
+    else if owners then file_form file_options (pair_form Owners names) others
+    else if order then file_form file_options (pair_form Order names) others
     else if demo then demo_form names others else None) None
-no_form_by true run trace owners order demo names others no_default _ = rw no_default refl
-no_form_by false true trace owners order demo names others no_default _ = rw no_default refl
-no_form_by false false true owners order demo names others no_default _ = rw no_default refl
-no_form_by false false false true order demo names others no_default _ = rw no_default refl
-no_form_by false false false false true demo names others no_default _ = rw no_default refl
-no_form_by false false false false false true names others no_default no_demo = no_demo
-no_form_by false false false false false false names others no_default no_demo = refl
+no_form_by true verify run trace owners order demo names others c f d = rw c refl
+no_form_by false true run trace owners order demo names others c f d = rw f refl
+no_form_by false false true trace owners order demo names others c f d = rw f refl
+no_form_by false false false true owners order demo names others c f d = rw f refl
+no_form_by false false false false true order demo names others c f d = rw f refl
+no_form_by false false false false false true demo names others c f d = rw f refl
+no_form_by false false false false false false true names others c f d = d
+no_form_by false false false false false false false names others c f d = refl
 
 no_demo : (names others : List (List ℕ)) → Bad others → demo_form names others ≡ None
 no_demo names others bad = rw bad.is (by names) where
@@ -108,10 +137,11 @@ no_command ((first ∷ rest) ∷ words) e = by (first == 45) refl where
       rw first_is refl
   by false is =
       let bad = bad_others words (rw is at e) in
-      no_form_by (bytes_eq (codes "check") (first ∷ rest)) (bytes_eq (codes "run") (first ∷ rest))
+      no_form_by (bytes_eq (codes "check") (first ∷ rest))
+      (bytes_eq (codes "verify") (first ∷ rest)) (bytes_eq (codes "run") (first ∷ rest))
       (bytes_eq (codes "trace") (first ∷ rest)) (bytes_eq (codes "owners") (first ∷ rest))
       (bytes_eq (codes "order") (first ∷ rest)) (bytes_eq (codes "demo") (first ∷ rest))
-      (names_in words) (others_in words) bad.none
+      (names_in words) (others_in words) bad.of_check bad.of_file
       (no_demo (names_in words) (others_in words) bad)
 
 -- a test of each text, as the words are lent

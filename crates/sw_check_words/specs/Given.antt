@@ -4,11 +4,13 @@ use Rattle.sw_check_words.specs.declared.command.Action as code
 use Rattle.sw_check_words.specs.declared.command.Action.TheVariants as actions
 use Rattle.sw_check_words.specs.declared.command.Command as codes
 use Rattle.sw_check_words.specs.declared.command.Command.TheVariants as commands
-use Rattle.sw_check_words.specs.Words.{Action, Check, Run, Trace, Owners, Order, Command}
-use Rattle.sw_check_words.specs.Words.{OnFile, Demo}
+use Rattle.sw_check_words.specs.Words.{Action, Check, Certify, Verify, Run, Trace, Owners, Order}
+use Rattle.sw_check_words.specs.Words.{Command, OnFile, Demo}
 
 abbrev pub lent_action : code.Action → Action
 lent_action actions.Check = Check
+lent_action actions.Certify = Certify
+lent_action (actions.Verify certificate_file) = Verify certificate_file.now
 lent_action (actions.Run schedule_file) = Run schedule_file.now
 lent_action (actions.Trace schedule_file) = Trace schedule_file.now
 lent_action (actions.Owners schedule_file) = Owners schedule_file.now

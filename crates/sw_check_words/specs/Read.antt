@@ -1,7 +1,6 @@
 -- The command, as it is read of what `clap` found.
-use Rattle.std.specs.Prelude.{◌≡◌, ◌≢◌, List, [], Option, Some, None, option_map, option_and_then}
-use Rattle.std.specs.Prelude.{if◌then◌else◌}
-use Rattle.std.specs.Prelude.{codes}
+use Rattle.std.specs.Prelude.{◌≡◌, ◌≢◌, Bool, false, List, [], Option, Some, None, option_map}
+use Rattle.std.specs.Prelude.{codes, if◌then◌else◌, option_and_then}
 use Rattle.std.specs.Str.{bytes_eq}
 use Rattle.clap.specs.Walk.{Row, Text, first_of}
 use Rattle.clap.specs.Words.{fault_of, subcommand_of, subcommand_rows_of}
@@ -9,27 +8,33 @@ use Rattle.clap.specs.declared.parser.matches.ArgMatches.{ArgMatches}
 use Rattle.sw_check_words.specs.Tool.{tool}
 use Rattle.sw_decls.specs.declared.signature.AsyncDefault.{AsyncDefault}
 use Rattle.sw_decls.specs.declared.signature.AsyncDefault.TheVariants.{Concurrent, Caller}
-use Rattle.sw_check_words.specs.Words.{Action, Check, Run, Trace, Owners, Order, Command}
-use Rattle.sw_check_words.specs.Words.{OnFile, Demo, actors_of}
+use Rattle.sw_check_words.specs.Words.{Action, Check, Certify, Verify, Run, Trace, Owners, Order}
+use Rattle.sw_check_words.specs.Words.{Command, OnFile, Demo, actors_of}
 
--- the default that the text of the option stands for
-abbrev pub default_text : Option Text → AsyncDefault
-default_text None = Concurrent
-default_text (Some text) = if bytes_eq text (codes "true") then Caller else Concurrent
+-- the text of a flag says that it was set
+abbrev pub says_set : Option Text → Bool
+says_set None = false
+says_set (Some text) = bytes_eq text (codes "true")
+
+abbrev pub is_set : Text → List Row → Bool
+is_set id rows = says_set (first_of id rows)
 
 abbrev pub default_in : List Row → AsyncDefault
-default_in rows = default_text (first_of (codes "default") rows)
+default_in rows = if is_set (codes "default") rows then Caller else Concurrent
 
 -- a command on a file
 abbrev pub on_file : List Row → Action → Option Command
 on_file rows action =
     option_map (λ file. OnFile (default_in rows) file action) (first_of (codes "file") rows)
 
--- a command on a file that replays its program by a schedule
+-- `check FILE`, with or without a certificate
+abbrev pub check_by : List Row → Option Command
+check_by rows = on_file rows (if is_set (codes "certificate") rows then Certify else Check)
+
+-- a command on a file that reads a second one
 abbrev pub on_files : (Text → Action) → List Row → Option Command
-on_files action rows =
-    option_and_then (λ schedule_file. on_file rows (action schedule_file))
-    (first_of (codes "schedule") rows)
+on_files action rows = option_and_then (λ second_file. on_file rows (action second_file))
+    (first_of (codes "second") rows)
 
 abbrev pub demo_by : List Row → Option Command
 demo_by rows =
@@ -37,7 +42,8 @@ demo_by rows =
 
 abbrev pub command_by : Text → List Row → Option Command
 command_by name rows =
-    if bytes_eq name (codes "check") then on_file rows Check
+    if bytes_eq name (codes "check") then check_by rows
+    else if bytes_eq name (codes "verify") then on_files Verify rows
     else if bytes_eq name (codes "run") then on_files Run rows
     else if bytes_eq name (codes "trace") then on_files Trace rows
     else if bytes_eq name (codes "owners") then on_files Owners rows

@@ -7,21 +7,21 @@ use Rattle.clap.specs.declared.builder.action.ArgAction.TheVariants.{SetTrue}
 abbrev pub required : List ℕ → Rule
 required id = record (new_rule id) { required = true }
 
--- the option
-abbrev pub option_rule : Rule
-option_rule = record (new_rule (codes "default")) {
-  long = Some (codes "nonsending-default");
-  action = Some SetTrue;
-}
+-- an option of this name without a value
+abbrev pub flag : List ℕ → List ℕ → Rule
+flag id name = record (new_rule id) { long = Some name; action = Some SetTrue }
+
+abbrev pub default_rule : Rule
+default_rule = flag (codes "default") (codes "nonsending-default")
 
 abbrev pub check_app : App
-check_app = with_rule (with_rule (new_app (codes "check")) option_rule) (required (codes "file"))
+check_app = with_rule (with_rule (with_rule (new_app (codes "check")) default_rule)
+    (flag (codes "certificate") (codes "certificate"))) (required (codes "file"))
 
--- `run`, `trace`, `owners` and `order` have the same arguments
-abbrev pub replay_app : List ℕ → App
-replay_app name =
-    with_rule (with_rule (with_rule (new_app name) option_rule) (required (codes "file")))
-    (required (codes "schedule"))
+-- a command on a file that reads a second one
+abbrev pub pair_app : List ℕ → App
+pair_app name = with_rule (with_rule (with_rule (new_app name) default_rule)
+    (required (codes "file"))) (required (codes "second"))
 
 abbrev pub demo_app : App
 demo_app = with_rule (new_app (codes "demo")) (required (codes "actors"))
@@ -36,11 +36,11 @@ bare_app = record (new_app (codes "swiftcheck")) {
   };
 }
 
--- `app` and, behind its commands, one that replays a program
-abbrev pub with_replay : App → List ℕ → App
-with_replay app name = with_subcommand app (replay_app name).top
+-- `app` and, behind its commands, one that reads two files
+abbrev pub with_pair : App → List ℕ → App
+with_pair app name = with_subcommand app (pair_app name).top
 
 abbrev pub tool : App
-tool = with_subcommand (with_replay (with_replay (with_replay (with_replay
-    (with_subcommand bare_app check_app.top) (codes "run")) (codes "trace")) (codes "owners"))
-    (codes "order")) demo_app.top
+tool = with_subcommand (with_pair (with_pair (with_pair (with_pair (with_pair
+    (with_subcommand bare_app check_app.top) (codes "verify")) (codes "run")) (codes "trace"))
+    (codes "owners")) (codes "order")) demo_app.top

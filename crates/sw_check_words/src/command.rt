@@ -5,6 +5,10 @@ use sw_decls::AsyncDefault;
 pub enum Action<'a> {
     /// Is it accepted?
     Check,
+    /// Is it accepted, and by which certificate?
+    Certify,
+    /// Is it accepted, by a certificate? Nothing is solved.
+    Verify { certificate_file: &'a str },
     /// Run it, where it is accepted, by a schedule.
     Run { schedule_file: &'a str },
     /// Run it by a schedule, also where jobs of it may race.

@@ -1,7 +1,8 @@
 ghost use Rattle.std.specs.Prelude.{◌≡◌, IfOk, IfSome, map, string_bytes, option_map};
 ghost use Rattle.clap.specs.Words.{first_of, found_of, rows_of};
 ghost use Rattle.sw_check_words.specs.Given.{AsksFew, lent_action, lent_command};
-ghost use Rattle.sw_check_words.specs.Read.{default_in, on_file, command_by, Parses};
+ghost use Rattle.sw_check_words.specs.Read.{check_by, command_by, default_in, is_set, on_file};
+ghost use Rattle.sw_check_words.specs.Read.{Parses};
 ghost use Rattle.sw_check_words.specs.Words.{command_of};
 
 use crate::actors::actors_of;
@@ -21,13 +22,24 @@ fn text_of<'a>(found: &ArgMatches<'a>, id: &str) -> Option<&'a str>
     found.get_str(id)
 }
 
+/// Whether a flag was set.
+fn is_set(found: &ArgMatches<'_>, id: &str) -> bool
+    ensures { result ≡ is_set id.now (rows_of (found_of found.now)) }
+{
+    match text_of(found, id) {
+        Some(text) => text == "true",
+        None => false,
+    }
+}
+
 /// The default that a command's words name.
 fn default_in(found: &ArgMatches<'_>) -> AsyncDefault
     ensures { result ≡ default_in (rows_of (found_of found.now)) }
 {
-    match text_of(found, "default") {
-        Some("true") => AsyncDefault::Caller,
-        Some(_) | None => AsyncDefault::Concurrent,
+    if is_set(found, "default") {
+        AsyncDefault::Caller
+    } else {
+        AsyncDefault::Concurrent
     }
 }
 
@@ -44,6 +56,18 @@ fn on_file<'a>(found: &ArgMatches<'a>, action: Action<'a>) -> Option<Command<'a>
     })
 }
 
+/// `check FILE`, and `check FILE --certificate`.
+fn check<'a>(found: &ArgMatches<'a>) -> Option<Command<'a>>
+    ensures value { option_map lent_command result ≡ check_by (rows_of (found_of found.now)) }
+    ensures few { IfSome result AsksFew }
+{
+    if is_set(found, "certificate") {
+        on_file(found, Action::Certify)
+    } else {
+        on_file(found, Action::Check)
+    }
+}
+
 /// The command of this name, with the arguments that were found.
 fn command<'a>(name: &str, found: &ArgMatches<'a>) -> Option<Command<'a>>
     ensures value { option_map lent_command result
@@ -51,21 +75,25 @@ fn command<'a>(name: &str, found: &ArgMatches<'a>) -> Option<Command<'a>>
     ensures few { IfSome result AsksFew }
 {
     match name {
-        "check" => on_file(found, Action::Check),
+        "check" => check(found),
+        "verify" => {
+            let certificate_file = text_of(found, "second")?;
+            on_file(found, Action::Verify { certificate_file })
+        }
         "run" => {
-            let schedule_file = text_of(found, "schedule")?;
+            let schedule_file = text_of(found, "second")?;
             on_file(found, Action::Run { schedule_file })
         }
         "trace" => {
-            let schedule_file = text_of(found, "schedule")?;
+            let schedule_file = text_of(found, "second")?;
             on_file(found, Action::Trace { schedule_file })
         }
         "owners" => {
-            let schedule_file = text_of(found, "schedule")?;
+            let schedule_file = text_of(found, "second")?;
             on_file(found, Action::Owners { schedule_file })
         }
         "order" => {
-            let schedule_file = text_of(found, "schedule")?;
+            let schedule_file = text_of(found, "second")?;
             on_file(found, Action::Order { schedule_file })
         }
         "demo" => {

@@ -3,20 +3,26 @@
 ghost use Rattle.std.specs.Prelude.{◌≡◌, IfOk, false};
 ghost use Rattle.clap.specs.Words.{app_of, rule_of};
 ghost use Rattle.clap.specs.declared.builder.command.Command.TheViews.{out-Command};
-ghost use Rattle.sw_check_words.specs.Tool.{check_app, demo_app, option_rule, replay_app, required};
-ghost use Rattle.sw_check_words.specs.Tool.{bare_app, tool};
+ghost use Rattle.sw_check_words.specs.Tool.{check_app, default_rule, demo_app, flag, pair_app};
+ghost use Rattle.sw_check_words.specs.Tool.{bare_app, required, tool, with_pair};
 
 use clap::{Arg, ArgAction, Command};
 use std::alloc::{AllocError, Global};
 
-/// The option for the default.
-fn option<'a>(alloc: Global) -> Arg<'a>
-    ensures rule { rule_of result ≡ option_rule }
+/// An option without a value.
+fn flag<'a>(alloc: Global, id: &'a str, name: &'a str) -> Arg<'a>
+    ensures rule { rule_of result ≡ flag id.entry.now name.entry.now }
     ensures local { result.global ≡ false }
 {
-    Arg::new(alloc, "default")
-        .long("nonsending-default")
-        .action(ArgAction::SetTrue)
+    Arg::new(alloc, id).long(name).action(ArgAction::SetTrue)
+}
+
+/// The option for the default.
+fn default<'a>(alloc: Global) -> Arg<'a>
+    ensures rule { rule_of result ≡ default_rule }
+    ensures local { result.global ≡ false }
+{
+    flag(alloc, "default", "nonsending-default")
 }
 
 /// An argument that must be there.
@@ -27,25 +33,26 @@ fn required<'a>(alloc: Global, id: &'a str) -> Arg<'a>
     Arg::new(alloc, id).required(true)
 }
 
-/// `check FILE`.
+/// `check FILE`, and `check FILE --certificate`.
 fn check<'a>(alloc: Global) -> Result<Command<'a>, AllocError>
     ensures { IfOk result (λ command. (app_of command ≡ check_app)
         × ((out-Command command).has_globals ≡ false)) }
 {
     Command::new(alloc, "check")
-        .arg(option(alloc))?
+        .arg(default(alloc))?
+        .arg(flag(alloc, "certificate", "certificate"))?
         .arg(required(alloc, "file"))
 }
 
-/// `run FILE SCHEDULE`, and likewise `trace`, `owners` and `order`.
-fn replay<'a>(alloc: Global, name: &'a str) -> Result<Command<'a>, AllocError>
-    ensures { IfOk result (λ command. (app_of command ≡ replay_app name.entry.now)
+/// A command on a file that reads a second one: a schedule, or a certificate.
+fn pair<'a>(alloc: Global, name: &'a str) -> Result<Command<'a>, AllocError>
+    ensures { IfOk result (λ command. (app_of command ≡ pair_app name.entry.now)
         × ((out-Command command).has_globals ≡ false)) }
 {
     Command::new(alloc, name)
-        .arg(option(alloc))?
+        .arg(default(alloc))?
         .arg(required(alloc, "file"))?
-        .arg(required(alloc, "schedule"))
+        .arg(required(alloc, "second"))
 }
 
 /// `demo N`.
@@ -73,9 +80,10 @@ pub fn tool<'a>(alloc: Global) -> Result<Command<'a>, AllocError>
 {
     bare(alloc)
         .subcommand(check(alloc)?)?
-        .subcommand(replay(alloc, "run")?)?
-        .subcommand(replay(alloc, "trace")?)?
-        .subcommand(replay(alloc, "owners")?)?
-        .subcommand(replay(alloc, "order")?)?
+        .subcommand(pair(alloc, "verify")?)?
+        .subcommand(pair(alloc, "run")?)?
+        .subcommand(pair(alloc, "trace")?)?
+        .subcommand(pair(alloc, "owners")?)?
+        .subcommand(pair(alloc, "order")?)?
         .subcommand(demo(alloc)?)
 }

@@ -6,6 +6,9 @@ ghost use Rattle.sw_check_words.specs.Words.{is_name, may_stand};
 /// callers run.
 pub const NONSENDING_DEFAULT: &str = "--nonsending-default";
 
+/// The option that asks `check` for a certificate.
+pub const CERTIFICATE: &str = "--certificate";
+
 /// Whether the word may be a name: it isn't empty and doesn't begin with `-`.
 fn is_name(word: &str) -> bool
     ensures { result ≡ is_name word.now }
@@ -20,7 +23,7 @@ fn is_name(word: &str) -> bool
 fn may_stand(word: &str) -> bool
     ensures { result ≡ may_stand word.now }
 {
-    is_name(word) || word == NONSENDING_DEFAULT
+    is_name(word) || word == CERTIFICATE || word == NONSENDING_DEFAULT
 }
 
 /// Whether this is so of each word.
