@@ -3,7 +3,8 @@ use Rattle.std.specs.Prelude.{◌≡◌, ◌⊎◌, ℕ, Bool, true, false, List
 use Rattle.sw_check_parts.specs.declared.exit.Exit.{Exit}
 use Rattle.sw_check_parts.specs.declared.exit.Exit.TheVariants.{Done, Breached, Usage, NotRead, TooLong}
 use Rattle.sw_check_parts.specs.declared.exit.Exit.TheVariants.{NotWritten, Memory, Trapped, BadSchedule}
-use Rattle.sw_check_parts.specs.declared.exit.Exit.TheVariants.{Raced, ManyJobs, Unordered}
+use Rattle.sw_check_parts.specs.declared.exit.Exit.TheVariants.{Raced, BadCertificate, LongCertificate}
+use Rattle.sw_check_parts.specs.declared.exit.Exit.TheVariants.{ManyJobs, Unordered}
 
 abbrev pub status_of : Exit → ℕ
 status_of Done = 0
@@ -16,6 +17,8 @@ status_of Memory = 6
 status_of Trapped = 7
 status_of BadSchedule = 8
 status_of Raced = 9
+status_of BadCertificate = 10
+status_of LongCertificate = 11
 status_of ManyJobs = 12
 status_of Unordered = 13
 

@@ -1,7 +1,9 @@
-/// How a call ends. The numbers of the variants are the program's exit statuses.
+/// How a call ends. The numbers are the program's exit statuses, from 0 in the order of the
+/// variants.
 #[derive(Clone, Copy, Debug, PartialEq, Eq)]
 pub enum Exit {
-    /// The reply was written: `accepted`, or a replay that ran to the end of its schedule.
+    /// The reply was written: a program or a certificate is accepted, or a replay ran to the end of
+    /// its schedule.
     Done,
     /// The program was refused, and its breaches were written.
     Breached,
@@ -21,8 +23,12 @@ pub enum Exit {
     BadSchedule,
     /// The replay met a race.
     Raced,
+    /// The certificate isn't accepted.
+    BadCertificate,
+    /// The program's certificate has more bytes than a certificate may have.
+    LongCertificate,
     /// The schedule makes more jobs than are put in order.
-    ManyJobs = 12,
+    ManyJobs,
     /// The replay made two accesses that nothing orders.
     Unordered,
 }
