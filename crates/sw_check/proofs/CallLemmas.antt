@@ -17,7 +17,9 @@ use Rattle.sw_check.specs.Call.{Answered}
 use Rattle.sw_check.specs.Claims.{NeverRaces, ExitSays, ExitSaysOf, ProgramFits, default_of}
 use Rattle.sw_check.specs.Claims.{phases_of, program_of}
 use Rattle.sw_check.specs.Reply.{Reply, exits_of}
-use Rattle.sw_check_words.specs.Words.{Command, Check, OnFile, Order, command_of, command_in}
+use Rattle.sw_check_words.specs.Words.{Command, Check, OnFile, Order, Verify, command_of}
+use Rattle.sw_check_words.specs.Words.{command_in}
+use Rattle.sw_check.proofs.CertificateLemmas.{says_certified}
 use Rattle.sw_check.proofs.ClaimLemmas.{reply_says, says_in_order, says_no_race}
 use Rattle.sw_check.proofs.Courses.{one_reply}
 use Rattle.sw_check.proofs.ExitLemmas.{exits_unraced}
@@ -123,6 +125,18 @@ pub answer_accepted : {command : Option Command} {before after : Option KnownShe
 answer_accepted {outcome = outcome} answered known rule file is same =
     says_accepted (file_of known.files) rule file outcome.exit
     (answer_says_of answered known (OnFile rule file Check) is same)
+
+pub answer_certified : {command : Option Command} {before after : Option KnownShelf}
+    {outcome : Outcome}
+    → Answered command before outcome after → (known : KnownShelf) (rule : AsyncDefault)
+    (file certificate_file : List ℕ) → before ≡ Some known
+    → command ≡ Some (OnFile rule file (Verify certificate_file)) → outcome.exit ≡ Done
+    → Accepts rule (file_of known.files file)
+answer_certified answered known rule file certificate_file is same done =
+    let command = OnFile rule file (Verify certificate_file) in
+    says_certified (file_of known.files) rule file certificate_file
+    (subst (ExitSaysOf (file_of known.files) command) done
+    (answer_says_of answered known command is same))
 
 pub answer_in_order : {command : Option Command} {before after : Option KnownShelf}
     {outcome : Outcome}

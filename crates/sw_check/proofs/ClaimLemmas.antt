@@ -17,7 +17,9 @@ use Rattle.sw_check_parts.specs.declared.exit.Exit.TheVariants.{Done, Breached, 
 use Rattle.sw_check_parts.specs.declared.exit.Exit.TheVariants.{TooLong}
 use Rattle.sw_check_parts.specs.declared.exit.Exit.TheVariants.{NotWritten, Memory, Trapped}
 use Rattle.sw_check_parts.specs.declared.exit.Exit.TheVariants.{BadSchedule}
-use Rattle.sw_check_parts.specs.declared.exit.Exit.TheVariants.{Raced, ManyJobs, Unordered}
+use Rattle.sw_check_parts.specs.declared.exit.Exit.TheVariants.{Raced, BadCertificate}
+use Rattle.sw_check_parts.specs.declared.exit.Exit.TheVariants.{LongCertificate, ManyJobs}
+use Rattle.sw_check_parts.specs.declared.exit.Exit.TheVariants.{Unordered}
 use Rattle.sw_check_parts.specs.declared.outcome.Outcome.{Outcome}
 use Rattle.sw_check_parts.specs.Course.{Read, AreOf, Ended, Part, Alone, ◌>>=◌}
 use Rattle.sw_check_parts.proofs.Inversions.{EndsAfterFetch, too_long, fetched, after_fetch}
@@ -35,18 +37,20 @@ use Rattle.sw_check.specs.Claims.{ScheduleIsBad, default_of, ending_by, phases_o
 use Rattle.sw_check.specs.Claims.{program_of}
 use Rattle.sw_check.proofs.AfterItems.{EndsAfterItems, after_items, bad_schedule, has_schedule}
 use Rattle.sw_check.proofs.AfterItems.{long_schedule}
+use Rattle.sw_check.proofs.CertificateLemmas.{certifies_say, says_certificate}
 use Rattle.sw_check.proofs.Pieces.{outcome_of, program_then}
 use Rattle.sw_replay.specs.declared.output.Output.{Output}
 use Rattle.sw_replay.specs.Output.{output_of}
 use Rattle.sw_check.specs.Programs.{Passed}
 use Rattle.sw_check.specs.Reply.{usage, accepted, end_outcome, EndsWithReply, IsJudgement, passes}
-use Rattle.sw_check.specs.Reply.{Orders, breached, by_items, in_order, order_outcome, run_outcome}
+use Rattle.sw_check.specs.Reply.{Certifies, breached, by_certificate, by_items}
+use Rattle.sw_check.specs.Reply.{Orders, in_order, order_outcome, run_outcome}
 use Rattle.sw_check.specs.Reply.{Runs, Traces, ends, course_of}
 use Rattle.sw_check.specs.Reply.{Reply, at_end, before_end, demo_end, demo_items, demo_outcome}
 use Rattle.sw_check.specs.Reply.{Owns, owners_reply, phases_for, watched_outcome}
 use Rattle.sw_gen.specs.Program.{program}
-use Rattle.sw_check_words.specs.Words.{Action, Check, Run, Trace, Owners, Order, Command, OnFile}
-use Rattle.sw_check_words.specs.Words.{Demo}
+use Rattle.sw_check_words.specs.Words.{Action, Check, Certify, Verify, Run, Trace, Owners, Order}
+use Rattle.sw_check_words.specs.Words.{Command, OnFile, Demo}
 
 -- a file that is within its limit isn't too long
 pub fits_or_long : (files : List ℕ → List ℕ) (limit : ℕ) (file : Option (List ℕ))
@@ -133,7 +137,7 @@ says_accepted_at : (files : List ℕ → List ℕ) (rule : AsyncDefault) (file :
     → ExitSaysOf files (OnFile rule file Check) (outcome_of result).exit
 says_accepted_at files rule file reads result whole ended =
     subst (λ outcome. ExitSaysOf files (OnFile rule file Check) outcome.exit)
-    (sym (answers_exit accepted reads result ended)) (whole, tt, refl)
+    (sym (answers_exit accepted reads result ended)) (whole, (tt, tt), refl)
 
 -- what the reply to a run says, where the program passes
 module _ (files : List ℕ → List ℕ) (command : Command) (whole : ProgramPasses files command)
@@ -258,7 +262,7 @@ module _ (files : List ℕ → List ℕ) (actors : ℕ) where
       let output = output_of passed.graph (demo_items actors) in
       replied files (Demo actors) (demo_answer passed) result
       (by_rule (EndsWithReply (demo_answer passed)) reads result ended)
-      (says_demo_end files (Demo actors) (record { short = tt; no_breach = judges.0 }) tt actors
+      (says_demo_end files (Demo actors) (record { short = tt; no_breach = judges.0 }) (tt, tt) actors
       output.lines output.ended output.jobs output.end (record {
         graph = passed.graph;
         of_text = judges.1;
@@ -276,13 +280,24 @@ says files (Some (OnFile rule file Check)) reads result of_files ended =
     says_program files rule file Check (λ text passed. Alone (EndsWithReply accepted))
     (λ passed reads result _ whole _. says_accepted_at files rule file reads result whole) reads
     result of_files ended
+says files (Some (OnFile rule file Certify)) reads result of_files ended =
+    says_program files rule file Certify (λ text passed. Alone (Certifies passed.graph))
+    (λ passed reads result _ whole of_text.
+    λ ended. certifies_say files rule file passed.graph of_text whole result
+    (by_rule (Certifies passed.graph) reads result ended)) reads result of_files ended
+says files (Some (OnFile rule file (Verify certificate_file))) reads result of_files ended =
+    says_program files rule file (Verify certificate_file)
+    (λ text passed. by_certificate certificate_file passed.graph)
+    (λ passed reads result of_files whole of_text.
+    says_certificate files rule file passed.graph of_text certificate_file whole reads result
+    of_files) reads result of_files ended
 says files (Some (OnFile rule file (Run schedule_file))) reads result of_files ended =
     says_program files rule file (Run schedule_file)
     (λ text passed. by_items schedule_file (Runs text passed.graph))
     (λ passed reads result of_files whole of_text.
     says_by files rule file (Run schedule_file) schedule_file whole
     (Runs (files file) passed.graph)
-    (λ fits. fits) (λ fault is. (fault, is)) (λ long. long)
+    (λ fits. (fits, tt)) (λ fault is. (fault, is)) (λ long. inl long)
     (runs_say files rule file schedule_file passed.graph of_text whole) reads result of_files) reads
     result of_files ended
 says files (Some (OnFile rule file (Trace schedule_file))) reads result of_files ended =
@@ -291,7 +306,7 @@ says files (Some (OnFile rule file (Trace schedule_file))) reads result of_files
     (λ passed reads result of_files whole of_text.
     says_by files rule file (Trace schedule_file) schedule_file whole
     (Traces (files file) passed.graph)
-    (λ fits. fits) (λ fault is. (fault, is)) (λ long. long)
+    (λ fits. (fits, tt)) (λ fault is. (fault, is)) (λ long. inl long)
     (traces_say files rule file schedule_file passed.graph of_text whole) reads result of_files) reads
     result of_files ended
 says files (Some (OnFile rule file (Owners schedule_file))) reads result of_files ended =
@@ -299,7 +314,7 @@ says files (Some (OnFile rule file (Owners schedule_file))) reads result of_file
     (λ text passed. by_items schedule_file (Owns text passed))
     (λ passed reads result of_files whole of_text.
     says_by files rule file (Owners schedule_file) schedule_file whole (Owns (files file) passed)
-    (λ fits. fits) (λ fault is. (fault, is)) (λ long. long)
+    (λ fits. (fits, tt)) (λ fault is. (fault, is)) (λ long. inl long)
     (owners_say files rule file schedule_file passed.graph of_text passed.actors whole) reads result
     of_files) reads result of_files ended
 says files (Some (OnFile rule file (Order schedule_file))) reads result of_files ended =
@@ -308,7 +323,7 @@ says files (Some (OnFile rule file (Order schedule_file))) reads result of_files
     (λ passed reads result of_files whole of_text.
     says_by files rule file (Order schedule_file) schedule_file whole
     (Orders (files file) passed.graph)
-    (λ fits. fits) (λ fault is. (fault, is)) (λ long. long)
+    (λ fits. (fits, tt)) (λ fault is. (fault, is)) (λ long. inl long)
     (orders_say files rule file schedule_file passed.graph of_text whole) reads result of_files) reads
     result of_files ended
 says files (Some (Demo actors)) reads result of_files ended =
@@ -338,6 +353,8 @@ passes_at files command BadSchedule says _ _ = says.0
 passes_at files command Raced says _ _ = says.0
 passes_at files command ManyJobs says _ _ = says.0
 passes_at files command Unordered says _ _ = says.0
+passes_at files command BadCertificate says _ _ = says.0
+passes_at files command LongCertificate says _ _ = says.0
 passes_at files command Usage says _ _ = absurd says
 passes_at files command NotRead says _ _ = absurd says
 passes_at files command NotWritten says _ _ = absurd says

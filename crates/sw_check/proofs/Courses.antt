@@ -1,5 +1,7 @@
 -- Commands are lawful, and can end.
 use Rattle.std.proofs.Common.{◌≡◌, ◌⊎◌, ℕ, List, [], ◌++◌, Option, Some, None, Result, Ok, Err}
+use Rattle.sw_cert.specs.declared.verdict.TheConstants.{CERTIFICATE_LIMIT}
+use Rattle.sw_graph.specs.declared.graph.Graph.{Graph}
 use Rattle.sw_replay.specs.declared.text.TheConstants.{SCHEDULE_LIMIT}
 use Rattle.sw_replay.specs.Output.{output_of}
 use Rattle.sw_check_parts.specs.declared.TheConstants.{PROGRAM_LIMIT}
@@ -12,21 +14,22 @@ use Rattle.sw_decls.specs.declared.signature.AsyncDefault.{AsyncDefault}
 use Rattle.sw_decls.specs.declared.signature.AsyncDefault.TheVariants.{Concurrent}
 use Rattle.sw_verdict.specs.Phases.{Phase, all_phases, phases_to_size}
 use Rattle.sw_verdict.specs.Verdict.{Breaches, Refuses}
-use Rattle.sw_verdict.proofs.LoweredTexts.{accepted_to_size, decided_to_size}
-use Rattle.sw_verdict.proofs.Verdicts.{decided}
+use Rattle.sw_verdict.proofs.LoweredTexts.{accepted_to_size, decided_to_size, sharing_to_size}
+use Rattle.sw_verdict.proofs.Verdicts.{decided, decided_to_sharing}
 use Rattle.sw_check.specs.Programs.{Passed}
 use Rattle.sw_check.specs.Reply.{usage, accepted, EndsWithReply, IsJudgement, Owns, Runs, Scheduled}
 use Rattle.sw_check.specs.Reply.{Traces, after_verdict, by_items, course_of, demo_course, demo_items}
-use Rattle.sw_check.specs.Reply.{Orders, demo_outcome, items_in, owners_reply, phases_for}
-use Rattle.sw_check.specs.Reply.{run_outcome}
+use Rattle.sw_check.specs.Reply.{demo_outcome, items_in, owners_reply, phases_for}
+use Rattle.sw_check.specs.Reply.{Certifies, Orders, Verifies, by_certificate, run_outcome}
 use Rattle.sw_check.specs.Reply.{Reply, at_end, before_end}
 use Rattle.sw_gen.specs.Program.{program}
-use Rattle.sw_check_words.specs.Words.{Action, Check, Run, Trace, Owners, Order, Command, OnFile}
-use Rattle.sw_check_words.specs.Words.{Demo}
+use Rattle.sw_check_words.specs.Words.{Action, Check, Certify, Verify, Run, Trace, Owners, Order}
+use Rattle.sw_check_words.specs.Words.{Command, OnFile, Demo}
 use Rattle.sw_check.proofs.Pieces.{program_then}
-use Rattle.sw_check.proofs.RuleLemmas.{answers_one, answers_some, judged_one, judged_some}
-use Rattle.sw_check.proofs.RuleLemmas.{orders_one, orders_some, scheduled_one, scheduled_some}
-use Rattle.sw_check.proofs.RuleLemmas.{traces_one, traces_some}
+use Rattle.sw_check.proofs.RuleLemmas.{answers_one, answers_some, certifies_one, certifies_some}
+use Rattle.sw_check.proofs.RuleLemmas.{judged_one, judged_some, orders_one, orders_some, verifies_one}
+use Rattle.sw_check.proofs.RuleLemmas.{verifies_some}
+use Rattle.sw_check.proofs.RuleLemmas.{scheduled_one, scheduled_some, traces_one, traces_some}
 
 -- a program is fetched and judged, and something goes on from its text and what passes
 module _ (rule : AsyncDefault) (phases : List Phase) (file : List ℕ)
@@ -79,10 +82,27 @@ module _ (file : List ℕ) where
         can_end_then (items_in file) (λ items. Alone (Answers items)) can_end_items
         (λ items. can_end_alone (Answers items) (some items))
 
+-- a certificate is fetched, and tested
+module _ (file : List ℕ) (graph : Graph) where
+  lawful_certificate : IsLawful (by_certificate file graph)
+  lawful_certificate =
+      lawful_then (Fetched file CERTIFICATE_LIMIT) (λ bytes. Alone (Verifies graph bytes))
+      (lawful_fetched file CERTIFICATE_LIMIT)
+      (λ bytes. lawful_alone (Verifies graph bytes) (verifies_one graph bytes))
+
+  can_end_certificate : CanEnd (by_certificate file graph)
+  can_end_certificate =
+      can_end_then (Fetched file CERTIFICATE_LIMIT) (λ bytes. Alone (Verifies graph bytes))
+      (can_end_fetched file CERTIFICATE_LIMIT)
+      (λ bytes. can_end_alone (Verifies graph bytes) (verifies_some graph bytes))
+
 -- what follows the verdict
 lawful_after : (action : Action) (text : List ℕ) (passed : Passed)
     → IsLawful (after_verdict action text passed)
 lawful_after Check text passed = lawful_alone (EndsWithReply accepted) (answers_one accepted)
+lawful_after Certify text passed =
+    lawful_alone (Certifies passed.graph) (certifies_one passed.graph)
+lawful_after (Verify file) text passed = lawful_certificate file passed.graph
 lawful_after (Run file) text passed =
     lawful_by file (Runs text passed.graph)
     (λ items. answers_one (run_outcome text (output_of passed.graph items)))
@@ -96,6 +116,9 @@ lawful_after (Order file) text passed =
 can_end_after : (action : Action) (text : List ℕ) (passed : Passed)
     → CanEnd (after_verdict action text passed)
 can_end_after Check text passed = can_end_alone (EndsWithReply accepted) (answers_some accepted)
+can_end_after Certify text passed =
+    can_end_alone (Certifies passed.graph) (certifies_some passed.graph)
+can_end_after (Verify file) text passed = can_end_certificate file passed.graph
 can_end_after (Run file) text passed =
     can_end_by file (Runs text passed.graph)
     (λ items. answers_some (run_outcome text (output_of passed.graph items)))
@@ -110,6 +133,8 @@ can_end_after (Order file) text passed =
 decided_for : (rule : AsyncDefault) (action : Action) (text : List ℕ)
     → Breaches rule (phases_for action) text [] ⊎ Refuses rule (phases_for action) text
 decided_for rule Check = decided rule
+decided_for rule Certify = decided rule
+decided_for rule (Verify certificate_file) = decided_to_sharing rule
 decided_for rule (Run schedule_file) = decided rule
 decided_for rule (Trace schedule_file) = decided_to_size rule
 decided_for rule (Owners schedule_file) = decided rule
@@ -119,6 +144,8 @@ decided_for rule (Order schedule_file) = decided_to_size rule
 to_size_for : (rule : AsyncDefault) (action : Action) (text : List ℕ)
     → Breaches rule (phases_for action) text [] → Breaches rule phases_to_size text []
 to_size_for rule Check = accepted_to_size rule
+to_size_for rule Certify = accepted_to_size rule
+to_size_for rule (Verify certificate_file) = sharing_to_size rule
 to_size_for rule (Run schedule_file) = accepted_to_size rule
 to_size_for rule (Trace schedule_file) = λ text passes. passes
 to_size_for rule (Owners schedule_file) = accepted_to_size rule

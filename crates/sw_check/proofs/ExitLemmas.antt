@@ -25,7 +25,9 @@ use Rattle.sw_decls.specs.declared.signature.AsyncDefault.{AsyncDefault}
 use Rattle.sw_decls.specs.declared.signature.AsyncDefault.TheVariants.{Concurrent}
 use Rattle.sw_hb.specs.declared.ordering.OrderReplay.{OrderReplay}
 use Rattle.sw_hb.specs.declared.ordering.OrderReplay.TheVariants as replays
-use Rattle.sw_verdict.specs.Phases.{Phase, all_phases, phases_to_size}
+use Rattle.sw_cert.specs.declared.verdict.CertFault.{CertFault}
+use Rattle.sw_cert.specs.declared.verdict.TheConstants.{CERTIFICATE_LIMIT}
+use Rattle.sw_verdict.specs.Phases.{Phase, all_phases, phases_to_sharing, phases_to_size}
 use Rattle.sw_owners.specs.Lines.{owner_lines}
 use Rattle.sw_owners.specs.Replay.{owner_replay}
 use Rattle.sw_check.specs.Claims.{phases_of}
@@ -35,10 +37,12 @@ use Rattle.sw_check.specs.Reply.{Scheduled, has_fault, Runs, Traces, ends, cours
 use Rattle.sw_check.specs.Reply.{before_end, by_items, demo_course, demo_end, demo_exits, demo_items}
 use Rattle.sw_check.specs.Reply.{demo_outcome, exits_of, file_course, file_exits, items_in}
 use Rattle.sw_check.specs.Reply.{Owns, owners_reply, replay_outcome, run_exits, run_outcome}
-use Rattle.sw_check.specs.Reply.{Orders, in_order, order_outcome, watched_outcome}
+use Rattle.sw_check.specs.Reply.{Certifies, Orders, Verifies, by_certificate, certificate_outcome}
+use Rattle.sw_check.specs.Reply.{in_order, order_outcome, prints, tests, verified_outcome}
+use Rattle.sw_check.specs.Reply.{watched_outcome}
 use Rattle.sw_gen.specs.Program.{program}
-use Rattle.sw_check_words.specs.Words.{Action, Check, Run, Trace, Owners, Order, Command, OnFile}
-use Rattle.sw_check_words.specs.Words.{Demo}
+use Rattle.sw_check_words.specs.Words.{Action, Check, Certify, Verify, Run, Trace, Owners, Order}
+use Rattle.sw_check_words.specs.Words.{Command, OnFile, Demo}
 use Rattle.sw_check.proofs.Pieces.{program_then}
 
 -- a reply that has one of these exits: it reports no failure, and nothing is written where the exit
@@ -83,6 +87,14 @@ orders_nothing_else : (Q : Outcome → Type 0) (text : List ℕ) (graph : Graph)
     (other : Outcome) → Orders text graph items (Err other) → Q other
 orders_nothing_else Q text graph items other is = elim is [ ]
 
+certifies_nothing_else : (Q : Outcome → Type 0) (graph : Graph) (other : Outcome)
+    → Certifies graph (Err other) → Q other
+certifies_nothing_else Q graph other is = elim is [ ]
+
+verifies_nothing_else : (Q : Outcome → Type 0) (graph : Graph) (certificate : List ℕ)
+    (other : Outcome) → Verifies graph certificate (Err other) → Q other
+verifies_nothing_else Q graph certificate other is = elim is [ ]
+
 -- a program that is fetched and judged, and the rest
 program_refusals : (among : List Exit) (rule : AsyncDefault) (phases : List Phase) (file : List ℕ)
     (rest : List ℕ → Passed → Part Outcome) → IsOneOf among exits.TooLong
@@ -117,6 +129,16 @@ file_refusals : (rule : AsyncDefault) (file : List ℕ) (action : Action)
 file_refusals rule file Check =
     program_refusals _ rule all_phases file _ (inl refl) (inr (inl refl))
     (λ text passed. refuses_alone _ (EndsWithReply accepted) (answers_nothing_else _ accepted))
+file_refusals rule file Certify =
+    program_refusals _ rule all_phases file _ (inl refl) (inr (inl refl))
+    (λ text passed. refuses_alone _ (Certifies passed.graph)
+    (certifies_nothing_else _ passed.graph))
+file_refusals rule file (Verify certificate_file) =
+    program_refusals _ rule phases_to_sharing file _ (inl refl) (inr (inl refl))
+    (λ text passed. refuses_then _ (Fetched certificate_file CERTIFICATE_LIMIT) _
+    (refuses_fetched _ certificate_file CERTIFICATE_LIMIT (too_long_exit _ (inl refl)))
+    (λ bytes. refuses_alone _ (Verifies passed.graph bytes)
+    (verifies_nothing_else _ passed.graph bytes)))
 file_refusals rule file (Run schedule_file) =
     program_refusals _ rule all_phases file _ (inl refl) (inr (inl refl))
     (λ text passed. items_refusals _ schedule_file (Runs text passed.graph) (inl refl)
@@ -228,12 +250,37 @@ order_ends schedule_file text graph items _ (in_order replay is) = by replay whe
   by (replays.Ordered lines accesses) =
       record { exit = inr (inr (inr (inl refl))); plain = refl; speaks = refl }
 
+-- the reply with a certificate, and to the test of one
+certifies_end : (graph : Graph) (outcome : Outcome) → Certifies graph (Ok outcome)
+    → HasEndExit (file_exits Certify) outcome
+certifies_end graph _ (prints printed is) = by printed where
+  by : (printed : Option (List ℕ)) → HasEndExit (file_exits Certify) (certificate_outcome printed)
+  by (Some certificate) = record { exit = inr (inr (inl refl)); plain = refl; speaks = refl }
+  by None = record { exit = inr (inr (inr (inl refl))); plain = refl; speaks = refl }
+
+verifies_end : (file : List ℕ) (graph : Graph) (certificate : List ℕ) (outcome : Outcome)
+    → Verifies graph certificate (Ok outcome) → HasEndExit (file_exits (Verify file)) outcome
+verifies_end file graph certificate _ (tests result is) = by result where
+  by : (result : Result (Unit {0}) CertFault)
+      → HasEndExit (file_exits (Verify file)) (verified_outcome certificate result)
+  by (Ok value) = record { exit = inr (inr (inl refl)); plain = refl; speaks = refl }
+  by (Err fault) = record { exit = inr (inr (inr (inl refl))); plain = refl; speaks = refl }
+
 file_ends : (rule : AsyncDefault) (file : List ℕ) (action : Action)
     → EndsBy (HasEndExit (file_exits action)) (file_course rule file action)
 file_ends rule file Check =
     program_ends _ rule all_phases file _ (λ text passed. ends_alone _ (EndsWithReply accepted)
     (λ outcome is. answers_end _ accepted outcome
     (record { exit = inr (inr (inl refl)); plain = refl; speaks = refl }) is))
+file_ends rule file Certify =
+    program_ends _ rule all_phases file (λ text passed. Alone (Certifies passed.graph))
+    (λ text passed. ends_alone _ (Certifies passed.graph) (certifies_end passed.graph))
+file_ends rule file (Verify certificate_file) =
+    program_ends _ rule phases_to_sharing file
+    (λ text passed. by_certificate certificate_file passed.graph)
+    (λ text passed. ends_then _ (Fetched certificate_file CERTIFICATE_LIMIT) _
+    (λ _ bytes _. ends_alone _ (Verifies passed.graph bytes)
+    (verifies_end certificate_file passed.graph bytes)))
 file_ends rule file (Run schedule_file) =
     program_ends _ rule all_phases file
     (λ text passed. by_items schedule_file (Runs text passed.graph))
@@ -286,6 +333,11 @@ pub exits_unraced : (command : Command) → phases_of command ≡ all_phases
     → IsOneOf (exits_of (Some command)) exits.Raced → ⊥
 exits_unraced (OnFile rule file Check) all is =
     unraced (file_exits Check) (λ e. cc, (λ e. cc, (λ e. cc, tt))) is
+exits_unraced (OnFile rule file Certify) all is =
+    unraced (file_exits Certify) (λ e. cc, (λ e. cc, (λ e. cc, (λ e. cc, tt)))) is
+exits_unraced (OnFile rule file (Verify certificate_file)) all is =
+    unraced (file_exits (Verify certificate_file))
+    (λ e. cc, (λ e. cc, (λ e. cc, (λ e. cc, tt)))) is
 exits_unraced (OnFile rule file (Run schedule_file)) all is = runs_unraced is
 exits_unraced (OnFile rule file (Owners schedule_file)) all is = runs_unraced is
 exits_unraced (OnFile rule file (Trace schedule_file)) all is = omega (arith, ap length all)

@@ -1,5 +1,6 @@
 pub mod AfterItems
 pub mod CallLemmas
+pub mod CertificateLemmas
 pub mod ClaimLemmas
 pub mod Courses
 pub mod DemoLemmas
@@ -8,3 +9,4 @@ pub mod OneExit
 pub mod PartLemmas
 pub mod Pieces
 pub mod RuleLemmas
+pub mod SharingLemmas

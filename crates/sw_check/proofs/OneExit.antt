@@ -16,20 +16,27 @@ use Rattle.sw_check_parts.specs.declared.exit.Exit.TheVariants.{Done, Breached, 
 use Rattle.sw_check_parts.specs.declared.exit.Exit.TheVariants.{TooLong}
 use Rattle.sw_check_parts.specs.declared.exit.Exit.TheVariants.{NotWritten, Memory, Trapped}
 use Rattle.sw_check_parts.specs.declared.exit.Exit.TheVariants.{BadSchedule}
-use Rattle.sw_check_parts.specs.declared.exit.Exit.TheVariants.{Raced, ManyJobs, Unordered}
+use Rattle.sw_check_parts.specs.declared.exit.Exit.TheVariants.{Raced, BadCertificate}
+use Rattle.sw_check_parts.specs.declared.exit.Exit.TheVariants.{LongCertificate, ManyJobs}
+use Rattle.sw_check_parts.specs.declared.exit.Exit.TheVariants.{Unordered}
+use Rattle.sw_cert.proofs.Oneway.{one_verified}
+use Rattle.sw_cert_making.proofs.OnePrinted.{one_printed}
 use Rattle.sw_hb.proofs.OrderLemmas.{one_order}
+use Rattle.sw_cert.specs.declared.verdict.TheConstants.{CERTIFICATE_LIMIT}
 use Rattle.sw_decls.specs.declared.signature.AsyncDefault.{AsyncDefault}
 use Rattle.sw_decls.specs.declared.signature.AsyncDefault.TheVariants.{Concurrent}
 use Rattle.sw_verdict.specs.Verdict.{Accepts, Refuses}
 use Rattle.sw_verdict.proofs.Verdicts.{never_both}
-use Rattle.sw_check.specs.Claims.{Clashes, Crowds, Ending, Ends, EndsSo, OrdersTo, order_ending}
-use Rattle.sw_check.specs.Claims.{ProgramIsRefused, ProgramPasses, Races}
+use Rattle.sw_check.specs.Claims.{Clashes, Crowds, Ending, Ends, EndsSo, Fails, GraphEndsSo}
+use Rattle.sw_check.specs.Claims.{OrdersTo, Overlong, PrintsTo, order_ending}
+use Rattle.sw_check.specs.Claims.{ProgramIsRefused, ProgramPasses, Races, VerifiesTo}
 use Rattle.sw_check.specs.Claims.{ExitSays, ExitSaysOf, IsLong, ProgramFits, RunsTo, ScheduleIsBad}
-use Rattle.sw_check.specs.Claims.{SecondFits, SecondIsLong, Stands, TracesTo, default_of}
-use Rattle.sw_check.specs.Claims.{ending_by, phases_of, program_file_of, program_of}
-use Rattle.sw_check.specs.Claims.{schedule_file_of}
+use Rattle.sw_check.specs.Claims.{SecondFits, SecondIsLong, Stands, TracesTo, certificate_file_of}
+use Rattle.sw_check.specs.Claims.{default_of, ending_by, phases_of, printed_ending, program_of}
+use Rattle.sw_check.specs.Claims.{program_file_of, schedule_file_of, verified_ending}
 use Rattle.sw_gen.specs.Program.{program}
-use Rattle.sw_check_words.specs.Words.{Check, Run, Trace, Owners, Order, Command, OnFile, Demo}
+use Rattle.sw_check_words.specs.Words.{Check, Certify, Verify, Run, Trace, Owners, Order}
+use Rattle.sw_check_words.specs.Words.{Command, OnFile, Demo}
 use Rattle.sw_check.specs.Reply.{demo_items}
 use Rattle.sw_check.proofs.ClaimLemmas.{fits_or_long}
 
@@ -64,10 +71,34 @@ orders_to_one : (a b : Ending) (graph : Graph) (items : List ℕ) → OrdersTo a
 orders_to_one a b graph items (replay, is, ends_a) (other, is_other, ends_b) =
     ends_a ∙ ap order_ending (one_order graph items replay other is is_other) ∙ sym ends_b
 
+-- by a graph, of which a text has one
+both_graphs : (A B : Graph → Type 0) (P : Type 0) → ((graph : Graph) → A graph → B graph → P)
+    → (rule : AsyncDefault) (text : List ℕ) → GraphEndsSo rule text A → GraphEndsSo rule text B → P
+both_graphs A B P both rule text is_a is_b =
+    both is_b.graph
+    (subst A (one_graph_of rule text is_a.graph is_b.graph is_a.of_text is_b.of_text) is_a.ends)
+    is_b.ends
+
+prints_to_one : (a b : Ending) (graph : Graph) → PrintsTo a graph → PrintsTo b graph → a ≡ b
+prints_to_one a b graph (printed, is, ends_a) (other, is_other, ends_b) =
+    ends_a ∙ ap printed_ending (one_printed graph printed other is is_other) ∙ sym ends_b
+
+verifies_to_one : (certificate : List ℕ) (a b : Ending) (graph : Graph)
+    → VerifiesTo a certificate graph → VerifiesTo b certificate graph → a ≡ b
+verifies_to_one certificate a b graph (result, is, ends_a) (other, is_other, ends_b) =
+    ends_a ∙ ap verified_ending (one_verified graph certificate result other is is_other)
+    ∙ sym ends_b
+
 -- a command ends in one way
 pub one_ending : (files : List ℕ → List ℕ) (command : Command) (a b : Ending)
     → Ends a files command → Ends b files command → a ≡ b
 one_ending files (OnFile rule file Check) a b is_a is_b = is_a ∙ sym is_b
+one_ending files (OnFile rule file Certify) a b is_a is_b =
+    both_graphs (PrintsTo a) (PrintsTo b) (a ≡ b) (prints_to_one a b) rule (files file) is_a is_b
+one_ending files (OnFile rule file (Verify certificate_file)) a b is_a is_b =
+    let certificate = files certificate_file in
+    both_graphs (VerifiesTo a certificate) (VerifiesTo b certificate) (a ≡ b)
+    (verifies_to_one certificate a b) rule (files file) is_a is_b
 one_ending files (OnFile rule file (Run schedule_file)) a b is_a is_b =
     both_so (IsItems (files schedule_file)) (one_items (files schedule_file)) (RunsTo a) (RunsTo b)
     (a ≡ b) (runs_to_one a b) rule (files file) is_a is_b
@@ -88,6 +119,8 @@ one_ending files (Demo actors) a b is_a is_b =
 ends_or_bad : (files : List ℕ → List ℕ) (command : Command) (ending : Ending)
     → Ends ending files command → ScheduleIsBad files command → ⊥
 ends_or_bad files (OnFile rule file Check) ending so bad = bad
+ends_or_bad files (OnFile rule file Certify) ending so bad = bad
+ends_or_bad files (OnFile rule file (Verify certificate_file)) ending so bad = bad
 ends_or_bad files (OnFile rule file (Run schedule_file)) ending so (fault, is) =
     items_and_fault (files schedule_file) so.items fault so.are_items is
 ends_or_bad files (OnFile rule file (Trace schedule_file)) ending so (fault, is) =
@@ -105,6 +138,8 @@ exit_of (Stands (ends.Trapped kind at)) = Trapped
 exit_of (Races race) = Raced
 exit_of Crowds = ManyJobs
 exit_of (Clashes first second) = Unordered
+exit_of (Fails fault) = BadCertificate
+exit_of Overlong = LongCertificate
 
 -- why a command has an exit over these files
 data Cause (files : List ℕ → List ℕ) (command : Command) : Exit → Type 0 where
@@ -130,6 +165,8 @@ module _ (files : List ℕ → List ℕ) (command : Command) where
   cause_of ManyJobs (passes, fits, is) = ended Crowds passes fits is
   cause_of Unordered (passes, fits, first, second, is) =
       ended (Clashes first second) passes fits is
+  cause_of BadCertificate (passes, fits, fault, is) = ended (Fails fault) passes fits is
+  cause_of LongCertificate (passes, fits, is) = ended Overlong passes fits is
   cause_of Usage says = absurd says
   cause_of NotRead says = absurd says
   cause_of NotWritten says = absurd says
@@ -139,7 +176,10 @@ module _ (files : List ℕ → List ℕ) (command : Command) where
   first_fits = fits_or_long files PROGRAM_LIMIT (program_file_of command)
 
   second_fits : SecondFits files command → SecondIsLong files command → ⊥
-  second_fits = fits_or_long files SCHEDULE_LIMIT (schedule_file_of command)
+  second_fits fits (inl long) =
+      fits_or_long files SCHEDULE_LIMIT (schedule_file_of command) fits.0 long
+  second_fits fits (inr long) =
+      fits_or_long files CERTIFICATE_LIMIT (certificate_file_of command) fits.1 long
 
   passes_or_refused : ProgramPasses files command → ProgramIsRefused files command → ⊥
   passes_or_refused passes it =
@@ -204,4 +244,4 @@ pub says_accepted : (files : List ℕ → List ℕ) (rule : AsyncDefault) (file 
     → Accepts rule (files file) → exit ≡ Done
 says_accepted files rule file exit says short accepts =
     one_exit_of files (OnFile rule file Check) exit Done says
-    (record { short = short; no_breach = accepts }, tt, refl)
+    (record { short = short; no_breach = accepts }, (tt, tt), refl)

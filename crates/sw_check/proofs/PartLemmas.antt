@@ -4,6 +4,10 @@ use Rattle.std.proofs.Common.{Err, IfOk, refl, sym, subst, arith}
 use Rattle.std.specs.declared.alloc.AllocError.{AllocError}
 use Rattle.sw_hb.specs.Replay.{IsOrderReplay}
 use Rattle.sw_hb.specs.declared.ordering.OrderReplay.{OrderReplay}
+use Rattle.sw_cert.specs.Verified.{Verified}
+use Rattle.sw_cert_making.specs.Printed.{IsPrinted}
+use Rattle.sw_cert.specs.declared.verdict.CertFault.{CertFault}
+use Rattle.sw_cert.specs.declared.verdict.CertFault.TheVariants.{Memory as NoMemoryLeft}
 use Rattle.sw_graph.specs.declared.graph.Graph.{Graph}
 use Rattle.sw_breach.specs.declared.Breach.{Breach}
 use Rattle.sw_replay.specs.declared.text.SchedFault.{SchedFault}
@@ -26,8 +30,9 @@ use Rattle.sw_check_words.specs.Words.{Action, Command}
 use Rattle.sw_check.specs.Programs.{Passed}
 use Rattle.sw_check.specs.Reply.{usage, course_of, EndsWithReply, refusal, bad_schedule_outcome}
 use Rattle.sw_check.specs.Reply.{IsJudgement, breached, Scheduled, has_fault}
-use Rattle.sw_check.specs.Reply.{Orders, Traces, after_verdict, ends, in_order, order_outcome}
-use Rattle.sw_check.specs.Reply.{replay_outcome}
+use Rattle.sw_check.specs.Reply.{Traces, Verifies, after_verdict, ends, replay_outcome, tests}
+use Rattle.sw_check.specs.Reply.{Certifies, Orders, certificate_outcome, in_order, order_outcome}
+use Rattle.sw_check.specs.Reply.{prints, verified_outcome}
 
 pub judged_refused : (rule : AsyncDefault) (phases : List Phase) (text : List ℕ)
     (breaches : List Breach)
@@ -61,6 +66,31 @@ pub order_answered : (text : List ℕ) (graph : Graph) (items : List ℕ) (repla
 order_answered text graph items replay (Ok outcome) is same =
     subst (λ outcome. Orders text graph items (Ok outcome)) (sym same) (in_order replay is)
 order_answered text graph items replay (Err error) is same = tt
+
+pub long_answered : (graph : Graph) (result : Result Outcome AllocError) → IsPrinted graph None
+    → IfOk result (λ outcome. outcome ≡ certificate_outcome None)
+    → IfOk result (λ outcome. Certifies graph (Ok outcome))
+long_answered graph (Ok outcome) printed is =
+    subst (λ outcome. Certifies graph (Ok outcome)) (sym is) (prints None printed)
+long_answered graph (Err error) printed is = tt
+
+pub verified_answered : (graph : Graph) (bytes : List ℕ) (value : Unit {0})
+    (result : Result Outcome AllocError) → Verified graph bytes (Ok value)
+    → IfOk result (λ outcome. outcome ≡ verified_outcome bytes (Ok value))
+    → IfOk result (λ outcome. Verifies graph bytes (Ok outcome))
+verified_answered graph bytes value (Ok outcome) verified is =
+    subst (λ outcome. Verifies graph bytes (Ok outcome)) (sym is) (tests (Ok value) verified)
+verified_answered graph bytes value (Err error) verified is = tt
+
+pub verified_refused : (graph : Graph) (bytes : List ℕ) (fault : CertFault)
+    (result : Result Outcome AllocError)
+    → IfOk result (λ outcome. (fault ≢ NoMemoryLeft) × (outcome ≡ verified_outcome bytes (Err fault)))
+    → (fault ≢ NoMemoryLeft → Verified graph bytes (Err fault))
+    → IfOk result (λ outcome. Verifies graph bytes (Ok outcome))
+verified_refused graph bytes fault (Ok outcome) (not, is) verified =
+    subst (λ outcome. Verifies graph bytes (Ok outcome)) (sym is)
+    (tests (Err fault) (verified not))
+verified_refused graph bytes fault (Err error) is verified = tt
 
 -- what follows the verdict, for a text that was lent
 pub follows_lent : {text lent : List ℕ} {before after : SeenShelf} {result : Result Outcome Stop}

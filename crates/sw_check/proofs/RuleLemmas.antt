@@ -1,6 +1,9 @@
 -- The parts that read no file have a result, and no two.
 use Rattle.std.proofs.Common.{◌⊎◌, inl, inr, ℕ, List, [], Result, Ok, Err, refl, sym, ap, ◌∙◌}
 use Rattle.sw_graph.specs.declared.graph.Graph.{Graph}
+use Rattle.sw_cert.proofs.Oneway.{one_verified}
+use Rattle.sw_cert.proofs.SomeVerified.{some_verified}
+use Rattle.sw_cert_making.proofs.OnePrinted.{one_printed, some_printed}
 use Rattle.sw_hb.proofs.OrderLemmas.{one_order, some_order}
 use Rattle.sw_replay.specs.declared.text.SchedFault.{SchedFault}
 use Rattle.sw_replay.specs.Items.{HasItems}
@@ -20,7 +23,8 @@ use Rattle.sw_verdict.proofs.OneLists.{one_list as one_verdict}
 use Rattle.sw_verdict.proofs.Verdicts.{never_both}
 use Rattle.sw_check.specs.Programs.{Passed}
 use Rattle.sw_check.specs.Reply.{refusal, bad_schedule_outcome, EndsWithReply}
-use Rattle.sw_check.specs.Reply.{IsJudgement, Orders, in_order, order_outcome}
+use Rattle.sw_check.specs.Reply.{Certifies, IsJudgement, Verifies, certificate_outcome, prints}
+use Rattle.sw_check.specs.Reply.{Orders, in_order, order_outcome, tests, verified_outcome}
 use Rattle.sw_check.specs.Reply.{passes, breached, Scheduled, has_items, has_fault, Traces, ends}
 use Rattle.sw_check.specs.Reply.{replay_outcome}
 
@@ -89,3 +93,24 @@ module _ (text : List ℕ) (graph : Graph) (items : List ℕ) where
   orders_some =
       let (replay, is) = some_order graph items in
       (Ok (order_outcome text replay), in_order replay is)
+
+module _ (graph : Graph) where
+  pub certifies_one : HasOneResult (Certifies graph)
+  certifies_one _ _ (prints a is_a) (prints b is_b) =
+      ap (λ printed. Ok (certificate_outcome printed)) (one_printed graph a b is_a is_b)
+
+  pub certifies_some : HasResult (Certifies graph)
+  certifies_some =
+      let (printed, is) = some_printed graph in
+      (Ok (certificate_outcome printed), prints printed is)
+
+module _ (graph : Graph) (certificate : List ℕ) where
+  pub verifies_one : HasOneResult (Verifies graph certificate)
+  verifies_one _ _ (tests a is_a) (tests b is_b) =
+      ap (λ result. Ok (verified_outcome certificate result))
+      (one_verified graph certificate a b is_a is_b)
+
+  pub verifies_some : HasResult (Verifies graph certificate)
+  verifies_some =
+      let (result, is) = some_verified graph certificate in
+      (Ok (verified_outcome certificate result), tests result is)

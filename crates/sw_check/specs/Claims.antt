@@ -1,5 +1,6 @@
 -- What each exit says of the files.
 use Rattle.std.specs.Prelude.{◌≡◌, ℕ, ◌<◌, ◌≤◌, ◌⊎◌, List, [], length, Option, Some, None}
+use Rattle.std.specs.Prelude.{Result, Ok, Err}
 use Rattle.sw_graph.specs.declared.graph.Graph.{Graph}
 use Rattle.sw_value.specs.declared.race.Access.{Access}
 use Rattle.sw_value.specs.declared.race.Race.{Race}
@@ -19,10 +20,16 @@ use Rattle.sw_check_parts.specs.declared.exit.Exit.TheVariants.{Done, Breached, 
 use Rattle.sw_check_parts.specs.declared.exit.Exit.TheVariants.{TooLong}
 use Rattle.sw_check_parts.specs.declared.exit.Exit.TheVariants.{NotWritten, Memory, Trapped}
 use Rattle.sw_check_parts.specs.declared.exit.Exit.TheVariants.{BadSchedule}
-use Rattle.sw_check_parts.specs.declared.exit.Exit.TheVariants.{Raced, ManyJobs, Unordered}
+use Rattle.sw_check_parts.specs.declared.exit.Exit.TheVariants.{Raced, BadCertificate}
+use Rattle.sw_check_parts.specs.declared.exit.Exit.TheVariants.{LongCertificate, ManyJobs}
+use Rattle.sw_check_parts.specs.declared.exit.Exit.TheVariants.{Unordered}
 use Rattle.sw_hb.specs.Replay.{IsOrderReplay}
 use Rattle.sw_hb.specs.declared.ordering.OrderReplay.{OrderReplay}
 use Rattle.sw_hb.specs.declared.ordering.OrderReplay.TheVariants as replays
+use Rattle.sw_cert.specs.Verified.{Verified}
+use Rattle.sw_cert_making.specs.Printed.{IsPrinted}
+use Rattle.sw_cert.specs.declared.verdict.CertFault.{CertFault}
+use Rattle.sw_cert.specs.declared.verdict.TheConstants.{CERTIFICATE_LIMIT}
 use Rattle.sw_check_parts.specs.declared.TheConstants.{PROGRAM_LIMIT}
 use Rattle.sw_decls.specs.declared.signature.AsyncDefault.{AsyncDefault}
 use Rattle.sw_decls.specs.declared.signature.AsyncDefault.TheVariants.{Concurrent}
@@ -30,8 +37,8 @@ use Rattle.sw_verdict.specs.Phases.{Phase, all_phases, IsGraphOf}
 use Rattle.sw_verdict.specs.Verdict.{Breaches, Refuses}
 use Rattle.sw_replay.specs.Replay.{IsReplay}
 use Rattle.sw_gen.specs.Program.{program}
-use Rattle.sw_check_words.specs.Words.{Action, Check, Run, Trace, Owners, Order, Command, OnFile}
-use Rattle.sw_check_words.specs.Words.{Demo}
+use Rattle.sw_check_words.specs.Words.{Action, Check, Certify, Verify, Run, Trace, Owners, Order}
+use Rattle.sw_check_words.specs.Words.{Command, OnFile, Demo}
 use Rattle.sw_check.specs.Reply.{demo_items, phases_for}
 
 -- The machine of the graph isn't racing after any list of items, of any length.
@@ -61,6 +68,8 @@ phases_of (Demo actors) = all_phases
 -- the schedule's file of an action, where it has one
 abbrev pub schedule_file_in : Action → Option (List ℕ)
 schedule_file_in Check = None
+schedule_file_in Certify = None
+schedule_file_in (Verify certificate_file) = None
 schedule_file_in (Run schedule_file) = Some schedule_file
 schedule_file_in (Trace schedule_file) = Some schedule_file
 schedule_file_in (Owners schedule_file) = Some schedule_file
@@ -70,6 +79,21 @@ schedule_file_in (Order schedule_file) = Some schedule_file
 abbrev pub schedule_file_of : Command → Option (List ℕ)
 schedule_file_of (OnFile rule file action) = schedule_file_in action
 schedule_file_of (Demo actors) = None
+
+-- the certificate's file of an action, where it has one
+abbrev pub certificate_file_in : Action → Option (List ℕ)
+certificate_file_in Check = None
+certificate_file_in Certify = None
+certificate_file_in (Verify certificate_file) = Some certificate_file
+certificate_file_in (Run schedule_file) = None
+certificate_file_in (Trace schedule_file) = None
+certificate_file_in (Owners schedule_file) = None
+certificate_file_in (Order schedule_file) = None
+
+-- that of a command
+abbrev pub certificate_file_of : Command → Option (List ℕ)
+certificate_file_of (OnFile rule file action) = certificate_file_in action
+certificate_file_of (Demo actors) = None
 
 -- the file of this name, where there is one, is within its limit, or longer
 abbrev pub Fits : (List ℕ → List ℕ) → ℕ → Option (List ℕ) → Type 0
@@ -104,6 +128,10 @@ pub data Ending : Type 0 where
   Crowds : Ending
   -- nothing orders these two accesses
   Clashes : (first second : Access) → Ending
+  -- the certificate has this fault
+  Fails : (fault : CertFault) → Ending
+  -- the certificate of the program is too long
+  Overlong : Ending
 
 -- how a replay ends that is watched
 abbrev pub ending_by : Output → Option Race → Ending
@@ -138,9 +166,37 @@ abbrev pub OrdersTo : Ending → Graph → List ℕ → Type 0
 OrdersTo ending graph items =
     (replay : OrderReplay) × IsOrderReplay graph items replay × (ending ≡ order_ending replay)
 
+-- how a certificate that is printed ends a command, and one that is tested
+abbrev pub printed_ending : Option (List ℕ) → Ending
+printed_ending (Some certificate) = Stands ends.Ran
+printed_ending None = Overlong
+
+abbrev pub verified_ending : Result (Unit {0}) CertFault → Ending
+verified_ending (Ok _) = Stands ends.Ran
+verified_ending (Err fault) = Fails fault
+
+-- the printing of a graph's certificate, and the test of one, end so
+abbrev pub PrintsTo : Ending → Graph → Type 0
+PrintsTo ending graph =
+    (printed : Option (List ℕ)) × IsPrinted graph printed × (ending ≡ printed_ending printed)
+
+abbrev pub VerifiesTo : Ending → List ℕ → Graph → Type 0
+VerifiesTo ending certificate graph = (result : Result (Unit {0}) CertFault)
+    × Verified graph certificate result × (ending ≡ verified_ending result)
+
+-- under a default, so it is with a program's graph
+pub record GraphEndsSo (rule : AsyncDefault) (text : List ℕ) (EndsBy : Graph → Type 0)
+    : Type 0 where
+  pub graph : Graph
+  pub of_text : IsGraphOf rule text graph
+  pub ends : EndsBy graph
+
 -- How a command on a file ends that goes to its end. `check` has no schedule, and ends in one way.
 abbrev pub FileEnds : Ending → (List ℕ → List ℕ) → AsyncDefault → List ℕ → Action → Type 0
 FileEnds ending files rule file Check = ending ≡ Stands ends.Ran
+FileEnds ending files rule file Certify = GraphEndsSo rule (files file) (PrintsTo ending)
+FileEnds ending files rule file (Verify certificate_file) =
+    GraphEndsSo rule (files file) (VerifiesTo ending (files certificate_file))
 FileEnds ending files rule file (Run schedule_file) =
     EndsSo rule (files file) (IsItems (files schedule_file)) (RunsTo ending)
 FileEnds ending files rule file (Trace schedule_file) =
@@ -159,10 +215,12 @@ Ends ending files (Demo actors) =
 -- the second file of a command, where it has one, is within its limit
 abbrev pub SecondFits : (List ℕ → List ℕ) → Command → Type 0
 SecondFits files command = Fits files SCHEDULE_LIMIT (schedule_file_of command)
+    × Fits files CERTIFICATE_LIMIT (certificate_file_of command)
 
 -- the second file of a command is longer than it may be
 abbrev pub SecondIsLong : (List ℕ → List ℕ) → Command → Type 0
 SecondIsLong files command = IsLong files SCHEDULE_LIMIT (schedule_file_of command)
+    ⊎ IsLong files CERTIFICATE_LIMIT (certificate_file_of command)
 
 -- the text of the file, where there is one, has a fault
 abbrev pub HasFault : (List ℕ → List ℕ) → Option (List ℕ) → Type 0
@@ -177,11 +235,13 @@ ScheduleIsBad files command = HasFault files (schedule_file_of command)
 -- what holds of the same command and files. Those that report a failure say nothing of them; they
 -- are no exits of a reply.
 abbrev pub ExitSaysOf : (List ℕ → List ℕ) → Command → Exit → Type 0
--- the program passes, and `check` accepts it, or all items are taken and no trap halts the machine
+-- The program passes. `check` accepts it, and its certificate isn't too long, if it is to be printed;
+-- or the certificate is accepted; or all items are taken and no trap halts the machine.
 ExitSaysOf files command Done =
     ProgramPasses files command × SecondFits files command × Ends (Stands ends.Ran) files command
 ExitSaysOf files command Breached = ProgramIsRefused files command
--- the program's file is too long, or the program passes and the schedule's file is too long
+-- the program's file is too long, or the program passes and the file of the schedule or of the
+-- certificate is too long
 ExitSaysOf files command TooLong = IsLong files PROGRAM_LIMIT (program_file_of command)
     ⊎ (ProgramPasses files command × SecondIsLong files command)
 -- the program passes, all items are taken, and a trap halts it
@@ -199,6 +259,12 @@ ExitSaysOf files command ManyJobs =
 -- the program passes, and nothing orders two accesses of its replay
 ExitSaysOf files command Unordered = ProgramPasses files command × SecondFits files command
     × (first : Access) × (second : Access) × Ends (Clashes first second) files command
+-- the program passes, and the certificate has a fault
+ExitSaysOf files command BadCertificate = ProgramPasses files command × SecondFits files command
+    × (fault : CertFault) × Ends (Fails fault) files command
+-- the program passes, and its certificate is too long
+ExitSaysOf files command LongCertificate =
+    ProgramPasses files command × SecondFits files command × Ends Overlong files command
 ExitSaysOf files command Usage = ⊥
 ExitSaysOf files command NotRead = ⊥
 ExitSaysOf files command NotWritten = ⊥

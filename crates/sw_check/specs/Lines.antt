@@ -1,9 +1,11 @@
--- The lines about a replay.
-use Rattle.std.specs.Prelude.{ℕ, ◌==◌, Bool, List, ◌++◌, length, count_by, codes}
+-- The lines about a replay, and about a certificate.
+use Rattle.std.specs.Prelude.{ℕ, ◌==◌, Bool, List, [], ◌++◌, length, count_by, codes}
 use Rattle.std.specs.Prelude.{if◌then◌else◌}
 use Rattle.std.specs.Fmt.{decimal}
 use Rattle.sw_text.specs.Position.{shown_position}
 use Rattle.sw_breach.specs.Lines.{line_feed}
+use Rattle.sw_cert.specs.declared.verdict.CertFault.{CertFault}
+use Rattle.sw_cert.specs.declared.verdict.CertFault.TheVariants as cert_faults
 use Rattle.sw_value.specs.declared.race.Access.{Access}
 use Rattle.sw_value.specs.declared.race.Race.{Race}
 use Rattle.sw_value.specs.declared.state.TrapKind.{TrapKind}
@@ -78,3 +80,20 @@ schedule_text Memory = codes "out of memory"
 unfoldable pub schedule_line : List ℕ → SchedFault → List ℕ
 schedule_line text fault = shown_position text (position_of fault)
     ++ (codes ": schedule: " ++ (schedule_text fault ++ line_feed))
+
+-- `LINE:COLUMN: certificate: TEXT`
+unfoldable pub certificate_at : List ℕ → ℕ → List ℕ → List ℕ
+certificate_at bytes at text = shown_position bytes at ++ (codes ": " ++ (text ++ line_feed))
+
+-- what is wrong with a certificate, and where; for a function whose entry it doesn't have, which one
+unfoldable pub certificate_line : List ℕ → CertFault → List ℕ
+certificate_line bytes (cert_faults.BadForm at) =
+    certificate_at bytes at (codes "certificate: not in form")
+certificate_line bytes (cert_faults.Entry function) =
+    codes "certificate: entry of function " ++ (decimal function ++ line_feed)
+certificate_line bytes (cert_faults.Fails at) =
+    certificate_at bytes at (codes "certificate: test fails")
+certificate_line bytes (cert_faults.Open at) =
+    certificate_at bytes at (codes "certificate: not closed")
+-- want of memory is no answer about a certificate, and has no line
+certificate_line bytes cert_faults.Memory = []

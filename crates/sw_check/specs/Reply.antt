@@ -19,7 +19,7 @@ use Rattle.sw_check_parts.specs.declared.TheConstants.{PROGRAM_LIMIT}
 use Rattle.sw_check_parts.specs.Course.{Read, Ended, Part, Alone, Fetched, ◌>>=◌}
 use Rattle.sw_decls.specs.declared.signature.AsyncDefault.{AsyncDefault}
 use Rattle.sw_decls.specs.declared.signature.AsyncDefault.TheVariants.{Concurrent}
-use Rattle.sw_verdict.specs.Phases.{Phase, all_phases, phases_to_size}
+use Rattle.sw_verdict.specs.Phases.{Phase, all_phases, phases_to_sharing, phases_to_size}
 use Rattle.sw_verdict.specs.ActorNames.{HasActorNames}
 use Rattle.sw_verdict.specs.Verdict.{IsVerdict}
 use Rattle.sw_replay.specs.Output.{output_of}
@@ -30,13 +30,17 @@ use Rattle.sw_owners.specs.Replay.{owner_replay}
 use Rattle.sw_hb.specs.Replay.{IsOrderReplay}
 use Rattle.sw_hb.specs.declared.ordering.OrderReplay.{OrderReplay}
 use Rattle.sw_hb.specs.declared.ordering.OrderReplay.TheVariants as replays
+use Rattle.sw_cert.specs.Verified.{Verified}
+use Rattle.sw_cert_making.specs.Printed.{IsPrinted}
+use Rattle.sw_cert.specs.declared.verdict.CertFault.{CertFault}
+use Rattle.sw_cert.specs.declared.verdict.TheConstants.{CERTIFICATE_LIMIT}
 use Rattle.sw_check.specs.Programs.{Passed}
-use Rattle.sw_check.specs.Lines.{demo_line, ordered_line, race_lines, schedule_line, summary}
-use Rattle.sw_check.specs.Lines.{trap_line, unordered_lines}
+use Rattle.sw_check.specs.Lines.{certificate_line, demo_line, summary, trap_line, race_lines}
+use Rattle.sw_check.specs.Lines.{ordered_line, schedule_line, unordered_lines}
 use Rattle.sw_gen.specs.Program.{program}
 use Rattle.sw_gen.specs.Schedule.{runs}
-use Rattle.sw_check_words.specs.Words.{Action, Check, Run, Trace, Owners, Order, Command, OnFile}
-use Rattle.sw_check_words.specs.Words.{Demo}
+use Rattle.sw_check_words.specs.Words.{Action, Check, Certify, Verify, Run, Trace, Owners, Order}
+use Rattle.sw_check_words.specs.Words.{Command, OnFile, Demo}
 
 -- the one line about words that have no form
 abbrev pub usage : Outcome
@@ -53,6 +57,19 @@ accepted = record { exit = exits.Done; bytes = codes "accepted" ++ line_feed }
 -- a program is refused for these breaches
 abbrev pub refusal : List ℕ → List Breach → Outcome
 refusal text breaches = record { exit = exits.Breached; bytes = verdict_text text breaches }
+
+-- a program is accepted, and this is its certificate, or it has none that is short enough
+abbrev pub certificate_outcome : Option (List ℕ) → Outcome
+certificate_outcome (Some certificate) = record { exit = exits.Done; bytes = certificate }
+certificate_outcome None =
+    record { exit = exits.LongCertificate; bytes = codes "certificate: too long" ++ line_feed }
+
+-- a certificate is accepted, or it has a fault
+abbrev pub verified_outcome : List ℕ → Result (Unit {0}) CertFault → Outcome
+verified_outcome certificate (Ok _) =
+    record { exit = exits.Done; bytes = codes "certificate accepted" ++ line_feed }
+verified_outcome certificate (Err fault) =
+    record { exit = exits.BadCertificate; bytes = certificate_line certificate fault }
 
 -- the text of a schedule has a fault
 abbrev pub bad_schedule_outcome : List ℕ → SchedFault → Outcome
@@ -128,6 +145,16 @@ pub data Scheduled (schedule : List ℕ) : Result (List ℕ) Outcome → Type 0 
   has_fault : (fault : SchedFault) → IsFirstFault schedule fault
       → Scheduled schedule (Err (bad_schedule_outcome schedule fault))
 
+-- The certificate of a program's graph is printed.
+pub data Certifies (graph : Graph) : Result Outcome Outcome → Type 0 where
+  prints : (printed : Option (List ℕ)) → IsPrinted graph printed
+      → Certifies graph (Ok (certificate_outcome printed))
+
+-- The bytes are tested as a certificate of a program's graph.
+pub data Verifies (graph : Graph) (certificate : List ℕ) : Result Outcome Outcome → Type 0 where
+  tests : (result : Result (Unit {0}) CertFault) → Verified graph certificate result
+      → Verifies graph certificate (Ok (verified_outcome certificate result))
+
 -- The machine of a program's graph takes the items, all of them, and this is answered.
 abbrev pub Runs : List ℕ → Graph → List ℕ → Result Outcome Outcome → Type 0
 Runs text graph items = EndsWithReply (run_outcome text (output_of graph items))
@@ -165,9 +192,17 @@ by_items schedule_file Answers = do
   items ← items_in schedule_file
   Alone (Answers items)
 
+-- A certificate is fetched, and tested.
+abbrev pub by_certificate : List ℕ → Graph → Part Outcome
+by_certificate certificate_file graph = do
+  certificate ← Fetched certificate_file CERTIFICATE_LIMIT
+  Alone (Verifies graph certificate)
+
 -- the phases that count: an action refuses a program in which one of them finds a breach
 abbrev pub phases_for : Action → List Phase
 phases_for Check = all_phases
+phases_for Certify = all_phases
+phases_for (Verify certificate_file) = phases_to_sharing
 phases_for (Run schedule_file) = all_phases
 phases_for (Trace schedule_file) = phases_to_size
 phases_for (Owners schedule_file) = all_phases
@@ -177,6 +212,8 @@ phases_for (Order schedule_file) = phases_to_size
 -- never races, and its run isn't watched.
 abbrev pub after_verdict : Action → List ℕ → Passed → Part Outcome
 after_verdict Check text passed = Alone (EndsWithReply accepted)
+after_verdict Certify text passed = Alone (Certifies passed.graph)
+after_verdict (Verify certificate_file) text passed = by_certificate certificate_file passed.graph
 after_verdict (Run schedule_file) text passed = by_items schedule_file (Runs text passed.graph)
 after_verdict (Trace schedule_file) text passed = by_items schedule_file (Traces text passed.graph)
 after_verdict (Owners schedule_file) text passed = by_items schedule_file (Owns text passed)
@@ -218,6 +255,9 @@ run_exits = exits.TooLong ∷ exits.Breached ∷ exits.BadSchedule ∷ exits.Don
 -- the exits of the replies to a command on a file
 abbrev pub file_exits : Action → List Exit
 file_exits Check = exits.TooLong ∷ exits.Breached ∷ exits.Done ∷ []
+file_exits Certify = exits.TooLong ∷ exits.Breached ∷ exits.Done ∷ exits.LongCertificate ∷ []
+file_exits (Verify certificate_file) =
+    exits.TooLong ∷ exits.Breached ∷ exits.Done ∷ exits.BadCertificate ∷ []
 file_exits (Run schedule_file) = run_exits
 file_exits (Owners schedule_file) = run_exits
 file_exits (Trace schedule_file) =

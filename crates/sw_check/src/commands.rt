@@ -9,8 +9,11 @@ ghost use Rattle.sw_check.specs.Reply.{after_verdict, course_of, demo_course, fi
 ghost use Rattle.sw_check.specs.Reply.{phases_for};
 ghost use Rattle.sw_check.specs.Programs.{seen_graph};
 
-use crate::parts::{Phases, demonstrate, judged, order, owners, run, scheduled, trace};
+use crate::parts::{
+    Phases, certify, demonstrate, judged, order, owners, run, scheduled, trace, verified,
+};
 use std::alloc::Global;
+use sw_cert::CERTIFICATE_LIMIT;
 use sw_check_parts::{Exit, Outcome, PROGRAM_LIMIT, Stop, fetch, lines};
 use sw_check_words::{Action, Command, read};
 use sw_decls::AsyncDefault;
@@ -25,7 +28,8 @@ fn phases_for(action: Action<'_>) -> Phases
     ensures { list_of result ≡ phases_for (lent_action action.entry) }
 {
     match action {
-        Action::Check | Action::Run { .. } | Action::Owners { .. } => Phases::All,
+        Action::Check | Action::Certify | Action::Run { .. } | Action::Owners { .. } => Phases::All,
+        Action::Verify { .. } => Phases::ToSharing,
         Action::Trace { .. } | Action::Order { .. } => Phases::ToSize,
     }
 }
@@ -54,6 +58,11 @@ fn after_verdict<S: Shelf>(
 {
     match action {
         Action::Check => Ok(lines(alloc, Exit::Done, "accepted\n")?),
+        Action::Certify => Ok(certify(alloc, &made.graph)?),
+        Action::Verify { certificate_file } => {
+            let bytes = fetch(alloc, certificate_file, CERTIFICATE_LIMIT, shelf)?;
+            Ok(verified(alloc, &made.graph, bytes.as_slice())?)
+        }
         Action::Run { schedule_file } => {
             let items = items_in(alloc, schedule_file, shelf)?;
             Ok(run(alloc, text, &made.graph, &items)?)

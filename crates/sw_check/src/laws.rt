@@ -7,6 +7,7 @@ ghost use Rattle.sw_check.specs.Reply.{Reply, course_of};
 ghost use Rattle.sw_check_words.specs.Words.{Command};
 
 use crate::PROGRAM_LIMIT;
+use sw_cert::CERTIFICATE_LIMIT;
 use sw_clocks::MOST_JOBS;
 
 /// Over any files the words have one reply, and the same files are read for it.
@@ -36,6 +37,11 @@ pub fn words_have_one_reply()
 /// The limit that the definitions of replies take from here.
 pub fn program_limit()
     ensures bytes { PROGRAM_LIMIT ≡ 262144 }
+{}
+
+/// The limit of a certificate.
+pub fn certificate_limit()
+    ensures bytes { CERTIFICATE_LIMIT ≡ 4194304 }
 {}
 
 /// The number of jobs up to which their accesses are put in order.

@@ -19,7 +19,7 @@ ghost use Rattle.sw_check.specs.Call.{Interrupted, Replied, Unanswered};
 ghost use Rattle.sw_check.specs.Claims.{NeverRaces, ExitSays, ProgramFits, default_of, phases_of};
 ghost use Rattle.sw_check.specs.Claims.{program_of};
 ghost use Rattle.sw_check.specs.Reply.{Reply, exits_of};
-ghost use Rattle.sw_check_words.specs.Words.{Check, Command, OnFile, Order, command_in};
+ghost use Rattle.sw_check_words.specs.Words.{Check, Command, OnFile, Order, Verify, command_in};
 
 mod commands;
 mod laws;
@@ -27,7 +27,7 @@ mod lines;
 mod parts;
 mod reply;
 
-pub use laws::{order_limit, program_limit, words_have_one_reply};
+pub use laws::{certificate_limit, order_limit, program_limit, words_have_one_reply};
 use reply::{NoReply, reply};
 use std::alloc::Global;
 use sw_check_parts::write_all;
@@ -89,6 +89,12 @@ pub fn run_words<S: Shelf, K: Sink>(
         → length (file_of known.files file) ≤ PROGRAM_LIMIT
         → Accepts rule (file_of known.files file) → IsFalse (is_failure result)
         → result ≡ Exit.Done }
+
+    // `verify` has that exit only for an accepted program, though nothing is solved.
+    ensures certified { (known : KnownShelf) (rule : AsyncDefault) (file certificate_file : List ℕ)
+        → S.known shelf.old ≡ Some known
+        → command_in words.now.items ≡ Some (OnFile rule file (Verify certificate_file))
+        → result ≡ Exit.Done → Accepts rule (file_of known.files file) }
 
     // Where all phases count for a command and don't refuse its program, which is within the limit,
     // the program has a graph, and no schedule, of any length, leads that to a race. A program that

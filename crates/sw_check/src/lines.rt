@@ -1,13 +1,14 @@
-//! The lines about a replay.
+//! The lines about a replay, and about a certificate.
 
-ghost use Rattle.std.specs.Prelude.{◌≡◌, ◌<◌, IfOk, length, string_bytes};
+ghost use Rattle.std.specs.Prelude.{◌≡◌, ◌≢◌, ◌<◌, IfOk, length, string_bytes};
 ghost use Rattle.sw_replay.specs.Items.{position_of};
-ghost use Rattle.sw_check.specs.Lines.{access_line, access_lines, deed, demo_line, line_count};
-ghost use Rattle.sw_check.specs.Lines.{ordered_line, race_lines};
+ghost use Rattle.sw_check.specs.Lines.{access_line, access_lines, certificate_at, certificate_line};
+ghost use Rattle.sw_check.specs.Lines.{deed, demo_line, line_count, ordered_line, race_lines};
 ghost use Rattle.sw_check.specs.Lines.{schedule_line, schedule_text, summary, trap_line, trap_text};
 ghost use Rattle.sw_check.specs.Lines.{unordered_lines};
 
 use std::alloc::{AllocError, Global};
+use sw_cert::CertFault;
 use sw_replay::{Output, SchedFault};
 use sw_text::shown_position;
 use sw_value::{Access, Race, TrapKind};
@@ -174,4 +175,36 @@ pub fn schedule_line(alloc: Global, bytes: &[u8], fault: SchedFault) -> Result<S
     let position = shown_position(alloc, bytes, position_of(fault))?;
     let text = schedule_text(fault);
     format!(in alloc; "{position}: schedule: {text}\n")
+}
+
+/// The line about a fault at the byte offset `at` of the certificate `bytes`.
+#[tactic(auto, unfolding(crate::specs::Lines::certificate_at))]
+fn certificate_at(alloc: Global, bytes: &[u8], at: u32, text: &str) -> Result<String, AllocError>
+    requires { length bytes.now < 4294967295 }
+    ensures { IfOk result (λ line. string_bytes line ≡ certificate_at bytes.now at text.now) }
+{
+    let position = shown_position(alloc, bytes, at)?;
+    format!(in alloc; "{position}: {text}\n")
+}
+
+/// The line about a fault of the certificate `bytes`.
+#[tactic(auto, unfolding(crate::specs::Lines::certificate_line))]
+pub fn certificate_line(
+    alloc: Global,
+    bytes: &[u8],
+    fault: CertFault,
+) -> Result<String, AllocError>
+    requires short { length bytes.now < 4294967295 }
+    requires answers { fault ≢ CertFault.Memory }
+    ensures { IfOk result (λ text. string_bytes text ≡ certificate_line bytes.now fault) }
+{
+    match fault {
+        CertFault::BadForm { at } => certificate_at(alloc, bytes, at, "certificate: not in form"),
+        CertFault::Entry { function } => {
+            format!(in alloc; "certificate: entry of function {function}\n")
+        }
+        CertFault::Fails { at } => certificate_at(alloc, bytes, at, "certificate: test fails"),
+        CertFault::Open { at } => certificate_at(alloc, bytes, at, "certificate: not closed"),
+        CertFault::Memory => unreachable!(),
+    }
 }

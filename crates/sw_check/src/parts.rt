@@ -1,24 +1,27 @@
 //! The parts of commands that read no file.
 
-ghost use Rattle.std.specs.Prelude.{◌≡◌, ◌≢◌, ◌<◌, ◌≤◌, IfOk, Ok, length};
+ghost use Rattle.std.specs.Prelude.{◌≡◌, ◌≢◌, ◌<◌, ◌≤◌, IfOk, Ok, Err, length};
 ghost use Rattle.std.specs.List.{AllByRecursion};
 ghost use Rattle.sw_breach.specs.Codes.{IsCode};
 ghost use Rattle.sw_check_parts.specs.Leaves.{Decides};
-ghost use Rattle.sw_verdict.specs.Phases.{all_phases, phases_to_size};
+ghost use Rattle.sw_verdict.specs.Phases.{all_phases, phases_to_sharing, phases_to_size};
 ghost use Rattle.sw_check.specs.Lines.{schedule_line};
 ghost use Rattle.sw_check.specs.Phases.{list_of};
 ghost use Rattle.sw_check.specs.Programs.{seen_graph, seen_result};
-ghost use Rattle.sw_check.specs.Reply.{IsJudgement, Orders, Owns, Runs, Scheduled, Traces};
-ghost use Rattle.sw_check.specs.Reply.{bad_schedule_outcome, demo_outcome, order_outcome, refusal};
-ghost use Rattle.sw_check.specs.Reply.{replay_outcome, run_outcome};
+ghost use Rattle.sw_check.specs.Reply.{Certifies, IsJudgement, Owns, Runs, Scheduled, Traces};
+ghost use Rattle.sw_check.specs.Reply.{Orders, Verifies, order_outcome, verified_outcome};
+ghost use Rattle.sw_check.specs.Reply.{bad_schedule_outcome, demo_outcome, refusal, replay_outcome, run_outcome};
 ghost use Rattle.sw_replay.specs.Output.{output_of};
 ghost use Rattle.sw_gen.specs.Program.{program};
 
 use crate::lines::{
-    demo_line, ordered_line, race_lines, schedule_line, summary, trap_line, unordered_lines,
+    certificate_line, demo_line, ordered_line, race_lines, schedule_line, summary, trap_line,
+    unordered_lines,
 };
 use std::alloc::{AllocError, Global};
 use sw_breach::{Breach, render};
+use sw_cert::{CERTIFICATE_LIMIT, CertFault, verify};
+use sw_cert_making::certificate;
 use sw_check_parts::{Exit, Outcome, PROGRAM_LIMIT, Stop, lines, with_last_line};
 use sw_check_text::{Verdict, check_text};
 use sw_decls::AsyncDefault;
@@ -29,7 +32,7 @@ use sw_owners::{OwnerReplay, color_replay, owner_lines};
 use sw_replay::{
     End, Output, Replay, SCHEDULE_LIMIT, SchedFault, Schedule, output_of, replay, schedule,
 };
-use sw_verdict::{NamedGraph, Refusal, lower_text};
+use sw_verdict::{Judged, NamedGraph, Refusal, judge_sharing, lower_text};
 
 /// The reply about a program that is refused.
 fn refusal(alloc: Global, text: &[u8], breaches: &[Breach]) -> Result<Outcome, AllocError>
@@ -53,6 +56,9 @@ pub enum Phases {
     /// Those up to the size of functions: a program in which they find no breach has a graph,
     /// whatever races it has.
     ToSize,
+    /// Those up to sharing: a program in which they find no breach is accepted if the test of a
+    /// certificate shows that its regions have none.
+    ToSharing,
 }
 
 /// The graph of a text in which no phase finds a breach under a default.
@@ -87,6 +93,26 @@ fn lowered(alloc: Global, default: AsyncDefault, text: &[u8]) -> Result<NamedGra
     }
 }
 
+/// The graph of a text in which no phase up to sharing finds a breach under a default.
+fn unshared(alloc: Global, default: AsyncDefault, text: &[u8]) -> Result<NamedGraph, Stop>
+    requires { length text.now ≤ PROGRAM_LIMIT }
+    ensures { Decides (IsJudgement default phases_to_sharing text.now) (seen_result result) }
+{
+    match judge_sharing(alloc, text, default) {
+        Ok(Judged { made, races }) => {
+            if races.is_empty() {
+                Ok(made)
+            } else {
+                Err(Stop::Refused(refusal(alloc, text, races.as_slice())?))
+            }
+        }
+        Err(Refusal::Breached { breach }) => {
+            Err(Stop::Refused(refusal(alloc, text, &[breach])?))
+        }
+        Err(Refusal::Memory) => Err(Stop::Memory),
+    }
+}
+
 /// The graph of a text in which none of these phases finds a breach under a default.
 pub fn judged(
     alloc: Global,
@@ -100,6 +126,44 @@ pub fn judged(
     match phases {
         Phases::All => accepted(alloc, default, text),
         Phases::ToSize => lowered(alloc, default, text),
+        Phases::ToSharing => unshared(alloc, default, text),
+    }
+}
+
+/// The reply with the certificate of a program's graph.
+pub fn certify(alloc: Global, graph: &Graph) -> Result<Outcome, AllocError>
+    ensures { IfOk result (λ outcome. Certifies graph.now (Ok outcome)) }
+{
+    match certificate(alloc, graph)? {
+        Some(text) => Ok(Outcome {
+            exit: Exit::Done,
+            bytes: ListOf::from_vec(text),
+        }),
+        None => lines(alloc, Exit::LongCertificate, "certificate: too long\n"),
+    }
+}
+
+/// The reply about a certificate that has a fault.
+fn bad_certificate(alloc: Global, bytes: &[u8], fault: CertFault) -> Result<Outcome, AllocError>
+    requires { length bytes.now ≤ CERTIFICATE_LIMIT }
+    ensures { IfOk result (λ outcome. (fault ≢ CertFault.Memory)
+        × (outcome ≡ verified_outcome bytes.now (Err fault))) }
+{
+    if let CertFault::Memory = fault {
+        return Err(AllocError);
+    }
+    let line = certificate_line(alloc, bytes, fault)?;
+    lines(alloc, Exit::BadCertificate, line.as_str())
+}
+
+/// The reply to the test of a certificate of a program's graph.
+pub fn verified(alloc: Global, graph: &Graph, bytes: &[u8]) -> Result<Outcome, AllocError>
+    requires { length bytes.now ≤ CERTIFICATE_LIMIT }
+    ensures { IfOk result (λ outcome. Verifies graph.now bytes.now (Ok outcome)) }
+{
+    match verify(alloc, graph, bytes) {
+        Ok(()) => lines(alloc, Exit::Done, "certificate accepted\n"),
+        Err(fault) => bad_certificate(alloc, bytes, fault),
     }
 }
 

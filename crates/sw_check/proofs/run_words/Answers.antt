@@ -3,7 +3,8 @@ use Rattle.sw_check_parts.specs.Written.{Appended}
 use Rattle.sw_check_words.specs.Words.{command_in}
 use Rattle.sw_check.proofs.CallLemmas.{of_words, answer_says, answer_no_race, answer_exact}
 use Rattle.sw_check.proofs.CallLemmas.{answer_breached, answer_accepted, answer_not_raced}
-use Rattle.sw_check.proofs.CallLemmas.{answer_in_order, answer_only, exits_of_words}
+use Rattle.sw_check.proofs.CallLemmas.{answer_certified, answer_in_order, answer_only}
+use Rattle.sw_check.proofs.CallLemmas.{exits_of_words}
 use Rattle.sw_check.proofs.ExitLemmas.{silent_written}
 use Rattle.sw_check.proofs.run_words.Goals as goal
 
@@ -50,6 +51,11 @@ pub returns-in-Ok-write_all-clause-accepted : goal.returns-in-Ok-write_all-claus
 returns-in-Ok-write_all-clause-accepted g c known rule file is same short accepts _ =
     answer_accepted (of_words c.args.words.now.items c.deref.result.now c.deref.ensures.value
     c.in-Ok.ensures.answered) known rule file is same short accepts
+
+pub returns-in-Ok-write_all-clause-certified : goal.returns-in-Ok-write_all-clause-certified
+returns-in-Ok-write_all-clause-certified g c known rule file certificate_file is same done =
+    answer_certified (of_words c.args.words.now.items c.deref.result.now c.deref.ensures.value
+    c.in-Ok.ensures.answered) known rule file certificate_file is same done
 
 pub returns-in-Ok-write_all-clause-ordered : goal.returns-in-Ok-write_all-clause-ordered
 returns-in-Ok-write_all-clause-ordered g c known rule file schedule_file is same accepts =

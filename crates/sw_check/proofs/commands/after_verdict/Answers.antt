@@ -1,9 +1,10 @@
-use Rattle.std.proofs.Common.{Ok, Err, ap}
+use Rattle.std.proofs.Common.{Ok, Err, ap, subst}
 use Rattle.std.proofs.lemmas.Result.{err_from_is_err_and}
 use Rattle.sw_check_parts.specs.declared.stop.Stop.TheVariants.{Memory}
 use Rattle.sw_check_parts.proofs.Doing.{does_on, does_stop, does_alone}
 use Rattle.sw_check.specs.Programs.{seen_graph}
-use Rattle.sw_check.specs.Reply.{EndsWithReply, Orders, Owns, Runs, Traces, accepted}
+use Rattle.sw_check.specs.Reply.{Certifies, EndsWithReply, Orders, Owns, Runs, Traces}
+use Rattle.sw_check.specs.Reply.{Verifies, accepted}
 use Rattle.sw_check.proofs.commands.after_verdict.Goals as goal
 
 pub returns-in_err-lines-in-Check : goal.returns-in_err-lines-in-Check
@@ -16,6 +17,44 @@ returns-in_ok-lines-in-Check g c =
     rw c.in-Check.is
     (does_alone (EndsWithReply accepted) (Ok c.in_ok-lines-in-Check.field-0)
     (ap Ok c.in_ok-lines-in-Check.ensures))
+
+pub returns-in_err-certify-in-Certify : goal.returns-in_err-certify-in-Certify
+returns-in_err-certify-in-Certify g c =
+    let p = err_from_is_err_and c.from_residual-in_err-certify-in-Certify.result
+    c.from_residual-in_err-certify-in-Certify.ensures.1 in
+    rw (p.1, p.2, c.in-Certify.is)
+    (does_alone (Certifies c.args.made.now.graph) (Err Memory) tt)
+
+pub returns-in_ok-certify-in-Certify : goal.returns-in_ok-certify-in-Certify
+returns-in_ok-certify-in-Certify g c =
+    rw c.in-Certify.is
+    (does_alone (Certifies c.args.made.now.graph) (Ok c.in_ok-certify-in-Certify.field-0)
+    c.in_ok-certify-in-Certify.ensures)
+
+pub returns-in_err-bytes-in-Verify : goal.returns-in_err-bytes-in-Verify
+returns-in_err-bytes-in-Verify g c =
+    let p = err_from_is_err_and c.from_residual-in_err-bytes-in-Verify.result
+    c.from_residual-in_err-bytes-in-Verify.ensures.1 in
+    rw (p.1, p.2, c.in-Verify.is)
+    (does_stop _ c.in_err-bytes-in-Verify.field-0.0 c.in_err-bytes-in-Verify.ensures.done)
+
+pub returns-in_err-verified-in-Verify : goal.returns-in_err-verified-in-Verify
+returns-in_err-verified-in-Verify g c =
+    let p = err_from_is_err_and c.from_residual-in_err-verified-in-Verify.result
+    c.from_residual-in_err-verified-in-Verify.ensures.1 in
+    let Answers = Verifies c.args.made.now.graph c.in_ok-bytes-in-Verify.bytes in
+    rw (p.1, p.2, c.in-Verify.is)
+    (does_on c.in_ok-bytes-in-Verify.ensures.done (does_alone Answers (Err Memory) tt))
+
+pub returns-in_ok-verified-in-Verify : goal.returns-in_ok-verified-in-Verify
+returns-in_ok-verified-in-Verify g c =
+    let outcome = c.in_ok-verified-in-Verify.field-0 in
+    let Answers = Verifies c.args.made.now.graph c.in_ok-bytes-in-Verify.bytes in
+    rw c.in-Verify.is
+    (does_on c.in_ok-bytes-in-Verify.ensures.done
+    (does_alone Answers (Ok outcome)
+    (subst (λ bytes. Verifies c.args.made.now.graph bytes (Ok outcome))
+    c.as_slice.ensures c.in_ok-verified-in-Verify.ensures)))
 
 pub returns-in_err-items-in-Run : goal.returns-in_err-items-in-Run
 returns-in_err-items-in-Run g c =
