@@ -7,7 +7,7 @@ ghost use Rattle.std.specs.List.{AllByRecursion};
 ghost use Rattle.std.specs.List.Sorted.{IsStrictlySortedBy};
 ghost use Rattle.std.specs.Prelude.{◌≡◌, ◌≢◌, ◌≤◌, ◌⊎◌, ℕ, List, length, [], IsTrue, None};
 ghost use Rattle.std.specs.Prelude.{slice_get, Some, IsSome, false, ◌↔◌, ◌++◌, Result, ◌<◌, ◌^◌};
-ghost use Rattle.std.specs.Prelude.{All, Option};
+ghost use Rattle.std.specs.Prelude.{All, Ok, Option};
 ghost use Rattle.sw_breach.specs.Codes.{IsCode};
 ghost use Rattle.sw_breach.specs.Order.{breach_cmp};
 ghost use Rattle.sw_breach.specs.declared.Breach.{Breach};
@@ -49,6 +49,9 @@ ghost use Rattle.sw_replay.specs.Output.{output_of};
 ghost use Rattle.sw_replay.specs.Replay.{IsRacingAt, IsReplay};
 ghost use Rattle.sw_replay.specs.declared.output.Replay.{Replay};
 ghost use Rattle.sw_replay.specs.declared.text.SchedFault.{SchedFault};
+ghost use Rattle.sw_cert.specs.Verified.{IsAccepted, Verified};
+ghost use Rattle.sw_cert.specs.declared.verdict.CertFault.{CertFault};
+ghost use Rattle.sw_cert_making.specs.Printed.{IsLeastCertificate};
 ghost use Rattle.sw_hb.specs.Replay.{IsOrderReplay};
 ghost use Rattle.sw_hb.specs.declared.ordering.OrderReplay.{OrderReplay};
 ghost use Rattle.sw_region_ops.specs.declared.op.TheConstants.{ISOLATED_TO_ACTOR, ISOLATED_TO_TASK};
@@ -70,6 +73,7 @@ ghost use Rattle.sw_check.specs.Claims.{Ending, Ends};
 ghost use Rattle.sw_check.specs.Reply.{Reply, course_of};
 ghost use Rattle.sw_check_words.specs.Words.{Command};
 
+use sw_cert::CERTIFICATE_LIMIT;
 use sw_check::{PROGRAM_LIMIT, Verdict};
 use sw_clocks::MOST_JOBS;
 use sw_graph::{MAX_POINTS, MAX_REGISTERS};
@@ -451,6 +455,49 @@ pub fn items_have_one_order()
     sw_hb::items_have_one_order()
 }
 
+/// All bytes are tested as a certificate of a graph, with one answer.
+pub fn texts_are_verified_in_one_way()
+    ensures some { (graph : Graph) (bytes : List ℕ)
+        → (result : Result (Unit {0}) CertFault) × Verified graph bytes result }
+    ensures one { (graph : Graph) (bytes : List ℕ) (a b : Result (Unit {0}) CertFault)
+        → Verified graph bytes a → Verified graph bytes b → a ≡ b }
+{
+    sw_cert::texts_are_verified_in_one_way()
+}
+
+/// The answer is Ok exactly if the bytes are a certificate of the graph that gives each function a
+/// closed annotation in which each test passes.
+pub fn accepted_certificates_are_ok()
+    ensures { (graph : Graph) (bytes : List ℕ)
+        → Verified graph bytes (Ok tt) ↔ IsAccepted graph bytes }
+{
+    sw_cert::accepted_certificates_are_ok()
+}
+
+/// A graph of which a certificate is accepted has no region breach.
+pub fn accepted_certificates_show_no_breach()
+    ensures { (graph : Graph) (bytes : List ℕ) → IsAccepted graph bytes → AreBreaches graph [] }
+{
+    sw_cert::accepted_certificates_show_no_breach()
+}
+
+/// Each graph has one certificate with the lines of its least annotations, however long.
+pub fn graphs_have_certificates()
+    ensures some { (graph : Graph) → (text : List ℕ) × IsLeastCertificate graph text }
+    ensures one { (graph : Graph) (text other : List ℕ) → IsLeastCertificate graph text
+        → IsLeastCertificate graph other → text ≡ other }
+{
+    sw_cert_making::graphs_have_certificates()
+}
+
+/// A certificate that is made for a graph without region breaches is accepted.
+pub fn printed_certificates_are_accepted()
+    ensures { (graph : Graph) (text : List ℕ) → AreBreaches graph []
+        → IsLeastCertificate graph text → IsAccepted graph text }
+{
+    sw_cert_making::printed_certificates_are_accepted()
+}
+
 /// Over any files the words have one reply, and the same files are read for it.
 pub fn words_have_one_reply()
     ensures some_reply { (command : Option Command) (files : List ℕ → List ℕ)
@@ -484,6 +531,13 @@ pub fn program_limit()
     ensures bytes { PROGRAM_LIMIT ≡ 262144 }
 {
     sw_check::program_limit()
+}
+
+/// The limit of a certificate.
+pub fn certificate_limit()
+    ensures bytes { CERTIFICATE_LIMIT ≡ 4194304 }
+{
+    sw_check::certificate_limit()
 }
 
 /// The number of jobs up to which their accesses are put in order.
