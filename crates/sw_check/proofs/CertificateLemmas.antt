@@ -68,14 +68,14 @@ module _ (files : List ℕ → List ℕ) (rule : AsyncDefault) (file : List ℕ)
     says_certificate reads result of_files ended =
         by result (after_fetch files certificate_file CERTIFICATE_LIMIT
         (λ certificate. Alone (Verifies graph certificate)) reads result of_files ended) where
-      by : (result : Result Outcome Outcome)
-          → EndsAfterFetch files certificate_file CERTIFICATE_LIMIT
-          (λ certificate. Alone (Verifies graph certificate)) result
-          → ExitSaysOf files (OnFile rule file (Verify certificate_file)) (outcome_of result).exit
-      by _ (too_long long) = inr (whole, inr long)
-      by _ (fetched others result short _ ended) =
-          verifies_say short result
-          (by_rule (Verifies graph (files certificate_file)) others result ended)
+          by : (result : Result Outcome Outcome)
+              → EndsAfterFetch files certificate_file CERTIFICATE_LIMIT
+              (λ certificate. Alone (Verifies graph certificate)) result
+              → ExitSaysOf files (OnFile rule file (Verify certificate_file)) (outcome_of result).exit
+          by _ (too_long long) = inr (whole, inr long)
+          by _ (fetched others result short _ ended) =
+              verifies_say short result
+              (by_rule (Verifies graph (files certificate_file)) others result ended)
 
 -- what was tested without a fault is accepted
 is_accepted : (graph : Graph) (certificate : List ℕ) (value : Unit {0})

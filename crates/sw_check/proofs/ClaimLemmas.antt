@@ -237,14 +237,14 @@ module _ (files : List ℕ → List ℕ) (rule : AsyncDefault) (file schedule_fi
         are_items = are;
         ends = (replay, is, refl);
       }) where
-    by : (replay : OrderReplay)
-        → Ends (order_ending replay) files (OnFile rule file (Order schedule_file))
-        → ExitSaysOf files (OnFile rule file (Order schedule_file))
-        (order_outcome (files file) replay).exit
-    by replays.ManyJobs so = (whole, fits, so)
-    by (replays.Unordered lines first second) so = (whole, fits, first, second, so)
-    by (replays.Trapped lines kind at) so = (whole, fits, kind, at, so)
-    by (replays.Ordered lines accesses) so = (whole, fits, so)
+        by : (replay : OrderReplay)
+            → Ends (order_ending replay) files (OnFile rule file (Order schedule_file))
+            → ExitSaysOf files (OnFile rule file (Order schedule_file))
+            (order_outcome (files file) replay).exit
+        by replays.ManyJobs so = (whole, fits, so)
+        by (replays.Unordered lines first second) so = (whole, fits, first, second, so)
+        by (replays.Trapped lines kind at) so = (whole, fits, kind, at, so)
+        by (replays.Ordered lines accesses) so = (whole, fits, so)
 
 -- a generated program, which was judged, is run
 module _ (files : List ℕ → List ℕ) (actors : ℕ) where

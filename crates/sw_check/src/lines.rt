@@ -189,11 +189,7 @@ fn certificate_at(alloc: Global, bytes: &[u8], at: u32, text: &str) -> Result<St
 
 /// The line about a fault of the certificate `bytes`.
 #[tactic(auto, unfolding(crate::specs::Lines::certificate_line))]
-pub fn certificate_line(
-    alloc: Global,
-    bytes: &[u8],
-    fault: CertFault,
-) -> Result<String, AllocError>
+pub fn certificate_line(alloc: Global, bytes: &[u8], fault: CertFault) -> Result<String, AllocError>
     requires short { length bytes.now < 4294967295 }
     requires answers { fault ≢ CertFault.Memory }
     ensures { IfOk result (λ text. string_bytes text ≡ certificate_line bytes.now fault) }
