@@ -1,4 +1,5 @@
 pub mod Finishing
 pub mod Givens
+pub mod Lacking
 pub mod Numbered
 pub mod Programs

@@ -94,3 +94,34 @@ unfolding bodies_by
 bodies_found tables trees found number body at =
     subst AreFound (sym (names_are tables trees)) found number (name_of body)
     (slice_get-map name_of (map (body_by tables) trees) number ∙ ap (option_map name_of) at)
+
+-- The numbers that were noted are less than a count.
+abbrev pub AreBelow : ℕ → Numbers → Type 0
+AreBelow count numbers = (name : FunctionName) (number : ℕ) → numbers name ≡ Some number
+    → number < count
+
+-- one name more
+pub below_next : (count : ℕ) (name : FunctionName) (old new : Numbers)
+    → ((other : FunctionName) → new other
+    ≡ or_else (old other) (if is_named name other then Some count else None))
+    → AreBelow count old → AreBelow (count + 1) new
+below_next count name old new noted below other number at =
+    by (old other) refl (is_named name other) (sym (noted other) ∙ at) where
+      by : (found : Option ℕ) → old other ≡ found → (here : Bool)
+          → or_else found (if here then Some count else None) ≡ Some number → number < count + 1
+      by (Some found) is here same =
+          omega (arith, below other found is, same_Some found number same)
+      by None is true same = omega (arith, same_Some count number same)
+      by None is false same = cc
+
+-- A name that was noted before isn't found at its own place.
+pub noted_twice : (names : List FunctionName) (count : ℕ) (name : FunctionName) (numbers : Numbers)
+    (later : Option ℕ) → slice_get names count ≡ Some name → AreBelow count numbers
+    → or_else (numbers name) later ≡ number_in names name → (numbers name ≡ None → ⊥)
+    → AreFound names → ⊥
+noted_twice names count name numbers later at below noted known found =
+    by (numbers name) refl (noted ∙ found count name at) where
+      by : (before : Option ℕ) → numbers name ≡ before → or_else before later ≡ Some count → ⊥
+      by None is same = known is
+      by (Some number) is same =
+          omega (arith, below name number is, same_Some number count same)

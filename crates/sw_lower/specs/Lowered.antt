@@ -1,6 +1,6 @@
 -- The functions that are made of a program's bodies, and the fault of a program that has none.
 use Rattle.std.specs.Prelude.{◌≡◌, ℕ, Bool, ◌||◌, nat_lt, List, [], Some, Result, Ok, Err}
-use Rattle.std.specs.Prelude.{IsOk, if◌then◌else◌}
+use Rattle.std.specs.Prelude.{Contains, IsOk, if◌then◌else◌}
 use Rattle.sw_types.specs.declared.ty.Ty.{Ty}
 use Rattle.sw_graph.specs.declared.function.TheConstants.{MAX_POINTS}
 use Rattle.sw_lower_builder.specs.Unfinished.{finished}
@@ -11,8 +11,8 @@ use Rattle.sw_graph.specs.declared.function.Function.{Function}
 use Rattle.sw_tree.specs.declared.decl.Decl.{Decl}
 use Rattle.sw_lower_draft.specs.Drafts.{number_by}
 use Rattle.sw_lower_draft.specs.declared.numbers.NumberTable.{NumberTable}
-use Rattle.sw_lower.specs.declared.lowering.LowerFault.{LowerFault}
-use Rattle.sw_lower.specs.declared.lowering.LowerFault.TheVariants as faults
+use Rattle.sw_lower.specs.declared.fault.LowerFault.{LowerFault}
+use Rattle.sw_lower.specs.declared.fault.LowerFault.TheVariants as faults
 use Rattle.sw_lower.specs.declared.lowering.Lowering.{Lowering}
 use Rattle.sw_lower.specs.declared.lowering.Made.{Made}
 use Rattle.sw_lower.specs.declared.lowering.MadeProgram.{MadeProgram}
@@ -22,7 +22,7 @@ use Rattle.sw_lower_code.specs.Whole.{Body, function_of, lower_body}
 use Rattle.sw_lower_known.specs.Knowledge.{tables_by}
 use Rattle.sw_lower_known.specs.declared.known.Known.{Known}
 use Rattle.sw_lower_rules.specs.Bodies.{AreMade, AreNumbered, AreOrdered, AreStarts, IsEntryNumber}
-use Rattle.sw_lower_rules.specs.Bodies.{HasFunctions, IsFirstTooLarge, functions_of}
+use Rattle.sw_lower_rules.specs.Bodies.{HasFunctions, IsFirstTooLarge, Lacks, functions_of}
 use Rattle.sw_lower_rules.specs.Bodies.{too_large_in}
 use Rattle.sw_lower_rules.specs.Tables.{Tables}
 
@@ -41,6 +41,22 @@ function_by known numbers tree = function_of (number_by numbers) (body_by (table
 abbrev pub EndsWell : Known → NumberTable → BodyTree → Type 0
 EndsWell known numbers tree =
     IsOk (lower_body (number_by numbers) (body_by (tables_by known) tree))
+
+-- It ends for want of something that the code asks for.
+abbrev pub AsksInVain : Known → NumberTable → BodyTree → Type 0
+AsksInVain known numbers tree =
+    lower_body (number_by numbers) (body_by (tables_by known) tree) ≡ Err body_faults.Missing
+
+-- So it does for one of these bodies.
+abbrev pub SomeAsks : Known → NumberTable → List BodyTree → Type 0
+SomeAsks known numbers trees =
+    (tree : BodyTree) × Contains trees tree × AsksInVain known numbers tree
+
+-- The fault is that something is missing, which this says, or that memory ran out.
+abbrev pub FailsFor : Type 0 → LowerFault → Type 0
+FailsFor Lacking (faults.Breach code at) = ⊥
+FailsFor Lacking faults.Missing = Lacking
+FailsFor Lacking faults.Memory = Unit {0}
 
 -- The functions are made where none is too large, and all that are too large are named.
 pub record HasMade (functions : List Function) (made : Made) : Type 0 where
@@ -63,8 +79,10 @@ pub record IsLowering (tables : Tables) (decls : List Decl) (lowering : Lowering
   pub entry : IsEntryNumber decls has.ordered lowering.entry
   pub starts : AreStarts tables.world has.ordered lowering.starts
 
--- The fault is the first function of a program that is too large. Nothing is said of memory.
-abbrev pub IsTooLarge : Tables → List Decl → LowerFault → Type 0
-IsTooLarge tables decls (faults.Breach code at) =
+-- The fault is the first function of a program that is too large, or that something is missing in
+-- the program. Nothing is said of memory.
+abbrev pub IsFaultOf : Tables → List Decl → LowerFault → Type 0
+IsFaultOf tables decls (faults.Breach code at) =
     IsFirstTooLarge tables decls (Some (record { at = at; code = code }))
-IsTooLarge tables decls faults.Memory = Unit {0}
+IsFaultOf tables decls faults.Missing = Lacks tables decls
+IsFaultOf tables decls faults.Memory = Unit {0}

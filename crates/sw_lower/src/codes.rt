@@ -1,5 +1,5 @@
 //! The code of each form of body.
-ghost use Rattle.std.specs.Prelude.{◌≡◌, ◌++◌, map, None, Ok, IfErr, IfOk};
+ghost use Rattle.std.specs.Prelude.{◌≡◌, ◌≢◌, ◌++◌, map, None, Ok, Err, IfErr, IfOk};
 ghost use Rattle.std.specs.Option.{option_copied};
 ghost use Rattle.sw_lower_draft.specs.Drafts.{GivesAsRun, making_of};
 ghost use Rattle.sw_lower.specs.Initialised.{parts_code, values_of};
@@ -191,11 +191,12 @@ fn parts_given(
 ) -> Result<OperandList, CodeFault>
     ensures given { IfOk result (λ operands. (making : Making)
         → (parts_code (values_given values.now) parts.now).run making ≡ Ok (operands, making)) }
-    ensures fault { IfErr result (λ fault. fault ≡ Memory) }
+    ensures missing { IfErr result (λ fault. fault ≢ Memory → (making : Making)
+        → (parts_code (values_given values.now) parts.now).run making ≡ Err fault) }
 {
     let mut operands = ListOf::new(alloc);
     for part in parts {
-        operands.push(value_of(values, part.name).ok_or(CodeFault::Memory)?)?;
+        operands.push(value_of(values, part.name).ok_or(CodeFault::Missing)?)?;
     }
     Ok(operands)
 }

@@ -4,9 +4,11 @@
 #![tactic(auto)]
 
 mod codes;
+mod fault;
 mod lowering;
 mod making;
 mod numbers;
 mod takes;
 
-pub use lowering::{LowerFault, Lowering, lower};
+pub use fault::LowerFault;
+pub use lowering::{Lowering, lower};

@@ -2,18 +2,18 @@
 ghost use Rattle.std.specs.Prelude.{◌≡◌, ◌++◌, ◌∷◌, ◌<◌, ◌^◌, [], None, List, length, map, All};
 ghost use Rattle.std.specs.Prelude.{IfErr, IfOk, OnOk};
 ghost use Rattle.sw_isolation_table.specs.Known.{answers_of};
-ghost use Rattle.sw_lower.specs.Lowered.{EndsWell, HasMade, IsLowering, IsMadeOf, IsTooLarge};
-ghost use Rattle.sw_lower.specs.Lowered.{function_by};
-ghost use Rattle.sw_lower.specs.declared.lowering.LowerFault.{LowerFault};
+ghost use Rattle.sw_lower.specs.Lowered.{AsksInVain, EndsWell, FailsFor, HasMade, IsFaultOf};
+ghost use Rattle.sw_lower.specs.Lowered.{IsLowering, IsMadeOf, SomeAsks, function_by};
 ghost use Rattle.sw_lower_known.specs.Knowledge.{isolation_of, tables_by};
-ghost use Rattle.sw_lower_rules.specs.Bodies.{IsFirstTooLarge, tables_of, too_large_in};
+ghost use Rattle.sw_lower_rules.specs.Bodies.{IsFirstTooLarge, Lacks, tables_of, too_large_in};
 ghost use Rattle.sw_lower_rules.specs.Tables.{Tables};
 ghost use Rattle.sw_tree.specs.declared.decl.Decl.{Decl};
 ghost use Rattle.sw_typing_rules.specs.Worlds.{world_of};
 
+use crate::fault::LowerFault;
 use crate::making::function_of;
 use crate::numbers::{entry_of, in_order, numbers_of, starts_of};
-use std::alloc::{AllocError, Global};
+use std::alloc::Global;
 use sw_decl_words::{Placed, first_of};
 use sw_decls::Decls;
 use sw_graph::{FunctionList, IdList};
@@ -25,7 +25,6 @@ use sw_lower_draft::NumberTable;
 use sw_lower_known::Known;
 use sw_tree::{Decl, Program};
 use sw_typing_table::Typed;
-use thiserror::Error;
 
 /// A function with more registers than a function of a graph.
 const TOO_MANY_REGISTERS: u16 = 510;
@@ -35,27 +34,6 @@ const TOO_MANY_POINTS: u16 = 511;
 
 /// How many functions have a number.
 const MOST_FUNCTIONS: usize = 4_294_967_295;
-
-/// Why a program has no functions.
-#[derive(Clone, Copy, Debug, PartialEq, Eq, Error)]
-pub enum LowerFault {
-    /// The first function that is too large, by its key.
-    #[error("E{code} at {at}")]
-    Breach { code: u16, at: u32 },
-    #[error("out of memory")]
-    Memory,
-}
-
-impl From<AllocError> for LowerFault {
-    ghost use Rattle.std.specs.Prelude.{◌≡◌};
-    ghost use Rattle.sw_lower.specs.declared.lowering.LowerFault.{LowerFault};
-
-    ghost from_gives = { λ _ fault. fault ≡ LowerFault.Memory };
-
-    fn from(_error: AllocError) -> LowerFault {
-        LowerFault::Memory
-    }
-}
 
 /// The functions of bodies, and those that are too large.
 #[derive(Drop)]
@@ -90,25 +68,31 @@ fn add(
     numbers: &NumberTable,
     tree: BodyTree<'_>,
     made: &mut Made,
-) -> Result<(), AllocError>
+) -> Result<(), LowerFault>
     ensures too_large { OnOk result (made.new.too_large ≡ made.old.too_large
         ++ too_large_in (function_by known.now numbers.now tree.entry ∷ [])) }
     ensures functions { OnOk result (made.new.too_large ≡ [] → made.new.functions
         ≡ made.old.functions ++ function_by known.now numbers.now tree.entry ∷ []) }
     ensures made { OnOk result (made.new.too_large ≡ []
         → EndsWell known.now numbers.now tree.entry) }
+    ensures fault { IfErr result (FailsFor (AsksInVain known.now numbers.now tree.entry)) }
 {
     match function_of(alloc, known, numbers, tree) {
-        Ok(function) => made.functions.push(function),
-        Err(BodyFault::TooManyRegisters { function }) => made.too_large.push(Placed {
-            at: function,
-            code: TOO_MANY_REGISTERS,
-        }),
-        Err(BodyFault::TooManyPoints { function }) => made.too_large.push(Placed {
-            at: function,
-            code: TOO_MANY_POINTS,
-        }),
-        Err(BodyFault::Memory) => Err(AllocError),
+        Ok(function) => Ok(made.functions.push(function)?),
+        Err(BodyFault::TooManyRegisters { function }) => Ok(
+            made.too_large.push(Placed {
+                at: function,
+                code: TOO_MANY_REGISTERS,
+            })?,
+        ),
+        Err(BodyFault::TooManyPoints { function }) => Ok(
+            made.too_large.push(Placed {
+                at: function,
+                code: TOO_MANY_POINTS,
+            })?,
+        ),
+        Err(BodyFault::Missing) => Err(LowerFault::Missing),
+        Err(BodyFault::Memory) => Err(LowerFault::Memory),
     }
 }
 
@@ -118,10 +102,11 @@ fn make_all(
     known: &Known<'_>,
     numbers: &NumberTable,
     bodies: &[BodyTree<'_>],
-) -> Result<Made, AllocError>
+) -> Result<Made, LowerFault>
     ensures functions { IfOk result (HasMade (map (function_by known.now numbers.now) bodies.now)) }
     ensures made { IfOk result (λ made. made.too_large ≡ []
         → All (EndsWell known.now numbers.now) bodies.now) }
+    ensures fault { IfErr result (FailsFor (SomeAsks known.now numbers.now bodies.now)) }
 {
     let mut made = Made {
         functions: ListOf::new(alloc),
@@ -138,13 +123,14 @@ fn make_program<'a>(
     alloc: Global,
     known: &'a Known<'a>,
     decls: &'a [Decl],
-) -> Result<MadeProgram, AllocError>
+) -> Result<MadeProgram, LowerFault>
     requires { length decls.now < 2 ^ 31 }
-    ensures { IfOk result (IsMadeOf (tables_by known.now) decls.now) }
+    ensures made { IfOk result (IsMadeOf (tables_by known.now) decls.now) }
+    ensures fault { IfErr result (FailsFor (Lacks (tables_by known.now) decls.now)) }
 {
     let bodies = in_order(bodies_of(alloc, known, decls)?);
     if bodies.len() > MOST_FUNCTIONS {
-        return Err(AllocError);
+        return Err(LowerFault::Memory);
     }
     let numbers = numbers_of(alloc, bodies.as_slice())?;
     let made = make_all(alloc, known, &numbers, bodies.as_slice())?;
@@ -164,7 +150,7 @@ fn decided(program: MadeProgram) -> Result<Lowering, LowerFault>
     ensures none { (tables : Tables) (decls : List Decl) → IsMadeOf tables decls program
         → OnOk result (IsFirstTooLarge tables decls None) }
     ensures first { (tables : Tables) (decls : List Decl) → IsMadeOf tables decls program
-        → IfErr result (IsTooLarge tables decls) }
+        → IfErr result (IsFaultOf tables decls) }
 {
     let MadeProgram {
         made,
@@ -184,9 +170,9 @@ fn decided(program: MadeProgram) -> Result<Lowering, LowerFault>
     }
 }
 
-/// The functions of a program in the order of their keys, or the first that is too large. The
-/// program declares `world`, its nodes have the types and meanings of `typed`, and `isolated` is
-/// what is known of its isolation.
+/// The functions of a program in the order of their keys, or the first that is too large. A program
+/// in which something is missing has none. The program declares `world`, its nodes have the types
+/// and meanings of `typed`, and `isolated` is what is known of its isolation.
 pub fn lower(
     alloc: Global,
     program: &Program,
@@ -200,7 +186,7 @@ pub fn lower(
     ensures none { OnOk result (IsFirstTooLarge (tables_of (world_of world.now)
         (answers_of typed.now) (isolation_of isolated.now) program.now.decls) program.now.decls
         None) }
-    ensures first { IfErr result (IsTooLarge (tables_of (world_of world.now)
+    ensures first { IfErr result (IsFaultOf (tables_of (world_of world.now)
         (answers_of typed.now) (isolation_of isolated.now) program.now.decls) program.now.decls) }
 {
     let decls = program.decls();

@@ -141,6 +141,7 @@ fn made(
     match make(alloc, known, tree, list, &gives, &mut draft) {
         Ok(()) => finish(draft, tree.key, count, sending, sends(tree.form), gives),
         Err(CodeFault::Registers) => Err(BodyFault::TooManyRegisters { function: tree.key }),
+        Err(CodeFault::Missing) => Err(BodyFault::Missing),
         Err(CodeFault::Memory) => Err(BodyFault::Memory),
     }
 }

@@ -1,9 +1,10 @@
 //! The order and the numbers of functions.
-ghost use Rattle.std.specs.Prelude.{◌≡◌, ◌==◌, ◌<◌, ◌^◌, ℕ, None, Some, length, map, nat_eq, IfOk};
-ghost use Rattle.std.specs.Prelude.{IsPermutation, OnOk, if◌then◌else◌};
+ghost use Rattle.std.specs.Prelude.{◌≡◌, ◌≢◌, ◌==◌, ◌<◌, ◌^◌, ℕ, List, None, Some, length, map};
+ghost use Rattle.std.specs.Prelude.{nat_eq, IfErr, IfOk, IsPermutation, OnOk, if◌then◌else◌};
 ghost use Rattle.std.specs.List.Sorted.{IsNonDecreasingBy};
 ghost use Rattle.indexmap.specs.IndexMap.{get};
 ghost use Rattle.sw_lower_draft.specs.Drafts.{number_by};
+ghost use Rattle.sw_lower.specs.Lowered.{FailsFor};
 ghost use Rattle.sw_lower.specs.Ordered.{AreFound, tree_name, tree_order};
 ghost use Rattle.sw_lower_plans.specs.declared.name.FunctionName.{FunctionName};
 ghost use Rattle.sw_lower_rules.specs.Bodies.{entry_key, starts_in};
@@ -11,8 +12,9 @@ ghost use Rattle.sw_lower_rules.specs.Tables.{is_named, number_in, plain};
 ghost use Rattle.sw_typing_rules.specs.Worlds.{and_then};
 ghost use Rattle.sw_decl_words.specs.Words.{or_else};
 
+use crate::fault::LowerFault;
 use indexmap::IndexMap;
-use std::alloc::{AllocError, Global};
+use std::alloc::Global;
 use sw_decls::GlobalVar;
 use sw_graph::IdList;
 use sw_list::ListOf;
@@ -38,25 +40,27 @@ pub fn in_order<'a>(bodies: BodyList<'a>) -> BodyList<'a>
     ListOf::from_vec(bodies)
 }
 
-/// Notes the number of a function. A key that is noted counts as want of memory: no program has two
-/// functions of a name.
-fn note(table: &mut IndexMap<u32, u32>, key: u32, number: u32) -> Result<(), AllocError>
+/// Notes the number of a function. It fails for a key that is noted: no program that was judged has
+/// two functions of a name.
+fn note(table: &mut IndexMap<u32, u32>, key: u32, number: u32) -> Result<(), LowerFault>
     ensures noted { OnOk result ((other : ℕ) → get nat_eq table.new other
         ≡ or_else (get nat_eq table.old other) (if key == other then Some number else None)) }
     ensures first { OnOk result (get nat_eq table.old key ≡ None) }
+    ensures fault { IfErr result (FailsFor (get nat_eq table.old key ≢ None)) }
 {
     if table.contains_key(&key) {
-        return Err(AllocError);
+        return Err(LowerFault::Missing);
     }
     table.insert(key, number)?;
     Ok(())
 }
 
-/// Notes the number of the function with a name. A name that is noted counts as want of memory.
-fn note_name(table: &mut NumberTable, name: FunctionName, number: u32) -> Result<(), AllocError>
+/// Notes the number of the function with a name. It fails for a name that is noted.
+fn note_name(table: &mut NumberTable, name: FunctionName, number: u32) -> Result<(), LowerFault>
     ensures noted { OnOk result ((other : FunctionName) → number_by table.new other
         ≡ or_else (number_by table.old other) (if is_named name other then Some number else None)) }
     ensures first { OnOk result (number_by table.old name ≡ None) }
+    ensures fault { IfErr result (FailsFor (number_by table.old name ≢ None)) }
 {
     if name.getter {
         note(&mut table.getters, name.key, number)
@@ -65,12 +69,13 @@ fn note_name(table: &mut NumberTable, name: FunctionName, number: u32) -> Result
     }
 }
 
-/// The numbers of the functions of bodies in order. Two bodies of a name count as want of memory.
-pub fn numbers_of(alloc: Global, bodies: &[BodyTree<'_>]) -> Result<NumberTable, AllocError>
+/// The numbers of the functions of bodies in order. It fails where two bodies have one name.
+pub fn numbers_of(alloc: Global, bodies: &[BodyTree<'_>]) -> Result<NumberTable, LowerFault>
     requires { length bodies.now < 2 ^ 32 }
     ensures numbers { IfOk result (λ table. (name : FunctionName)
         → number_by table name ≡ number_in (map tree_name bodies.now) name) }
     ensures places { OnOk result (AreFound (map tree_name bodies.now)) }
+    ensures fault { IfErr result (FailsFor (¬ (AreFound (map tree_name bodies.now)))) }
 {
     let mut table = NumberTable {
         getters: IndexMap::new(alloc),
@@ -86,13 +91,14 @@ pub fn numbers_of(alloc: Global, bodies: &[BodyTree<'_>]) -> Result<NumberTable,
     Ok(table)
 }
 
-/// The number of the function with this key that is no getter. A key of none counts as want of
-/// memory: each program has those that are asked for.
-fn number_of(numbers: &NumberTable, key: u32) -> Result<u32, AllocError>
-    ensures { IfOk result (λ number. number_by numbers.now (plain key) ≡ Some number) }
+/// The number of the function with this key that is no getter. Each program that was judged has
+/// those that are asked for.
+fn number_of(numbers: &NumberTable, key: u32) -> Result<u32, LowerFault>
+    ensures known { IfOk result (λ number. number_by numbers.now (plain key) ≡ Some number) }
+    ensures fault { IfErr result (FailsFor (number_by numbers.now (plain key) ≡ None)) }
 {
     let name = FunctionName { key, getter: false };
-    numbers.get(name).ok_or(AllocError)
+    numbers.get(name).ok_or(LowerFault::Missing)
 }
 
 /// Where the key of the first entry stands, if there is one.
@@ -108,11 +114,13 @@ fn entry_key(decls: &[Decl]) -> Option<u32>
 }
 
 /// The number of the entry's function.
-pub fn entry_of(decls: &[Decl], numbers: &NumberTable) -> Result<u32, AllocError>
-    ensures { IfOk result (λ entry. Some entry
+pub fn entry_of(decls: &[Decl], numbers: &NumberTable) -> Result<u32, LowerFault>
+    ensures known { IfOk result (λ entry. Some entry
         ≡ and_then (entry_key decls.now) (λ key. number_by numbers.now (plain key))) }
+    ensures fault { IfErr result (FailsFor (and_then (entry_key decls.now)
+        (λ key. number_by numbers.now (plain key)) ≡ None)) }
 {
-    let key = entry_key(decls).ok_or(AllocError)?;
+    let key = entry_key(decls).ok_or(LowerFault::Missing)?;
     number_of(numbers, key)
 }
 
@@ -121,9 +129,11 @@ pub fn starts_of(
     alloc: Global,
     globals: &[GlobalVar],
     numbers: &NumberTable,
-) -> Result<IdList, AllocError>
-    ensures { IfOk result (λ starts. map Some starts ≡ starts_in (number_by numbers.now)
+) -> Result<IdList, LowerFault>
+    ensures known { IfOk result (λ starts. map Some starts ≡ starts_in (number_by numbers.now)
         globals.now) }
+    ensures fault { IfErr result (FailsFor ((starts : List ℕ)
+        → map Some starts ≢ starts_in (number_by numbers.now) globals.now)) }
 {
     let mut starts = ListOf::new(alloc);
     for global in globals {

@@ -24,7 +24,7 @@ use Rattle.sw_lower_plans.specs.Run.{points}
 use Rattle.sw_lower_code.specs.Whole.{Body, code_of, ended_by, function_of, lower_body}
 use Rattle.sw_lower_code.specs.Whole.{IsWhole, piece_of, sending_of}
 use Rattle.sw_lower_plans.specs.declared.fault.CodeFault.{CodeFault}
-use Rattle.sw_lower_plans.specs.declared.fault.CodeFault.TheVariants.{Registers, Memory}
+use Rattle.sw_lower_plans.specs.declared.fault.CodeFault.TheVariants.{Registers, Missing, Memory}
 use Rattle.sw_lower_code.specs.declared.fault.BodyFault.TheVariants as faults
 
 -- blocks are determined by their instructions and last instructions
@@ -259,17 +259,19 @@ at_most limit count is = grind (arith, is)
 
 -- the function that is made within the limits, or the limit that its whole lists pass
 pub meets_whole : (number : Numbers) (body : Body) (result : Result (Unit {0} × Making) CodeFault)
+    → lower_body number body ≡ ended_by body result
     → Meets (begun number body) result (piece_of number body)
     → IsWhole number body (ended_by body result)
 unfolding function_of
-meets_whole number body (Err Memory) meets = tt
-meets_whole number body (Err Registers) meets = (
+meets_whole number body (Err Memory) is meets = tt
+meets_whole number body (Err Missing) is meets = is
+meets_whole number body (Err Registers) is meets = (
   refl,
   too_many_registers (function_of number body)
       (let many : MAX_REGISTERS < length (piece_of number body).regs = omega (arith, meets) in
       many),
 )
-meets_whole number body (Ok at) meets = by at.1.over refl where
+meets_whole number body (Ok at) is meets = by at.1.over refl where
   made : Makes (piece_of number body) (begun number body) at.1
   made = meets.1
 
@@ -324,5 +326,27 @@ meets_whole number body (Ok at) meets = by at.1.over refl where
 pub lowers_whole : (number : Numbers) (body : Body) → IsWhole number body (lower_body number body)
 unfolding lower_body
 lowers_whole number body =
-    meets_whole number body ((code_of body).run (begun number body))
+    meets_whole number body ((code_of body).run (begun number body)) refl
     ((code_of body).same (begun number body) (omega arith))
+
+-- the run of a body's code never wants memory
+pub wants_no_memory : (number : Numbers) (body : Body)
+    → lower_body number body ≡ Err faults.Memory → ⊥
+unfolding lower_body
+wants_no_memory number body = by ((code_of body).run (begun number body))
+    ((code_of body).same (begun number body) (omega arith)) where
+      finished_well : (many : Bool) (function : Function)
+          → (if many then Err (faults.TooManyPoints body.key) else Ok function)
+          ≡ Err faults.Memory → ⊥
+      finished_well true function is = cc
+      finished_well false function is = cc
+
+      by : (result : Result (Unit {0} × Making) CodeFault)
+          → Meets (begun number body) result (piece_of number body)
+          → ended_by body result ≡ Err faults.Memory → ⊥
+      by (Ok at) meets is =
+          finished_well (at.1.over || nat_lt MAX_POINTS (points at.1))
+          (finished at.1.made (length body.takes) (sending_of body) body.sends body.result) is
+      by (Err Registers) meets is = cc
+      by (Err Missing) meets is = cc
+      by (Err Memory) meets is = meets

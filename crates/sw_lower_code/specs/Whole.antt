@@ -14,7 +14,7 @@ use Rattle.sw_lower_code.specs.Code.{Code, all, bind, reg, ◌>>=◌, ◌>>◌}
 use Rattle.sw_lower_plans.specs.Plan.{Numbers, Piece, Place, block_by, counted_from}
 use Rattle.sw_lower_plans.specs.Run.{Making, at_start, points}
 use Rattle.sw_lower_plans.specs.declared.fault.CodeFault.{CodeFault}
-use Rattle.sw_lower_plans.specs.declared.fault.CodeFault.TheVariants.{Registers, Memory}
+use Rattle.sw_lower_plans.specs.declared.fault.CodeFault.TheVariants.{Registers, Missing, Memory}
 use Rattle.sw_lower_code.specs.declared.fault.BodyFault.{BodyFault}
 use Rattle.sw_lower_code.specs.declared.fault.BodyFault.TheVariants as faults
 use Rattle.sw_lower_code.specs.declared.taken.Taken.{Taken}
@@ -73,6 +73,7 @@ finish body making =
 abbrev pub ended_by : Body → Result (Unit {0} × Making) CodeFault → Result Function BodyFault
 ended_by body (Ok at) = finish body at.1
 ended_by body (Err Registers) = Err (faults.TooManyRegisters body.key)
+ended_by body (Err Missing) = Err faults.Missing
 ended_by body (Err Memory) = Err faults.Memory
 
 -- the function of a body, as it is made within the limits
@@ -81,7 +82,8 @@ lower_body number body =
     ended_by body ((code_of body).run (at_start number body.key body.iso body.is_async))
 
 -- What is made of a body is the function of its whole lists, which is within the limits; or else
--- its whole lists have too many registers, or only too many points. Nothing is said of memory.
+-- its whole lists have too many registers, or only too many points, or its code asks for what isn't
+-- known. Nothing is said of memory.
 abbrev pub IsWhole : Numbers → Body → Result Function BodyFault → Type 0
 IsWhole number body (Ok function) =
     (function ≡ function_of number body) × (excess_of (function_of number body) ≡ None)
@@ -89,4 +91,5 @@ IsWhole number body (Err (faults.TooManyRegisters key)) =
     (key ≡ body.key) × (excess_of (function_of number body) ≡ Some excess.Registers)
 IsWhole number body (Err (faults.TooManyPoints key)) =
     (key ≡ body.key) × (excess_of (function_of number body) ≡ Some excess.Points)
+IsWhole number body (Err faults.Missing) = lower_body number body ≡ Err faults.Missing
 IsWhole number body (Err faults.Memory) = Unit {0}

@@ -84,7 +84,7 @@ impl<'a> Draft<'a> {
         if is_payload(&instr) && all_payloads(self.builder.instrs(self.here)) {
             self.emit(instr)
         } else {
-            Err(CodeFault::Memory)
+            Err(CodeFault::Missing)
         }
     }
 
@@ -100,7 +100,7 @@ impl<'a> Draft<'a> {
         ensures { GivesAsRun (run_resume number (making_of self.old)) result self.new }
     {
         if number as usize >= self.builder.block_count() {
-            return Err(CodeFault::Memory);
+            return Err(CodeFault::Missing);
         }
         self.here = number;
         Ok(())
@@ -132,14 +132,14 @@ impl<'a> Draft<'a> {
     pub fn var(&self, key: u32) -> Result<Bound, CodeFault>
         ensures { GivesAsRun (run_var key (making_of self.now)) result self.now }
     {
-        var_in(self.vars.as_slice(), key).ok_or(CodeFault::Memory)
+        var_in(self.vars.as_slice(), key).ok_or(CodeFault::Missing)
     }
 
     /// The number of the function with this name.
     pub fn number(&self, name: FunctionName) -> Result<u32, CodeFault>
         ensures { GivesAsRun (run_number name (making_of self.now)) result self.now }
     {
-        self.numbers.get(name).ok_or(CodeFault::Memory)
+        self.numbers.get(name).ok_or(CodeFault::Missing)
     }
 
     /// Whether the function has more points than a function of a graph.

@@ -23,7 +23,7 @@ use sw_typing_rules::Meaning;
 
 /// An assignment of a value to an expression, in a member of the type with the number `owner`.
 #[cycle(write)]
-#[tactic(auto, unfolding(sw_lower_rules::specs::Statements::expr_code))]
+#[tactic(auto, unfolding(sw_lower_code::specs::Code::known, sw_lower_rules::specs::Statements::expr_code))]
 pub fn write(
     alloc: Global,
     known: &Known<'_>,
@@ -50,7 +50,7 @@ pub fn write(
         | Expr::Await { .. }
         | Expr::Fun(_)
         | Expr::Spawn { .. }
-        | Expr::Yield { .. } => Err(CodeFault::Memory),
+        | Expr::Yield { .. } => Err(CodeFault::Missing),
     }
 }
 
@@ -67,11 +67,11 @@ fn write_word(
         ((tables_by known.now).answers.meaning_at at) given).run (making_of draft.old))
         result draft.new }
 {
-    match known.meaning_at(at).ok_or(CodeFault::Memory)? {
+    match known.meaning_at(at).ok_or(CodeFault::Missing)? {
         Meaning::Local(variable) => write_var(at, variable, given, draft),
         Meaning::OwnPart(number) => {
             let number = number_of(number)?;
-            let shape = owner.ok_or(CodeFault::Memory)?;
+            let shape = owner.ok_or(CodeFault::Missing)?;
             write_own(alloc, known, owner, at, shape, number, given, draft)
         }
         Meaning::GlobalOf(number) => draft.emit(Instr::StoreGlobal {
@@ -85,12 +85,40 @@ fn write_word(
         | Meaning::CaseOf(..)
         | Meaning::PartOf(_)
         | Meaning::Print
-        | Meaning::TaskValue => Err(CodeFault::Memory),
+        | Meaning::TaskValue => Err(CodeFault::Missing),
     }
 }
 
+/// An assignment to a property of `self` in a struct's method. No program that was judged has one:
+/// there is no assignment to `self`, to which the changed value would go.
+fn write_own_field(
+    alloc: Global,
+    known: &Known<'_>,
+    owner: Option<u32>,
+    at: u32,
+    shape: u32,
+    number: u32,
+    given: Operand,
+    draft: &mut Draft<'_>,
+) -> Result<(), CodeFault>
+    ensures { GivesAsRun ((set_part (tables_by known.now) owner shapes.Struct at shape number
+        (own_base (tables_by known.now) owner at) given).run (making_of draft.old))
+        result draft.new }
+{
+    let old = read_self(alloc, known, owner, at, draft)?;
+    let dst = draft.reg(RegKind::Plain(Ty::Named(shape)))?;
+    draft.emit(Instr::Copy { at, dst, src: old })?;
+    draft.emit(Instr::SetField {
+        at,
+        target: Operand { reg: dst, at },
+        part: number,
+        src: given,
+    })?;
+    Err(CodeFault::Missing)
+}
+
 /// An assignment to a property of `self`, which has the type with the number `shape` and is left
-/// out. A struct's method assigns to none.
+/// out.
 fn write_own(
     alloc: Global,
     known: &Known<'_>,
@@ -106,7 +134,8 @@ fn write_own(
         result draft.new }
 {
     match shape_at(known, shape)?.kind {
-        ShapeKind::Struct | ShapeKind::Enum => Err(CodeFault::Memory),
+        ShapeKind::Struct => write_own_field(alloc, known, owner, at, shape, number, given, draft),
+        ShapeKind::Enum => Err(CodeFault::Missing),
         ShapeKind::Class | ShapeKind::Actor => {
             let cell = read_self(alloc, known, owner, at, draft)?;
             draft.emit(Instr::StoreProp {
@@ -135,7 +164,7 @@ fn write_member(
         ((tables_by known.now).answers.meaning_at at) given).run (making_of draft.old))
         result draft.new }
 {
-    match known.meaning_at(at).ok_or(CodeFault::Memory)? {
+    match known.meaning_at(at).ok_or(CodeFault::Missing)? {
         Meaning::PartOf(number) => {
             let number = number_of(number)?;
             let shape = shape_of(known, key_of(base))?;
@@ -149,7 +178,7 @@ fn write_member(
         | Meaning::MakeOf(_)
         | Meaning::CaseOf(..)
         | Meaning::Print
-        | Meaning::TaskValue => Err(CodeFault::Memory),
+        | Meaning::TaskValue => Err(CodeFault::Missing),
     }
 }
 
@@ -174,7 +203,7 @@ fn write_part(
         ShapeKind::Struct => {
             write_field(alloc, known, owner, base, at, shape, number, given, draft)
         }
-        ShapeKind::Enum => Err(CodeFault::Memory),
+        ShapeKind::Enum => Err(CodeFault::Missing),
         ShapeKind::Class | ShapeKind::Actor => {
             write_cell(alloc, known, owner, base, at, number, given, draft)
         }

@@ -1,5 +1,5 @@
 //! Expressions at any depth.
-#![tactic(auto, unfolding(sw_lower_code::specs::Code::andthen, sw_lower_code::specs::Code::block_for, sw_lower_code::specs::Code::close, sw_lower_code::specs::Code::done, sw_lower_code::specs::Code::emit, sw_lower_code::specs::Code::known, sw_lower_code::specs::Code::resume, sw_lower_rules::specs::Uses::shape_of))]
+#![tactic(auto, unfolding(sw_lower_code::specs::Code::andthen, sw_lower_code::specs::Code::block_for, sw_lower_code::specs::Code::close, sw_lower_code::specs::Code::done, sw_lower_code::specs::Code::emit, sw_lower_code::specs::Code::known, sw_lower_code::specs::Code::resume, sw_lower_rules::specs::Uses::shape_of, sw_lower_rules::specs::Uses::unknown))]
 
 ghost use Rattle.std.specs.Prelude.{◌≡◌, ◌∷◌, Option, IfOk};
 ghost use Rattle.sw_lower_draft.specs.Drafts.{GivesAsRun, making_of};
@@ -31,7 +31,7 @@ use sw_typing_rules::Meaning;
 
 /// The value of an expression, in a member of the type with the number `owner`.
 #[cycle(walk)]
-#[tactic(auto, unfolding(sw_lower_code::specs::Code::andthen, sw_lower_code::specs::Code::done, sw_lower_rules::specs::Statements::expr_code, crate::specs::Walked::arg_codes, crate::specs::Walked::link_codes))]
+#[tactic(auto, unfolding(sw_lower_code::specs::Code::andthen, sw_lower_code::specs::Code::done, sw_lower_code::specs::Code::known, sw_lower_rules::specs::Statements::expr_code, sw_lower_rules::specs::Uses::unknown, crate::specs::Walked::arg_codes, crate::specs::Walked::link_codes))]
 pub fn expr(
     alloc: Global,
     known: &Known<'_>,
@@ -52,7 +52,7 @@ pub fn expr(
         Expr::Method { base, name, args } => {
             let at = name.at;
             let args = args.as_slice();
-            match known.meaning_at(at).ok_or(CodeFault::Memory)? {
+            match known.meaning_at(at).ok_or(CodeFault::Missing)? {
                 Meaning::FuncOf(number) => {
                     let receiver = expr(alloc, known, owner, base.get(), draft)?;
                     method_called(alloc, known, owner, at, number, args, receiver, draft)
@@ -72,7 +72,7 @@ pub fn expr(
                 | Meaning::GlobalOf(_)
                 | Meaning::MakeOf(_)
                 | Meaning::Print
-                | Meaning::TaskValue => Err(CodeFault::Memory),
+                | Meaning::TaskValue => Err(CodeFault::Missing),
             }
         }
         Expr::Chain { first, rest } => {
@@ -280,7 +280,7 @@ fn member(
         ((tables_by known.now).answers.meaning_at at)).run (making_of draft.old))
         result draft.new }
 {
-    match known.meaning_at(at).ok_or(CodeFault::Memory)? {
+    match known.meaning_at(at).ok_or(CodeFault::Missing)? {
         Meaning::CaseOf(shape, number) => {
             let tag = number_of(number)?;
             make_value(at, shape, Some(tag), ListOf::new(alloc), draft)
@@ -296,7 +296,7 @@ fn member(
         | Meaning::GlobalOf(_)
         | Meaning::FuncOf(_)
         | Meaning::MakeOf(_)
-        | Meaning::Print => Err(CodeFault::Memory),
+        | Meaning::Print => Err(CodeFault::Missing),
     }
 }
 
@@ -335,7 +335,7 @@ fn call(
         ((tables_by known.now).answers.meaning_at at)).run (making_of draft.old))
         result draft.new }
 {
-    match known.meaning_at(at).ok_or(CodeFault::Memory)? {
+    match known.meaning_at(at).ok_or(CodeFault::Missing)? {
         Meaning::Local(variable) => {
             let closure = read_var(alloc, known, at, variable, draft)?;
             held_called(alloc, known, owner, at, args, closure, draft)
@@ -361,7 +361,7 @@ fn call(
             make(alloc, known, at, shape, operands, draft)
         }
         Meaning::Print => print(at, arguments(alloc, known, owner, args, draft)?, draft),
-        Meaning::CaseOf(..) | Meaning::PartOf(_) | Meaning::TaskValue => Err(CodeFault::Memory),
+        Meaning::CaseOf(..) | Meaning::PartOf(_) | Meaning::TaskValue => Err(CodeFault::Missing),
     }
 }
 

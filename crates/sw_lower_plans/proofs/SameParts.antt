@@ -22,7 +22,7 @@ use Rattle.sw_lower_plans.specs.Run.{run_bind, run_block, run_emit, run_close, r
 use Rattle.sw_lower_plans.specs.Run.{run_number, run_reg, run_resume, run_var}
 use Rattle.sw_lower_plans.specs.declared.bound.Bound.{Bound}
 use Rattle.sw_lower_plans.specs.declared.name.FunctionName.{FunctionName}
-use Rattle.sw_lower_plans.specs.declared.fault.CodeFault.TheVariants.{Registers, Memory}
+use Rattle.sw_lower_plans.specs.declared.fault.CodeFault.TheVariants.{Registers, Missing}
 use Rattle.sw_lower_plans.proofs.BlockFacts.{instrs_emitted, instrs_ended, instrs_new, last_emitted}
 use Rattle.sw_lower_plans.proofs.BlockFacts.{last_ended, last_new}
 
@@ -208,7 +208,7 @@ pub same_front : (instr : Instr) (s : Making) → IsGoing s
 same_front instr s going =
     by (is_payload instr && payloads_alone (slice_get s.made.blocks s.here)) where
       by : (front : Bool)
-          → Meets s (if front then run_emit instr s else Err Memory) (plan_emit instr (place_of s))
+          → Meets s (if front then run_emit instr s else Err Missing) (plan_emit instr (place_of s))
       by true = same_emit instr s going
       by false = tt
 
@@ -244,7 +244,7 @@ pub same_resume : (number : ℕ) (s : Making) → IsGoing s
     → Meets s (run_resume number s) (plan_resume number (place_of s))
 same_resume number s going = by (nat_lt number (length s.made.blocks)) refl where
   by : (made : Bool) → nat_lt number (length s.made.blocks) ≡ made
-      → Meets s (if made then Ok (tt, record s { here = number }) else Err Memory)
+      → Meets s (if made then Ok (tt, record s { here = number }) else Err Missing)
       (plan_resume number (place_of s))
   by false is = tt
   by true is = (

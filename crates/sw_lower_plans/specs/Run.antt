@@ -20,7 +20,7 @@ use Rattle.sw_lower_plans.specs.Plan.{written_in}
 use Rattle.sw_lower_plans.specs.declared.bound.Bound.{Bound}
 use Rattle.sw_lower_plans.specs.declared.name.FunctionName.{FunctionName}
 use Rattle.sw_lower_plans.specs.declared.fault.CodeFault.{CodeFault}
-use Rattle.sw_lower_plans.specs.declared.fault.CodeFault.TheVariants.{Registers, Memory}
+use Rattle.sw_lower_plans.specs.declared.fault.CodeFault.TheVariants.{Registers, Missing, Memory}
 
 -- A function while code for it is made: what is made, the block that goes on, the variables that
 -- are seen, the numbers of functions, and whether an instruction was dropped because the function
@@ -72,7 +72,7 @@ payloads_alone (Some block) = list_all is_payload block.instrs
 abbrev pub run_front : Instr → Run (Unit {0})
 run_front instr making =
     if is_payload instr && payloads_alone (slice_get making.made.blocks making.here)
-    then run_emit instr making else Err Memory
+    then run_emit instr making else Err Missing
 
 abbrev pub run_close : Last → Run (Unit {0})
 run_close last making =
@@ -82,14 +82,14 @@ run_close last making =
 abbrev pub run_resume : ℕ → Run (Unit {0})
 run_resume number making =
     if nat_lt number (length making.made.blocks)
-    then Ok (tt, record making { here = number }) else Err Memory
+    then Ok (tt, record making { here = number }) else Err Missing
 
 abbrev pub run_bind : Bound → Run (Unit {0})
 run_bind bound making = Ok (tt, record making { vars = making.vars ++ bound ∷ [] })
 
 -- What is asked for is known. No code asks for what isn't.
 abbrev pub run_known : {A : Type 0} → Option A → Run A
-run_known None making = Err Memory
+run_known None making = Err Missing
 run_known (Some value) making = Ok (value, making)
 
 abbrev pub run_var : ℕ → Run Bound
@@ -168,12 +168,13 @@ pub record Makes {A : Type 0} (piece : Piece A) (s t : Making) : Type 0 where
   pub instrs : t.over ≡ false → (number : ℕ) → instrs_at number t.made.blocks
       ≡ instrs_at number s.made.blocks ++ written_in number piece.writes
 
--- A run does what a plan says. It ends early where the plan has too many registers, or where memory
--- runs out.
+-- A run does what a plan says. It ends early where the plan has too many registers, or where it
+-- asks for what isn't known. It never wants memory.
 abbrev pub Meets : {A : Type 0} → Making → Result (A × Making) CodeFault → Piece A → Type 0
 Meets s (Ok at) piece = (at.0 ≡ piece.value) × Makes piece s at.1
 Meets s (Err Registers) piece = MAX_REGISTERS < length s.made.regs + length piece.regs
-Meets s (Err Memory) piece = Unit {0}
+Meets s (Err Missing) piece = Unit {0}
+Meets s (Err Memory) piece = ⊥
 
 -- the block that goes on is there
 abbrev pub IsGoing : Making → Type 0

@@ -7,6 +7,9 @@ pub enum CodeFault {
     /// The function would have more registers than a function of a graph.
     #[error("too many registers")]
     Registers,
+    /// The code asks for what isn't known. No program that was judged lacks it.
+    #[error("what the code asks for isn't known")]
+    Missing,
     #[error("out of memory")]
     Memory,
 }

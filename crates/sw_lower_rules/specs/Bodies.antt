@@ -1,7 +1,7 @@
 -- The bodies of a program and its graph.
 use Rattle.std.specs.Prelude.{◌≡◌, ℕ, ◌+◌, ◌*◌, ◌==◌, ◌&&◌, true, false, List, [], ◌∷◌, ◌++◌}
 use Rattle.std.specs.Prelude.{map, flat_map, Option, Some, None, slice_get, if◌then◌else◌}
-use Rattle.std.specs.Prelude.{All, IsOk, IsPermutation}
+use Rattle.std.specs.Prelude.{All, Contains, Err, IsOk, IsPermutation}
 use Rattle.std.specs.List.Sorted.{IsNonDecreasingBy}
 use Rattle.sw_tree.specs.declared.decl.Decl.{Decl}
 use Rattle.sw_tree.specs.declared.decl.Decl.TheVariants.{Entry, Struct, Enum, Class, Actor}
@@ -43,6 +43,7 @@ use Rattle.sw_isolation_rules.specs.Programs.{func_at}
 use Rattle.sw_lower_plans.specs.Plan.{Numbers}
 use Rattle.sw_lower_code.specs.Code.{Code, close, done, each, emit, known, ◌>>=◌, ◌>>◌}
 use Rattle.sw_lower_code.specs.Whole.{Body, function_of, lower_body}
+use Rattle.sw_lower_code.specs.declared.fault.BodyFault.TheVariants.{Missing}
 use Rattle.sw_lower_code.specs.declared.taken.Taken.{Taken}
 use Rattle.sw_lower_rules.specs.Carriers.{ExprCode, Given}
 use Rattle.sw_lower_rules.specs.Expressions.{body_code, is_async_of, iso_of}
@@ -347,6 +348,22 @@ starts_in number globals = map (λ (global : GlobalVar). number (plain global.ke
 -- The functions with these numbers give the global variables their first values, in order.
 abbrev pub AreStarts : World → List Body → List ℕ → Type 0
 AreStarts world ordered starts = map Some starts ≡ starts_in (numbers_of ordered) world.globals
+
+-- Something is missing in a program with these bodies in order: a body's own name, something that
+-- the code of a body asks for, the number of the entry, or those of the functions that give global
+-- variables their first values.
+pub data LacksIn (world : World) (decls : List Decl) (ordered : List Body) : Type 0 where
+  lacks_names : ¬ (AreNumbered ordered) → LacksIn world decls ordered
+  lacks_asked : (body : Body) → Contains ordered body
+      → lower_body (numbers_of ordered) body ≡ Err Missing → LacksIn world decls ordered
+  lacks_entry : ¬ ((entry : ℕ) × IsEntryNumber decls ordered entry) → LacksIn world decls ordered
+  lacks_starts : ¬ ((starts : List ℕ) × AreStarts world ordered starts)
+      → LacksIn world decls ordered
+
+-- Something is missing in a program. No program that was judged is so.
+abbrev pub Lacks : Tables → List Decl → Type 0
+Lacks tables decls = (ordered : List Body) × AreOrdered tables decls ordered
+    × LacksIn tables.world decls ordered
 
 -- The graph is that of a program.
 pub record Lowered (world : World) (answers : Answers) (isolation : Isolation) (decls : List Decl)

@@ -43,7 +43,7 @@ fn case_number(cases: &[CaseShape], name: u32) -> Option<usize>
 }
 
 /// Makes the block of an arm of a `switch` over `subject`, a value of the enum `shape`, whose
-/// number is `number`. An arm of no case of the enum has no code, as where memory runs out.
+/// number is `number`. An arm of no case of the enum has no code.
 fn arm_number(
     subject: Operand,
     number: u32,
@@ -54,7 +54,7 @@ fn arm_number(
     ensures { GivesAsRun ((arm_number subject number shape.now arm.now).run (making_of draft.old))
         result draft.new }
 {
-    case_number(shape.cases.as_slice(), arm.name.id).ok_or(CodeFault::Memory)?;
+    case_number(shape.cases.as_slice(), arm.name.id).ok_or(CodeFault::Missing)?;
     draft.block()
 }
 

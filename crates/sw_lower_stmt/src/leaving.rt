@@ -58,6 +58,6 @@ pub fn give_back(
 pub fn leave(to: Option<u32>, draft: &mut Draft<'_>) -> Result<(), CodeFault>
     ensures { GivesAsRun ((left_for to).run (making_of draft.old)) result draft.new }
 {
-    let to = to.ok_or(CodeFault::Memory)?;
+    let to = to.ok_or(CodeFault::Missing)?;
     end(Last::Jump { to }, draft)
 }

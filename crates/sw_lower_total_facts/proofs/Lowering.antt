@@ -1,6 +1,6 @@
 -- Each program that keeps the rules on declarations and on types can be lowered.
 use Rattle.std.proofs.Common.{◌≡◌, ℕ, List, [], ◌∷◌, ◌++◌, Option, Some, None, map, refl}
-use Rattle.std.proofs.lemmas.List.Elements.{All-cons, All-head, All-nil, All-tail}
+use Rattle.std.proofs.lemmas.List.Elements.{All-cons, All-contains, All-head, All-nil, All-tail}
 use Rattle.std.proofs.lemmas.List.Sorted.{All-permutation}
 use Rattle.std.specs.Prelude.{All, Err, IsOk, Ok, Result}
 use Rattle.sw_tree.specs.declared.decl.Decl.{Decl}
@@ -16,9 +16,10 @@ use Rattle.sw_lower_plans.specs.Plan.{Numbers}
 use Rattle.sw_lower_code.specs.Whole.{Body, IsWhole, function_of, lower_body}
 use Rattle.sw_lower_code.specs.declared.fault.BodyFault.{BodyFault}
 use Rattle.sw_lower_code.specs.declared.fault.BodyFault.TheVariants as faults
-use Rattle.sw_lower_code.proofs.WholeFacts.{lowers_whole}
+use Rattle.sw_lower_code.proofs.WholeFacts.{lowers_whole, wants_no_memory}
 use Rattle.sw_lower_rules.specs.Bodies.{AreMade, AreNumbered, AreOrdered, functions_of, numbers_of}
-use Rattle.sw_lower_rules.specs.Bodies.{placed_excess, program_bodies, too_large_in}
+use Rattle.sw_lower_rules.specs.Bodies.{Lacks, LacksIn, lacks_asked, lacks_entry, lacks_names}
+use Rattle.sw_lower_rules.specs.Bodies.{lacks_starts, placed_excess, program_bodies, too_large_in}
 use Rattle.sw_lower_rules.specs.Tables.{isolation_in}
 use Rattle.sw_lower_rules.specs.Bodies.{AreStarts, IsEntryNumber}
 use Rattle.sw_typing_facts.proofs.Programs.WordKinds.{word_kinds}
@@ -38,13 +39,15 @@ use Rattle.sw_lower_total_facts.proofs.Standing.Programs.{selves_no_var}
 
 -- A body whose code asks for nothing that isn't known is made, where its function isn't too large.
 made_of : (number : Numbers) (body : Body) (result : Result Function BodyFault)
-    → IsWhole number body result → (result ≡ Err faults.Memory → ⊥)
-    → excess_of (function_of number body) ≡ None → IsOk result
-made_of number body (Ok function) whole known fits = refl
-made_of number body (Err (faults.TooManyRegisters key)) (same, large) known fits =
+    → IsWhole number body result → (result ≡ Err faults.Missing → ⊥)
+    → (result ≡ Err faults.Memory → ⊥) → excess_of (function_of number body) ≡ None → IsOk result
+made_of number body (Ok function) whole known wants fits = refl
+made_of number body (Err (faults.TooManyRegisters key)) (same, large) known wants fits =
     cc (large, fits)
-made_of number body (Err (faults.TooManyPoints key)) (same, large) known fits = cc (large, fits)
-made_of number body (Err faults.Memory) whole known fits = absurd (known refl)
+made_of number body (Err (faults.TooManyPoints key)) (same, large) known wants fits =
+    cc (large, fits)
+made_of number body (Err faults.Missing) whole known wants fits = absurd (known refl)
+made_of number body (Err faults.Memory) whole known wants fits = absurd (wants refl)
 
 -- No function is too large where none is the first.
 fits_all : (functions : List Function) → too_large_in functions ≡ []
@@ -70,7 +73,7 @@ made_all number (body ∷ bodies) fit known =
     let Fits = λ (function : Function). excess_of function ≡ None in
     All-cons (λ (body : Body). IsOk (lower_body number body)) body bodies
     (made_of number body (lower_body number body) (lowers_whole number body)
-    (All-head (BodyProceeds number) body bodies known)
+    (All-head (BodyProceeds number) body bodies known) (wants_no_memory number body)
     (All-head Fits (function_of number body) (map (function_of number) bodies) fit))
     (made_all number bodies
     (All-tail Fits (function_of number body) (map (function_of number) bodies) fit)
@@ -131,3 +134,15 @@ module _ (decls : List Decl) (rule : AsyncDefault) (world : World)
   has_starts =
       starts_are world (answers_in (said world decls)) (isolation_in (notes_of world decls)) decls
       rule is.declared ordered are is.valued
+
+-- Nothing is missing in such a program.
+pub lacks_nothing : (decls : List Decl) (rule : AsyncDefault) (world : World)
+    → IsWelltyped decls rule world → Lacks (noted_tables world decls) decls → ⊥
+lacks_nothing decls rule world is (ordered, are, lacks) = by lacks where
+  by : LacksIn world decls ordered → ⊥
+  by (lacks_names unnamed) = unnamed (bodies_are_found decls rule world is ordered are)
+  by (lacks_asked body among missing) =
+      All-contains (BodyProceeds (numbers_of ordered)) ordered body
+      (bodies_proceed decls rule world is ordered are) among missing
+  by (lacks_entry none) = none (has_entry_number decls rule world is ordered are)
+  by (lacks_starts none) = none (has_starts decls rule world is ordered are)

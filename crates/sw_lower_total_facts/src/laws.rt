@@ -7,14 +7,15 @@ ghost use Rattle.sw_typing_rules.specs.Worlds.{World};
 ghost use Rattle.sw_lower_code.specs.Whole.{Body};
 ghost use Rattle.sw_lower_rules.specs.Bodies.{AreMade, AreNumbered, AreOrdered};
 ghost use Rattle.sw_lower_rules.specs.Bodies.{functions_of, numbers_of, too_large_in};
-ghost use Rattle.sw_lower_rules.specs.Bodies.{AreStarts, IsEntryNumber};
+ghost use Rattle.sw_lower_rules.specs.Bodies.{AreStarts, IsEntryNumber, Lacks};
 ghost use Rattle.sw_lower_total_facts.specs.Proceeding.{BodyProceeds};
 ghost use Rattle.sw_lower_total_facts.specs.Programs.{IsWelltyped, noted_tables};
 
 /// The bodies of a program that keeps the rules on declarations and on types ask for nothing that
 /// isn't known: each variable that they read is bound, each value has a type, each member, function
 /// and getter that they use is there. Each body is found by its name, so the entry and the functions
-/// that give first values have numbers. So a body is made unless its function is too large.
+/// that give first values have numbers. So a body is made unless its function is too large, and
+/// nothing is missing in the program.
 pub fn programs_can_be_lowered()
     ensures proceed { (decls : List Decl) (rule : AsyncDefault) (world : World)
         (ordered : List Body) → IsWelltyped decls rule world
@@ -35,4 +36,6 @@ pub fn programs_can_be_lowered()
         (ordered : List Body) → IsWelltyped decls rule world
         → AreOrdered (noted_tables world decls) decls ordered
         → (starts : List ℕ) × AreStarts world ordered starts }
+    ensures lacks_nothing { (decls : List Decl) (rule : AsyncDefault) (world : World)
+        → IsWelltyped decls rule world → Lacks (noted_tables world decls) decls → ⊥ }
 {}

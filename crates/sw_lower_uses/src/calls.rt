@@ -63,7 +63,7 @@ fn call_signature(
         getter: false,
     };
     let function = draft.number(name)?;
-    let kind = known.kind_at(at).ok_or(CodeFault::Memory)?;
+    let kind = known.kind_at(at).ok_or(CodeFault::Missing)?;
     let dst = draft.reg(RegKind::Plain(copy_of(alloc, &func.result)?))?;
     let instr = Instr::Call {
         at,
@@ -88,7 +88,7 @@ pub fn call_func(
         (making_of draft.old))
         result draft.new }
 {
-    let func = known.func(number).ok_or(CodeFault::Memory)?;
+    let func = known.func(number).ok_or(CodeFault::Missing)?;
     call_signature(alloc, known, at, operands, func, draft)
 }
 
@@ -154,9 +154,9 @@ fn make_by(
 {
     match kind {
         ShapeKind::Struct => make_value(at, shape, None, operands, draft),
-        ShapeKind::Enum => Err(CodeFault::Memory),
+        ShapeKind::Enum => Err(CodeFault::Missing),
         ShapeKind::Class | ShapeKind::Actor => {
-            let maker = known.maker(shape).ok_or(CodeFault::Memory)?;
+            let maker = known.maker(shape).ok_or(CodeFault::Missing)?;
             call_signature(alloc, known, at, operands, maker, draft)
         }
     }

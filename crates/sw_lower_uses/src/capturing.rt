@@ -40,7 +40,7 @@ fn listed_value(
 }
 
 /// What goes into a closure for a variable that was looked up. One that is captured by reference
-/// and is in no box has no code, as where memory runs out.
+/// and is in no box has no code.
 fn capture_bound(
     alloc: Global,
     known: &Known<'_>,
@@ -54,7 +54,7 @@ fn capture_bound(
         result draft.new }
 {
     match (capture.by_ref, bound.boxed) {
-        (true, false) => Err(CodeFault::Memory),
+        (true, false) => Err(CodeFault::Missing),
         (false, true) => listed_value(alloc, known, at, capture, bound, draft),
         (true, true) | (false, false) => Ok(Operand {
             reg: bound.reg,

@@ -65,7 +65,7 @@ pub fn read_global(
     ensures { GivesAsRun ((read_global (tables_by known.now) at number).run (making_of draft.old))
         result draft.new }
 {
-    let global = known.global(number).ok_or(CodeFault::Memory)?;
+    let global = known.global(number).ok_or(CodeFault::Missing)?;
     let kind = known.kind_at(at);
     global_by(alloc, known, kind, at, number, global, draft)
 }

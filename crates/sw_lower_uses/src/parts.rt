@@ -82,7 +82,7 @@ fn part_by(
         Some(kind) => {
             let key = known
                 .part_key(shape, number as usize)
-                .ok_or(CodeFault::Memory)?;
+                .ok_or(CodeFault::Missing)?;
             call_getter(at, kind, ty, key, ListOf::one(alloc, cell)?, draft)
         }
     }
@@ -106,7 +106,7 @@ fn part_in(
 {
     match kind {
         ShapeKind::Struct => field(at, number, ty, base, draft),
-        ShapeKind::Enum => Err(CodeFault::Memory),
+        ShapeKind::Enum => Err(CodeFault::Missing),
         ShapeKind::Class | ShapeKind::Actor => {
             let kind = known.kind_at(at);
             part_by(alloc, known, kind, at, shape, number, ty, base, draft)

@@ -27,7 +27,7 @@ pub fn read_self(
     ensures { GivesAsRun ((read_self (tables_by known.now) owner at).run (making_of draft.old))
         result draft.new }
 {
-    let key = known.self_key(owner).ok_or(CodeFault::Memory)?;
+    let key = known.self_key(owner).ok_or(CodeFault::Missing)?;
     read_var(alloc, known, at, key, draft)
 }
 
@@ -45,7 +45,7 @@ pub fn read_own(
         result draft.new }
 {
     let me = read_self(alloc, known, owner, at, draft)?;
-    let shape = owner.ok_or(CodeFault::Memory)?;
+    let shape = owner.ok_or(CodeFault::Missing)?;
     read_part(alloc, known, at, shape, number, me, draft)
 }
 
@@ -77,7 +77,7 @@ fn word_by(
             | Meaning::Print
             | Meaning::TaskValue,
         )
-        | None => Err(CodeFault::Memory),
+        | None => Err(CodeFault::Missing),
     }
 }
 

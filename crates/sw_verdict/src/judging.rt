@@ -72,10 +72,11 @@ pub struct Analysed {
     lowering: Lowering,
 }
 
-/// Goes through the phases that judge what a program means under a default, up to the size of its
-/// functions.
+/// Goes through the phases that judge what a text's program means under a default, up to the size
+/// of its functions.
 fn analyse(alloc: Global, program: &Program, default: AsyncDefault) -> Result<Analysed, Refusal>
-    requires { length program.now.decls < 2 ^ 31 }
+    requires small { length program.now.decls < 2 ^ 31 }
+    requires spelled { (text : List ℕ) × HasProgram text program.now.decls }
     ensures decided { (text : List ℕ) → HasProgram text program.now.decls
         → Decided default (Declarations ∷ Types ∷ Isolation ∷ Size ∷ []) text result }
     ensures analysed { IfOk result (IsAnalysed default program.now.decls) }

@@ -244,9 +244,9 @@ pub fn isolation(
     }
 }
 
-/// The functions of a program none of whose functions is too large, with the numbers of those that
-/// a graph names. It declares these, by whatever default, its nodes have these types, and it is
-/// isolated so.
+/// The functions of a text's program none of whose functions is too large, with the numbers of
+/// those that a graph names. The program keeps the rules on declarations and on types. It declares
+/// these, by whatever default, its nodes have these types, and it is isolated so.
 pub fn size(
     alloc: Global,
     program: &Program,
@@ -258,6 +258,10 @@ pub fn size(
     requires typed { IsTyped (world_of declared.now) program.now.decls typed.now }
     requires isolated { IsIsolated (world_of declared.now) (answers_of typed.now)
         program.now.decls isolated.now }
+    requires spelled { (text : List ℕ) × HasProgram text program.now.decls }
+    requires sound { IsFirstBreach program.now.decls None }
+    requires declared { (rule : AsyncDefault) × IsDeclared program.now.decls rule declared.now }
+    requires well { IsFirstIll (world_of declared.now) program.now.decls None }
     ensures found { (rule : AsyncDefault) (text : List ℕ)
         → IsDeclared program.now.decls rule declared.now → HasProgram text program.now.decls
         → Found (SizeFinds rule text) result }
@@ -268,6 +272,7 @@ pub fn size(
     match lower(alloc, program, declared, typed, isolated) {
         Ok(lowering) => Ok(lowering),
         Err(LowerFault::Breach { code, at }) => Err(refused(code, at)),
+        Err(LowerFault::Missing) => unreachable!(),
         Err(LowerFault::Memory) => Err(Refusal::Memory),
     }
 }

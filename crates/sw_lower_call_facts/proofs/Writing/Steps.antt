@@ -15,7 +15,7 @@ use Rattle.sw_lower_builder.specs.Unfinished.{in_block, with_block, with_registe
 use Rattle.sw_lower_plans.specs.Plan.{Entry, Numbers, var_in}
 use Rattle.sw_lower_plans.specs.Run.{Making, payloads_alone, run_emit, run_known}
 use Rattle.sw_lower_plans.specs.declared.bound.Bound.{Bound}
-use Rattle.sw_lower_plans.specs.declared.fault.CodeFault.TheVariants.{Registers, Memory}
+use Rattle.sw_lower_plans.specs.declared.fault.CodeFault.TheVariants.{Registers, Missing}
 use Rattle.sw_lower_plans.specs.declared.name.FunctionName.{FunctionName}
 use Rattle.sw_lower_code.specs.Code.{Code, andthen, bind, block_for, close, emit, front, known}
 use Rattle.sw_lower_code.specs.Code.{number, reg, resume, var}
@@ -172,7 +172,7 @@ module _ {P : Instr → Type 0} {numbers : Numbers} where
         (is_payload instr && payloads_alone (slice_get s.made.blocks s.here)) ran;
   } where
     by : (s t : Making) (value : Unit {0}) → HoldsOnly P numbers s → (may : Bool)
-        → (if may then run_emit instr s else Err Memory) ≡ Ok (value, t) → HoldsOnly P numbers t
+        → (if may then run_emit instr s else Err Missing) ≡ Ok (value, t) → HoldsOnly P numbers t
     by s t value holds true ran = emit_keeps instr so s t value holds ran
     by s t value holds false ran = cc
 
@@ -213,7 +213,7 @@ module _ {P : Instr → Type 0} {numbers : Numbers} where
     after s = record s { here = block }
 
     by : (s t : Making) (value : Unit {0}) → HoldsOnly P numbers s → (is : Bool)
-        → (if is then gave tt (after s) else Err Memory) ≡ Ok (value, t) → HoldsOnly P numbers t
+        → (if is then gave tt (after s) else Err Missing) ≡ Ok (value, t) → HoldsOnly P numbers t
     by s t value holds false ran = cc
     by s t value holds true ran =
         subst (HoldsOnly P numbers) (ended tt (after s) value t ran).1

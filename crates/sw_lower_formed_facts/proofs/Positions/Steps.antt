@@ -24,7 +24,7 @@ use Rattle.sw_lower_plans.specs.Run.{instrs_of, run_front, run_known, with_vars}
 use Rattle.sw_lower_plans.specs.declared.bound.Bound.{Bound}
 use Rattle.sw_lower_plans.specs.declared.name.FunctionName.{FunctionName}
 use Rattle.sw_lower_plans.specs.declared.fault.CodeFault.{CodeFault}
-use Rattle.sw_lower_plans.specs.declared.fault.CodeFault.TheVariants.{Memory}
+use Rattle.sw_lower_plans.specs.declared.fault.CodeFault.TheVariants.{Missing}
 use Rattle.sw_lower_plans.proofs.BlockFacts.{written_both}
 use Rattle.sw_lower_code.specs.Code.{Code, bind, block_for, close, done, emit, front, known, number}
 use Rattle.sw_lower_code.specs.Code.{no_var, reg, resume, scope, var}
@@ -355,7 +355,7 @@ safe_front w p instr ok stands given t ran fits inside =
       alone None holds = cc
       alone (Some block) holds = holds
 
-      by : (may : Bool) → (if may then run_emit instr p.making else Err Memory) ≡ Ok (given, t)
+      by : (may : Bool) → (if may then run_emit instr p.making else Err Missing) ≡ Ok (given, t)
           → IsTrue may
       by true ran = refl
       by false ran = cc

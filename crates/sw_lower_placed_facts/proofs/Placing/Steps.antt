@@ -19,7 +19,7 @@ use Rattle.sw_lower_builder.specs.Unfinished.{in_block, with_block, with_registe
 use Rattle.sw_lower_plans.specs.Plan.{Entry, Numbers, var_in}
 use Rattle.sw_lower_plans.specs.Run.{IsGoing, Making, payloads_alone, run_emit, run_known}
 use Rattle.sw_lower_plans.specs.declared.bound.Bound.{Bound}
-use Rattle.sw_lower_plans.specs.declared.fault.CodeFault.TheVariants.{Registers, Memory}
+use Rattle.sw_lower_plans.specs.declared.fault.CodeFault.TheVariants.{Registers, Missing}
 use Rattle.sw_lower_plans.specs.declared.name.FunctionName.{FunctionName}
 use Rattle.sw_lower_code.specs.Code.{bind, block_for, close, emit, front, known, number}
 use Rattle.sw_lower_code.specs.Code.{reg, resume, var}
@@ -216,7 +216,7 @@ module _ {program : Program} {host : Host} where
   unfolding front
   places_front s instr allowed stood value t ran fits =
       by (is_payload instr && payloads_alone (slice_get s.made.blocks s.here)) ran where
-        by : (may : Bool) → (if may then run_emit instr s else Err Memory) ≡ Ok (value, t)
+        by : (may : Bool) → (if may then run_emit instr s else Err Missing) ≡ Ok (value, t)
             → Stood program host t × IsStill s t
         by true given =
             emit_places s instr allowed stood value t
@@ -273,7 +273,7 @@ module _ {program : Program} {host : Host} where
         still : IsStill s after
         still = record { regs = refl; vars = refl }
 
-        by : (is : Bool) → (if is then gave tt after else Err Memory) ≡ Ok (value, t)
+        by : (is : Bool) → (if is then gave tt after else Err Missing) ≡ Ok (value, t)
             → Stood program host t × IsStill s t
         by false given = cc
         by true given =

@@ -10,7 +10,7 @@ use Rattle.sw_lower_plans.specs.Plan.{Numbers, Place, var_in}
 use Rattle.sw_lower_plans.specs.Run.{IsGoing, Making, at_start, place_of, points}
 use Rattle.sw_lower_plans.specs.declared.bound.Bound.{Bound}
 use Rattle.sw_lower_plans.specs.declared.fault.CodeFault.{CodeFault}
-use Rattle.sw_lower_plans.specs.declared.fault.CodeFault.TheVariants.{Registers, Memory}
+use Rattle.sw_lower_plans.specs.declared.fault.CodeFault.TheVariants.{Registers, Missing, Memory}
 use Rattle.sw_lower_code.specs.Code.{Code, all, andthen, bind, done, reg}
 use Rattle.sw_lower_code.specs.Whole.{Body, code_of, ended_by, enter, finish, lower_body}
 use Rattle.sw_lower_code.specs.Whole.{sending_of}
@@ -134,16 +134,17 @@ body_proceeds number body rule faulty = by (code.run start) refl faulty where
       (enters_proceed body.takes start (omega arith))
       (λ value t ran made. rule t (entered value t made))
 
-  finished : (t : Making) → finish body t ≡ Err faults.Memory → ⊥
+  finished : (t : Making) → finish body t ≡ Err faults.Missing → ⊥
   finished t is = ended (t.over || nat_lt MAX_POINTS (points t)) is where
     ended : (large : Bool) → (if large then Err (faults.TooManyPoints body.key)
         else Ok (made.finished t.made (length body.takes) (sending_of body) body.sends body.result))
-        ≡ Err faults.Memory → ⊥
+        ≡ Err faults.Missing → ⊥
     ended true is = cc
     ended false is = cc
 
   by : (result : Result (Unit {0} × Making) CodeFault) → code.run start ≡ result
-      → ended_by body result ≡ Err faults.Memory → ⊥
+      → ended_by body result ≡ Err faults.Missing → ⊥
   by (Ok at) ran is = finished at.1 is
   by (Err Registers) ran is = cc
-  by (Err Memory) ran is = proceeds ran
+  by (Err Missing) ran is = proceeds ran
+  by (Err Memory) ran is = cc

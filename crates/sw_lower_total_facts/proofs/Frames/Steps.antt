@@ -16,7 +16,7 @@ use Rattle.sw_lower_builder.specs.Unfinished.{in_block, with_block, with_registe
 use Rattle.sw_lower_plans.specs.Plan.{Entry, var_in}
 use Rattle.sw_lower_plans.specs.Run.{IsGoing, Making, instrs_at, payloads_alone, run_emit, run_known}
 use Rattle.sw_lower_plans.specs.declared.bound.Bound.{Bound}
-use Rattle.sw_lower_plans.specs.declared.fault.CodeFault.TheVariants.{Registers, Memory}
+use Rattle.sw_lower_plans.specs.declared.fault.CodeFault.TheVariants.{Registers, Missing}
 use Rattle.sw_lower_plans.specs.declared.name.FunctionName.{FunctionName}
 use Rattle.sw_lower_plans.proofs.BlockFacts.{instrs_emitted, instrs_ended, instrs_new}
 use Rattle.sw_lower_code.specs.Code.{Code, andthen, bind, block_for, close, emit, front, known}
@@ -132,7 +132,7 @@ pub stays_front : (instr : Instr) → CodeStays (front instr)
 unfolding front
 stays_front instr count own s t value going made apart ran =
     by (is_payload instr && payloads_alone (slice_get s.made.blocks s.here)) ran where
-      by : (may : Bool) → (if may then run_emit instr s else Err Memory) ≡ Ok (value, t)
+      by : (may : Bool) → (if may then run_emit instr s else Err Missing) ≡ Ok (value, t)
           → Stays count own s t
       by true ran = emit_keeps count own instr s t value going apart ran
       by false ran = cc
@@ -176,7 +176,7 @@ keeps_resume count own block above s t value going made apart ran =
       after : Making
       after = record s { here = block }
 
-      by : (is : Bool) → (if is then gave tt after else Err Memory) ≡ Ok (value, t)
+      by : (is : Bool) → (if is then gave tt after else Err Missing) ≡ Ok (value, t)
           → Stays count own s t
       by false ran = cc
       by true ran =

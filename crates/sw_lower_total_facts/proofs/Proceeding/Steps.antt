@@ -13,7 +13,7 @@ use Rattle.sw_lower_plans.specs.Plan.{Entry, var_in}
 use Rattle.sw_lower_plans.specs.Run.{Making, payloads_alone, points, run_emit, run_known}
 use Rattle.sw_lower_plans.specs.declared.bound.Bound.{Bound}
 use Rattle.sw_lower_plans.specs.declared.fault.CodeFault.{CodeFault}
-use Rattle.sw_lower_plans.specs.declared.fault.CodeFault.TheVariants.{Registers, Memory}
+use Rattle.sw_lower_plans.specs.declared.fault.CodeFault.TheVariants.{Registers, Missing}
 use Rattle.sw_lower_plans.specs.declared.name.FunctionName.{FunctionName}
 use Rattle.sw_lower_code.specs.Code.{bind, block_for, close, done, emit, front, known, number, reg}
 use Rattle.sw_lower_code.specs.Code.{resume, var}
@@ -30,18 +30,18 @@ unfolding done
 proceeds_done value s faulty = cc
 
 -- one of two results, neither of which is for want of something
-neither : {A : Type 0} (test : Bool) (one other : Result (A × Making) CodeFault) → one ≢ Err Memory
-    → other ≢ Err Memory → (if test then one else other) ≢ Err Memory
+neither : {A : Type 0} (test : Bool) (one other : Result (A × Making) CodeFault) → one ≢ Err Missing
+    → other ≢ Err Missing → (if test then one else other) ≢ Err Missing
 neither true one other first second is = first is
 neither false one other first second is = second is
 
-there : {A : Type 0} (value : A) (s : Making) → made value s ≢ Err Memory
+there : {A : Type 0} (value : A) (s : Making) → made value s ≢ Err Missing
 there value s is = cc
 
 abbrev full : {A : Type 0} → Result (A × Making) CodeFault
 full = Err Registers
 
-few : full {A = ℕ} ≢ Err Memory
+few : full {A = ℕ} ≢ Err Missing
 few is = cc
 
 pub proceeds_reg : (kind : RegKind) (s : Making) → Proceeds s (reg kind)
@@ -55,7 +55,7 @@ pub proceeds_block : (entry : Entry) (s : Making) → Proceeds s (block_for entr
 unfolding block_for
 proceeds_block entry s faulty = cc
 
-emits : (instr : Instr) (s : Making) → run_emit instr s ≢ Err Memory
+emits : (instr : Instr) (s : Making) → run_emit instr s ≢ Err Missing
 emits instr s is =
     neither (nat_le MAX_POINTS (points s)) (made unit (record s { over = true }))
     (made unit (record s { made = in_block (with_instr instr) s.here s.made }))
@@ -74,7 +74,7 @@ proceeds_front instr s payload alone faulty =
     by (is_payload instr) (payloads_alone (slice_get s.made.blocks s.here)) payload alone faulty
   where
     by : (one other : Bool) → one ≡ true → other ≡ true
-        → (if one && other then run_emit instr s else Err Memory) ≡ Err Memory → ⊥
+        → (if one && other then run_emit instr s else Err Missing) ≡ Err Missing → ⊥
     by true true a b is = emits instr s is
     by true false a b is = cc
     by false other a b is = cc
@@ -89,7 +89,7 @@ unfolding resume
 proceeds_resume to s below is =
     by (nat_lt to (length s.made.blocks)) (grind (arith, below)) is where
       by : (test : Bool) → test ≡ true
-          → (if test then made unit (record s { here = to }) else Err Memory) ≢ Err Memory
+          → (if test then made unit (record s { here = to }) else Err Missing) ≢ Err Missing
       by true holds is = there unit (record s { here = to }) is
       by false holds is = cc
 
@@ -98,7 +98,7 @@ unfolding bind
 proceeds_bind bound s faulty = cc
 
 knows : {A : Type 0} (found : Option A) (value : A) (s : Making) → found ≡ Some value
-    → run_known found s ≡ Err Memory → ⊥
+    → run_known found s ≡ Err Missing → ⊥
 knows None value s is faulty = cc
 knows (Some other) value s is faulty = cc
 

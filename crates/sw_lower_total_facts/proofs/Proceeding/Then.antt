@@ -3,7 +3,7 @@ use Rattle.std.proofs.Common.{◌≡◌, length, refl, subst}
 use Rattle.std.specs.Prelude.{Result, Ok, Err}
 use Rattle.sw_lower_plans.specs.Run.{IsGoing, Making, Meets, place_of, run_after, with_vars}
 use Rattle.sw_lower_plans.specs.declared.fault.CodeFault.{CodeFault}
-use Rattle.sw_lower_plans.specs.declared.fault.CodeFault.TheVariants.{Registers, Memory}
+use Rattle.sw_lower_plans.specs.declared.fault.CodeFault.TheVariants.{Registers, Missing, Memory}
 use Rattle.sw_lower_code.specs.Code.{Code, andthen, scope}
 use Rattle.sw_lower_total_facts.specs.Proceeding.{Proceeds}
 
@@ -25,10 +25,11 @@ pub proceeds_then : {A B : Type 0} (first : Code A) (next : A → Code B) (s : M
 unfolding andthen
 proceeds_then {A} {B} first next s going one two faulty = by (first.run s) refl faulty where
   by : (result : Result (A × Making) CodeFault) → first.run s ≡ result
-      → run_after result (λ value. (next value).run) ≡ Err Memory → ⊥
+      → run_after result (λ value. (next value).run) ≡ Err Missing → ⊥
   by (Ok at) ran is = two at.0 at.1 ran (ran_of first s going at.0 at.1 ran) is
   by (Err Registers) ran is = cc
-  by (Err Memory) ran is = one ran
+  by (Err Missing) ran is = one ran
+  by (Err Memory) ran is = cc
 
 -- the same of code whose variables are seen in it alone
 pub proceeds_scope : {A : Type 0} (code : Code A) (s : Making) → Proceeds s code
@@ -36,7 +37,8 @@ pub proceeds_scope : {A : Type 0} (code : Code A) (s : Making) → Proceeds s co
 unfolding scope
 proceeds_scope {A} code s one faulty = by (code.run s) refl faulty where
   by : (result : Result (A × Making) CodeFault) → code.run s ≡ result
-      → with_vars (length s.vars) result ≡ Err Memory → ⊥
+      → with_vars (length s.vars) result ≡ Err Missing → ⊥
   by (Ok at) ran is = cc
   by (Err Registers) ran is = cc
-  by (Err Memory) ran is = one ran
+  by (Err Missing) ran is = one ran
+  by (Err Memory) ran is = cc

@@ -14,7 +14,7 @@ use Rattle.sw_lower_builder.specs.Unfinished.{in_block, with_register}
 use Rattle.sw_lower_plans.specs.Run.{IsGoing, Making, instrs_at, instrs_of, payloads_alone, points}
 use Rattle.sw_lower_plans.specs.Run.{run_emit}
 use Rattle.sw_lower_plans.specs.declared.bound.Bound.{Bound}
-use Rattle.sw_lower_plans.specs.declared.fault.CodeFault.TheVariants.{Memory, Registers}
+use Rattle.sw_lower_plans.specs.declared.fault.CodeFault.TheVariants.{Missing, Registers}
 use Rattle.sw_lower_code.specs.Code.{Code, andthen, bind, done, front, known, reg}
 use Rattle.sw_lower_formed_facts.proofs.Positions.Steps.{ended, gave}
 use Rattle.sw_lower_total_facts.specs.Proceeding.{Proceeds}
@@ -100,7 +100,7 @@ pub front_front : (instr : Instr) → is_payload instr ≡ true → KeepsFront (
 unfolding front
 front_front instr payload s t value alone ran =
     by (is_payload instr && payloads_alone (slice_get s.made.blocks s.here)) ran where
-      by : (may : Bool) → (if may then run_emit instr s else Err Memory) ≡ Ok (value, t)
+      by : (may : Bool) → (if may then run_emit instr s else Err Missing) ≡ Ok (value, t)
           → InFront t
       by true is = front_emit instr s t value payload alone is
       by false is = cc

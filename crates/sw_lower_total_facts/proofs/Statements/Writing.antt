@@ -12,7 +12,7 @@ use Rattle.sw_lower_builder.specs.Blocks.{with_last}
 use Rattle.sw_lower_builder.specs.Unfinished.{in_block, with_block}
 use Rattle.sw_lower_plans.specs.Plan.{Anywhere, Entry, OfCase, Place, after}
 use Rattle.sw_lower_plans.specs.Run.{Making, instrs_at, place_of}
-use Rattle.sw_lower_plans.specs.declared.fault.CodeFault.TheVariants.{Memory}
+use Rattle.sw_lower_plans.specs.declared.fault.CodeFault.TheVariants.{Missing}
 use Rattle.sw_lower_plans.proofs.BlockFacts.{instrs_ended, instrs_new}
 use Rattle.sw_lower_code.specs.Code.{Code, andthen, block_for, close, done, each, known, resume}
 use Rattle.sw_lower_code.specs.Code.{◌>>=◌}
@@ -90,7 +90,7 @@ resumed to s t value ran = by (nat_lt to (length s.made.blocks)) ran where
   later : Making
   later = record s { here = to }
 
-  by : (made : Bool) → (if made then gave value later else Err Memory) ≡ Ok (value, t)
+  by : (made : Bool) → (if made then gave value later else Err Missing) ≡ Ok (value, t)
       → Resumed s t to
   by true is =
       subst (λ m. Resumed s m to) (ended value later value t is).1

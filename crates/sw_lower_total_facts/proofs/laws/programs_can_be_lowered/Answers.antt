@@ -20,3 +20,7 @@ returns-clause-entry c decls rule world ordered is are =
 pub returns-clause-starts : goal.returns-clause-starts
 returns-clause-starts c decls rule world ordered is are =
     lowering.has_starts decls rule world is ordered are
+
+pub returns-clause-lacks_nothing : goal.returns-clause-lacks_nothing
+returns-clause-lacks_nothing c decls rule world is lacks =
+    lowering.lacks_nothing decls rule world is lacks

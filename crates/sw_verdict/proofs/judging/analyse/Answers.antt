@@ -62,3 +62,6 @@ returns-clause-decided c text program =
         ),
       ),
     )
+
+pub size-requires-clause-declared : goal.size-requires-clause-declared
+size-requires-clause-declared c = (c.args.default, c.in_ok-declared.ensures.declared)

@@ -38,3 +38,9 @@ returns-clause-meant c = record {
   spelled = c.in_ok-spelled.ensures.spelled;
   analysed = c.in_ok-found.ensures.analysed;
 }
+
+pub analyse-requires-clause-spelled : goal.analyse-requires-clause-spelled
+analyse-requires-clause-spelled c = (
+  c.args.text.now,
+  spelled_program c.args.text.now c.in_ok-spelled.spelled c.in_ok-spelled.ensures.spelled,
+)
