@@ -26,10 +26,12 @@ mod laws;
 mod lines;
 mod parts;
 mod reply;
+mod steady;
 
 pub use laws::{certificate_limit, order_limit, program_limit, words_have_one_reply};
 use reply::{NoReply, reply};
 use std::alloc::Global;
+pub use steady::run_steady;
 use sw_check_parts::write_all;
 pub use sw_check_parts::{Exit, PROGRAM_LIMIT};
 pub use sw_check_text::{Verdict, check_text, verdicts_are_exact};
