@@ -1,9 +1,10 @@
 -- A numeral has digits alone, no two numbers have one numeral, and a number of 64 bits is printed so.
-use Rattle.std.proofs.Common.{◌≡◌, ℕ, ◌+◌, ◌-◌, ◌<◌, ◌^◌, inl, inr, true, leb, cond, List}
-use Rattle.std.proofs.Common.{[], ◌∷◌, map, decimal, refl, sym, ap, ◌∙◌, arith}
+use Rattle.std.proofs.Common.{◌≡◌, ℕ, ◌+◌, ◌-◌, ◌*◌, ◌/◌, ◌%◌, ◌<◌, ◌^◌, inl, inr, true, leb, cond, List}
+use Rattle.std.proofs.Common.{[], ◌∷◌, ◌++◌, map, decimal, refl, sym, ap, ◌∙◌, arith}
 use Rattle.std.proofs.lemmas.Bool.{and_from, cases_lt, le-leb, ne_eqb}
 use Rattle.std.proofs.lemmas.Fmt.{decimal_digit, decimal-digits_of}
-use Rattle.std.proofs.lemmas.Int.Digits.{all_below_base_digits_of, number_digits_of}
+use Rattle.std.proofs.lemmas.Int.Digits.{all_below_base_digits_of, digits_of_step, number_digits_of}
+use Rattle.std.proofs.lemmas.Nat.{div-mul-add, mod-mul-add}
 use Rattle.std.specs.Int.Digits.{AllBelowBase, digits_of, number_from_digits}
 use Rattle.std.specs.List.{list_all}
 use Rattle.sw_scan.specs.Classes.{is_digit}
@@ -65,6 +66,31 @@ numeral_value n = let h = some_digits n in
 
 pub one_numeral : (m n : ℕ) → numeral m ≡ numeral n → m ≡ n
 one_numeral m n same = sym (numeral_value m) ∙ ap value same ∙ numeral_value n
+
+-- a digit alone, and one more digit
+pub numeral_one : (d : ℕ) → d < 10 → numeral d ≡ (48 + d) ∷ []
+numeral_one d small = elim (cases_lt 0 d) [
+  | inl some ↦ (let none : d / 10 ≡ 0 = omega (arith, small) in
+      let same : d % 10 ≡ d = omega (arith, small, none) in
+      numeral_some d some ∙ ap shown (digits_of_step 10 d (omega arith) some
+      ∙ ap (λ q. digits_of 10 q ++ (d % 10) ∷ []) none ∙ ap (λ r. r ∷ []) same))
+  | inr none ↦ (let e : d ≡ 0 = omega (arith, none) in
+      numeral_zero d e ∙ ap (λ r. (48 + r) ∷ []) (sym e))
+]
+
+pub numeral_more : (n d more : ℕ) → 0 < n → d < 10 → more ≡ n * 10 + d
+    → numeral more ≡ numeral n ++ (48 + d) ∷ []
+numeral_more n d more some small is =
+    let q : more / 10 ≡ n = ap (λ m. m / 10) is ∙ div-mul-add n 10 d small in
+    let r : more % 10 ≡ d = ap (λ m. m % 10) is ∙ mod-mul-add n 10 d small in
+    numeral_some more (omega (arith, is, some))
+    ∙ ap shown (digits_of_step 10 more (omega arith) (omega (arith, is, some))
+    ∙ ap (λ k. digits_of 10 k ++ (more % 10) ∷ []) q ∙ ap (λ k. digits_of 10 n ++ k ∷ []) r)
+    ∙ shown_push (digits_of 10 n) ∙ ap (λ l. l ++ (48 + d) ∷ []) (sym (numeral_some n some))
+  where
+    shown_push : (ds : List ℕ) → shown (ds ++ d ∷ []) ≡ shown ds ++ (48 + d) ∷ []
+    shown_push [] = refl
+    shown_push (e ∷ ds) = ap (λ l. (48 + e) ∷ l) (shown_push ds)
 
 pub numeral_is_decimal : (n : ℕ) → n < 2 ^ 64 → numeral n ≡ decimal n
 numeral_is_decimal n small = elim (cases_lt 0 n) [

@@ -4,7 +4,6 @@ ghost use Rattle.sw_dictation.specs.Numbers.{spelled, common_len, BeginsWith, Is
 ghost use Rattle.sw_dictation.specs.Numbers.{IsSaid, IsNone};
 
 use itoa::write_digits;
-use sw_scan::digits_len;
 
 /// How many bytes two texts have in common at their beginnings.
 fn common(bytes: &[u8], text: &[u8]) -> usize
@@ -55,17 +54,28 @@ fn tried(bytes: &[u8], numbers: &[u64], closer: u8) -> Result<(u64, usize), usiz
 }
 
 /// The number that bytes begin with, the byte that closes it, and the length of both. None where
-/// they begin with no number as it is written, where it has more than 64 bits, or where the bytes
-/// end with it.
+/// they begin with no number as it is written, where it has more than 19 digits, or where the bytes
+/// end with it. It looks once at each byte.
 pub fn spoken(bytes: &[u8]) -> Option<(u64, u8, usize)>
     ensures { IfSome result (λ said. BeginsWith said.0 said.1 bytes.now
         × (said.2 ≡ length (spelled said.0 said.1))) }
 {
-    let count = digits_len(bytes);
-    let closer = *bytes.get(count)?;
-    let number = str::from_utf8(&bytes[..count]).ok()?.parse::<u64>().ok()?;
-    let len = meet(bytes, number, closer).ok()?;
-    Some((number, closer, len))
+    let first = *bytes.first()?;
+    if first < b'0' || b'9' < first {
+        return None;
+    }
+    let mut number = (first - b'0') as u64;
+    for i in 1..bytes.len() {
+        let byte = bytes[i];
+        if byte < b'0' || b'9' < byte {
+            return Some((number, byte, i + 1));
+        }
+        if number == 0 || number >= 1_000_000_000_000_000_000 {
+            return None;
+        }
+        number = number * 10 + (byte - b'0') as u64;
+    }
+    None
 }
 
 /// The number that bytes begin with, if it is in a rising list and the byte closes it. It is quick,
