@@ -9,7 +9,7 @@ use Rattle.sw_dictation.specs.Numbers.{IsOffered}
 use Rattle.sw_cert.proofs.Beginning.{going_offered, ending_offered, next_same, stuck_same}
 use Rattle.sw_cert.proofs.Ranks.{rows_apart}
 use Rattle.sw_cert.proofs.Slices.{part_has}
-use Rattle.sw_cert.specs.Begun.{IsNext, IsStuck}
+use Rattle.sw_cert.specs.Begun.{IsNext, IsStuck, IsBetween}
 use Rattle.sw_cert.specs.Choices.{MayBePair, ClosesPair}
 use Rattle.sw_cert.specs.Form.{pair_count}
 use Rattle.sw_cert.specs.Pending.{MayBeElement, MayBeSite}
@@ -119,41 +119,43 @@ module _ (extent : Extent) (to left : ℕ) (some : 0 < left) (room : to + left �
             )
           ]
 
-  -- what is offered where numbers from one on and below another are
-  pub elements_offered : (going : List ℕ) (from end : ℕ) → from ≡ to / width + 1
-      → end ≡ last / width + 2 → ((n : ℕ) → Contains going n ↔ ((from ≤ n) × (n < end)))
-      → (n c : ℕ) → IsOffered [] going n c ↔ MayBeElement extent to left n c
-  elements_offered going from end from_is end_is offers =
-      going_offered going (λ n. (pair : Pair) × (pair.element ≡ n) × MayBePair extent to left pair)
-      (λ n. (
-        λ has. let h = (offers n).0 has in
-            element_between n (omega (arith, h.0, from_is)) (omega (arith, h.1, end_is)),
-        λ (pair, e, may). (offers n).1 (
-          omega (arith, from_is, e, element_from pair may),
-          omega (arith, end_is, e, element_to pair may),
-        ),
-      ))
+  -- a number from one on and below another
+  pub elements_between : (from end : ℕ) → from ≡ to / width + 1 → end ≡ last / width + 2
+      → (n c : ℕ) → IsBetween from end n c ↔ MayBeElement extent to left n c
+  elements_between from end from_is end_is n c = (
+    λ (blank, (after, before)). (
+      blank,
+      element_between n (omega (arith, after, from_is)) (omega (arith, before, end_is)),
+    ),
+    λ (blank, (pair, e, may)). (
+      blank,
+      (
+        omega (arith, from_is, e, element_from pair may),
+        omega (arith, end_is, e, element_to pair may),
+      ),
+    ),
+  )
 
   -- a number that is offered so, and none
   module _ (columns pairs : ℕ) (columns_are : columns ≡ width)
-      (pairs_are : pairs ≡ pair_count extent) (going : List ℕ)
-      (offers : (n : ℕ) → Contains going n
-      ↔ ((to / columns + 1 ≤ n) × (n < (pairs - left) / columns + 2))) where
-    offered : (n c : ℕ) → IsOffered [] going n c ↔ MayBeElement extent to left n c
-    offered = elements_offered going (to / columns + 1) ((pairs - left) / columns + 2)
+      (pairs_are : pairs ≡ pair_count extent) where
+    abbrev AnElement : ℕ → ℕ → Type 0
+    AnElement n c = IsBetween (to / columns + 1) ((pairs - left) / columns + 2) n c
+
+    offered : (n c : ℕ) → AnElement n c ↔ MayBeElement extent to left n c
+    offered = elements_between (to / columns + 1) ((pairs - left) / columns + 2)
         (ap (λ w. to / w + 1) columns_are)
         (ap (λ p. (p - left) / columns + 2) pairs_are
-        ∙ ap (λ w. (pair_count extent - left) / w + 2) columns_are) offers
+        ∙ ap (λ w. (pair_count extent - left) / w + 2) columns_are)
 
-    pub element_said : (text : List ℕ) (at n end : ℕ) → IsNext (IsOffered [] going) text at n end
+    pub element_said : (text : List ℕ) (at n end : ℕ) → IsNext AnElement text at n end
         → IsNext (MayBeElement extent to left) text at n end
-    element_said text at n end = next_same (IsOffered [] going) (MayBeElement extent to left) text
+    element_said text at n end = next_same AnElement (MayBeElement extent to left) text
         at n end (λ m c. (offered m c).0)
 
-    pub element_stuck : (text : List ℕ) (at place : ℕ)
-        → IsStuck (IsOffered [] going) text at place
+    pub element_stuck : (text : List ℕ) (at place : ℕ) → IsStuck AnElement text at place
         → IsStuck (MayBeElement extent to left) text at place
-    element_stuck text at place = stuck_same (IsOffered [] going) (MayBeElement extent to left)
+    element_stuck text at place = stuck_same AnElement (MayBeElement extent to left)
         text at place offered
 
   -- its site

@@ -1,18 +1,18 @@
 -- Which numbers may stand at the beginning of a line.
 use Rattle.std.proofs.Common.{◌≡◌, ℕ, ◌+◌, ◌<◌, ◌≤◌, ◌⊎◌, inl, inr, ◌↔◌, Some, List, [], ◌∷◌}
 use Rattle.std.proofs.Common.{◌++◌}
-use Rattle.std.proofs.Common.{length, Contains, refl, sym, subst, ap, ◌∙◌, arith}
+use Rattle.std.proofs.Common.{length, refl, sym, subst, ap, ◌∙◌, arith}
 use Rattle.std.specs.List.{slice_get}
 use Rattle.std.proofs.lemmas.Bool.{cases_eq}
 use Rattle.std.proofs.lemmas.Option.{slice_get_within}
 use Rattle.sw_dictation.specs.Lines.{MayFollow, IsBadPlace}
-use Rattle.sw_dictation.specs.Numbers.{IsOffered}
-use Rattle.sw_cert.proofs.Beginning.{none_begun, begun_more, going_offered, stuck_same}
+use Rattle.sw_cert.proofs.Beginning.{none_begun, begun_more, stuck_same}
 use Rattle.sw_cert.proofs.Beginning.{stuck_is_bad}
 use Rattle.sw_region_flow.proofs.Places.{element_at}
 use Rattle.sw_cert.proofs.Following.{one_extent, function_follows, block_follows}
 use Rattle.sw_cert.proofs.Following.{elements_follow}
 use Rattle.sw_cert.specs.Begun.{IsForm, IsBegun, IsNext, IsStuck, IsBlockRead, IsHeadRead}
+use Rattle.sw_cert.specs.Begun.{IsBetween}
 use Rattle.sw_cert.specs.Choices.{RisesTo, HasBlock, HasLine}
 use Rattle.sw_cert.specs.Form.{certificate_form}
 use Rattle.sw_cert.specs.declared.form.Form.{Form}
@@ -23,22 +23,23 @@ use Rattle.sw_cert.specs.declared.line.Spot.{Spot}
 module _ (form : Form) (is : IsForm form) (spot : Spot) (text so_far : List ℕ) (at : ℕ)
     (begun : IsBegun text so_far at) (P : ℕ → Type 0)
     (follows : (n c : ℕ) → MayFollow (certificate_form form.extents) spot so_far n c
-    ↔ ((c ≡ 32) × P n)) (going : List ℕ) (offers : (n : ℕ) → Contains going n ↔ P n) where
-  pub said : (n end : ℕ) → IsNext (IsOffered [] going) text at n end
+    ↔ ((c ≡ 32) × P n)) (from to : ℕ) (offers : (n : ℕ) → ((from ≤ n) × (n < to)) ↔ P n) where
+  pub said : (n end : ℕ) → IsNext (IsBetween from to) text at n end
       → P n × IsBegun text (so_far ++ n ∷ []) end
-  said n end next =
-      let h = (going_offered going P offers n next.closer).0 next.offered in
-      (h.1, begun_more (IsOffered [] going) text so_far at n end begun next h.0)
+  said n end next = (
+    (offers n).0 next.offered.1,
+    begun_more (IsBetween from to) text so_far at n end begun next next.offered.0,
+  )
 
   pub not_said : (place : ℕ) → (so_far ≡ []) ⊎ ((n : ℕ) × P n) → (so_far ≡ [] → at < length text)
-      → IsStuck (IsOffered [] going) text at place
+      → IsStuck (IsBetween from to) text at place
       → IsBadPlace (certificate_form form.extents) spot text place
   not_said place some inside stuck = stuck_is_bad form.extents spot text so_far at begun
       place (viable some) inside
-      (stuck_same (IsOffered [] going) (MayFollow (certificate_form form.extents) spot so_far) text
+      (stuck_same (IsBetween from to) (MayFollow (certificate_form form.extents) spot so_far) text
       at place (λ n c. (
-        λ offered. (follows n c).1 ((going_offered going P offers n c).0 offered),
-        λ may. (going_offered going P offers n c).1 ((follows n c).0 may),
+        λ (blank, within). (follows n c).1 (blank, (offers n).0 within),
+        λ may. let h = (follows n c).0 may in (h.0, (offers n).1 h.1),
       )) stuck)
     where
       viable : (so_far ≡ []) ⊎ ((n : ℕ) × P n) → (so_far ≡ [])
@@ -116,33 +117,31 @@ functions_none extents spot past n = (
 )
 
 module _ (form : Form) (is : IsForm form) (spot : Spot) (text : List ℕ) where
-  module _ (list : List Extent) (same : list ≡ form.extents) (from : ℕ) (going : List ℕ)
-      (may : (n : ℕ) → HasBlock list spot n ↔ ((from ≤ n) × (n < length list)))
-      (offers : (n : ℕ) → Contains going n ↔ ((from ≤ n) × (n < length list))) where
-    functions_offered : (n : ℕ) → Contains going n ↔ HasBlock form.extents spot n
-    functions_offered n = subst (λ l. Contains going n ↔ HasBlock l spot n) same
-        (λ has. (may n).1 ((offers n).0 has), λ has. (offers n).1 ((may n).0 has))
+  module _ (list : List Extent) (same : list ≡ form.extents) (from : ℕ)
+      (may : (n : ℕ) → HasBlock list spot n ↔ ((from ≤ n) × (n < length list))) where
+    functions_offered : (n : ℕ) → ((from ≤ n) × (n < length list)) ↔ HasBlock form.extents spot n
+    functions_offered n = subst (λ l. ((from ≤ n) × (n < length list)) ↔ HasBlock l spot n) same
+        ((may n).1, (may n).0)
 
-    pub function_said : (n end : ℕ) → IsNext (IsOffered [] going) text 0 n end
+    pub function_said : (n end : ℕ) → IsNext (IsBetween from (length list)) text 0 n end
         → HasBlock form.extents spot n × IsBegun text (n ∷ []) end
     function_said n end =
         said form is spot text [] 0 (none_begun text) (HasBlock form.extents spot)
-        (function_follows form.extents is.fit spot) going functions_offered n end
+        (function_follows form.extents is.fit spot) from (length list) functions_offered n end
 
     pub function_not_said : (place : ℕ) → 0 < length text
-        → IsStuck (IsOffered [] going) text 0 place
+        → IsStuck (IsBetween from (length list)) text 0 place
         → IsBadPlace (certificate_form form.extents) spot text place
     function_not_said place some =
         not_said form is spot text [] 0 (none_begun text) (HasBlock form.extents spot)
-        (function_follows form.extents is.fit spot) going functions_offered place (inl refl)
-        (λ none. some)
+        (function_follows form.extents is.fit spot) from (length list) functions_offered place
+        (inl refl) (λ none. some)
 
   -- the block
   module _ (function : ℕ) (extent : Extent) (has : HasBlock form.extents spot function)
       (at : slice_get form.extents function ≡ Some extent) (place : ℕ)
-      (begun : IsBegun text (function ∷ []) place) (from : ℕ) (going : List ℕ)
-      (rises : (n : ℕ) → RisesTo spot function n ↔ (from ≤ n))
-      (offers : (n : ℕ) → Contains going n ↔ ((from ≤ n) × (n < extent.blocks))) where
+      (begun : IsBegun text (function ∷ []) place) (from : ℕ)
+      (rises : (n : ℕ) → RisesTo spot function n ↔ (from ≤ n)) where
     block_may : (n c : ℕ) → MayFollow (certificate_form form.extents) spot (function ∷ []) n c
         ↔ ((c ≡ 32) × ((n < extent.blocks) × RisesTo spot function n))
     block_may n c = let h = block_follows form.extents is.fit spot function extent at n c in (
@@ -150,29 +149,30 @@ module _ (form : Form) (is : IsForm form) (spot : Spot) (text : List ℕ) where
       λ (blank, may). h.1 (blank, may.0, may.1),
     )
 
-    block_offers : (n : ℕ) → Contains going n ↔ ((n < extent.blocks) × RisesTo spot function n)
+    block_offers : (n : ℕ) → ((from ≤ n) × (n < extent.blocks))
+        ↔ ((n < extent.blocks) × RisesTo spot function n)
     block_offers n = (
-      λ has. let h = (offers n).0 has in (h.1, (rises n).1 h.0),
-      λ may. (offers n).1 ((rises n).0 may.1, may.0),
+      λ (after, before). (before, (rises n).1 after),
+      λ may. ((rises n).0 may.1, may.0),
     )
 
-    pub block_said : (n end : ℕ) → IsNext (IsOffered [] going) text place n end
+    pub block_said : (n end : ℕ) → IsNext (IsBetween from extent.blocks) text place n end
         → IsBlockRead form.extents spot text function n end
     block_said n end next =
         let h = said form is spot text (function ∷ []) place begun
         (λ n. (n < extent.blocks) × RisesTo spot function n)
-        block_may going block_offers n end next in
+        block_may from extent.blocks block_offers n end next in
         record {
           extent = extent;
           has_line = record { is_extent = at; within = h.0.0; rises = h.0.1 };
           begun = h.1;
         }
 
-    pub block_not_said : (bad : ℕ) → IsStuck (IsOffered [] going) text place bad
+    pub block_not_said : (bad : ℕ) → IsStuck (IsBetween from extent.blocks) text place bad
         → IsBadPlace (certificate_form form.extents) spot text bad
     block_not_said bad = not_said form is spot text (function ∷ []) place begun
         (λ n. (n < extent.blocks) × RisesTo spot function n)
-        block_may going block_offers bad
+        block_may from extent.blocks block_offers bad
         (inr (some has.room)) (λ none. cc)
       where
         same : has.extent ≡ extent
@@ -190,42 +190,43 @@ module _ (form : Form) (is : IsForm form) (spot : Spot) (text : List ℕ) where
   -- the number of elements
   module _ (head : Spot) (place : ℕ)
       (read : IsBlockRead form.extents spot text head.function head.block place)
-      (extent : Extent) (at : slice_get form.extents head.function ≡ Some extent)
-      (going : List ℕ)
-      (offers : (n : ℕ) → Contains going n ↔ ((extent.elements ≤ n) × (n < extent.elements + 1)))
-    where
-      same_extent : read.extent ≡ extent
-      same_extent = one_extent form.extents read.extent extent head.function head.function
-          read.has_line.is_extent refl at
+      (extent : Extent) (at : slice_get form.extents head.function ≡ Some extent) where
+    same_extent : read.extent ≡ extent
+    same_extent = one_extent form.extents read.extent extent head.function head.function
+        read.has_line.is_extent refl at
 
-      line_here : HasLine form.extents spot head.function head.block extent
-      line_here = subst (HasLine form.extents spot head.function head.block) same_extent
-          read.has_line
+    line_here : HasLine form.extents spot head.function head.block extent
+    line_here = subst (HasLine form.extents spot head.function head.block) same_extent
+        read.has_line
 
-      elements_offered : (n : ℕ) → Contains going n ↔ (n ≡ extent.elements)
-      elements_offered n = (
-        λ has. let h = (offers n).0 has in omega (arith, h.0, h.1),
-        λ e. (offers n).1 (omega (arith, e), omega (arith, e)),
-      )
+    elements_offered : (n : ℕ)
+        → ((extent.elements ≤ n) × (n < extent.elements + 1)) ↔ (n ≡ extent.elements)
+    elements_offered n = (
+      λ (after, before). omega (arith, after, before),
+      λ e. (omega (arith, e), omega (arith, e)),
+    )
 
-      pub elements_said : (n end : ℕ) → IsNext (IsOffered [] going) text place n end
-          → IsHeadRead form.extents spot text head end
-      elements_said n end next =
-          let h = said form is spot text (head.function ∷ head.block ∷ []) place read.begun
-          (λ n. n ≡ extent.elements)
-          (elements_follow form.extents is.fit spot head.function extent at head.block
-          line_here.within line_here.rises) going elements_offered n end next in
-          record {
-            extent = extent;
-            has_line = line_here;
-            begun = subst (λ k. IsBegun text (head.function ∷ head.block ∷ k ∷ []) end) h.0 h.1;
-          }
+    pub elements_said : (n end : ℕ)
+        → IsNext (IsBetween extent.elements (extent.elements + 1)) text place n end
+        → IsHeadRead form.extents spot text head end
+    elements_said n end next =
+        let h = said form is spot text (head.function ∷ head.block ∷ []) place read.begun
+        (λ n. n ≡ extent.elements)
+        (elements_follow form.extents is.fit spot head.function extent at head.block
+        line_here.within line_here.rises) extent.elements (extent.elements + 1)
+        elements_offered n end next in
+        record {
+          extent = extent;
+          has_line = line_here;
+          begun = subst (λ k. IsBegun text (head.function ∷ head.block ∷ k ∷ []) end) h.0 h.1;
+        }
 
-      pub elements_not_said : (bad : ℕ) → IsStuck (IsOffered [] going) text place bad
-          → IsBadPlace (certificate_form form.extents) spot text bad
-      elements_not_said bad =
-          not_said form is spot text (head.function ∷ head.block ∷ []) place read.begun
-          (λ n. n ≡ extent.elements)
-          (elements_follow form.extents is.fit spot head.function extent at head.block
-          line_here.within line_here.rises) going elements_offered bad
-          (inr (extent.elements, refl)) (λ none. cc)
+    pub elements_not_said : (bad : ℕ)
+        → IsStuck (IsBetween extent.elements (extent.elements + 1)) text place bad
+        → IsBadPlace (certificate_form form.extents) spot text bad
+    elements_not_said bad =
+        not_said form is spot text (head.function ∷ head.block ∷ []) place read.begun
+        (λ n. n ≡ extent.elements)
+        (elements_follow form.extents is.fit spot head.function extent at head.block
+        line_here.within line_here.rises) extent.elements (extent.elements + 1)
+        elements_offered bad (inr (extent.elements, refl)) (λ none. cc)

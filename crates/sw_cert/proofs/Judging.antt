@@ -1,5 +1,5 @@
 -- What the flows of a graph's functions say of a certificate is what the graph says.
-use Rattle.std.proofs.Common.{◌≡◌, ◌≢◌, ℕ, ◌<◌, Option, Some, None, List, []}
+use Rattle.std.proofs.Common.{◌≡◌, ◌≢◌, ℕ, ◌<◌, Some, List, []}
 use Rattle.std.proofs.Common.{◌∷◌, length, map, Contains, IfSome, Result, Ok, Err, refl, sym, subst, ap}
 use Rattle.std.proofs.Common.{◌∙◌, IfOk, IfErr, arith}
 use Rattle.std.proofs.lemmas.List.Elements.{All-from_recursion}

@@ -1,10 +1,10 @@
 -- Classes that are read one after the other.
 use Rattle.std.proofs.Common.{◌≡◌, ◌≢◌, ℕ, ◌+◌, ◌<◌, ◌≤◌, inl, inr, ◌↔◌, List, [], ◌∷◌, ◌++◌}
-use Rattle.std.proofs.Common.{length, slice_index, Contains, refl, sym, subst, ap, ◌∙◌, arith}
-use Rattle.std.proofs.Common.{Option, Some, None, MatchOption, length-append}
+use Rattle.std.proofs.Common.{length, take, slice_index, Contains, refl, sym, subst, ap, ◌∙◌}
+use Rattle.std.proofs.Common.{arith, Some}
 use Rattle.std.specs.List.{slice_get}
 use Rattle.std.proofs.lemmas.Bool.{cases_eq}
-use Rattle.std.proofs.lemmas.List.{get_or_push, get_or_append_left}
+use Rattle.std.proofs.lemmas.List.{get_or_push, get_or_append_left, length-take-le, take_more}
 use Rattle.std.proofs.lemmas.List.Elements.{Contains-append_left, Contains-push}
 use Rattle.std.proofs.lemmas.List.Elements.{Contains-push_cases}
 use Rattle.sw_dictation.specs.Lines.{IsBadPlace}
@@ -102,24 +102,25 @@ module _ (classes roots : List ℕ) (class : ℕ) (are : AreRoots classes roots)
             (are.each n).1 (inside, sym (before n inside) ∙ own))
       ]
 
--- the last of a list is taken off again
-ends_same : (xs ys : List ℕ) (a b : ℕ) → xs ++ a ∷ [] ≡ ys ++ b ∷ [] → xs ≡ ys
-ends_same [] [] a b e = refl
-ends_same [] (y ∷ ys) a b e = absurd (omega (arith, ap length e, length-append ys (b ∷ [])))
-ends_same (x ∷ xs) [] a b e = absurd (omega (arith, ap length e, length-append xs (a ∷ [])))
-ends_same (x ∷ xs) (y ∷ ys) a b e =
-    let heads : x ≡ y = cc in
-    let tails : xs ++ a ∷ [] ≡ ys ++ b ∷ [] = cc in
-    ap (λ z. z ∷ xs) heads ∙ ap (λ l. y ∷ l) (ends_same xs ys a b tails)
+-- those of the first elements, with one more
+module _ (classes roots : List ℕ) (k : ℕ) (lt : k < length classes)
+    (are : AreRoots (take k classes) roots) where
+  taken : length (take k classes) ≡ k
+  taken = length-take-le k classes (omega (arith, lt))
 
-pub popped : (o : Option ℕ) (roots old new : List ℕ) (element : ℕ) → old ≡ roots ++ element ∷ []
-    → MatchOption o ((old ≡ []) × (new ≡ [])) (λ last. old ≡ new ++ last ∷ []) → new ≡ roots
-popped None roots old new element is (none, e) = absurd (omega (
-  arith,
-  ap length (sym is ∙ none),
-  length-append roots (element ∷ []),
-))
-popped (Some last) roots old new element is e = ends_same new roots last element (sym e ∙ is)
+  split : take (k + 1) classes ≡ take k classes ++ slice_index classes k ∷ []
+  split = take_more classes k 0 lt
+
+  pub first_root : (new : List ℕ) → slice_index classes k ≡ k → new ≡ roots ++ k ∷ []
+      → AreRoots (take (k + 1) classes) new
+  first_root new own grown = subst (λ l. AreRoots l new) (sym split)
+      (subst (AreRoots (take k classes ++ slice_index classes k ∷ []))
+      (ap (λ n. roots ++ n ∷ []) taken ∙ sym grown)
+      (root_more (take k classes) roots (slice_index classes k) are (own ∙ sym taken)))
+
+  pub first_same : slice_index classes k ≢ k → AreRoots (take (k + 1) classes) roots
+  first_same other = subst (λ l. AreRoots l roots) (sym split)
+      (root_same (take k classes) roots (slice_index classes k) are (λ e. other (e ∙ taken)))
 
 -- ---- the classes of a line
 abbrev pub Names : List ℕ → ℕ → ℕ → Type 0

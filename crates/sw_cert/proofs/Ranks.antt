@@ -1,6 +1,6 @@
 -- The pairs of a function by rank: those of the elements but `Here`, in rising order, are numbered
 -- from 0 on.
-use Rattle.std.proofs.Common.{◌≡◌, ℕ, zero, suc, ◌+◌, ◌-◌, ◌*◌, ◌/◌, ◌%◌, ◌<◌, ◌≤◌, inl, inr}
+use Rattle.std.proofs.Common.{◌≡◌, ◌≢◌, ℕ, zero, suc, ◌+◌, ◌-◌, ◌*◌, ◌/◌, ◌%◌, ◌<◌, ◌≤◌, inl, inr}
 use Rattle.std.proofs.Common.{List, [], ◌∷◌, ◌++◌, length, slice_index, Contains, refl, sym, subst}
 use Rattle.std.proofs.Common.{ap}
 use Rattle.std.proofs.Common.{◌∙◌, arith}
@@ -54,6 +54,16 @@ rank_at extent pair column fits within at rank is = record {
   is_site = at;
   rank_is = is;
 }
+
+pub ranked : (extent : Extent) (pair : Pair) (column : ℕ) → pair.element ≢ 0
+    → pair.element < extent.elements → column < length extent.sites
+    → slice_index extent.sites column ≡ pair.site → (rank : ℕ)
+    → rank ≡ (pair.element - 1) * length extent.sites + column → HasRank extent pair rank
+ranked extent pair column some few within at = rank_at extent pair column (record {
+  not_here = some;
+  element = few;
+  site = subst (Contains extent.sites) at (Contains-get_or extent.sites column 0 within);
+}) within at
 
 pub some_rank : (extent : Extent) (pair : Pair) → IsPairOf extent pair
     → (rank : ℕ) × HasRank extent pair rank

@@ -1,12 +1,13 @@
 -- Parts of lists, and what stands at a byte of a text.
 use Rattle.std.proofs.Common.{◌≡◌, ℕ, ◌+◌, ◌-◌, ◌<◌, ◌≤◌, ◌↔◌, inl, inr, List, [], ◌∷◌, ◌++◌, length}
-use Rattle.std.proofs.Common.{take, drop, slice_index, get_or, Contains, sym, ap, ◌∙◌, arith, length-append}
+use Rattle.std.proofs.Common.{take, drop, slice_index, get_or, Contains, sym, subst, ap, ◌∙◌, arith}
+use Rattle.std.proofs.Common.{length-append}
 use Rattle.std.proofs.Math.Seq.{drop-append-add, drop-append_seam}
 use Rattle.std.proofs.lemmas.Bool.{cases_eq, cases_lt}
 use Rattle.std.proofs.lemmas.List.{take-append-drop, length-take-le, length-drop, get_or-take}
 use Rattle.std.proofs.lemmas.List.{take_all, get_or-drop, get_or_default, get_or_push, get_or_append_left}
 use Rattle.sw_dictation.specs.Numbers.{spelled, BeginsWith, IsSaid}
-use Rattle.sw_cert.specs.Begun.{IsScale, IsNext}
+use Rattle.sw_cert.specs.Begun.{IsScale, IsNext, IsJust}
 
 -- what a part of a list has
 module _ (xs : List ℕ) (from to : ℕ) (le : from ≤ to) (within : to ≤ length xs) where
@@ -107,6 +108,17 @@ pub next_said : (Offered : ℕ → ℕ → Type 0) (text : List ℕ) (at n len :
     → IsSaid Offered (drop at text) n len → IsNext Offered text at n (at + len)
 next_said Offered text at n len le said =
     next_begins Offered text at n said.closer len le said.offered said.begins said.len_is
+
+-- one that is just there, where it is offered
+pub next_just : (Offered : ℕ → ℕ → Type 0) (text : List ℕ) (at n closer end : ℕ)
+    → IsNext (IsJust n closer) text at n end → Offered n closer → IsNext Offered text at n end
+next_just Offered text at n closer end next offered = record {
+  closer = next.closer;
+  offered = subst (Offered n) (sym next.offered.1) offered;
+  within = next.within;
+  end_is = next.end_is;
+  splits = next.splits;
+}
 
 -- ---- the numbers in order
 pub no_scale : IsScale []

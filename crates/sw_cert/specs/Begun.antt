@@ -40,6 +40,14 @@ pub record IsNext (Offered : ℕ → ℕ → Type 0) (text : List ℕ) (at n end
   pub end_is : end ≡ at + length (spelled n closer)
   pub splits : drop at text ≡ spelled n closer ++ drop end text
 
+-- this number and this closer
+abbrev pub IsJust : ℕ → ℕ → ℕ → ℕ → Type 0
+IsJust number closer n c = (n ≡ number) × (c ≡ closer)
+
+-- a number from one on and below another, which a blank closes
+abbrev pub IsBetween : ℕ → ℕ → ℕ → ℕ → Type 0
+IsBetween from to n c = (c ≡ 32) × ((from ≤ n) × (n < to))
+
 -- none that is offered stands there, and `place` is how far the text goes with one
 pub record IsStuck (Offered : ℕ → ℕ → Type 0) (text : List ℕ) (at place : ℕ) : Type 0 where
   pub over : ℕ

@@ -1,8 +1,8 @@
 -- The pairs of a line while they are read.
 use Rattle.std.specs.Prelude.{◌≡◌, ℕ, ◌+◌, ◌<◌, ◌≤◌, ◌⊎◌, ◌∷◌, ◌++◌, List, length}
-use Rattle.sw_cert.specs.Begun.{IsBegun, IsRead}
+use Rattle.sw_cert.specs.Begun.{IsBegun, IsNext, IsRead}
 use Rattle.sw_cert.specs.Certificate.{pair_numbers}
-use Rattle.sw_cert.specs.Choices.{HasLine, HasClasses, RiseTo, MayBePair, ClosesPair}
+use Rattle.sw_cert.specs.Choices.{HasLine, HasClasses, HasRank, RiseTo, MayBePair, ClosesPair}
 use Rattle.sw_cert.specs.Form.{pair_count}
 use Rattle.sw_cert.specs.declared.line.Extent.{Extent}
 use Rattle.sw_cert.specs.declared.line.Line.{Line}
@@ -24,6 +24,16 @@ MayBeElement extent to left n c =
 abbrev pub MayBeSite : Extent → ℕ → ℕ → ℕ → ℕ → ℕ → Type 0
 MayBeSite extent to left element n c = ClosesPair left c
     × MayBePair extent to left (record { element = element; site = n })
+
+-- the next pair stands there with its rank, and `end` is the place behind it
+pub record IsNextPair (extent : Extent) (text : List ℕ) (pending : Pending) (pair : Pair)
+    (rank end : ℕ) : Type 0 where
+  pub site_at : ℕ
+  pub element : IsNext (MayBeElement extent pending.to pending.left) text pending.at pair.element
+      site_at
+  pub site : IsNext (MayBeSite extent pending.to pending.left pair.element) text site_at pair.site
+      end
+  pub has_rank : HasRank extent pair rank
 
 -- a line of which the pairs before a rank are read, and `left` are to come
 pub record IsPairing (extents : List Extent) (spot : Spot) (text : List ℕ) (line : Line)

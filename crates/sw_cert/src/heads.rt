@@ -6,7 +6,7 @@ ghost use Rattle.sw_cert.specs.Choices.{RisesTo, HasBlock};
 ghost use Rattle.sw_cert.specs.Form.{certificate_form, AreFit};
 ghost use Rattle.sw_cert.specs.Slips.{IfBad};
 
-use crate::form::{Form, next, range};
+use crate::form::{Form, next_between};
 use crate::line::{Extent, Spot};
 use crate::slip::Slip;
 
@@ -45,8 +45,7 @@ fn read_function(form: &Form, spot: Spot, text: &[u8]) -> Result<(u64, usize), S
 {
     let extents = form.extents.as_slice();
     let from = first_function(extents, spot);
-    let going = range(form.scale.as_slice(), from, extents.len());
-    next(text, 0, &[], going)
+    next_between(form.scale.as_slice(), text, 0, from, extents.len())
 }
 
 /// Reads the block of a line.
@@ -67,8 +66,13 @@ fn read_block(
 {
     let extent = form.extents.at(function as usize);
     let from = first_block(spot, function);
-    let going = range(form.scale.as_slice(), from, extent.blocks as usize);
-    next(text, at, &[], going)
+    next_between(
+        form.scale.as_slice(),
+        text,
+        at,
+        from,
+        extent.blocks as usize,
+    )
 }
 
 /// Reads the number of elements of a line, and gives it with the place behind.
@@ -86,8 +90,7 @@ fn read_elements(
         (IfBad (IsBadPlace (certificate_form form.now.extents) spot text.now)) }
 {
     let elements = form.extents.at(head.function as usize).elements as usize;
-    let going = range(form.scale.as_slice(), elements, elements + 1);
-    next(text, at, &[], going)
+    next_between(form.scale.as_slice(), text, at, elements, elements + 1)
 }
 
 /// Reads the beginning of a line, up to the number of its elements: the function and the block, and

@@ -1,19 +1,21 @@
 //! Reading the pairs of a line.
-ghost use Rattle.std.specs.Prelude.{◌≡◌, ◌+◌, ◌<◌, ◌≤◌, ◌^◌, length, IfOk, IfErr, IsTrue, ◌↔◌};
+ghost use Rattle.std.specs.Prelude.{◌≡◌, ◌+◌, ◌<◌, ◌≤◌, ◌^◌, Some, length, slice_get, IfOk, IfErr};
+ghost use Rattle.std.specs.Prelude.{slice_index, IfSome, IsTrue, ◌↔◌};
 ghost use Rattle.sw_dictation.specs.Lines.{IsBadPlace};
 ghost use Rattle.sw_cert.specs.Begun.{IsForm, IsScale, IsNext, IsStuck, IsRead};
-ghost use Rattle.sw_cert.specs.Choices.{MayBePair, HasRank};
+ghost use Rattle.sw_cert.specs.Choices.{MayBePair, ClosesPair, HasRank};
 ghost use Rattle.sw_cert.specs.Certificate.{IsPairOf};
 ghost use Rattle.sw_cert.specs.Form.{certificate_form, pair_count, IsFit};
+ghost use Rattle.sw_cert.specs.declared.line.Extent.{Extent};
 ghost use Rattle.sw_cert.specs.declared.line.Pair.{Pair};
-ghost use Rattle.sw_cert.specs.Pending.{MayBeCount, MayBeElement, MayBeSite, ArePairsRead};
+ghost use Rattle.sw_cert.specs.Pending.{MayBeCount, MayBeElement, MayBeSite, IsNextPair};
+ghost use Rattle.sw_cert.specs.Pending.{ArePairsRead};
 ghost use Rattle.sw_cert.specs.Slips.{IfBad};
 
-use crate::form::{Form, next, range, scale};
+use crate::form::{Form, next, next_between, number_at, range, scale};
 use crate::line::{Extent, Line, Pair, Spot};
 use crate::slip::Slip;
 use std::alloc::Global;
-use sw_dictation::spoken;
 
 /// How far the pairs of a line are read.
 #[derive(Clone, Copy, Debug, PartialEq, Eq)]
@@ -57,14 +59,14 @@ pub(crate) fn read_count(
     ensures count { IfOk result (λ read. IsNext (MayBeCount most) text.now at read.0 read.1) }
     ensures bad { IfErr result (IfBad (IsStuck (MayBeCount most) text.now at)) }
 {
-    if let Some((count, closer, len)) = spoken(&text[at..]) {
+    if let Some((count, closer, end)) = number_at(text, at) {
         if is_count(count, closer, most) {
-            return Ok((count, at + len));
+            return Ok((count, end));
         }
     }
-    let end = most as usize + 1;
-    let numbers = scale(alloc, end)?;
-    next(text, at, &[0], range(numbers.as_slice(), 1, end))
+    let past = most as usize + 1;
+    let numbers = scale(alloc, past)?;
+    next(text, at, &[0], range(numbers.as_slice(), 1, past))
 }
 
 /// Reads the element of the next pair.
@@ -89,12 +91,7 @@ fn read_element(
     let last = pair_count(extent) - pending.left;
     let from = pending.to / width + 1;
     let end = last / width + 2;
-    next(
-        text,
-        pending.at,
-        &[],
-        range(scale, from as usize, end as usize),
-    )
+    next_between(scale, text, pending.at, from as usize, end as usize)
 }
 
 /// Reads the site of the next pair, whose element is read.
@@ -138,6 +135,97 @@ fn rank(extent: &Extent, pair: Pair) -> u64
     (pair.element - 1) * extent.sites.len() as u64 + column as u64
 }
 
+/// Whether a byte may close the site of a pair, where this number of pairs is to come.
+fn is_closer(left: u64, closer: u8) -> bool
+    requires { 0 < left }
+    ensures { IsTrue result ↔ ClosesPair left closer }
+{
+    if left == 1 {
+        closer == b'\n'
+    } else {
+        closer == b' '
+    }
+}
+
+/// The column of a site, if the function has it.
+fn column_of(extent: &Extent, site: u64) -> Option<usize>
+    requires { IsFit extent.now }
+    ensures within { IfSome result (λ column. column < length extent.now.sites) }
+    ensures site { IfSome result (λ column. slice_index extent.now.sites column ≡ site) }
+{
+    match extent.sites.as_slice().binary_search(&site) {
+        Ok(column) => Some(column),
+        Err(_) => None,
+    }
+}
+
+/// The rank of a pair, if it may be the next one.
+fn next_rank(extent: &Extent, pending: Pending, pair: Pair) -> Option<u64>
+    requires { IsFit extent.now }
+    ensures rank { IfSome result (HasRank extent.now pair) }
+    ensures may { IfSome result (λ _. MayBePair extent.now pending.to pending.left pair) }
+{
+    if pair.element == 0 {
+        return None;
+    }
+    if pair.element >= extent.elements {
+        return None;
+    }
+    let column = column_of(extent, pair.site)?;
+    let rank = (pair.element - 1) * extent.sites.len() as u64 + column as u64;
+    if rank < pending.to {
+        return None;
+    }
+    if pair_count(extent) - rank < pending.left {
+        return None;
+    }
+    Some(rank)
+}
+
+/// The next pair, its rank and the place behind it. It is quick, but it may overlook one.
+fn quick_pair(extent: &Extent, text: &[u8], pending: Pending) -> Option<(Pair, u64, usize)>
+    requires extent { IsFit extent.now }
+    requires at { pending.at ≤ length text.now }
+    requires some { 0 < pending.left }
+    ensures { IfSome result (λ read. IsNextPair extent.now text.now pending read.0 read.1 read.2) }
+{
+    let (element, blank, site_at) = number_at(text, pending.at)?;
+    let (site, closer, end) = number_at(text, site_at)?;
+    let pair = Pair { element, site };
+    let rank = next_rank(extent, pending, pair)?;
+    if blank == b' ' && is_closer(pending.left, closer) {
+        return Some((pair, rank, end));
+    }
+    None
+}
+
+/// The next pair of a line, its rank and the place behind it.
+fn next_pair(
+    form: &Form,
+    spot: Spot,
+    text: &[u8],
+    line: &Line,
+    pending: Pending,
+) -> Result<(Pair, u64, usize), Slip>
+    requires form { IsForm form.now }
+    requires some { 0 < pending.left }
+    requires read { ArePairsRead form.now.extents spot text.now line.now pending }
+    ensures read { IfOk result (λ read. (extent : Extent)
+        → slice_get form.now.extents line.now.function ≡ Some extent
+        → IsNextPair extent text.now pending read.0 read.1 read.2) }
+    ensures bad { IfErr result
+        (IfBad (IsBadPlace (certificate_form form.now.extents) spot text.now)) }
+{
+    let extent = form.extents.at(line.function as usize);
+    if let Some(read) = quick_pair(extent, text, pending) {
+        return Ok(read);
+    }
+    let (element, site_at) = read_element(form.scale.as_slice(), extent, text, pending)?;
+    let (site, end) = read_site(extent, text, pending, element, site_at)?;
+    let pair = Pair { element, site };
+    Ok((pair, rank(extent, pair), end))
+}
+
 /// Reads the next pair of a line, and gives how far its pairs are read then.
 fn read_pair(
     form: &Form,
@@ -154,15 +242,11 @@ fn read_pair(
     ensures bad { IfErr result
         (IfBad (IsBadPlace (certificate_form form.now.extents) spot text.now)) }
 {
-    let extent = form.extents.at(line.function as usize);
-    let (element, site_at) = read_element(form.scale.as_slice(), extent, text, pending)?;
-    let (site, at) = read_site(extent, text, pending, element, site_at)?;
-    let pair = Pair { element, site };
-    let to = rank(extent, pair) + 1;
+    let (pair, rank, at) = next_pair(form, spot, text, line, pending)?;
     line.pairs.push(pair)?;
     Ok(Pending {
         at,
-        to,
+        to: rank + 1,
         left: pending.left - 1,
     })
 }

@@ -9,19 +9,18 @@ overflow_add-elements c =
     let h = c.requires.form.each c.args.head.function c.at.result.now c.at.ensures in
     omega (arith, h.1, c.requires.form.few)
 
-pub range-going-requires-clause-within : goal.range-going-requires-clause-within
-range-going-requires-clause-within c =
+pub next_between-requires-clause-within : goal.next_between-requires-clause-within
+next_between-requires-clause-within c =
     let h = c.requires.form.each c.args.head.function c.at.result.now c.at.ensures in
     omega (arith, h.1, ap length c.as_slice.ensures)
 
 pub returns-clause-head : goal.returns-clause-head
-returns-clause-head c = IfOk-weaker c.next.result _ _
+returns-clause-head c = IfOk-weaker c.next_between.result _ _
     (λ said. elements_said c.args.form.now c.requires.form c.args.spot c.args.text.now c.args.head
-    c.args.at c.requires.line c.at.result.now c.at.ensures c.range-going.result.now
-    c.range-going.ensures said.0 said.1) c.next.ensures.said
+    c.args.at c.requires.line c.at.result.now c.at.ensures said.0 said.1) c.next_between.ensures.said
 
 pub returns-clause-bad : goal.returns-clause-bad
-returns-clause-bad c = IfErr-weaker c.next.result _ _
+returns-clause-bad c = IfErr-weaker c.next_between.result _ _
     (λ slip. bad_weaker _ _ slip (elements_not_said c.args.form.now c.requires.form c.args.spot
-    c.args.text.now c.args.head c.args.at c.requires.line c.at.result.now c.at.ensures
-    c.range-going.result.now c.range-going.ensures)) c.next.ensures.bad
+    c.args.text.now c.args.head c.args.at c.requires.line c.at.result.now c.at.ensures))
+    c.next_between.ensures.bad

@@ -1,18 +1,16 @@
-use Rattle.std.proofs.Common.{◌+◌, [], ◌∷◌, refl, subst}
+use Rattle.std.proofs.Common.{◌+◌, [], ◌∷◌, refl}
 use Rattle.std.proofs.lemmas.Result.{IfOk-weaker, IfErr-weaker}
-use Rattle.sw_dictation.specs.Numbers.{IsOffered, BeginsWith}
+use Rattle.sw_dictation.specs.Numbers.{IsOffered}
 use Rattle.sw_cert.proofs.Beginning.{bad_weaker, next_same, stuck_same}
 use Rattle.sw_cert.proofs.Pairing.{counts_offered}
-use Rattle.sw_cert.proofs.Slices.{rest_is, next_begins}
+use Rattle.sw_cert.proofs.Slices.{next_just}
 use Rattle.sw_cert.specs.Pending.{MayBeCount}
 use Rattle.sw_cert.proofs.pairs.read_count.Goals as goal
 
 pub returns-then-is_count-clause-count : goal.returns-then-is_count-clause-count
 returns-then-is_count-clause-count c =
-    next_begins (MayBeCount c.args.most) c.args.text.now c.args.at c.in-Some.count
-    c.in-Some.closer c.in-Some.len c.requires.at (c.is_count.ensures.0 c.if-is_count.true)
-    (subst (BeginsWith c.in-Some.count c.in-Some.closer) (rest_is c.args.text.now c.args.at)
-    c.in-Some.ensures.0) c.in-Some.ensures.1
+    next_just (MayBeCount c.args.most) c.args.text.now c.args.at c.in-Some.count c.in-Some.closer
+    c.in-Some.end c.in-Some.ensures (c.is_count.ensures.0 c.if-is_count.true)
 
 pub returns-clause-count : goal.returns-clause-count
 returns-clause-count c = IfOk-weaker c.next.result _ _
