@@ -1,9 +1,9 @@
 -- The lines of a graph's certificate, block by block and function by function.
-use Rattle.std.proofs.Common.{◌≡◌, ℕ, zero, suc, ◌+◌, ◌<◌, ◌≤◌, ◌⊎◌, inl, inr, ◌↔◌, Option, Some}
+use Rattle.std.proofs.Common.{◌≡◌, ℕ, zero, suc, ◌+◌, ◌<◌, ◌≤◌, inl, inr, Option, Some}
 use Rattle.std.proofs.Common.{None, IsSome, List, [], ◌∷◌, ◌++◌, length, Contains, get_or, refl, sym}
 use Rattle.std.proofs.Common.{subst, ap, ◌∙◌, arith}
-use Rattle.std.proofs.lemmas.Bool.{cases_eq, cases_lt}
-use Rattle.std.proofs.lemmas.List.{append_assoc, append-nil, get_or_past}
+use Rattle.std.proofs.lemmas.Bool.{cases_eq}
+use Rattle.std.proofs.lemmas.List.{append_assoc, append-nil}
 use Rattle.std.proofs.lemmas.List.Concat.{flat_map-append}
 use Rattle.std.proofs.lemmas.List.Elements.{Contains-append_cases, Contains-append_left}
 use Rattle.std.proofs.lemmas.List.Elements.{Contains-append_right, Contains-get_or, Contains-push}
@@ -16,20 +16,18 @@ use Rattle.sw_dictation.specs.Lines.{line_text}
 use Rattle.sw_graph.specs.declared.function.Function.{Function}
 use Rattle.sw_graph.specs.declared.graph.Graph.{Graph}
 use Rattle.sw_partition.specs.Regions.{Regions}
-use Rattle.sw_region_flow.proofs.Places.{element_at}
-use Rattle.sw_region_flow.specs.Analysis.{Analysis, IsAnalysis, IsLeastOfFunction, layout, targets_at}
-use Rattle.sw_region_ops.specs.Setting.{FunctionSetting, setting_of}
+use Rattle.sw_region_flow.specs.Analysis.{targets_at}
+use Rattle.sw_region_ops.specs.Setting.{setting_of}
 use Rattle.sw_solve.specs.Annotation.{value_at}
-use Rattle.sw_solve.specs.Layout.{IsLeastOfBlocks}
 use Rattle.sw_solve.specs.Ways.{HasWay}
 use Rattle.sw_cert_making.proofs.LeastBlocks.{stands_on_way}
 use Rattle.sw_cert.proofs.Lining.{text_push}
 use Rattle.sw_cert.specs.Certificate.{numbers_of}
 use Rattle.sw_cert_making.specs.Made.{IsLineAdded, IsBlockLine, AreLinesAdded, IsFunctionAdded}
 use Rattle.sw_cert_making.specs.Made.{IsMadeBelow}
-use Rattle.sw_cert_making.specs.Printed.{IsLineBefore, IsLeastLine, HasLineOf, IsLeastCertificate}
+use Rattle.sw_cert_making.specs.Printed.{IsLineBefore, HasLineOf, IsLeastCertificate}
 use Rattle.sw_cert.specs.ReadLines.{text_of}
-use Rattle.sw_cert.specs.Shown.{Shows, IsLineFor}
+use Rattle.sw_cert.specs.Shown.{IsLineFor}
 use Rattle.sw_cert.specs.declared.line.Line.{Line}
 
 nothing : {X : Type 0} (o : Option X) → o ≡ None → IsSome o → ⊥

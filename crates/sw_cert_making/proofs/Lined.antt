@@ -1,10 +1,10 @@
 -- Each state has a line.
 use Rattle.std.proofs.Common.{◌≡◌, ℕ, zero, suc, ◌+◌, ◌<◌, ◌≤◌, inl, inr, List, [], ◌∷◌, ◌++◌, length}
-use Rattle.std.proofs.Common.{slice_index, Contains, refl, sym, subst, ap, arith}
+use Rattle.std.proofs.Common.{slice_index, refl, subst, arith}
 use Rattle.std.proofs.lemmas.Bool.{cases_lt}
 use Rattle.std.specs.List.Sorted.{IsStrictlyIncreasing}
 use Rattle.sw_dictation.specs.Lines.{line_text}
-use Rattle.sw_partition.specs.Regions.{Regions, Together, HasPair}
+use Rattle.sw_partition.specs.Regions.{Regions, Together}
 use Rattle.sw_region_flow.proofs.Deciding.{first_below}
 use Rattle.sw_region_flow.proofs.Doing.{itself, tell_pair, tell_together}
 use Rattle.sw_cert.proofs.Gathered.{AreFirstClasses, classes_start, classes_more, classes_end}

@@ -1,5 +1,5 @@
 -- For each graph one text is printed, or none.
-use Rattle.std.proofs.Common.{◌≡◌, ℕ, ◌<◌, inl, inr, Option, Some, None, List, length, refl, ap, arith}
+use Rattle.std.proofs.Common.{◌≡◌, ℕ, inl, inr, Option, Some, None, List, length, refl, ap, arith}
 use Rattle.std.proofs.lemmas.Bool.{cases_lt}
 use Rattle.sw_graph.specs.declared.graph.Graph.{Graph}
 use Rattle.sw_cert_making.proofs.OneCertificate.{one_certificate}

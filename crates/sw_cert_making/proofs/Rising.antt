@@ -1,5 +1,5 @@
 -- Two rising lists of the same members are one.
-use Rattle.std.proofs.Common.{◌≡◌, ℕ, suc, ◌<◌, inl, inr, List, [], ◌∷◌, Contains, refl, sym, subst}
+use Rattle.std.proofs.Common.{◌≡◌, suc, inl, inr, List, [], ◌∷◌, Contains, refl, sym, subst}
 use Rattle.std.proofs.Common.{ap, ◌∙◌, arith}
 use Rattle.std.specs.List.{AllPairs}
 use Rattle.sw_region_flow.proofs.OneSites.{member_cases, member_first, member_later, no_member}

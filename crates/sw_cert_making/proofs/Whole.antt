@@ -1,7 +1,8 @@
 -- A graph has a certificate, whatever its length: the lines so far go on to one.
 use Rattle.std.proofs.Common.{◌≡◌, ℕ, zero, suc, ◌+◌, ◌-◌, ◌<◌, ◌≤◌, inl, inr, Option, Some, None, List, [], ◌∷◌}
 use Rattle.std.proofs.Common.{◌++◌, length, get_or, Contains, refl, sym, subst, ap, ◌∙◌, arith, length-append}
-use Rattle.std.proofs.lemmas.Bool.{cases_eq, cases_lt}
+use Rattle.std.proofs.Common.{Bool, true, false}
+use Rattle.std.proofs.lemmas.Bool.{cases_lt}
 use Rattle.std.proofs.lemmas.Option.{get_or_from_slice_get}
 use Rattle.std.specs.List.{slice_get}
 use Rattle.std.specs.List.Sorted.{IsStrictlyIncreasing}
@@ -23,10 +24,12 @@ use Rattle.sw_cert_making.proofs.LeastLines.{state_sites}
 use Rattle.sw_cert_making.proofs.Lined.{some_line}
 use Rattle.sw_region_flow.proofs.Leasts.{some_sites}
 use Rattle.sw_cert.specs.Certificate.{numbers_of, pair_numbers}
-use Rattle.sw_cert_making.specs.Made.{AreLinesAdded, IsFunctionAdded, IsMadeBelow}
+use Rattle.sw_cert_making.specs.Made.{AreLinesAdded, AreLinesWithin, IsFunctionAdded}
+use Rattle.sw_cert_making.specs.Made.{IsFunctionBegun, IsFunctionWithin, IsMadeBelow}
 use Rattle.sw_cert_making.specs.Printed.{IsLeastCertificate}
 use Rattle.sw_cert.specs.ReadLines.{text_of}
 use Rattle.sw_cert.specs.declared.line.Line.{Line}
+use Rattle.sw_cert.specs.declared.verdict.TheConstants.{CERTIFICATE_LIMIT}
 
 -- ---- the text of lines grows
 lines_longer : (line : Line) (lines : List Line) → 0 < length (text_of (line ∷ lines))
@@ -66,41 +69,64 @@ function_longer graph function body old new is more =
 module _ (graph : Graph) (number : ℕ) (body : Function)
     (is : slice_get graph.functions number ≡ Some body) (states : List (Option Regions))
     (least : IsLeastOfFunction (setting_of graph body) states) (old : List ℕ) where
-  some_lines : (count : ℕ) → (new : List ℕ) × AreLinesAdded number states count old new
-  some_lines zero = (old, lines_start number states old)
-  some_lines (suc count) = by (some_lines count) (value_at states count) refl
+  one_block : (count : ℕ) (was : List ℕ) → AreLinesAdded number states count old was
+      → (new : List ℕ) × AreLinesAdded number states (count + 1) old new × (length was ≤ length new)
+  one_block count was so_far = by (value_at states count) refl
     where
-      next : count + 1 ≡ suc count
-      next = omega arith
-
-      by : (new : List ℕ) × AreLinesAdded number states count old new → (o : Option Regions)
-          → value_at states count ≡ o
-          → (new : List ℕ) × AreLinesAdded number states (suc count) old new
-      by before None e = (
-        before.0,
-        subst (λ n. AreLinesAdded number states n old before.0) next
-            (lines_more number states count None old before.0 before.0 e before.1 refl),
-      )
-      by before (Some state) e =
+      by : (o : Option Regions) → value_at states count ≡ o
+          → (new : List ℕ) × AreLinesAdded number states (count + 1) old new
+          × (length was ≤ length new)
+      by None e = (was, lines_more number states count None old was was e so_far refl, omega arith)
+      by (Some state) e =
           let rising = subst IsStrictlyIncreasing
           (sym (state_sites (setting_of graph body) states least count state e))
           (some_sites (setting_of graph body)).1.rising in
           let line = some_line state rising number count in (
-            before.0 ++ line.0,
-            subst (λ n. AreLinesAdded number states n old (before.0 ++ line.0)) next
-                (lines_more number states count (Some state) old before.0 (before.0 ++ line.0) e
-                before.1 (line.0, line.1, refl)),
+            was ++ line.0,
+            lines_more number states count (Some state) old was (was ++ line.0) e so_far
+                (line.0, line.1, refl),
+            omega (arith, length-append was line.0),
           )
+
+  -- the lines of the first blocks go on to those of more
+  more_blocks : (left count : ℕ) (was : List ℕ) → AreLinesAdded number states count old was
+      → (new : List ℕ) × AreLinesAdded number states (count + left) old new
+      × (length was ≤ length new)
+  more_blocks zero count was so_far =
+      let same : count ≡ count + 0 = omega arith in
+      (was, subst (λ n. AreLinesAdded number states n old was) same so_far, omega arith)
+  more_blocks (suc left) count was so_far =
+      let next = one_block count was so_far in
+      let rest = more_blocks left (count + 1) next.0 next.1 in
+      let same : count + 1 + left ≡ count + suc left = omega arith in (
+        rest.0,
+        subst (λ n. AreLinesAdded number states n old rest.0) same rest.1,
+        omega (arith, next.2, rest.2),
+      )
+
+  all_blocks : (count : ℕ) (was : List ℕ) → count ≤ length body.blocks
+      → AreLinesAdded number states count old was
+      → (new : List ℕ) × IsFunctionAdded graph number body old new × (length was ≤ length new)
+  all_blocks count was few so_far =
+      let rest = more_blocks (length body.blocks - count) count was so_far in
+      let same : count + (length body.blocks - count) ≡ length body.blocks = omega (arith, few) in (
+        rest.0,
+        record {
+          states = states;
+          least = least;
+          added = subst (λ n. AreLinesAdded number states n old rest.0) same rest.1;
+        },
+        rest.2,
+      )
 
 some_added : (graph : Graph) (number : ℕ) (body : Function)
     → slice_get graph.functions number ≡ Some body → (old : List ℕ)
     → (new : List ℕ) × IsFunctionAdded graph number body old new
 some_added graph number body is old =
     let found = some_of_function graph number body is in
-    let lines = some_lines graph number body is found.0 found.1 old (length body.blocks) in (
-      lines.0,
-      record { states = found.0; least = found.1; added = lines.1 },
-    )
+    let all = all_blocks graph number body is found.0 found.1 old 0 old (omega arith)
+    (lines_start number found.0 old) in
+    (all.0, all.1)
 
 -- the lines of the first functions begin a certificate
 whole_from : (graph : Graph) (left count : ℕ) (text : List ℕ)
@@ -151,25 +177,69 @@ few_blocks graph number functions other count states within same is least =
       (least body.0 body.1).fits.few,
     )
 
-pub made_next : (graph : Graph) (count : ℕ) (was new : List ℕ) → count < length graph.functions
-    → IsMadeBelow graph count was → count ≤ length was
-    → ((body : Function) → slice_get graph.functions count ≡ Some body
-    → IsFunctionAdded graph count body was new)
-    → IsMadeBelow graph (count + 1) new × (count + 1 ≤ length new)
-made_next graph count was new within made grown more =
-    let body = element_at graph.functions count within in
-    let added = more body.0 body.1 in (
-      made_more graph count body.0 was new body.1 made added,
-      (let longer = function_longer graph count body.0 was new body.1 added in
-          omega (arith, longer, grown)),
+-- its lines are added within the limit, or pass it
+pub function_within : (graph : Graph) (number : ℕ) (body : Function)
+    (states : List (Option Regions)) (blocks : ℕ) (old new : List ℕ)
+    → IsLeastOfFunction (setting_of graph body) states → blocks ≡ length body.blocks
+    → (within : Bool) → AreLinesWithin number states blocks old new within
+    → IsFunctionWithin graph number body old new within
+function_within graph number body states blocks old new least is true (added, few) = (
+  record {
+    states = states;
+    least = least;
+    added = subst (λ n. AreLinesAdded number states n old new) is added;
+  },
+  few,
+)
+function_within graph number body states blocks old new least is false
+    (count, first, added, over) = (
+      record {
+        states = states;
+        least = least;
+        count = count;
+        few = omega (arith, first, is);
+        added = added;
+      },
+      over,
     )
 
-pub too_long : (graph : Graph) (count most : ℕ) (text : List ℕ) → IsMadeBelow graph count text
-    → most < length text
-    → (whole : List ℕ) × IsLeastCertificate graph whole × (most < length whole)
-too_long graph count most text made over =
-    let whole = some_whole graph count text made in
-    (whole.0, whole.1, omega (arith, over, whole.2))
+goes_on : (graph : Graph) (number : ℕ) (body : Function) (old new : List ℕ) (within : Bool)
+    → within ≡ true → IsFunctionWithin graph number body old new within
+    → IsFunctionAdded graph number body old new × (length new ≤ CERTIFICATE_LIMIT)
+goes_on graph number body old new true e told = told
+goes_on graph number body old new false e told = absurd cc
+
+stops : (graph : Graph) (number : ℕ) (body : Function) (old new : List ℕ) (within : Bool)
+    → within ≡ false → IsFunctionWithin graph number body old new within
+    → IsFunctionBegun graph number body old new × (CERTIFICATE_LIMIT < length new)
+stops graph number body old new true e told = absurd cc
+stops graph number body old new false e told = told
+
+module _ (graph : Graph) (count : ℕ) (was new : List ℕ) (within : Bool)
+    (next : count < length graph.functions) (made : IsMadeBelow graph count was)
+    (told : (body : Function) → slice_get graph.functions count ≡ Some body
+    → IsFunctionWithin graph count body was new within) where
+  pub made_next : within ≡ true → count ≤ length was → IsMadeBelow graph (count + 1) new
+      × (count + 1 ≤ length new) × (length new ≤ CERTIFICATE_LIMIT)
+  made_next goes grown =
+      let body = element_at graph.functions count next in
+      let added = goes_on graph count body.0 was new within goes (told body.0 body.1) in (
+        made_more graph count body.0 was new body.1 made added.0,
+        (let longer = function_longer graph count body.0 was new body.1 added.0 in
+            omega (arith, longer, grown)),
+        added.1,
+      )
+
+  pub too_long : within ≡ false
+      → (whole : List ℕ) × IsLeastCertificate graph whole × (CERTIFICATE_LIMIT < length whole)
+  too_long ends =
+      let body = element_at graph.functions count next in
+      let first = stops graph count body.0 was new within ends (told body.0 body.1) in
+      let all = all_blocks graph count body.0 body.1 first.0.states first.0.least was first.0.count
+      new first.0.few first.0.added in
+      let whole = some_whole graph (count + 1) all.0
+      (made_more graph count body.0 was all.0 body.1 made all.1) in
+      (whole.0, whole.1, omega (arith, first.1, all.2, whole.2))
 
 pub some_certificate : (graph : Graph) → (text : List ℕ) × IsLeastCertificate graph text
 some_certificate graph = let whole = some_whole graph 0 [] (made_start graph [] refl) in

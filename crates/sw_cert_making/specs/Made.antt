@@ -1,6 +1,6 @@
 -- The certificate of a graph while it is made.
-use Rattle.std.specs.Prelude.{◌≡◌, ℕ, ◌<◌, ◌++◌, Option, Some, None, List, length}
-use Rattle.std.specs.Prelude.{slice_get, Contains, IsSome}
+use Rattle.std.specs.Prelude.{◌≡◌, ℕ, ◌<◌, ◌≤◌, ◌++◌, Bool, true, false, Option, Some, None, List}
+use Rattle.std.specs.Prelude.{length, slice_get, Contains, IsSome}
 use Rattle.std.specs.List.{AllPairs}
 use Rattle.sw_graph.specs.declared.function.Function.{Function}
 use Rattle.sw_graph.specs.declared.graph.Graph.{Graph}
@@ -13,6 +13,7 @@ use Rattle.sw_cert_making.specs.Printed.{IsLineBefore, IsLeastLine, HasLineOf}
 use Rattle.sw_cert.specs.ReadLines.{text_of}
 use Rattle.sw_cert.specs.Shown.{Shows, IsLineFor}
 use Rattle.sw_cert.specs.declared.line.Line.{Line}
+use Rattle.sw_cert.specs.declared.verdict.TheConstants.{CERTIFICATE_LIMIT}
 
 -- the text gets the line of a block, if a state stands there
 abbrev pub IsLineAdded : ℕ → ℕ → Option Regions → List ℕ → List ℕ → Type 0
@@ -38,12 +39,35 @@ pub record AreLinesAdded (function : ℕ) (states : List (Option Regions)) (coun
   pub rising : AllPairs IsLineBefore lines
   pub added : new ≡ old ++ text_of lines
 
+-- so it is within the limit, or the lines of fewer blocks pass the limit
+abbrev pub AreLinesWithin : ℕ → List (Option Regions) → ℕ → List ℕ → List ℕ → Bool → Type 0
+AreLinesWithin function states blocks old new true =
+    AreLinesAdded function states blocks old new × (length new ≤ CERTIFICATE_LIMIT)
+AreLinesWithin function states blocks old new false = (count : ℕ) × (count ≤ blocks)
+    × AreLinesAdded function states count old new × (CERTIFICATE_LIMIT < length new)
+
 -- the text gets the lines of a function
 pub record IsFunctionAdded (graph : Graph) (function : ℕ) (body : Function)
     (old new : List ℕ) : Type 0 where
   pub states : List (Option Regions)
   pub least : IsLeastOfFunction (setting_of graph body) states
   pub added : AreLinesAdded function states (length body.blocks) old new
+
+-- it gets those of its first blocks
+pub record IsFunctionBegun (graph : Graph) (function : ℕ) (body : Function)
+    (old new : List ℕ) : Type 0 where
+  pub states : List (Option Regions)
+  pub least : IsLeastOfFunction (setting_of graph body) states
+  pub count : ℕ
+  pub few : count ≤ length body.blocks
+  pub added : AreLinesAdded function states count old new
+
+-- the lines of a function are added within the limit, or those of its first blocks pass the limit
+abbrev pub IsFunctionWithin : Graph → ℕ → Function → List ℕ → List ℕ → Bool → Type 0
+IsFunctionWithin graph function body old new true =
+    IsFunctionAdded graph function body old new × (length new ≤ CERTIFICATE_LIMIT)
+IsFunctionWithin graph function body old new false =
+    IsFunctionBegun graph function body old new × (CERTIFICATE_LIMIT < length new)
 
 -- the text has the lines of the functions below a number
 pub record IsMadeBelow (graph : Graph) (count : ℕ) (text : List ℕ) : Type 0 where

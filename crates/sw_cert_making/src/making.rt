@@ -1,8 +1,9 @@
 //! The certificate of a graph.
-ghost use Rattle.std.specs.Prelude.{◌≡◌, ◌<◌, Some, length, slice_get, option_map, IfOk, OnOk};
+ghost use Rattle.std.specs.Prelude.{◌≡◌, ◌<◌, ◌≤◌, Some, length, slice_get, option_map, IfOk, OnOk};
+ghost use Rattle.sw_cert.specs.declared.verdict.TheConstants.{CERTIFICATE_LIMIT};
 ghost use Rattle.sw_graph.specs.declared.function.Function.{Function};
 ghost use Rattle.sw_solve.specs.Annotation.{value_at};
-ghost use Rattle.sw_cert_making.specs.Made.{IsLineAdded, AreLinesAdded, IsFunctionAdded};
+ghost use Rattle.sw_cert_making.specs.Made.{IsLineAdded, AreLinesWithin, IsFunctionWithin};
 ghost use Rattle.sw_cert_making.specs.Printed.{IsPrinted};
 
 use std::alloc::{AllocError, Global};
@@ -33,34 +34,41 @@ fn add_line(
     Ok(())
 }
 
-/// Adds the lines of the first blocks of a function.
+/// Adds the lines of the first blocks of a function, and answers whether the text is within the
+/// limit with them. It stops behind the first line that passes the limit.
 fn add_lines(
     alloc: Global,
     text: &mut Vec<u8>,
     function: u32,
     blocks: u32,
     states: &Solution<Partition>,
-) -> Result<(), AllocError>
-    ensures { OnOk result (AreLinesAdded function states.now blocks
+) -> Result<bool, AllocError>
+    requires { length text.old.items ≤ CERTIFICATE_LIMIT }
+    ensures { IfOk result (AreLinesWithin function states.now blocks
         text.old.items text.new.items) }
 {
     for block in 0..blocks {
         add_line(alloc, text, function, block, states)?;
+        if text.len() > CERTIFICATE_LIMIT {
+            return Ok(false);
+        }
     }
-    Ok(())
+    Ok(true)
 }
 
-/// Adds the lines of a function.
+/// Adds the lines of a function, and answers whether the text is within the limit with them.
 fn add_function<L: Ledger>(
     alloc: Global,
     text: &mut Vec<u8>,
     graph: &Graph,
     function: u32,
     steps: &mut Steps<L>,
-) -> Result<(), AllocError>
-    requires { function < length graph.now.functions }
-    ensures { OnOk result ((body : Function) → slice_get graph.now.functions function ≡ Some body
-        → IsFunctionAdded graph.now function body text.old.items text.new.items) }
+) -> Result<bool, AllocError>
+    requires function { function < length graph.now.functions }
+    requires within { length text.old.items ≤ CERTIFICATE_LIMIT }
+    ensures { IfOk result (λ within. (body : Function)
+        → slice_get graph.now.functions function ≡ Some body
+        → IsFunctionWithin graph.now function body text.old.items text.new.items within) }
 {
     let states = states(alloc, graph, function, steps)?;
     let blocks = graph.functions.as_slice()[function as usize].blocks.len();
@@ -82,8 +90,8 @@ fn lines_of<L: Ledger>(
     let mut steps = Steps::<L>::new(blank);
     let mut text = Vec::new(alloc);
     for function in 0..graph.functions.len() {
-        add_function(alloc, &mut text, graph, function as u32, &mut steps)?;
-        if text.len() > CERTIFICATE_LIMIT {
+        let within = add_function(alloc, &mut text, graph, function as u32, &mut steps)?;
+        if !within {
             return Ok(None);
         }
     }
