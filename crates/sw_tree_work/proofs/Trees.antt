@@ -1,23 +1,23 @@
 -- The work of some forms, by that of their parts.
 use Rattle.std.proofs.Common.{◌≡◌, ◌∙◌, ap, ℕ, List, [], ◌∷◌, Option, Some, None, option_map, map}
 use Rattle.sw_tree.proofs.FoldEquations as eq
-use Rattle.sw_tree.specs.Folds.{fold_block, fold_case_arm}
+use Rattle.sw_tree.specs.Folds.{fold_case_arm}
 use Rattle.sw_tree.specs.declared.expr.Expr.{Expr}
 use Rattle.sw_tree.specs.declared.expr.Expr.TheVariants as exprs
-use Rattle.sw_tree.specs.declared.expr.Link.{Link, roll-Link}
+use Rattle.sw_tree.specs.declared.expr.Link.{roll-Link}
 use Rattle.sw_tree.specs.declared.operator.AssignOp.{AssignOp}
 use Rattle.sw_tree.specs.declared.operator.InfixOp.{InfixOp}
 use Rattle.sw_tree.specs.declared.stmt.Block.{Block, roll-Block}
 use Rattle.sw_tree.specs.declared.stmt.CaseArm.{CaseArm}
-use Rattle.sw_tree.specs.declared.stmt.IfArm.{IfArm, roll-IfArm}
+use Rattle.sw_tree.specs.declared.stmt.IfArm.{roll-IfArm}
 use Rattle.sw_tree.specs.declared.stmt.Stmt.{Stmt}
 use Rattle.sw_tree.specs.declared.stmt.Stmt.TheVariants as stmts
 use Rattle.sw_tree_work.specs.Facts.{Facts}
 use Rattle.sw_tree_work.specs.Forms.{ExprWork, IfWork, LinkWork, StmtWork, arms_work, assign, by_op}
-use Rattle.sw_tree_work.specs.Forms.{else_work, in_order, statement, ways, while_work}
+use Rattle.sw_tree_work.specs.Forms.{else_work, in_order, ways, while_work}
 use Rattle.sw_tree_work.specs.Trees.{block_work, cases_of, chain_work, expr_work, stmt_work}
 use Rattle.sw_tree_work.specs.Trees.{work_steps}
-use Rattle.sw_tree_work.specs.Work.{Again, Before, Finish, Return, Switch, Work}
+use Rattle.sw_tree_work.specs.Work.{Again, Finish, Return, Switch, Work}
 use Rattle.sw_tree_work.proofs.Order.{mapped_in_order}
 
 module _ (facts : Facts) (owner : Option ℕ) where

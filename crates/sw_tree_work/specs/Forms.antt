@@ -1,6 +1,6 @@
 -- The work of the forms that put parts together, by the work of their parts. Nothing here depends on
 -- what a name means.
-use Rattle.std.specs.Prelude.{ℕ, ◌+◌, Bool, true, false, not, List, [], ◌∷◌, flat_map, Option}
+use Rattle.std.specs.Prelude.{ℕ, ◌+◌, Bool, false, not, List, [], ◌∷◌, flat_map, Option}
 use Rattle.std.specs.Prelude.{Some, None, if◌then◌else◌}
 use Rattle.std.specs.List.{filter}
 use Rattle.sw_tree.specs.declared.operator.AssignOp.{AssignOp}
@@ -19,7 +19,7 @@ use Rattle.sw_typing_rules.specs.Verdicts.{is_unit}
 use Rattle.sw_isolation_rules.specs.declared.note.Capture.{Capture}
 use Rattle.sw_tree_work.specs.Work.{Act, Again, Before, Binary, Case, Drop, Finish, Jump, Keep}
 use Rattle.sw_tree_work.specs.Work.{Decide, Leave, Loop, Otherwise, Payload, Read, Replace, Return}
-use Rattle.sw_tree_work.specs.Work.{Swap, Switch, Test, Then, Unary, Unknown, Work}
+use Rattle.sw_tree_work.specs.Work.{Swap, Test, Then, Unary, Unknown, Work}
 
 -- An expression: its key, whether it is the word `self`, the id of the property's name where it is a
 -- property of that word, the work that gives its value, and the work that assigns the newest
