@@ -1,0 +1,9 @@
+pub mod Changes
+pub mod Depths
+pub mod Heads
+pub mod Lines
+pub mod Names
+pub mod Numerals
+pub mod Stays
+pub mod Texts
+pub mod Whole

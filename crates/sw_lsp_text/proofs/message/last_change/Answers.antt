@@ -1,0 +1,9 @@
+use Rattle.std.proofs.Common.{option_map, ap, ◌∙◌}
+use Rattle.serde_json.specs.View.{view}
+use Rattle.serde_json.proofs.Views.{view_of_ref}
+use Rattle.sw_lsp_text.proofs.Changes.{last_is}
+use Rattle.sw_lsp_text.proofs.message.last_change.Goals as goal
+
+pub returns : goal.returns
+returns c =
+    view_of_ref c.last.result ∙ ap (option_map view) c.last.ensures.value ∙ last_is c.args.changes.now

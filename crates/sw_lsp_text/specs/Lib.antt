@@ -1,0 +1,10 @@
+pub mod Changes
+pub mod Diagnostics
+pub mod Faults
+pub mod Frames
+pub mod Header
+pub mod MessageRead
+pub mod Messages
+pub mod Parts
+pub mod Replies
+pub mod Sent
