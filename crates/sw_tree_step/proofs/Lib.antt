@@ -1,2 +1,3 @@
 pub mod Moves
+pub mod Others
 pub mod Computing

@@ -1,12 +1,13 @@
 //! Laws, without code: what an item of a schedule changes, and the first state.
 ghost use Rattle.std.specs.Prelude.{◌≡◌, ℕ, ◌+◌, List, [], ◌∷◌, Some, None, length, replicate};
+ghost use Rattle.std.specs.Prelude.{slice_get};
 ghost use Rattle.sw_tree.specs.declared.decl.Decl.{Decl};
 ghost use Rattle.sw_value.specs.declared.state.TrapKind.{TrapKind};
 ghost use Rattle.sw_step.specs.declared.event.Event.TheVariants.{Nothing, Trapped};
 ghost use Rattle.sw_tree_work.specs.Bodies.{Bodies};
 ghost use Rattle.sw_tree_work.specs.Facts.{Facts};
 ghost use Rattle.sw_tree_step.specs.Items.{tree_start_of};
-ghost use Rattle.sw_tree_step.specs.State.{Ready, TreeFrame, TreeState};
+ghost use Rattle.sw_tree_step.specs.State.{Ready, TreeFrame, TreeJob, TreeState};
 ghost use Rattle.sw_tree_step.specs.Step.{move_of, tree_event_of, tree_step_of};
 
 /// A machine that a trap has halted stays as it is, whatever the item.
@@ -28,6 +29,13 @@ pub fn idle_items_change_nothing()
         → tree_event_of bodies state j ≡ Nothing → move_of bodies state j ≡ None }
     ensures unnamed { (bodies : Bodies) (state : TreeState) (more : ℕ)
         → move_of bodies state (length state.jobs + more) ≡ None }
+{}
+
+/// An item changes no job but the one that it names, and no job goes away.
+pub fn other_jobs_stay()
+    ensures { (bodies : Bodies) (state : TreeState) (j i : ℕ) (job : TreeJob) → (i ≡ j → ⊥)
+        → slice_get state.jobs i ≡ Some job
+        → slice_get (tree_step_of bodies state j).jobs i ≡ Some job }
 {}
 
 /// A trap halts the machine with its kind and its place.

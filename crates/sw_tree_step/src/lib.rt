@@ -7,5 +7,6 @@ mod laws;
 
 pub use examples::{actors_are_hopped_to, loops_are_left, right_is_skipped, tasks_are_awaited};
 pub use laws::{
-    events_tell_of_traps, halted_machines_stay, idle_items_change_nothing, programs_begin,
+    events_tell_of_traps, halted_machines_stay, idle_items_change_nothing, other_jobs_stay,
+    programs_begin,
 };
