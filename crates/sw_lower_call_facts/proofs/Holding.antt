@@ -1,4 +1,3 @@
 pub mod Firsts
 pub mod Noted
-pub mod Ordered
 pub mod Trees

@@ -11,7 +11,6 @@ use Rattle.sw_graph.specs.declared.instr.Block.{Block as CodeBlock}
 use Rattle.sw_graph.specs.declared.instr.Instr.{Instr}
 use Rattle.sw_graph.specs.declared.instr.Operand.{Operand}
 use Rattle.sw_tree.specs.Keys.{block_keys, expr_keys}
-use Rattle.sw_tree.specs.Order.{block_order, expr_order}
 use Rattle.sw_tree.specs.declared.expr.Expr.{Expr}
 use Rattle.sw_tree.specs.declared.expr.Expr.TheVariants.{Member}
 use Rattle.sw_tree.specs.declared.name.Name.{Name}
@@ -35,8 +34,9 @@ use Rattle.sw_lower_rules.specs.declared.targets.Targets.{Targets}
 use Rattle.sw_lower_formed_facts.specs.Forms.{VarsHold}
 use Rattle.sw_typing_facts.specs.Rows.{RowsHold}
 use Rattle.sw_lower_formed_facts.specs.Trees.{IsHere}
-use Rattle.sw_lower_total_facts.specs.Bound.{seen_in}
+use Rattle.sw_lower_total_facts.specs.Bound.{sight_in}
 use Rattle.sw_lower_total_facts.specs.Noted.{StandsInText}
+use Rattle.sw_lower_total_facts.specs.Scopes.{Scoped, block_scoped, expr_scoped}
 use Rattle.sw_lower_total_facts.specs.Trees.{noted_in, noted_of}
 use Rattle.sw_lower_placed_facts.specs.Allowed.{IsAllowed}
 use Rattle.sw_lower_placed_facts.specs.Placing.{PlacesAt, PlacesWith}
@@ -67,24 +67,24 @@ module _ (program : Program) where
   abbrev pub AreOrdinary : List Body → Type 0
   AreOrdinary bodies = All IsOrdinary bodies
 
-  -- where a tree stands, with its notes, its keys and these in the order of the text
-  pub record TreeNoted (context : Context) (vars : List Var) (notes : List Note)
-      (keys order : List ℕ) : Type 0 where
-    pub stands : StandsInText program.notes (seen_in program.tables context.owner vars) notes keys
-        order
+  -- where a tree stands, with its notes, its keys and its scopes
+  pub record TreeNoted (context : Context) (vars : List Var) (notes : List Note) (keys : List ℕ)
+      (scoped : Scoped) : Type 0 where
+    pub stands : StandsInText program.notes (sight_in program.tables context.owner vars) notes keys
+        scoped
     pub noted : AreNoted program notes
 
   abbrev pub ExprNoted : Context → List ℕ → List Var → Expr → Type 0
   ExprNoted context listed vars expr =
       TreeNoted context vars
       (noted_of program.tables program.numbers program.notes expr context listed) (expr_keys expr)
-      (expr_order expr)
+      (expr_scoped expr)
 
   abbrev pub BlockNoted : Context → List ℕ → List Var → Block → Type 0
   BlockNoted context listed vars block =
       TreeNoted context vars
       (noted_in program.tables program.numbers program.notes block context listed)
-      (block_keys block) (block_order block)
+      (block_keys block) (block_scoped block)
 
   -- the base of a member
   abbrev pub BaseNoted : Context → List ℕ → List Var → Expr → Type 0

@@ -87,13 +87,13 @@ module _ (decls : List Decl) (rule : AsyncDefault) (world : World)
 
   known : TablesAgree (noted_tables world decls) number (notes_of world decls)
   known = known_of decls rule world ordered is.declared are
-      (selves_no_var decls rule world (answers_in (said world decls)) is.keyed is.in_order
+      (selves_no_var decls rule world (answers_in (said world decls)) is.keyed is.scoped
       is.declared)
 
   program : IsProgram world decls rule number
   program = record {
     keyed = is.keyed;
-    in_order = is.in_order;
+    scoped = is.scoped;
     declared = is.declared;
     sound = is.sound;
     well = is.well;
@@ -110,7 +110,7 @@ module _ (decls : List Decl) (rule : AsyncDefault) (world : World)
       All-permutation (BodyProceeds number) (program_bodies (noted_tables world decls) decls)
       ordered are.bodies
       (program_proceeds world decls rule number program
-      (all_stand world decls rule number is.keyed is.in_order is.declared) is.written
+      (all_stand world decls rule number is.keyed is.scoped is.declared) is.written
       (bodies_are_numbered (noted_tables world decls) decls ordered are))
 
   -- Each body is found by its name.

@@ -7,13 +7,13 @@ pub mod Expressions
 pub mod Keys
 pub mod NoteForms
 pub mod Noting
-pub mod OrderForms
-pub mod Orders
 pub mod Ordered
 pub mod Own
 pub mod Owners
 pub mod Parts
 pub mod Programs
+pub mod ScopeForms
+pub mod Scopes
 pub mod Seen
 pub mod Statements
 pub mod Trees

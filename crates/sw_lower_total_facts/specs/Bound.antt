@@ -10,7 +10,7 @@ use Rattle.sw_lower_plans.specs.Plan.{Numbers, var_in}
 use Rattle.sw_lower_plans.specs.Run.{IsGoing, Making}
 use Rattle.sw_lower_plans.specs.declared.bound.Bound.{Bound}
 use Rattle.sw_lower_rules.specs.Tables.{Tables}
-use Rattle.sw_lower_total_facts.specs.Noted.{HasHeld, mentions}
+use Rattle.sw_lower_total_facts.specs.Noted.{HasHeld, Sight, mentions}
 
 -- A variable is bound. One in a box has a type; and it is in a box where some closure captures it
 -- by reference and none of these lists it.
@@ -34,6 +34,10 @@ InBoxes tables listed vars = All (InBox tables listed) vars
 -- the variables that are seen in a member of the type with a number, `self` among them
 abbrev pub seen_in : Tables → Option ℕ → List Var → List ℕ
 seen_in tables owner vars = self_of tables.world owner ++ map (λ (one : Var). one.at) vars
+
+-- the same, apart
+abbrev pub sight_in : Tables → Option ℕ → List Var → Sight
+sight_in tables owner vars = record { me = self_of tables.world owner; vars = vars }
 
 -- What is known where code with these notes begins: the variables that are seen there and mentioned
 -- in the code are bound; and so is `self` where the body is isolated to it and a closure in the

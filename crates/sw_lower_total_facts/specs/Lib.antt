@@ -6,4 +6,5 @@ pub mod Known
 pub mod Noted
 pub mod Proceeding
 pub mod Programs
+pub mod Scopes
 pub mod Trees

@@ -2,7 +2,6 @@
 -- it.
 use Rattle.std.specs.Prelude.{List, None}
 use Rattle.sw_tree.specs.Contents.{AreKeyed}
-use Rattle.sw_tree.specs.Order.{AreInOrder}
 use Rattle.sw_tree.specs.declared.decl.Decl.{Decl}
 use Rattle.sw_tree_facts.specs.Unwritten.{AreWritten}
 use Rattle.sw_tree_facts.specs.Values.{AreValued}
@@ -15,6 +14,7 @@ use Rattle.sw_isolation_rules.specs.Programs.{noted}
 use Rattle.sw_isolation_rules.specs.declared.note.Note.{Note}
 use Rattle.sw_lower_rules.specs.Tables.{Tables, isolation_in}
 use Rattle.sw_lower_formed_facts.specs.Programs.{tables_in}
+use Rattle.sw_lower_total_facts.specs.Scopes.{AreScoped}
 
 -- all that is noted of a program
 abbrev pub notes_of : World → List Decl → List Note
@@ -25,11 +25,11 @@ abbrev pub noted_tables : World → List Decl → Tables
 noted_tables world decls = tables_in world (isolation_in (notes_of world decls)) decls
 
 -- A program as texts write them, which keeps the rules on declarations and on types: its keys are
--- its nodes' own and rise in the order of the text, its global variables have first values, and
--- neither of the two forms stands in it that `AreWritten` rules out.
+-- its nodes' own and tell scopes, its global variables have first values, and neither of the two
+-- forms stands in it that `AreWritten` rules out.
 pub record IsWelltyped (decls : List Decl) (rule : AsyncDefault) (world : World) : Type 0 where
   pub keyed : AreKeyed decls
-  pub in_order : AreInOrder decls
+  pub scoped : AreScoped decls
   pub valued : AreValued decls
   pub written : AreWritten decls
   pub sound : IsFirstBreach decls None

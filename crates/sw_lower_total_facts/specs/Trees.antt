@@ -1,7 +1,6 @@
 -- What is shown of whole trees.
 use Rattle.std.specs.Prelude.{◌≡◌, ℕ, Bool, false, List, [], All}
 use Rattle.sw_tree.specs.Keys.{block_keys, expr_keys}
-use Rattle.sw_tree.specs.Order.{block_order, expr_order}
 use Rattle.sw_tree.specs.declared.expr.Expr.{Expr}
 use Rattle.sw_tree.specs.declared.stmt.Block.{Block}
 use Rattle.sw_tree_facts.specs.Unwritten.{block_unwritten, expr_unwritten}
@@ -19,11 +18,12 @@ use Rattle.sw_lower_rules.specs.Statements.{block_code, expr_code}
 use Rattle.sw_lower_rules.specs.Tables.{Tables}
 use Rattle.sw_lower_formed_facts.specs.Forms.{VarsHold}
 use Rattle.sw_typing_facts.specs.Rows.{RowsHold}
-use Rattle.sw_lower_total_facts.specs.Bound.{seen_in}
+use Rattle.sw_lower_total_facts.specs.Bound.{sight_in}
 use Rattle.sw_typing_facts.specs.EnumWords.{AreUnmeant, in_block, in_expr}
 use Rattle.sw_lower_total_facts.specs.Forms.{BlockProceeds, ExprProceeds}
 use Rattle.sw_lower_total_facts.specs.Noted.{StandsInText}
 use Rattle.sw_lower_total_facts.specs.Proceeding.{BodyIsNumbered}
+use Rattle.sw_lower_total_facts.specs.Scopes.{block_scoped, expr_scoped}
 
 module _ (tables : Tables) (number : Numbers) (all : List Note) where
   -- what is noted of an expression and of a block
@@ -36,14 +36,14 @@ module _ (tables : Tables) (number : Numbers) (all : List Note) where
   -- where an expression and a block stand
   abbrev pub ExprStands : Context → List ℕ → List Var → Expr → Type 0
   ExprStands context listed vars expr =
-      StandsInText all (seen_in tables context.owner vars) (noted_of expr context listed)
+      StandsInText all (sight_in tables context.owner vars) (noted_of expr context listed)
       (expr_keys expr)
-      (expr_order expr)
+      (expr_scoped expr)
 
   abbrev pub BlockStands : Context → List ℕ → List Var → Block → Type 0
   BlockStands context listed vars block =
-      StandsInText all (seen_in tables context.owner vars) (noted_in block context listed)
-      (block_keys block) (block_order block)
+      StandsInText all (sight_in tables context.owner vars) (noted_in block context listed)
+      (block_keys block) (block_scoped block)
 
   -- The code of each well-typed expression proceeds, where the bodies in it have numbers.
   abbrev pub ExprsProceed : Type 0

@@ -1,12 +1,12 @@
 -- What a closure or a task holds that is noted as isolated to `self` begins with the word of the
 -- actor around it.
-use Rattle.std.proofs.Common.{◌≡◌, ℕ, zero, suc, ◌+◌, ◌≤◌, ◌<◌, true, List, [], ◌∷◌, ◌++◌, Option}
+use Rattle.std.proofs.Common.{◌≡◌, ℕ, zero, suc, ◌+◌, ◌≤◌, ◌<◌, true, List, [], ◌∷◌, Option}
 use Rattle.std.proofs.Common.{Some}
 use Rattle.std.proofs.Common.{None, flat_map, Contains, refl, sym, ap, ◌∙◌, subst, arith}
-use Rattle.std.proofs.lemmas.List.Elements.{All-contains, Contains-append_left}
+use Rattle.std.proofs.lemmas.List.Elements.{All-contains}
+use Rattle.std.specs.Prelude.{All}
 use Rattle.sw_list.proofs.Members.{none_in}
 use Rattle.sw_tree.specs.Keys.{block_keys}
-use Rattle.sw_tree.specs.Order.{block_order}
 use Rattle.sw_tree.specs.declared.decl.Decl.{Decl}
 use Rattle.sw_tree.specs.declared.decl.Decl.TheVariants.{Actor}
 use Rattle.sw_tree.specs.declared.decl.FuncTree.{FuncTree}
@@ -38,10 +38,10 @@ use Rattle.sw_typing_facts.proofs.Programs.Standing.{Stands}
 use Rattle.sw_lower_total_facts.specs.Noted as noted
 use Rattle.sw_lower_total_facts.specs.Noted.{held_of}
 use Rattle.sw_lower_total_facts.specs.Programs.{IsWelltyped, notes_of}
+use Rattle.sw_lower_total_facts.specs.Scopes.{block_scoped}
 use Rattle.sw_lower_total_facts.proofs.Programs.Found.{key_found}
 use Rattle.sw_lower_total_facts.proofs.Standing.Keys.{contained}
 use Rattle.sw_lower_total_facts.proofs.Standing.Ordered.{owner_of, self_words}
-use Rattle.sw_lower_total_facts.proofs.Standing.Orders.{IsBefore}
 use Rattle.sw_lower_total_facts.proofs.Standing.Owners.{func_owner, init_owner}
 use Rattle.sw_lower_total_facts.proofs.Standing.Programs.{func_body_stands, init_body_stands}
 use Rattle.sw_lower_call_facts.proofs.BodyNotes.Members.{inits_own, props_own}
@@ -50,7 +50,6 @@ use Rattle.sw_lower_call_facts.proofs.BodyNotes.Trees.{block_own}
 use Rattle.sw_lower_call_facts.proofs.Giving.Deep.{deep_counted, deep_of, funcs_split, head_func}
 use Rattle.sw_lower_call_facts.proofs.Giving.Deep.{head_init, inits_split}
 use Rattle.sw_lower_call_facts.proofs.Holding.Noted.{HeldBegins, IsOther, KeyBegins, weaker}
-use Rattle.sw_lower_call_facts.proofs.Holding.Ordered.{block_ordered}
 use Rattle.sw_lower_call_facts.proofs.Holding.Trees.{block_holds}
 
 -- what is counted in a first value that is there
@@ -110,14 +109,13 @@ module _ (decls : List Decl) (rule : AsyncDefault) (world : World)
     abbrev decl : Decl
     decl = Actor word props inits funcs
 
-    block_good : (block : Block) (context : Context) (seen : List ℕ)
-        → noted.StandsInText all seen (block_notes world answers block context [])
-        (block_keys block)
-        (block_order block)
+    block_good : (block : Block) (context : Context) (sight : noted.Sight)
+        → noted.StandsInText all sight (block_notes world answers block context [])
+        (block_keys block) (block_scoped block)
         → (is_own context.iso ≡ true → self_of world context.owner ≡ word.at ∷ [])
-        → Contains seen word.at → in_block block c ≤ in_decl decl c
+        → Contains sight.me word.at → in_block block c ≤ in_decl decl c
         → AllOwn Good (block_notes world answers block context [])
-    block_good block context seen here fits sees most = by (count (block_keys block) c) refl where
+    block_good block context sight here fits sees most = by (count (block_keys block) c) refl where
       by : (k : ℕ) → count (block_keys block) c ≡ k
           → AllOwn Good (block_notes world answers block context [])
       by zero none =
@@ -128,10 +126,10 @@ module _ (decls : List Decl) (rule : AsyncDefault) (world : World)
           omega (arith, none, some, ap (λ k. count (block_keys block) k) same)))
       by (suc k) some =
           let earlier : word.at < c =
-          All-contains (λ other. word.at < other) (block_order block) c
-          (All-contains (IsBefore (block_order block)) seen word.at here.before sees)
-          (contained (block_order block) c
-          (omega (arith, some, block_ordered c block))) in
+          All-contains (λ key. word.at < key) (block_keys block) c
+          (All-contains (λ me. All (λ key. me < key) (block_keys block)) sight.me word.at here.own
+          sees)
+          (contained (block_keys block) c (omega (arith, some))) in
           let holds = block_holds world answers c word.at earlier block context [] fits in
           weaker (λ key. key ≡ c → KeyBegins c word.at (block_notes world answers block context []))
           Good (λ key begins same. record {
@@ -154,11 +152,9 @@ module _ (decls : List Decl) (rule : AsyncDefault) (world : World)
     selves owner same =
         ap (self_of world) same ∙ self_words decls rule world is.declared n g decl stands
 
-    sees_self : (owner : Option ℕ) (more : List ℕ) → owner ≡ owner_of n decl
-        → Contains (self_of world owner ++ more) word.at
-    sees_self owner more same =
-        Contains-append_left (self_of world owner) more word.at
-        (subst (λ list. Contains list word.at) (sym (selves owner same)) (in_first word.at []))
+    sees_self : (owner : Option ℕ) → owner ≡ owner_of n decl → Contains (self_of world owner) word.at
+    sees_self owner same =
+        subst (λ list. Contains list word.at) (sym (selves owner same)) (in_first word.at [])
 
     module _ (heads : hits word.at c + in_all in_prop props c + in_all head_init inits c
         + in_all head_func funcs c ≡ 0) where
@@ -176,10 +172,10 @@ module _ (decls : List Decl) (rule : AsyncDefault) (world : World)
               hits_same c,
             ),
             block_good tree.body (func_context func) _
-                (func_body_stands decls rule world answers is.keyed is.in_order is.declared n g decl
+                (func_body_stands decls rule world answers is.keyed is.scoped is.declared n g decl
                 stands tree func has found)
                 (λ own. selves func.owner (owned func found))
-                (sees_self func.owner _ (owned func found))
+                (sees_self func.owner (owned func found))
                 (omega (
                   arith,
                   counted_in in_func funcs tree c has,
@@ -207,10 +203,10 @@ module _ (decls : List Decl) (rule : AsyncDefault) (world : World)
               hits_same c,
             ),
             block_good init.body (func_context func) _
-                (init_body_stands decls rule world answers is.keyed is.in_order is.declared n g decl
+                (init_body_stands decls rule world answers is.keyed is.scoped is.declared n g decl
                 stands init func has found)
                 (λ own. selves func.owner (owned func found))
-                (sees_self func.owner _ (owned func found))
+                (sees_self func.owner (owned func found))
                 (omega (
                   arith,
                   counted_in in_init inits init c has,

@@ -74,7 +74,7 @@ module _ (decls : List Decl) (rule : AsyncDefault) (world : World)
     word_fixed : is_among (vars_in all) word.at ≡ false
     unfolding shape_of
     word_fixed =
-        selves_no_var decls rule world answers is.keyed is.in_order is.declared n
+        selves_no_var decls rule world answers is.keyed is.scoped is.declared n
         (record {
           kind = kinds.Actor;
           at = word.at;

@@ -37,7 +37,7 @@ program_sound decls rule world ordered typed cases apart are numbered = record {
   enums = only_enums decls rule world typed.declared;
   differ = cases_differ decls rule world typed.declared typed.sound cases;
   known = known_of decls rule world ordered typed.declared are
-      (selves_no_var decls rule world (answers_in (said world decls)) typed.keyed typed.in_order
+      (selves_no_var decls rule world (answers_in (said world decls)) typed.keyed typed.scoped
       typed.declared);
   settled = program_settled decls rule world ordered typed are numbered apart;
 }

@@ -78,7 +78,7 @@ module _ (decls : List Decl) (rule : AsyncDefault) (world : World) (ordered : Li
 
   pub trees_stand : AllStand world decls numbers
   trees_stand =
-      all_stand world decls rule numbers given.typed.keyed given.typed.in_order
+      all_stand world decls rule numbers given.typed.keyed given.typed.scoped
       given.typed.declared
 
   -- The bodies of closures and tasks are bodies of the program.

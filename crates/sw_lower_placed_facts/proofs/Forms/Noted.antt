@@ -30,12 +30,13 @@ use Rattle.sw_isolation_rules.specs.Noting.{in_await, member_notes, place_notes,
 use Rattle.sw_isolation_rules.specs.Noting.{word_notes}
 use Rattle.sw_isolation_rules.specs.declared.note.Note.{Note}
 use Rattle.sw_isolation_rules.specs.declared.uses.Context.{Context}
+use Rattle.sw_lower_total_facts.specs.Scopes.{each}
 use Rattle.sw_lower_total_facts.proofs.Standing.NoteForms as noted
 use Rattle.sw_lower_total_facts.proofs.Standing.NoteForms.{args_notes, case_arms_notes, expr_notes}
 use Rattle.sw_lower_total_facts.proofs.Standing.NoteForms.{if_arms_notes, links_notes, noted_stmt}
 use Rattle.sw_lower_total_facts.proofs.Standing.NoteForms.{notes_in, otherwise_notes, stmts_notes}
-use Rattle.sw_lower_total_facts.proofs.Standing.OrderForms.{arg_order, case_arm_order, if_arm_order}
-use Rattle.sw_lower_total_facts.proofs.Standing.OrderForms.{link_order, stmt_order}
+use Rattle.sw_lower_total_facts.proofs.Standing.ScopeForms.{all_scoped, arg_scoped, case_arm_scoped}
+use Rattle.sw_lower_total_facts.proofs.Standing.ScopeForms.{if_arm_scoped, link_scoped, stmt_scoped}
 use Rattle.sw_lower_total_facts.proofs.Standing.Trees as standing
 use Rattle.sw_lower_placed_facts.specs.Claims.{AreNoted, BlockNoted, ExprNoted, TreeNoted}
 use Rattle.sw_lower_placed_facts.specs.Hosts.{Program}
@@ -56,33 +57,33 @@ module _ (program : Program) (context : Context) (listed : List ℕ) (vars : Lis
   abbrev pub StmtNoted : Stmt → Type 0
   StmtNoted stmt =
       TreeNoted program context vars (noted_stmt world answers context listed stmt)
-      (stmt_keys stmt) (stmt_order stmt)
+      (stmt_keys stmt) (stmt_scoped stmt)
 
   -- lists of trees
   abbrev pub ArgsNoted : List Arg → Type 0
   ArgsNoted args =
       TreeNoted program context vars (args_notes world answers args context listed)
-      (joined (map arg_keys args)) (joined (map arg_order args))
+      (joined (map arg_keys args)) (each (map arg_scoped args))
 
   abbrev pub LinksNoted : List Link → Type 0
   LinksNoted links =
       TreeNoted program context vars (links_notes world answers links context listed)
-      (joined (map link_keys links)) (joined (map link_order links))
+      (joined (map link_keys links)) (each (map link_scoped links))
 
   abbrev pub StmtsNoted : List Stmt → Type 0
   StmtsNoted list =
       TreeNoted program context vars (stmts_notes world answers list context listed)
-      (joined (map stmt_keys list)) (joined (map stmt_order list))
+      (joined (map stmt_keys list)) (all_scoped list)
 
   abbrev pub ArmsNoted : List IfArm → Type 0
   ArmsNoted arms =
       TreeNoted program context vars (if_arms_notes world answers arms context listed)
-      (joined (map if_arm_keys arms)) (joined (map if_arm_order arms))
+      (joined (map if_arm_keys arms)) (each (map if_arm_scoped arms))
 
   abbrev pub CasesNoted : List CaseArm → Type 0
   CasesNoted arms =
       TreeNoted program context vars (case_arms_notes world answers arms context listed)
-      (joined (map case_arm_keys arms)) (joined (map case_arm_order arms))
+      (joined (map case_arm_keys arms)) (each (map case_arm_scoped arms))
 
   abbrev pub OtherwiseNoted : Option Block → Type 0
   OtherwiseNoted None = Unit {0}

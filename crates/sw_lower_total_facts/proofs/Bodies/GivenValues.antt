@@ -34,7 +34,7 @@ use Rattle.sw_lower_formed_facts.proofs.Programs.SimpleInside.{simple_inside}
 use Rattle.sw_lower_total_facts.specs.Bound.{VariableIsBound}
 use Rattle.sw_typing_facts.specs.EnumWords.{AreUnmeant, in_expr}
 use Rattle.sw_lower_total_facts.specs.Forms.{ExprProceeds}
-use Rattle.sw_lower_total_facts.specs.Noted.{mentions}
+use Rattle.sw_lower_total_facts.specs.Noted.{keys_of, mentions}
 use Rattle.sw_lower_total_facts.specs.Proceeding.{BodyIsNumbered, Proceeds}
 use Rattle.sw_lower_total_facts.specs.Programs.{noted_tables, notes_of}
 use Rattle.sw_lower_total_facts.specs.Trees.{ExprStands, noted_of}
@@ -43,7 +43,6 @@ use Rattle.sw_lower_total_facts.proofs.Bodies.Initialisers.{Kept}
 use Rattle.sw_lower_total_facts.proofs.Bodies.SimpleHeld.{held_notes, simple_held}
 use Rattle.sw_lower_total_facts.proofs.Bodies.SimpleMentions.{simple_mentions}
 use Rattle.sw_lower_total_facts.proofs.Mentions.Notes.{AreIn, NoteIs}
-use Rattle.sw_lower_total_facts.proofs.Mentions.Seen.{keys_of}
 use Rattle.sw_lower_total_facts.proofs.Proceeding.Ready.{bound_after}
 
 -- where these variables are bound in the code of a body

@@ -29,7 +29,7 @@ use Rattle.sw_lower_total_facts.specs.Noted.{HasHeld}
 use Rattle.sw_lower_total_facts.specs.Proceeding.{Proceeds}
 use Rattle.sw_lower_total_facts.proofs.Closures.Boxes.{ref_is_boxed, ref_is_var}
 use Rattle.sw_lower_total_facts.proofs.Closures.Enclosed.{IsEnclosed, Enclosure, inside, lists, outside}
-use Rattle.sw_lower_total_facts.proofs.Closures.Enclosed.{takes, within}
+use Rattle.sw_lower_total_facts.proofs.Closures.Enclosed.{seen_before, takes, within}
 use Rattle.sw_lower_total_facts.proofs.Closures.Firsts.{own_has, taken_only}
 use Rattle.sw_lower_total_facts.proofs.Closures.Kept.{not_among_left}
 use Rattle.sw_lower_total_facts.proofs.Closures.Noted.{capture_as, held_as}
@@ -139,7 +139,8 @@ module _ (tables : Tables) (number : Numbers) (all : List Note)
             × Contains (self_of tables.world closure.context.owner) one.variable)
             → VariableIsBound tables closure.listed s.vars one.variable
         by before (inl there) =
-            ready.vars one.variable (enclosed.seen one.variable there before)
+            ready.vars one.variable
+            (seen_before tables all closure enclosed one.variable there before)
             (subst (λ list. Contains (variables list) one.variable) (sym says.sees)
             (own_has tables.world (within tables closure) closure.at (inside tables closure)
             one.variable there before))

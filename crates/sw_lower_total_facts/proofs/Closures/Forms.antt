@@ -1,8 +1,9 @@
 -- A closure and a task proceed, and so do their bodies.
-use Rattle.std.proofs.Common.{◌≡◌, ℕ, ◌<◌, Bool, true, false, List, [], ◌∷◌, ◌++◌, map, flat_map}
+use Rattle.std.proofs.Common.{◌≡◌, ℕ, Bool, true, false, List, [], ◌∷◌, ◌++◌, map, flat_map}
 use Rattle.std.proofs.Common.{Contains, refl, sym, subst, Option, Some, None, is_some}
-use Rattle.std.proofs.lemmas.List.Elements.{All-cons, All-tail, All-weaker}
+use Rattle.std.proofs.lemmas.List.Elements.{All-cons}
 use Rattle.std.specs.Prelude.{All, IsSome, ◌||◌, not}
+use Rattle.sw_tree.specs.Keys.{Keys}
 use Rattle.sw_tree.specs.declared.expr.ClosureParam.{ClosureParam}
 use Rattle.sw_tree.specs.declared.name.Name.{Name}
 use Rattle.sw_tree.specs.declared.type_tree.TypeTree.{TypeTree}
@@ -35,17 +36,19 @@ use Rattle.sw_lower_formed_facts.specs.Forms.{VarsHold}
 use Rattle.sw_typing_facts.specs.Rows.{RowsHold}
 use Rattle.sw_lower_formed_facts.proofs.Bodies.ClosureRows.{fun_gives, spawn_gives}
 use Rattle.sw_typing_facts.proofs.Said.Rows.{rows_left, rows_right}
+use Rattle.sw_lower_total_facts.specs.Bound.{sight_in}
 use Rattle.sw_lower_total_facts.specs.Forms.{BlockProceeds, ExprProceeds, Reads}
 use Rattle.sw_lower_total_facts.specs.Known.{TablesAgree}
 use Rattle.sw_lower_total_facts.specs.Noted.{StandsInText, held_of}
 use Rattle.sw_lower_total_facts.specs.Proceeding.{BodyProceeds, BodyIsNumbered}
+use Rattle.sw_lower_total_facts.specs.Scopes.{Scoped}
 use Rattle.sw_lower_total_facts.proofs.Closures.Captured.{SaysClosed, captured_proceed}
 use Rattle.sw_lower_total_facts.proofs.Closures.Enclosed.{Enclosure, IsEnclosed, block, lists, outside}
 use Rattle.sw_lower_total_facts.proofs.Closures.Enclosed.{within}
 use Rattle.sw_lower_total_facts.proofs.Closures.Inside.{closure_proceeds}
 use Rattle.sw_lower_total_facts.proofs.Closures.Isolated.{closure_own, task_own}
 use Rattle.sw_lower_total_facts.proofs.Closures.Places.{IsSeenInside, SaysAs, is_enclosed, noted_closed}
-use Rattle.sw_lower_total_facts.proofs.Closures.Places.{order_with, says_closed}
+use Rattle.sw_lower_total_facts.proofs.Closures.Places.{says_closed, scoped_with}
 use Rattle.sw_lower_total_facts.proofs.Proceeding.Using.{goes_give, goes_number, goes_then, goes_typed}
 
 -- What the code makes of captures and of the number of a function.
@@ -165,12 +168,12 @@ module _ (tables : Tables) where
 -- parameter is declared by `var`, what its block mentions is seen there or declared in it, and its
 -- block proceeds.
 pub record BlockFits (tables : Tables) (number : Numbers) (all : List Note) (owner : Option ℕ)
-    (closure : Enclosure) (setting : Setting) (result : Option TypeTree) (order : List ℕ)
+    (closure : Enclosure) (setting : Setting) (result : Option TypeTree) (scoped : Scoped)
     (code : ClosureCode) : Type 0 where
   pub none : held_of closure.at (block tables closure) ≡ []
   pub params_fixed : All (λ (param : ClosureParam). is_among (vars_in all) param.name.at ≡ false)
       closure.params
-  pub seen : IsSeenInside tables closure order
+  pub seen : IsSeenInside tables closure scoped
   pub proceeds : BlockProceeds tables number (within tables closure) (lists tables closure)
       (in_body owner false) (closure_state tables.world setting closure.words closure.params result)
       (block tables closure) code.body
@@ -198,19 +201,21 @@ module _ (tables : Tables) (number : Numbers) (all : List Note)
       → RowsHold tables.answers (fun_judged expected closing).rows
       → BodyIsNumbered number
       (closure_body tables setting.owner code (fun_result tables setting.owner code.at))
-      → (keys order : List ℕ) → Contains keys code.at
-      → StandsInText all
-      (outside tables (fun_at tables context listed setting code.at words code.params body))
+      → (keys : Keys) (scoped : Scoped) → Contains keys code.at
+      → StandsInText all (sight_in tables context.owner setting.vars)
       (fun_noted tables (fun_at tables context listed setting code.at words code.params body)) keys
-      (order_with tables (fun_at tables context listed setting code.at words code.params body)
-      order)
+      (scoped_with tables (fun_at tables context listed setting code.at words code.params body)
+      scoped)
+      → ((key : ℕ) → Contains (scoped_with tables
+      (fun_at tables context listed setting code.at words code.params body) scoped).declared key
+      → Contains keys key)
       → BlockFits tables number all setting.owner
-      (fun_at tables context listed setting code.at words code.params body) setting result order
+      (fun_at tables context listed setting code.at words code.params body) setting result scoped
       code
       → ExprProceeds tables number context listed setting.vars
       (fun_noted tables (fun_at tables context listed setting code.at words code.params body))
       (fun_code tables setting.owner code)
-  fun_proceeds expected typed_so rows numbered keys order among stands fits = record {
+  fun_proceeds expected typed_so rows numbered keys scoped among stands new fits = record {
     read = made_proceeds tables number all known closure enclosed (fun_noted tables closure)
         (says_closed tables closure (fun_noted tables closure) (fun_as tables closure))
         setting.owner
@@ -241,8 +246,7 @@ module _ (tables : Tables) (number : Numbers) (all : List Note)
     enclosed : IsEnclosed tables all closure
     enclosed =
         is_enclosed tables all known.noted closure (fun_noted tables closure)
-        (fun_as tables closure)
-        order isolated (stands.alone.held code.at among) fits.none stands.before stands.rising
+        (fun_as tables closure) scoped keys among stands new isolated fits.none
         (word_rows (rows_left tables.answers closing.rows
         (rows_of code.at (fun_types (closing.marked || expected) closing.params closing.result))
         rows)) fits.params_fixed fits.seen
@@ -254,21 +258,23 @@ module _ (tables : Tables) (number : Numbers) (all : List Note)
       → RowsHold tables.answers (spawn_judged at closing).rows
       → BodyIsNumbered number
       (task_body tables setting.owner code (spawn_result tables setting.owner at))
-      → (keys order : List ℕ) → Contains keys code.at
-      → StandsInText all
-      (outside tables (spawn_at tables context listed setting mark detached code.at words body))
+      → (keys : Keys) (scoped : Scoped) → Contains keys code.at
+      → StandsInText all (sight_in tables context.owner setting.vars)
       (spawn_noted tables at
       (spawn_at tables context listed setting mark detached code.at words body)) keys
-      (at ∷ order_with tables
-      (spawn_at tables context listed setting mark detached code.at words body) order)
+      (scoped_with tables
+      (spawn_at tables context listed setting mark detached code.at words body) scoped)
+      → ((key : ℕ) → Contains (scoped_with tables
+      (spawn_at tables context listed setting mark detached code.at words body) scoped).declared key
+      → Contains keys key)
       → BlockFits tables number all setting.owner
-      (spawn_at tables context listed setting mark detached code.at words body) setting result order
-      code
+      (spawn_at tables context listed setting mark detached code.at words body) setting result
+      scoped code
       → ExprProceeds tables number context listed setting.vars
       (spawn_noted tables at
       (spawn_at tables context listed setting mark detached code.at words body))
       (spawn_code tables setting.owner at code)
-  spawn_proceeds at detached typed_so rows numbered keys order among stands fits = record {
+  spawn_proceeds at detached typed_so rows numbered keys scoped among stands new fits = record {
     read = made_proceeds tables number all known closure enclosed (spawn_noted tables at closure)
         (says_closed tables closure (spawn_noted tables at closure) (spawn_as tables at closure))
         setting.owner at (λ f xs r. NewTask at r f xs)
@@ -292,19 +298,9 @@ module _ (tables : Tables) (number : Numbers) (all : List Note)
     isolated : is_own closure.iso ≡ true → is_own context.iso ≡ true
     isolated own = task_own tables.world tables.answers mark detached context.iso own
 
-    before : All (λ key. All (λ other. key < other) (order_with tables closure order))
-        (outside tables closure)
-    before =
-        All-weaker (λ key. All (λ other. key < other) (at ∷ order_with tables closure order))
-        (λ key. All (λ other. key < other) (order_with tables closure order))
-        (λ key all_after.
-        All-tail (λ other. key < other) at (order_with tables closure order) all_after)
-        (outside tables closure) stands.before
-
     enclosed : IsEnclosed tables all closure
     enclosed =
         is_enclosed tables all known.noted closure (spawn_noted tables at closure)
-        (spawn_as tables at closure) order isolated (stands.alone.held code.at among) fits.none
-        before stands.rising.1
+        (spawn_as tables at closure) scoped keys among stands new isolated fits.none
         (word_rows (rows_left tables.answers closing.rows
         (rows_of at (task_types closing.result)) rows)) fits.params_fixed fits.seen

@@ -38,13 +38,14 @@ use Rattle.sw_lower_total_facts.specs.Proceeding.{BodyProceeds}
 use Rattle.sw_lower_total_facts.proofs.Bodies.BodyCode.{body_code_proceeds}
 use Rattle.sw_lower_total_facts.proofs.Bodies.Taking.{Entered, body_proceeds}
 use Rattle.sw_lower_total_facts.proofs.Closures.Boxes.{boxed_is_var, ref_is_var, var_is_ref}
-use Rattle.sw_lower_total_facts.proofs.Closures.Enclosed.{Enclosure, IsEnclosed, block, inside, lists}
-use Rattle.sw_lower_total_facts.proofs.Closures.Enclosed.{outside, takes, within}
+use Rattle.sw_lower_total_facts.proofs.Closures.Enclosed.{Enclosure, IsEnclosed, before_seen, block}
+use Rattle.sw_lower_total_facts.proofs.Closures.Enclosed.{inside, lists, outside, seen_before}
+use Rattle.sw_lower_total_facts.proofs.Closures.Enclosed.{takes, within}
 use Rattle.sw_lower_total_facts.proofs.Closures.Firsts.{taken_held, taken_mentioned, taken_only}
 use Rattle.sw_lower_total_facts.proofs.Closures.Fitting.{Fits, TakenFits, taken_in_boxes, taken_is_bound}
 use Rattle.sw_lower_total_facts.proofs.Closures.Noted.{capture_as, mentioned_all}
 use Rattle.sw_lower_total_facts.proofs.Closures.Seen.{param_keys, seen_closure, self_fixed}
-use Rattle.sw_lower_total_facts.proofs.Standing.Orders.{all_of_each}
+use Rattle.sw_lower_total_facts.proofs.Standing.Scopes.{all_of_each}
 
 -- What is mentioned in the block of a closure is mentioned inside the closure, as are its words.
 pub mentioned_inside : (tables : Tables) (closure : Enclosure)
@@ -103,7 +104,8 @@ module _ (tables : Tables) (number : Numbers) (all : List Note)
               × Contains (self_of tables.world closure.context.owner) one.variable)
               → (ty : Ty) × (tables.answers.type_at one.variable ≡ Some ty)
           by before (inl there) =
-              var_typed one.variable (enclosed.seen one.variable there before) is
+              var_typed one.variable
+              (seen_before tables all closure enclosed one.variable there before) is
           by before (inr me) =
               var_typed one.variable
               (Contains-append_left (self_of tables.world closure.context.owner)
@@ -204,9 +206,7 @@ module _ (tables : Tables) (number : Numbers) (all : List Note)
     held = λ own holds key me.
         bound key (takes_capture key
         (taken_held tables.world (within tables closure) closure.at (inside tables closure) key own
-        me (enclosed.before key
-        (Contains-append_left (self_of tables.world closure.context.owner)
-        (map (λ (one : Var). one.at) closure.vars) key me))));
+        me (enclosed.own key me)));
   } where
     bound : (key : ℕ) → Contains (map key_of all_taken) key
         → VariableIsBound tables (lists tables closure) t.vars key
@@ -217,12 +217,12 @@ module _ (tables : Tables) (number : Numbers) (all : List Note)
         → Contains (outside tables closure) key ⊎ Contains (param_keys closure.params) key
         → Contains (map key_of all_taken) key
     by key has (inl around) =
+        let there = subst (λ list. Contains list key) (sym (mentioned_inside tables closure))
+        (Contains-append_right (variables (list_mentions tables.world tables.answers
+        closure.context.owner closure.words)) (mentions (block tables closure)) key has) in
         takes_capture key
         (taken_mentioned tables.world (within tables closure) closure.at (inside tables closure)
-        key (subst (λ list. Contains list key) (sym (mentioned_inside tables closure))
-        (Contains-append_right (variables (list_mentions tables.world tables.answers
-        closure.context.owner closure.words)) (mentions (block tables closure)) key has))
-        (enclosed.before key around))
+        key there (before_seen tables all closure enclosed key there around))
     by key has (inr param) = takes_param key param
 
   -- The body of a closure proceeds where its block does.

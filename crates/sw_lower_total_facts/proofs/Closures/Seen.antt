@@ -23,7 +23,7 @@ use Rattle.sw_lower_plans.specs.Plan.{Numbers}
 use Rattle.sw_lower_rules.specs.Tables.{Tables}
 use Rattle.sw_typing_facts.specs.Rows.{RowsHold}
 use Rattle.sw_typing_facts.proofs.Lists.Found.{local_has}
-use Rattle.sw_typing_facts.proofs.Lists.Listed.{in_map, only_in}
+use Rattle.sw_typing_facts.proofs.Lists.Listed.{in_first, in_map, in_rest, only_in}
 use Rattle.sw_typing_facts.proofs.Said.Rows.{rows_left, rows_right}
 use Rattle.sw_lower_total_facts.specs.Bound.{seen_in}
 use Rattle.sw_lower_total_facts.specs.Known.{TablesAgree}
@@ -132,39 +132,49 @@ seen_closure tables owner vars words params key has =
     by (inr var) = more (in_either at vars new key var)
 
 module _ (tables : Tables) (owner : Option ℕ) (vars : List Var) where
-  -- A word of a closure's list mentions a variable that is seen around it.
-  word_seen : (word : Name) (found : Option Var) → local vars word.id ≡ found
+  -- A visible variable that one of these words means.
+  abbrev pub IsListed : List Name → ℕ → Type 0
+  IsListed words key = (word : Name) × Contains words word
+      × (one : Var) × (local vars word.id ≡ Some one) × (one.at ≡ key)
+
+  -- A word of a closure's list mentions the variable that it means around it.
+  word_listed : (word : Name) (words : List Name) (found : Option Var) → local vars word.id ≡ found
       → RowsHold tables.answers (capture_rows word found) → (key : ℕ)
       → Contains (variables (word_mentions tables.world tables.answers owner word.at)) key
-      → Contains (map at vars) key
+      → IsListed (word ∷ words) key
   unfolding word_mentions
-  word_seen word None is rows key has = absurd rows.0
-  word_seen word (Some one) is rows key has =
-      subst (Contains (map at vars))
-      (only_in one.at key (subst (λ (meant : Option Meaning). Contains (variables
-      (for_some meant (meant_mentions tables.world owner word.at))) key) rows.0 has))
-      (local_in vars word one is)
+  word_listed word words None is rows key has = absurd rows.0
+  word_listed word words (Some one) is rows key has = (
+    word,
+    in_first word words,
+    one,
+    is,
+    only_in one.at key (subst (λ (meant : Option Meaning). Contains (variables
+        (for_some meant (meant_mentions tables.world owner word.at))) key) rows.0 has),
+  )
 
   -- So do all of them.
-  pub listed_seen : (words : List Name)
+  pub listed_mean : (words : List Name)
       → RowsHold tables.answers
       (flat_map (λ (word : Name). capture_rows word (local vars word.id)) words)
       → (key : ℕ)
       → Contains (variables (list_mentions tables.world tables.answers owner words)) key
-      → Contains (map at vars) key
-  listed_seen [] rows key (k, below, is) = absurd (omega (arith, below))
-  listed_seen (word ∷ words) rows key has =
+      → IsListed words key
+  listed_mean [] rows key (k, below, is) = absurd (omega (arith, below))
+  listed_mean (word ∷ words) rows key has =
       by (in_either (λ (one : Mention). one.variable)
       (word_mentions tables.world tables.answers owner word.at)
       (list_mentions tables.world tables.answers owner words) key has)
-      (listed_seen words (rows_right tables.answers (capture_rows word (local vars word.id)) _ rows)
+      (listed_mean words (rows_right tables.answers (capture_rows word (local vars word.id)) _ rows)
       key) where
         by : Contains (variables (word_mentions tables.world tables.answers owner word.at)) key
             ⊎ Contains (variables (list_mentions tables.world tables.answers owner words)) key
             → (Contains (variables (list_mentions tables.world tables.answers owner words)) key
-            → Contains (map at vars) key)
-            → Contains (map at vars) key
+            → IsListed words key)
+            → IsListed (word ∷ words) key
         by (inl first) later =
-            word_seen word (local vars word.id) refl
+            word_listed word words (local vars word.id) refl
             (rows_left tables.answers (capture_rows word (local vars word.id)) _ rows) key first
-        by (inr rest) later = later rest
+        by (inr rest) later =
+            let (name, among, one, found, is) = later rest in
+            (name, in_rest word words name among, one, found, is)

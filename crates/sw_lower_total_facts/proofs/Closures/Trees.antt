@@ -1,11 +1,11 @@
 -- A closure and a task proceed where they stand as trees.
-use Rattle.std.proofs.Common.{◌≡◌, ℕ, ◌≤◌, Bool, true, false, List, [], ◌∷◌, ◌++◌, Contains}
-use Rattle.std.proofs.Common.{ap, sym, ◌∙◌, subst, arith, Option, is_some}
-use Rattle.std.proofs.lemmas.List.Elements.{All-head, All-tail, Contains-append_left}
+use Rattle.std.proofs.Common.{◌≡◌, ℕ, ◌≤◌, ◌⊎◌, inl, inr, Bool, true, false, List, [], ◌∷◌, ◌++◌}
+use Rattle.std.proofs.Common.{Contains, ap, sym, ◌∙◌, subst, arith, Option, is_some}
+use Rattle.std.proofs.lemmas.List.Elements.{All-head, All-tail, Contains-append_cases}
+use Rattle.std.proofs.lemmas.List.Elements.{Contains-append_left}
 use Rattle.std.proofs.lemmas.List.Elements.{Contains-append_right}
 use Rattle.std.specs.Prelude.{All, ◌||◌}
 use Rattle.sw_tree.specs.Keys.{Keys, block_keys}
-use Rattle.sw_tree.specs.Order.{block_order}
 use Rattle.sw_tree.specs.declared.expr.ClosureParam.{ClosureParam}
 use Rattle.sw_tree.specs.declared.expr.Expr.{Expr}
 use Rattle.sw_tree.specs.declared.expr.Expr.TheVariants as exprs
@@ -36,30 +36,57 @@ use Rattle.sw_typing_facts.specs.Rows.{RowsHold}
 use Rattle.sw_lower_formed_facts.proofs.Bodies.ClosureRows.{inner_rows, inner_vars}
 use Rattle.sw_typing_facts.proofs.Lists.Listed.{in_first}
 use Rattle.sw_typing_facts.proofs.Said.Rows.{rows_left}
+use Rattle.sw_lower_total_facts.specs.Bound.{sight_in}
 use Rattle.sw_lower_total_facts.specs.Forms.{BlockProceeds, ExprProceeds}
 use Rattle.sw_lower_total_facts.specs.Known.{TablesAgree}
-use Rattle.sw_lower_total_facts.specs.Noted.{StandsInText, vars_of}
+use Rattle.sw_lower_total_facts.specs.Noted.{Sight, StandsInText, vars_of}
 use Rattle.sw_lower_total_facts.specs.Proceeding.{BodyIsNumbered}
+use Rattle.sw_lower_total_facts.specs.Scopes.{Scoped, block_scoped}
 use Rattle.sw_lower_total_facts.specs.Trees.{BlockStands, ExprStands, noted_in, noted_of}
 use Rattle.sw_lower_total_facts.proofs.Closures.Apart.{none_in_block, params_apart}
-use Rattle.sw_lower_total_facts.proofs.Closures.Enclosed.{Enclosure, block, lists, outside, within}
+use Rattle.sw_lower_total_facts.proofs.Closures.Enclosed.{Enclosure, block, lists, within}
 use Rattle.sw_lower_total_facts.proofs.Closures.Forms.{fun_at, fun_noted, fun_proceeds, spawn_at}
 use Rattle.sw_lower_total_facts.proofs.Closures.Forms.{spawn_noted, spawn_proceeds}
-use Rattle.sw_lower_total_facts.proofs.Closures.Places.{IsSeenInside, noted_closed, order_with}
+use Rattle.sw_lower_total_facts.proofs.Closures.Places.{IsSeenInside, noted_closed, scoped_with}
+use Rattle.sw_lower_total_facts.proofs.Mentions.Closures.{enclosing, names_of}
+use Rattle.sw_lower_total_facts.proofs.ScopeCounts.{ats, declared_few, params_are}
 use Rattle.sw_lower_total_facts.proofs.Standing.Closures.{head_keys, list_keys, param_keys}
 use Rattle.sw_lower_total_facts.proofs.Standing.Covering.{Covers, block_covers}
+use Rattle.sw_lower_total_facts.proofs.Standing.Keys.{contained, counted}
 use Rattle.sw_lower_total_facts.proofs.Standing.NoteForms.{notes-Fun, notes-Spawn}
-use Rattle.sw_lower_total_facts.proofs.Standing.OrderForms as placed
+use Rattle.sw_lower_total_facts.proofs.Standing.ScopeForms as placed
 use Rattle.sw_lower_total_facts.proofs.Standing.Trees.{fun_body_stands, spawn_body_stands}
 
--- where something stands, with the same notes, keys and order
-stands_as : (all : List Note) (seen : List ℕ) (notes : List Note) (keys order : Keys)
-    (notes' : List Note) (keys' order' : Keys) → notes ≡ notes' → keys ≡ keys' → order ≡ order'
-    → StandsInText all seen notes keys order → StandsInText all seen notes' keys' order'
-stands_as all seen notes keys order notes' keys' order' same_notes same_keys same_order stands =
-    subst (λ notes. StandsInText all seen notes keys' order') same_notes
-    (subst (λ keys. StandsInText all seen notes keys order') same_keys
-    (subst (StandsInText all seen notes keys) same_order stands))
+-- where something stands, with the same notes, keys and scopes
+stands_as : (all : List Note) (sight : Sight) (notes : List Note) (keys : Keys) (scoped : Scoped)
+    (notes' : List Note) (keys' : Keys) (scoped' : Scoped) → notes ≡ notes' → keys ≡ keys'
+    → scoped ≡ scoped'
+    → StandsInText all sight notes keys scoped → StandsInText all sight notes' keys' scoped'
+stands_as all sight notes keys scoped notes' keys' scoped' same_notes same_keys same_scoped stands =
+    subst (λ notes. StandsInText all sight notes keys' scoped') same_notes
+    (subst (λ keys. StandsInText all sight notes keys scoped') same_keys
+    (subst (StandsInText all sight notes keys) same_scoped stands))
+
+-- What is declared in a closure is a parameter of it, or a key of its block.
+declared_in : (at : ℕ) (words : List Name) (params : List ClosureParam) (body : Block)
+    (key : ℕ) → Contains (enclosing at words params (block_scoped body)).declared key
+    → Contains (head_keys at words params ++ block_keys body) key
+declared_in at words params body key has =
+    by (Contains-append_cases (ats (names_of params)) (block_scoped body).declared key has) where
+      by : Contains (ats (names_of params)) key ⊎ Contains (block_scoped body).declared key
+          → Contains (head_keys at words params ++ block_keys body) key
+      by (inl param) =
+          Contains-append_left (head_keys at words params) (block_keys body) key
+          (Contains-append_right (at ∷ list_keys words) (param_keys params) key
+          (subst (λ list. Contains list key) (params_are params) param))
+      by (inr inside) =
+          Contains-append_right (head_keys at words params) (block_keys body) key
+          (contained (block_keys body) key
+          (omega (
+            arith,
+            counted (block_scoped body).declared key inside,
+            declared_few key body,
+          )))
 
 module _ (tables : Tables) (number : Numbers) (all : List Note)
     (known : TablesAgree tables number all)
@@ -107,7 +134,7 @@ module _ (tables : Tables) (number : Numbers) (all : List Note)
       → RowsHold tables.answers (fun_judged expected closing).rows
       → All (BodyIsNumbered number) (expr_code tables setting.owner fun_tree).inside
       → ExprStands tables number all context listed setting.vars fun_tree
-      → IsSeenInside tables fun_here (block_order body) → BlockProceedsIn fun_here
+      → IsSeenInside tables fun_here (block_scoped body) → BlockProceedsIn fun_here
       → ExprProceeds tables number context listed setting.vars
       (noted_of tables number all fun_tree context listed)
       (expr_code tables setting.owner fun_tree)
@@ -121,8 +148,8 @@ module _ (tables : Tables) (number : Numbers) (all : List Note)
       (All-head (BodyIsNumbered number)
       (closure_body tables setting.owner code (fun_result tables setting.owner at)) _
       (subst (λ (form : ExprCode). All (BodyIsNumbered number) form.inside) fun_code_is numbered))
-      (head_keys at words params ++ block_keys body) (block_order body)
-      (in_first at _) here
+      (head_keys at words params ++ block_keys body) (block_scoped body)
+      (in_first at _) here (declared_in at words params body)
       (record {
         none = none_in_block tables all fun_here (block_keys body) covers once;
         params_fixed = params_apart tables all fun_here (block_keys body) covers once alone;
@@ -133,14 +160,14 @@ module _ (tables : Tables) (number : Numbers) (all : List Note)
         notes_are =
             notes-Fun tables.world tables.answers context listed at mark words params result body
 
-        here : StandsInText all (outside tables fun_here) (fun_noted tables fun_here)
-            (head_keys at words params ++ block_keys body)
-            (order_with tables fun_here (block_order body))
-        here = stands_as all (outside tables fun_here) _ _ _ _ _ _ notes_are
+        here : StandsInText all (sight_in tables context.owner setting.vars)
+            (fun_noted tables fun_here) (head_keys at words params ++ block_keys body)
+            (scoped_with tables fun_here (block_scoped body))
+        here = stands_as all (sight_in tables context.owner setting.vars) _ _ _ _ _ _ notes_are
             (keys.expr_keys-Fun (closure_of at mark words params result body)
             ∙ keys.closure_keys-roll at mark words params result body)
-            (placed.order-Fun (closure_of at mark words params result body)
-            ∙ placed.order-closure at mark words params result body) stands
+            (placed.scoped-Fun (closure_of at mark words params result body)
+            ∙ placed.scoped-closure at mark words params result body) stands
 
         once : (key : ℕ) → count (head_keys at words params ++ block_keys body) key ≤ 1
         once key = distinct_once (head_keys at words params ++ block_keys body) here.apart key
@@ -187,7 +214,7 @@ module _ (tables : Tables) (number : Numbers) (all : List Note)
       → All (BodyIsNumbered number) (expr_code tables setting.owner
       (spawn_tree place detached)).inside
       → ExprStands tables number all context listed setting.vars (spawn_tree place detached)
-      → IsSeenInside tables (spawn_with detached params) (block_order body)
+      → IsSeenInside tables (spawn_with detached params) (block_scoped body)
       → BlockProceedsIn (spawn_with detached params)
       → ExprProceeds tables number context listed setting.vars
       (noted_of tables number all (spawn_tree place detached) context listed)
@@ -203,14 +230,16 @@ module _ (tables : Tables) (number : Numbers) (all : List Note)
       (task_body tables setting.owner code (spawn_result tables setting.owner place)) _
       (subst (λ (form : ExprCode). All (BodyIsNumbered number) form.inside)
       (spawn_code_is place detached) numbered))
-      (place ∷ (head_keys at words [] ++ block_keys body)) (block_order body)
+      (place ∷ (head_keys at words [] ++ block_keys body)) (block_scoped body)
       (Contains-append_right (place ∷ []) (head_keys at words [] ++ block_keys body) at
       (in_first at _)) here
+      (λ key has. Contains-append_right (place ∷ []) (head_keys at words [] ++ block_keys body) key
+      (declared_in at words [] body key has))
       (record {
         none = none_in_block tables all (spawn_here detached) (block_keys body) covers once;
         params_fixed = params_apart tables all (spawn_here detached) (block_keys body) covers once
             (λ key has. absurd (no_key key has));
-        seen = subst (λ these. IsSeenInside tables (spawn_with detached these) (block_order body))
+        seen = subst (λ these. IsSeenInside tables (spawn_with detached these) (block_scoped body))
             no_params seen;
         proceeds = subst (λ these. BlockProceeds tables number
             (within tables (spawn_here detached)) (lists tables (spawn_here detached))
@@ -224,17 +253,17 @@ module _ (tables : Tables) (number : Numbers) (all : List Note)
             notes-Spawn tables.world tables.answers context listed place detached at mark words
             params result body
 
-        here : StandsInText all (outside tables (spawn_here detached))
+        here : StandsInText all (sight_in tables context.owner setting.vars)
             (spawn_noted tables place (spawn_here detached))
             (place ∷ (head_keys at words [] ++ block_keys body))
-            (place ∷ order_with tables (spawn_here detached) (block_order body))
-        here = stands_as all (outside tables (spawn_here detached)) _ _ _ _ _ _ notes_are
+            (scoped_with tables (spawn_here detached) (block_scoped body))
+        here = stands_as all (sight_in tables context.owner setting.vars) _ _ _ _ _ _ notes_are
             (keys.expr_keys-Spawn place detached (closure_of at mark words params result body)
             ∙ ap (λ more. place ∷ more) (keys.closure_keys-roll at mark words params result body
             ∙ ap (λ these. head_keys at words these ++ block_keys body) no_params))
-            (placed.order-Spawn place detached (closure_of at mark words params result body)
-            ∙ ap (λ more. place ∷ more) (placed.order-closure at mark words params result body
-            ∙ ap (λ these. head_keys at words these ++ block_order body) no_params)) stands
+            (placed.scoped-Spawn place detached (closure_of at mark words params result body)
+            ∙ placed.scoped-closure at mark words params result body
+            ∙ ap (λ these. enclosing at words these (block_scoped body)) no_params) stands
 
         once : (key : ℕ) → count (head_keys at words [] ++ block_keys body) key ≤ 1
         once key =
@@ -279,7 +308,7 @@ module _ (tables : Tables) (number : Numbers) (all : List Note)
       → RowsHold tables.answers (fun_judged expected closing).rows
       → All (BodyIsNumbered number) (expr_code tables setting.owner fun_tree).inside
       → ExprStands tables number all context listed setting.vars fun_tree
-      → WhereBlock fun_here (IsSeenInside tables fun_here (block_order body))
+      → WhereBlock fun_here (IsSeenInside tables fun_here (block_scoped body))
       → WhereBlock fun_here (BlockProceedsIn fun_here)
       → ExprProceeds tables number context listed setting.vars
       (noted_of tables number all fun_tree context listed)
@@ -318,7 +347,7 @@ module _ (tables : Tables) (number : Numbers) (all : List Note)
       (spawn_tree place detached)).inside
       → ExprStands tables number all context listed setting.vars (spawn_tree place detached)
       → WhereBlock (spawn_with detached params)
-      (IsSeenInside tables (spawn_with detached params) (block_order body))
+      (IsSeenInside tables (spawn_with detached params) (block_scoped body))
       → WhereBlock (spawn_with detached params) (BlockProceedsIn (spawn_with detached params))
       → ExprProceeds tables number context listed setting.vars
       (noted_of tables number all (spawn_tree place detached) context listed)

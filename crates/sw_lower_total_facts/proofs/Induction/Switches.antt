@@ -38,7 +38,8 @@ use Rattle.sw_typing_facts.proofs.Lists.Joined.{all_left, all_right}
 use Rattle.sw_typing_facts.proofs.Programs.DeclStands.{none_left, none_right}
 use Rattle.sw_typing_facts.proofs.Said.Rows.{rows_left, rows_right}
 use Rattle.sw_lower_formed_facts.proofs.Statements.Sequences.{arm_vars_hold, cases_vars, some_still}
-use Rattle.sw_lower_total_facts.specs.Bound.{seen_in}
+use Rattle.sw_lower_total_facts.specs.Bound.{sight_in}
+use Rattle.sw_lower_total_facts.specs.Scopes.{nothing}
 use Rattle.sw_typing_facts.specs.EnumWords.{in_block, in_cases, in_expr, in_stmt}
 use Rattle.sw_lower_total_facts.specs.Forms.{StmtProceeds}
 use Rattle.sw_lower_total_facts.specs.Known.{TablesAgree}
@@ -174,7 +175,7 @@ module _ (tables : Tables) (number : Numbers) (all : List Note) where
       (λ key. is_among (vars_in all) key ≡ false)
       (λ key has.
       pattern_no_var tables.world tables.answers context listed all
-      (seen_in tables context.owner vars) [] name patterns body arms stands key has)
+      (sight_in tables context.owner vars) nothing name patterns body arms stands key has)
       (flat_map pattern_keys patterns) (All-contains_itself (flat_map pattern_keys patterns))
 
   -- the arms of a `switch`

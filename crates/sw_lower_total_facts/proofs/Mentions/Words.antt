@@ -41,11 +41,12 @@ use Rattle.sw_isolation_rules.specs.Captures.{list_mentions, me_mentions, meant_
 use Rattle.sw_isolation_rules.specs.Captures.{self_of, word_mentions}
 use Rattle.sw_isolation_rules.specs.declared.note.Mention.{Mention}
 use Rattle.sw_typing_facts.specs.Rows.{RowsHold}
-use Rattle.sw_typing_facts.proofs.Lists.Found.{local_has}
+use Rattle.sw_typing_facts.proofs.Lists.Listed.{in_first}
 use Rattle.sw_typing_facts.proofs.Said.Rows.{rows_left, rows_right}
 use Rattle.sw_typing_facts.proofs.Types.Within.{all_append}
+use Rattle.sw_lower_total_facts.specs.Scopes.{Word, free_word}
 use Rattle.sw_lower_total_facts.proofs.Mentions.Notes.{MentionsIn}
-use Rattle.sw_lower_total_facts.proofs.Mentions.Seen.{keys_among, keys_of}
+use Rattle.sw_lower_total_facts.proofs.Mentions.Seen.{Means}
 
 -- a sense that is this variable
 abbrev IsVariable : Sense → ℕ → Type 0
@@ -57,39 +58,39 @@ IsVariable (Top meaning) key = ⊥
 IsVariable Printing key = ⊥
 IsVariable Nothing key = ⊥
 
+-- A visible variable that a word means.
+abbrev pub IsLocal : List Var → ℕ → ℕ → Type 0
+IsLocal vars id key = (one : Var) × (local vars id ≡ Some one) × (one.at ≡ key)
+
 -- A word's variable is visible.
 sense_seen : (world : World) (setting : Setting) (id key : ℕ)
-    → IsVariable (sense world setting id) key → Contains (keys_of setting.vars) key
-sense_seen world setting id key is =
-    by (local setting.vars id)
-    (λ one found. local_has (λ (other : Var). Contains (keys_of setting.vars) other.at)
-    setting.vars id one (keys_among setting.vars) found) is where
-      top : (found : Option words.Meaning) → IsVariable (top_sense found id) key → ⊥
-      top (Some meaning) is = is
-      top None is = print (id == 7) is where
-        print : (so : Bool) → IsVariable (if so then Printing else Nothing) key → ⊥
-        print true is = is
-        print false is = is
+    → IsVariable (sense world setting id) key → IsLocal setting.vars id key
+sense_seen world setting id key is = by (local setting.vars id) refl is where
+  top : (found : Option words.Meaning) → IsVariable (top_sense found id) key → ⊥
+  top (Some meaning) is = is
+  top None is = print (id == 7) is where
+    print : (so : Bool) → IsVariable (if so then Printing else Nothing) key → ⊥
+    print true is = is
+    print false is = is
 
-      by_role : (shape : ℕ) (member : Member) (found : Role)
-          → IsVariable (role_sense shape member.word.at found) key → ⊥
-      by_role shape member (role.Part i) is = is
-      by_role shape member (role.Case i) is = is
-      by_role shape member role.Method is = is
+  by_role : (shape : ℕ) (member : Member) (found : Role)
+      → IsVariable (role_sense shape member.word.at found) key → ⊥
+  by_role shape member (role.Part i) is = is
+  by_role shape member (role.Case i) is = is
+  by_role shape member role.Method is = is
 
-      in_type : (around : Option ℕ) (found : Option Member)
-          → IsVariable (member_sense around found (top_sense (world.known.top id) id)) key → ⊥
-      in_type None found is = top (world.known.top id) is
-      in_type (Some shape) None is = top (world.known.top id) is
-      in_type (Some shape) (Some member) is = by_role shape member member.role is
+  in_type : (around : Option ℕ) (found : Option Member)
+      → IsVariable (member_sense around found (top_sense (world.known.top id) id)) key → ⊥
+  in_type None found is = top (world.known.top id) is
+  in_type (Some shape) None is = top (world.known.top id) is
+  in_type (Some shape) (Some member) is = by_role shape member member.role is
 
-      by : (found : Option Var)
-          → ((one : Var) → found ≡ Some one → Contains (keys_of setting.vars) one.at)
-          → IsVariable (local_sense found (member_sense setting.owner
-          (owned world setting.owner id) (top_sense (world.known.top id) id))) key
-          → Contains (keys_of setting.vars) key
-      by (Some one) has is = subst (Contains (keys_of setting.vars)) is (has one refl)
-      by None has is = absurd (in_type setting.owner (owned world setting.owner id) is)
+  by : (found : Option Var) → local setting.vars id ≡ found
+      → IsVariable (local_sense found (member_sense setting.owner
+      (owned world setting.owner id) (top_sense (world.known.top id) id))) key
+      → IsLocal setting.vars id key
+  by (Some one) found is = (one, found, is)
+  by None found is = absurd (in_type setting.owner (owned world setting.owner id) is)
 
 -- what is said of a meaning is what was noted
 same_meaning : (answers : Answers) (at key : ℕ) (meaning : Meaning)
@@ -233,50 +234,65 @@ sensed_local world answers (Top word.Entry) at key rows is = absurd rows.0
 sensed_local world answers Printing at key rows is = absurd rows.0
 sensed_local world answers Nothing at key rows is = absurd rows.0
 
--- The word with a key means no variables but visible ones.
-abbrev pub MeansVisible : Answers → List Var → ℕ → Type 0
-MeansVisible answers vars at = (key : ℕ) → answers.meaning_at at ≡ Some (means.Local key)
-    → Contains (keys_of vars) key
+-- The word with a key means no variable but the visible one of its name.
+abbrev pub MeansLocal : Answers → List Var → ℕ → ℕ → Type 0
+MeansLocal answers vars id at = (key : ℕ) → answers.meaning_at at ≡ Some (means.Local key)
+    → IsLocal vars id key
+
+-- The word with a key means no variable but one that these words mean.
+abbrev pub MeansVisible : Answers → List Var → List Word → ℕ → Type 0
+MeansVisible answers vars free at = (key : ℕ) → answers.meaning_at at ≡ Some (means.Local key)
+    → Means vars free key
+
+-- A word is among these words.
+pub local_visible : (answers : Answers) (vars : List Var) (free : List Word) (word : Word)
+    (at : ℕ) → Contains free word → MeansLocal answers vars word.id at
+    → MeansVisible answers vars free at
+local_visible answers vars free word at has is key same =
+    let (one, found, at_is) = is key same in (word, has, one, found, at_is)
 
 pub word_visible : (world : World) (answers : Answers) (setting : Setting) (name : Name)
     → RowsHold answers (word_judged world setting name).rows
-    → MeansVisible answers setting.vars name.at
-word_visible world answers setting name rows key is =
+    → MeansVisible answers setting.vars (free_word name ∷ []) name.at
+word_visible world answers setting name rows =
+    local_visible answers setting.vars (free_word name ∷ []) (free_word name) name.at
+    (in_first (free_word name) [])
+    (λ key is.
     sense_seen world setting name.id key
-    (sensed_local world answers (sense world setting name.id) name.at key rows is)
+    (sensed_local world answers (sense world setting name.id) name.at key rows is))
 
 pub call_visible : (world : World) (answers : Answers) (setting : Setting) (name : Name)
     (before : List Row) (passed : Passed)
     → is_some (call_judged (call_callee world setting name) name.at before passed).ty ≡ true
     → RowsHold answers (call_judged (call_callee world setting name) name.at before passed).rows
-    → MeansVisible answers setting.vars name.at
-call_visible world answers setting name before passed typed rows key is =
+    → MeansVisible answers setting.vars (free_word name ∷ []) name.at
+call_visible world answers setting name before passed typed rows =
     let meant = sense world setting name.id in
     let callee = word_callee world meant in
     let meaning = meaning_rows name.at (callee_meaning callee) in
+    local_visible answers setting.vars (free_word name ∷ []) (free_word name) name.at
+    (in_first (free_word name) [])
+    (λ key is.
     sense_seen world setting name.id key
     (callee_known (LocalIs meant) callee passed.given answers name.at (means.Local key) typed
     (rows_right answers passed.rows meaning
     (rows_right answers before (passed.rows ++ meaning)
     (rows_left answers (before ++ (passed.rows ++ meaning)) _ rows)))
-    (word_means world meant) is key refl)
+    (word_means world meant) is key refl))
 
 -- a word that a closure lists
-pub capture_visible : (answers : Answers) (vars : List Var) (name : Name)
+pub capture_local : (answers : Answers) (vars : List Var) (name : Name)
     → RowsHold answers (capture_rows name (local vars name.id))
-    → MeansVisible answers vars name.at
-capture_visible answers vars name rows key is =
-    by (local vars name.id) (λ one found. local_has
-    (λ (other : Var). Contains (keys_of vars) other.at) vars name.id one (keys_among vars) found)
-    rows where
-      by : (found : Option Var)
-          → ((one : Var) → found ≡ Some one → Contains (keys_of vars) one.at)
-          → RowsHold answers (capture_rows name found) → Contains (keys_of vars) key
-      by None has rows = absurd rows.0
-      by (Some one) has rows =
-          subst (Contains (keys_of vars))
-          (local_key one.at key (same_meaning answers name.at key (means.Local one.at) rows.0 is))
-          (has one refl)
+    → MeansLocal answers vars name.id name.at
+capture_local answers vars name rows key is = by (local vars name.id) refl rows where
+  by : (found : Option Var) → local vars name.id ≡ found
+      → RowsHold answers (capture_rows name found) → IsLocal vars name.id key
+  by None found rows = absurd rows.0
+  by (Some one) found rows = (
+    one,
+    found,
+    local_key one.at key (same_meaning answers name.at key (means.Local one.at) rows.0 is),
+  )
 
 -- What a word mentions is so where its variable and `self` are.
 module _ (P : ℕ → Type 0) (world : World) (owner : Option ℕ)

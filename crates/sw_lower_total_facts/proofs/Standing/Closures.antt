@@ -1,7 +1,6 @@
 -- The bodies of closures and tasks are parts of them.
 use Rattle.std.proofs.Common.{ℕ, Bool, List, ◌∷◌, ◌++◌, map, Option, ap, ◌∙◌, arith}
 use Rattle.sw_tree.specs.Keys.{Keys, block_keys, expr_keys}
-use Rattle.sw_tree.specs.Order.{block_order, expr_order}
 use Rattle.sw_tree.specs.declared.expr.ClosureParam.{ClosureParam}
 use Rattle.sw_tree.specs.declared.expr.Expr.TheVariants as exprs
 use Rattle.sw_tree.specs.declared.name.Name.{Name}
@@ -16,6 +15,8 @@ use Rattle.sw_isolation_rules.specs.Captures.{list_mentions}
 use Rattle.sw_isolation_rules.specs.Noting.{block_notes, task_races, with_list}
 use Rattle.sw_isolation_rules.specs.declared.note.Note.TheVariants.{Mentioned}
 use Rattle.sw_isolation_rules.specs.declared.uses.Context.{Context}
+use Rattle.sw_lower_total_facts.specs.Scopes.{block_scoped, expr_scoped}
+use Rattle.sw_lower_total_facts.proofs.Mentions.Closures.{enclosing}
 use Rattle.sw_lower_total_facts.proofs.Standing.Closing.{alike_closed}
 use Rattle.sw_lower_total_facts.proofs.Standing.Covering.{bare_task}
 use Rattle.sw_lower_total_facts.proofs.Standing.NoteForms as noted
@@ -23,8 +24,8 @@ use Rattle.sw_lower_total_facts.proofs.Standing.NoteForms.{closure_inner, closur
 use Rattle.sw_lower_total_facts.proofs.Standing.NoteForms.{fun_inside, task_inside}
 use Rattle.sw_lower_total_facts.proofs.Standing.Noting.{alike_right, alike_then, bare_lacks}
 use Rattle.sw_lower_total_facts.proofs.Standing.Noting.{bare_mentions}
-use Rattle.sw_lower_total_facts.proofs.Standing.OrderForms as placed
-use Rattle.sw_lower_total_facts.proofs.Standing.Orders.{within_next, within_part, within_right}
+use Rattle.sw_lower_total_facts.proofs.Standing.ScopeForms as placed
+use Rattle.sw_lower_total_facts.proofs.Standing.Scopes.{within_same}
 use Rattle.sw_lower_total_facts.proofs.Standing.Parts.{IsPart, IsShare, part_by, share_bare}
 use Rattle.sw_lower_total_facts.proofs.Standing.Parts.{share_body, share_next, share_then}
 
@@ -71,21 +72,21 @@ module _ (world : World) (answers : Answers) (listed : List ℕ) where
       (expr_notes world answers context listed
       (exprs.Fun (closure_of at mark captures params result body)))
       (expr_keys (exprs.Fun (closure_of at mark captures params result body)))
-      (expr_order (exprs.Fun (closure_of at mark captures params result body)))
+      (expr_scoped (exprs.Fun (closure_of at mark captures params result body)))
       (block_notes world answers body (fun_inside world answers context listed at)
       (with_list world answers context listed captures))
-      (block_keys body) (block_order body)
+      (block_keys body) (enclosing at captures params (block_scoped body))
   fun_body context at mark captures params result body =
       part_by _ _ _ _ _ _ _ _ _
       (noted.notes-Fun world answers context listed at mark captures params result body)
       (keys.expr_keys-Fun (closure_of at mark captures params result body)
       ∙ keys.closure_keys-roll at mark captures params result body)
-      (placed.order-Fun (closure_of at mark captures params result body)
-      ∙ placed.order-closure at mark captures params result body)
+      (placed.scoped-Fun (closure_of at mark captures params result body)
+      ∙ placed.scoped-closure at mark captures params result body)
       (record {
         share = share_then _ _ _ _ _ _ (share_body _ _ _)
             (body_share (fun_inside world answers context listed at) at captures params body);
-        within = within_right (head_keys at captures params) (block_order body);
+        within = within_same (enclosing at captures params (block_scoped body));
       })
 
   pub spawn_body : (context : Context) (place : ℕ) (detached : Bool) (at : ℕ)
@@ -95,18 +96,18 @@ module _ (world : World) (answers : Answers) (listed : List ℕ) where
       (expr_notes world answers context listed
       (exprs.Spawn place detached (closure_of at mark captures params result body)))
       (expr_keys (exprs.Spawn place detached (closure_of at mark captures params result body)))
-      (expr_order (exprs.Spawn place detached (closure_of at mark captures params result body)))
+      (expr_scoped (exprs.Spawn place detached (closure_of at mark captures params result body)))
       (block_notes world answers body (task_inside world answers context listed mark detached)
       (with_list world answers context listed captures))
-      (block_keys body) (block_order body)
+      (block_keys body) (enclosing at captures params (block_scoped body))
   spawn_body context place detached at mark captures params result body =
       part_by _ _ _ _ _ _ _ _ _
       (noted.notes-Spawn world answers context listed place detached at mark captures params
       result body)
       (keys.expr_keys-Spawn place detached (closure_of at mark captures params result body)
       ∙ ap (λ more. place ∷ more) (keys.closure_keys-roll at mark captures params result body))
-      (placed.order-Spawn place detached (closure_of at mark captures params result body)
-      ∙ ap (λ more. place ∷ more) (placed.order-closure at mark captures params result body))
+      (placed.scoped-Spawn place detached (closure_of at mark captures params result body)
+      ∙ placed.scoped-closure at mark captures params result body)
       (record {
         share = share_then _ _ _ _ _ _ (share_body _ _ _)
             (share_then _ _ _ _ _ _
@@ -114,6 +115,5 @@ module _ (world : World) (answers : Answers) (listed : List ℕ) where
             (share_then _ _ _ _ _ _ (share_next place _ _)
             (body_share (task_inside world answers context listed mark detached) at captures params
             body)));
-        within = within_part _ _ _ (within_next place _)
-            (within_right (head_keys at captures params) (block_order body));
+        within = within_same (enclosing at captures params (block_scoped body));
       })

@@ -6,7 +6,6 @@ use Rattle.std.proofs.lemmas.List.Elements.{Contains-append_left}
 use Rattle.std.specs.List.{filter}
 use Rattle.sw_tree.specs.Keys.{Keys, arg_keys, block_keys, case_arm_keys, expr_keys, joined}
 use Rattle.sw_tree.specs.Keys.{pattern_keys}
-use Rattle.sw_tree.specs.Order.{block_order}
 use Rattle.sw_tree.specs.declared.expr.Arg.{Arg}
 use Rattle.sw_tree.specs.declared.expr.Expr.{Expr}
 use Rattle.sw_tree.specs.declared.expr.Expr.TheVariants as exprs
@@ -24,7 +23,8 @@ use Rattle.sw_isolation_rules.specs.Lists.{vars_in}
 use Rattle.sw_isolation_rules.specs.Noting.{member_notes, see, word_notes}
 use Rattle.sw_isolation_rules.specs.declared.note.Note.{Note}
 use Rattle.sw_isolation_rules.specs.declared.uses.Context.{Context}
-use Rattle.sw_lower_total_facts.specs.Noted.{StandsInText, kinds_of}
+use Rattle.sw_lower_total_facts.specs.Noted.{Sight, StandsInText, kinds_of}
+use Rattle.sw_lower_total_facts.specs.Scopes.{Scoped, block_scoped, declaring, each}
 use Rattle.sw_lower_total_facts.proofs.Standing.Covering.{block_covers, expr_covers}
 use Rattle.sw_lower_total_facts.proofs.Standing.Expressions.{args_cover}
 use Rattle.sw_lower_total_facts.proofs.Standing.Keys.{contained, counted}
@@ -32,8 +32,8 @@ use Rattle.sw_lower_total_facts.proofs.Standing.NoteForms as noted
 use Rattle.sw_lower_total_facts.proofs.Standing.NoteForms.{args_notes, case_arms_notes, expr_notes}
 use Rattle.sw_lower_total_facts.proofs.Standing.NoteForms.{notes_in}
 use Rattle.sw_lower_total_facts.proofs.Standing.Noting.{Lacks, alike_left, alike_right}
-use Rattle.sw_lower_total_facts.proofs.Standing.OrderForms.{case_arm_order}
 use Rattle.sw_lower_total_facts.proofs.Standing.Parts.{part_stands}
+use Rattle.sw_lower_total_facts.proofs.Standing.ScopeForms.{case_arm_scoped, patterns_names}
 use Rattle.sw_lower_total_facts.proofs.Standing.Statements.{case_arm_of, case_arm_whole}
 
 -- What isn't noted as a `var` is none.
@@ -51,19 +51,19 @@ none_among (first ∷ list) key none =
       by false same none later = later none
 
 -- A key of a tree that stands, of which nothing is noted, is no `var`'s.
-pub no_var : (all : List Note) (seen : List ℕ) (notes : List Note) (its order : Keys) (key : ℕ)
-    → StandsInText all seen notes its order → Contains its key → Lacks notes key
+pub no_var : (all : List Note) (sight : Sight) (notes : List Note) (its : Keys) (scoped : Scoped)
+    (key : ℕ) → StandsInText all sight notes its scoped → Contains its key → Lacks notes key
     → is_among (vars_in all) key ≡ false
-no_var all seen notes its order key stands has none =
+no_var all sight notes its scoped key stands has none =
     none_among (vars_in all) key (stands.alone.vars key has ∙ none.vars)
 
 module _ (world : World) (answers : Answers) (context : Context) (listed : List ℕ)
-    (all : List Note) (seen : List ℕ) (order : Keys) where
+    (all : List Note) (sight : Sight) (scoped : Scoped) where
   abbrev its_notes : Expr → List Note
   its_notes expr = expr_notes world answers context listed expr
 
   abbrev StandsSo : Expr → Type 0
-  StandsSo expr = StandsInText all seen (its_notes expr) (expr_keys expr) order
+  StandsSo expr = StandsInText all sight (its_notes expr) (expr_keys expr) scoped
 
   once : (expr : Expr) → StandsSo expr → (key : ℕ) → count (expr_keys expr) key ≤ 1
   once expr stands key = distinct_once (expr_keys expr) stands.apart key
@@ -161,14 +161,14 @@ module _ (world : World) (answers : Answers) (context : Context) (listed : List 
   -- A variable of a pattern is no `var`.
   pub pattern_no_var : (name : Name) (patterns : List Pattern) (body : Block)
       (arms : List CaseArm)
-      → StandsInText all seen
+      → StandsInText all sight
       (case_arms_notes world answers (case_arm_of name patterns body ∷ arms) context listed)
       (joined (map case_arm_keys (case_arm_of name patterns body ∷ arms)))
-      (joined (map case_arm_order (case_arm_of name patterns body ∷ arms)))
+      (each (map case_arm_scoped (case_arm_of name patterns body ∷ arms)))
       → (key : ℕ) → Contains (flat_map pattern_keys patterns) key
       → is_among (vars_in all) key ≡ false
   pattern_no_var name patterns body arms stands key has =
-      no_var all seen (notes_in world answers context listed body) whole_keys _ key whole
+      no_var all sight (notes_in world answers context listed body) whole_keys _ key whole
       (Contains-append_left (flat_map pattern_keys patterns) (block_keys body) key has)
       (block_covers world answers body context listed key
       (omega (
@@ -180,7 +180,7 @@ module _ (world : World) (answers : Answers) (context : Context) (listed : List 
         whole_keys : Keys
         whole_keys = flat_map pattern_keys patterns ++ block_keys body
 
-        whole : StandsInText all seen (notes_in world answers context listed body) whole_keys
-            (flat_map pattern_keys patterns ++ block_order body)
-        whole = part_stands all seen _ _ _ _ _ _
+        whole : StandsInText all sight (notes_in world answers context listed body) whole_keys
+            (declaring (patterns_names patterns) [] (block_scoped body))
+        whole = part_stands all sight _ _ _ _ _ _
             (case_arm_whole world answers context listed name patterns body arms) stands

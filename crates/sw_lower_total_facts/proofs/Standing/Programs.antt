@@ -1,16 +1,16 @@
--- In a program whose keys are its nodes' own and rise in the order of its text, each body and each
--- first value stands; parameters and the words of types are no `var`s.
-use Rattle.std.proofs.Common.{◌≡◌, ℕ, ◌+◌, ◌≤◌, Bool, false, List, [], ◌∷◌, ◌++◌, map, flat_map}
-use Rattle.std.proofs.Common.{Option, None, Some, option_map, unwrap_or, Contains, inl, inr, refl}
-use Rattle.std.proofs.Common.{ap, sym, subst, ◌∙◌, arith, append_assoc}
-use Rattle.std.specs.Prelude.{slice_get}
-use Rattle.std.proofs.lemmas.List.Elements.{Contains-append_cases, Contains-append_left}
-use Rattle.std.proofs.lemmas.List.Elements.{Contains-append_right}
+-- In a program whose keys are its nodes' own and tell scopes, each body and each first value stands;
+-- parameters and the words of types are no `var`s.
+use Rattle.std.proofs.Common.{◌≡◌, ℕ, ◌+◌, ◌<◌, ◌≤◌, Bool, false, List, [], ◌∷◌, ◌++◌, map}
+use Rattle.std.proofs.Common.{flat_map, Option, None, Some, option_map, Contains, inl, inr, nat_eq}
+use Rattle.std.proofs.Common.{refl, ap, sym, subst, ◌∙◌, arith}
+use Rattle.std.specs.List.{IsDistinct}
+use Rattle.std.specs.Prelude.{All, slice_get}
+use Rattle.std.proofs.lemmas.List.Elements.{All-contains}
+use Rattle.sw_list.proofs.Members.{none_in}
 use Rattle.sw_tree.specs.Contents.{AreKeyed}
 use Rattle.sw_tree.specs.Keys as tree
 use Rattle.sw_tree.specs.Keys.{Keys, block_keys, decl_keys, expr_keys, func_keys, init_keys}
 use Rattle.sw_tree.specs.Keys.{params_keys}
-use Rattle.sw_tree.specs.Order.{AreInOrder, AreRising, block_order, expr_order, prop_order}
 use Rattle.sw_tree.specs.declared.decl.Decl.{Decl}
 use Rattle.sw_tree.specs.declared.decl.Decl.TheVariants.{Entry, Struct, Enum, Class, Actor}
 use Rattle.sw_tree.specs.declared.decl.Decl.TheVariants.{GlobalActor, Func, Global}
@@ -34,6 +34,7 @@ use Rattle.sw_decls.specs.declared.signature.Signature.{Signature}
 use Rattle.sw_typing_rules.proofs.OneWorld.{distinct_once}
 use Rattle.sw_typing_rules.specs.Programs.{param_var}
 use Rattle.sw_typing_rules.specs.Worlds.{IsWorldOf, World}
+use Rattle.sw_typing_rules.specs.declared.scope.Var.{Var}
 use Rattle.sw_isolation_rules.specs.Answers.{Answers}
 use Rattle.sw_isolation_rules.specs.Captures.{is_among, self_of}
 use Rattle.sw_isolation_rules.specs.Kinds.{shape_iso}
@@ -48,22 +49,25 @@ use Rattle.sw_typing_facts.proofs.Programs.DeclParts.{funcs_in, inits_in, props_
 use Rattle.sw_typing_facts.proofs.Programs.MadeOf.{shapes_are}
 use Rattle.sw_typing_facts.proofs.Programs.Standing.{PlaceOf, Stands as StandsAt, StandsFrom}
 use Rattle.sw_typing_facts.proofs.Programs.Standing.{place_of_thing}
-use Rattle.sw_lower_total_facts.specs.Noted.{StandsInText}
-use Rattle.sw_lower_total_facts.proofs.Mentions.Seen.{keys_of}
+use Rattle.sw_lower_total_facts.specs.Noted.{Sight, StandsInText, keys_of}
+use Rattle.sw_lower_total_facts.specs.Scopes.{AreLess, AreScoped, Scoped, block_scoped, body_pairs}
+use Rattle.sw_lower_total_facts.specs.Scopes.{declaring, expr_scoped, maybe, prop_pairs}
+use Rattle.sw_lower_total_facts.proofs.Mentions.Declared.{AreNamed}
 use Rattle.sw_lower_total_facts.proofs.Standing.Covering.{Covers}
 use Rattle.sw_lower_total_facts.proofs.Standing.Declared as decl
 use Rattle.sw_lower_total_facts.proofs.Standing.Declared.{global_iso, inner_keys}
 use Rattle.sw_lower_total_facts.proofs.Standing.Declared.{keys_split, words_of}
 use Rattle.sw_lower_total_facts.proofs.Standing.Keys.{counted}
 use Rattle.sw_lower_total_facts.proofs.Standing.Noting.{Lacks, lacks_join, lacks_nothing}
-use Rattle.sw_lower_total_facts.proofs.Standing.Ordered.{func_ordered, init_ordered, order_rises}
-use Rattle.sw_lower_total_facts.proofs.Standing.Ordered.{owner_of, prop_ordered, self_words}
-use Rattle.sw_lower_total_facts.proofs.Standing.Orders.{IsBefore, all_of_each, rising_across}
-use Rattle.sw_lower_total_facts.proofs.Standing.Orders.{rising_right}
+use Rattle.sw_lower_total_facts.proofs.Standing.Ordered.{IsLess, entry_less, func_less, global_less}
+use Rattle.sw_lower_total_facts.proofs.Standing.Ordered.{init_less, owner_of, prop_less, self_words}
 use Rattle.sw_lower_total_facts.proofs.Standing.Own.{none_among}
 use Rattle.sw_lower_total_facts.proofs.Standing.Owners.{entry_owner, func_owner, init_owner}
-use Rattle.sw_lower_total_facts.proofs.Standing.Parts.{IsShare, share_all, share_apart, share_left}
+use Rattle.sw_lower_total_facts.proofs.Standing.Parts.{IsShare, later_apart, not_later, share_all}
+use Rattle.sw_lower_total_facts.proofs.Standing.Parts.{share_among, share_apart, share_left}
 use Rattle.sw_lower_total_facts.proofs.Standing.Parts.{share_right, share_then}
+use Rattle.sw_lower_total_facts.proofs.Standing.Scopes.{all_among, all_of_each}
+use Rattle.sw_lower_total_facts.proofs.Standing.Seen.{declared_stands, sight}
 
 module _ (world : World) (answers : Answers) where
   -- What is noted of declarations is of their keys.
@@ -104,7 +108,16 @@ module _ (world : World) (answers : Answers) where
 word_is : (one shape : Shape) → one ∷ [] ≡ shape ∷ [] → one.at ∷ [] ≡ shape.at ∷ []
 word_is one shape same = ap (map (λ (s : Shape). s.at)) same
 
--- the variables of parameters
+-- the names of parameters, and their variables
+abbrev names_of : List ParamTree → List Name
+names_of params = map (λ (param : ParamTree). param.name) params
+
+params_named : (world : World) (params : List ParamTree)
+    → AreNamed (map (param_var world) params) (names_of params)
+params_named world [] = refl
+params_named world (param ∷ params) =
+    ap (λ more. (param.name.id, param.name.at) ∷ more) (params_named world params)
+
 params_are : (world : World) (params : List ParamTree)
     → keys_of (map (param_var world) params) ≡ params_keys params
 params_are world [] = refl
@@ -112,27 +125,30 @@ params_are world (param ∷ params) =
     ap (λ more. param.name.at ∷ more) (params_are world params)
 
 module _ (decls : List Decl) (rule : AsyncDefault) (world : World) (answers : Answers)
-    (keyed : AreKeyed decls) (ordered : AreInOrder decls) (is : IsWorldOf decls rule world) where
+    (keyed : AreKeyed decls) (scoped : AreScoped decls) (is : IsWorldOf decls rule world) where
   abbrev all : List Note
   all = noted world answers decls
 
-  -- what is seen in a member of a type, with these parameters
-  abbrev pub seen_with : Option ℕ → List ParamTree → Keys
-  seen_with owner params = self_of world owner ++ keys_of (map (param_var world) params)
+  -- what is visible in a member of a type, with these parameters
+  abbrev pub sight_with : Option ℕ → List ParamTree → Sight
+  sight_with owner params = sight (self_of world owner) (map (param_var world) params)
 
-  -- A share of the program stands where its keys rise after the variables that are seen.
-  share_stands : (part : List Note) (part_keys part_order : Keys) (seen earlier : Keys)
-      → IsShare all (tree.keys_of decls) part part_keys → AreRising (earlier ++ part_order)
-      → ((key : ℕ) → Contains seen key → Contains earlier key)
-      → StandsInText all seen part part_keys part_order
-  share_stands part part_keys part_order seen earlier share rising among = record {
+  -- A share of the program stands where no variable is visible, by what keys tell of it.
+  share_stands : (part : List Note) (part_keys : Keys) (part_scoped : Scoped) (me : Keys)
+      → IsShare all (tree.keys_of decls) part part_keys → AreLess part_scoped.pairs
+      → All (λ word. All (λ key. word < key) part_keys) me
+      → StandsInText all (sight me []) part part_keys part_scoped
+  share_stands part part_keys part_scoped me share less own = record {
     alone = share_all all all (tree.keys_of decls) part part_keys share keyed
         (record { kinds = λ key has. refl; held = λ key has. refl; vars = λ key has. refl });
     apart = share_apart all (tree.keys_of decls) part part_keys share keyed;
-    rising = rising_right earlier part_order rising;
-    before = all_of_each (IsBefore part_order) seen (λ key has.
-        rising_across earlier part_order key rising (among key has));
-  }
+    less = less;
+    before = λ word has one found. absurd (none one found);
+    own = own;
+    elsewhere = λ key visible. absurd (none_in key visible);
+  } where
+    none : (one : Var) → None ≡ Some one → ⊥
+    none one found = cc
 
   -- Of a key of a part of which nothing is noted there, no `var` is noted.
   share_no_var : (part : List Note) (part_keys : Keys) (key : ℕ)
@@ -143,90 +159,98 @@ module _ (decls : List Decl) (rule : AsyncDefault) (world : World) (answers : An
       ((share.alike key some (distinct_once (tree.keys_of decls) keyed key)).vars ∙ none.vars)
 
   module _ (n g : ℕ) (one : Decl) (stands : StandsAt decls n g one) where
-    -- what is seen in a member is the word of the type, and parameters
-    seen_there : (owner : Option ℕ) (params : List ParamTree) → owner ≡ owner_of n one
-        → seen_with owner params ≡ words_of one ++ params_keys params
-    seen_there owner params same =
-        ap (λ o. self_of world o ++ keys_of (map (param_var world) params)) same
-        ∙ ap (λ words. words ++ keys_of (map (param_var world) params))
-        (self_words decls rule world is n g one stands)
-        ∙ ap (λ more. words_of one ++ more) (params_are world params)
+    -- `self` in a member is the word of the type, which stands before the keys of the member.
+    own_before : (owner : Option ℕ) (own part : Keys) → owner ≡ owner_of n one
+        → All (λ word. All (λ key. word < key) own) (words_of one)
+        → ((key : ℕ) → Contains part key → Contains own key)
+        → All (λ word. All (λ key. word < key) part) (self_of world owner)
+    own_before owner own part same before among =
+        subst (All (λ word. All (λ key. word < key) part))
+        (sym (ap (self_of world) same ∙ self_words decls rule world is n g one stands))
+        (all_of_each (λ word. All (λ key. word < key) part) (words_of one) (λ word has.
+        all_among (λ key. word < key) own part among
+        (All-contains (λ word. All (λ key. word < key) own) (words_of one) word before has)))
 
-    -- words, a key and parameters before a body
-    before_body : (owner : Option ℕ) (params : List ParamTree) (at : ℕ)
-        → owner ≡ owner_of n one → (key : ℕ) → Contains (seen_with owner params) key
-        → Contains (words_of one ++ at ∷ params_keys params) key
-    before_body owner params at same key has =
-        elim (Contains-append_cases (words_of one) (params_keys params) key
-        (subst (λ list. Contains list key) (seen_there owner params same) has)) [
-          | inl word ↦ Contains-append_left (words_of one) (at ∷ params_keys params) key word
-          | inr param ↦ Contains-append_right (words_of one) (at ∷ params_keys params) key
-              (Contains-append_right (at ∷ []) (params_keys params) key param)
-        ]
-
-    body_order : (at : ℕ) (params : List ParamTree) (body : Block)
-        → AreRising (words_of one ++ (at ∷ (params_keys params ++ block_order body)))
-        → AreRising ((words_of one ++ at ∷ params_keys params) ++ block_order body)
-    body_order at params body rising =
-        subst AreRising
-        (sym (append_assoc (words_of one) (at ∷ params_keys params) (block_order body))) rising
+    -- The body of a member stands where its parameters are visible.
+    body_stands : (owner : Option ℕ) (at : ℕ) (params : List ParamTree) (body : Block)
+        (member : List Note) (own : Keys) (notes : List Note) → owner ≡ owner_of n one
+        → IsShare all (tree.keys_of decls) member own
+        → own ≡ at ∷ (params_keys params ++ block_keys body)
+        → IsShare member own notes (block_keys body)
+        → IsLess (words_of one) own (body_pairs params body)
+        → StandsInText all (sight_with owner params) notes (block_keys body) (block_scoped body)
+    body_stands owner at params body member own notes same whole own_is share placed =
+        declared_stands all (self_of world owner) [] (map (param_var world) params)
+        (names_of params) notes (block_keys body) (block_scoped body) (params_named world params)
+        (λ key has.
+        not_later (params_keys params) (block_keys body) key
+        (later_apart at (params_keys params ++ block_keys body)
+        (subst (IsDistinct nat_eq) own_is
+        (share_apart all (tree.keys_of decls) member own whole keyed)))
+        (subst (λ list. Contains list key) (params_are world params) has))
+        (share_stands notes (block_keys body)
+        (declaring (names_of params) [] (block_scoped body)) (self_of world owner)
+        (share_then _ _ _ _ _ _ whole share) placed.less
+        (own_before owner own (block_keys body) same placed.own
+        (share_among member own notes (block_keys body) share)))
 
     -- The body of a function or a method stands.
     pub func_body_stands : (func : FuncTree) (signed : Signature) → Contains (funcs_in one) func
         → func_at world answers func.word.at ≡ Some signed
-        → StandsInText all (seen_with signed.owner func.params)
+        → StandsInText all (sight_with signed.owner func.params)
         (block_notes world answers func.body (func_context signed) []) (block_keys func.body)
-        (block_order func.body)
+        (block_scoped func.body)
     func_body_stands func signed has found =
-        share_stands _ _ _ _ (words_of one ++ func.word.at ∷ params_keys func.params)
+        body_stands signed.owner func.word.at func.params func.body
+        (func_notes world answers func) (func_keys func) _
+        (func_owner decls rule world answers keyed is n g one stands func signed has found)
         (share_then _ _ _ _ _ _ (decl_share world answers decls n g one stands)
-        (share_then _ _ _ _ _ _ (decl.decl_func world answers n one func has)
-        (decl.func_share world answers func signed found)))
-        (body_order func.word.at func.params func.body
-        (order_rises decls ordered n g one stands _ (func_ordered one func has)))
-        (before_body signed.owner func.params func.word.at
-        (func_owner decls rule world answers keyed is n g one stands func signed has found))
+        (decl.decl_func world answers n one func has))
+        (keys.func_keys-is func) (decl.func_share world answers func signed found)
+        (func_less decls scoped n g one stands func has)
 
     -- and that of an initialiser
     pub init_body_stands : (init : InitTree) (signed : Signature) → Contains (inits_in one) init
         → func_at world answers init.at ≡ Some signed
-        → StandsInText all (seen_with signed.owner init.params)
+        → StandsInText all (sight_with signed.owner init.params)
         (block_notes world answers init.body (func_context signed) []) (block_keys init.body)
-        (block_order init.body)
+        (block_scoped init.body)
     init_body_stands init signed has found =
-        share_stands _ _ _ _ (words_of one ++ init.at ∷ params_keys init.params)
+        body_stands signed.owner init.at init.params init.body (init_notes world answers init)
+        (init_keys init) _
+        (init_owner decls rule world answers keyed is n g one stands init signed has found)
         (share_then _ _ _ _ _ _ (decl_share world answers decls n g one stands)
-        (share_then _ _ _ _ _ _ (decl.decl_init world answers n one init has)
-        (decl.init_share world answers init signed found)))
-        (body_order init.at init.params init.body
-        (order_rises decls ordered n g one stands _ (init_ordered one init has)))
-        (before_body signed.owner init.params init.at
-        (init_owner decls rule world answers keyed is n g one stands init signed has found))
+        (decl.decl_init world answers n one init has))
+        (keys.init_keys-is init) (decl.init_share world answers init signed found)
+        (init_less decls scoped n g one stands init has)
 
-    -- the order of a first value, after a property's word
-    value_order : (prop : PropTree) (value : Expr) → prop.value ≡ Some value
-        → AreRising (words_of one ++ prop_order prop)
-        → AreRising ((words_of one ++ prop.word.at ∷ []) ++ expr_order value)
-    value_order prop value given rising =
-        subst AreRising (sym (append_assoc (words_of one) (prop.word.at ∷ []) (expr_order value)))
-        (subst (λ found. AreRising
-        (words_of one ++ (prop.word.at ∷ unwrap_or (option_map expr_order found) []))) given rising)
+    -- A first value stands.
+    value_stands : (owner : Option ℕ) (prop : PropTree) (value : Expr) (member : List Note)
+        (own : Keys) (notes : List Note) → prop.value ≡ Some value → owner ≡ owner_of n one
+        → IsShare all (tree.keys_of decls) member own
+        → IsShare member own notes (expr_keys value)
+        → IsLess (words_of one) own (prop_pairs prop)
+        → StandsInText all (sight_with owner []) notes (expr_keys value) (expr_scoped value)
+    value_stands owner prop value member own notes given same whole share placed =
+        share_stands notes (expr_keys value) (expr_scoped value) (self_of world owner)
+        (share_then _ _ _ _ _ _ whole share)
+        (subst (λ found. AreLess (maybe (option_map expr_scoped found)).pairs) given placed.less)
+        (own_before owner own (expr_keys value) same placed.own
+        (share_among member own notes (expr_keys value) share))
 
     -- The first value of a property stands.
     pub prop_value_stands : (prop : PropTree) (shape : Shape) (value : Expr)
         → Contains (props_in one) prop → slice_get world.shapes n ≡ Some shape
         → owner_of n one ≡ Some n → prop.value ≡ Some value
-        → StandsInText all (seen_with (Some n) [])
+        → StandsInText all (sight_with (Some n) [])
         ((see world answers value).notes (context_of (shape_iso shape) false (Some n)) [])
-        (expr_keys value) (expr_order value)
+        (expr_keys value) (expr_scoped value)
     prop_value_stands prop shape value has there owned given =
-        share_stands _ _ _ _ (words_of one ++ prop.word.at ∷ [])
+        value_stands (Some n) prop value _ _ _ given (sym owned)
         (share_then _ _ _ _ _ _ (decl_share world answers decls n g one stands)
-        (share_then _ _ _ _ _ _ (decl.decl_prop world answers n one prop has)
-        (decl.prop_share world answers n prop shape value there given)))
-        (value_order prop value given
-        (order_rises decls ordered n g one stands _ (prop_ordered one prop has)))
-        (before_body (Some n) [] prop.word.at (sym owned))
+        (decl.decl_prop world answers n one prop has))
+        (decl.prop_share world answers n prop shape value there given)
+        (prop_less decls scoped n g one stands prop has)
 
     -- The parameters of functions, methods and initialisers are no `var`s.
     param_no_var : (notes : List Note) (own : Keys) (at : ℕ) (params : List ParamTree)
@@ -316,37 +340,36 @@ module _ (decls : List Decl) (rule : AsyncDefault) (world : World) (answers : An
       (body : Block) (signed : Signature)
       → StandsAt decls n g (Entry word written at is_async body)
       → func_at world answers at ≡ Some signed
-      → StandsInText all (seen_with signed.owner [])
+      → StandsInText all (sight_with signed.owner [])
       (block_notes world answers body (func_context signed) []) (block_keys body)
-      (block_order body)
+      (block_scoped body)
   entry_body_stands n g word written at is_async body signed stands found =
-      share_stands _ _ _ _ (at ∷ [])
+      share_stands _ _ _ _
       (share_then _ _ _ _ _ _ (decl_share world answers decls n g entry stands)
       (share_then _ _ _ _ _ _ (decl.decl_entry world answers n word written at is_async body)
       (decl.body_share world answers at body signed found)))
-      (order_rises decls ordered n g entry stands (at ∷ block_order body)
-      (0, omega arith, refl))
-      (before_body n g entry stands signed.owner [] at
+      placed.less
+      (own_before n g entry stands signed.owner (block_keys body) (block_keys body)
       (entry_owner decls rule world answers keyed is n g word written at is_async body signed
-      stands found)) where
+      stands found) placed.own (λ key has. has)) where
         entry : Decl
         entry = Entry word written at is_async body
+
+        placed : IsLess [] (block_keys body) (block_scoped body).pairs
+        placed = entry_less decls scoped n g word written at is_async body stands
 
   -- The first value of a global variable stands.
   pub global_value_stands : (n g : ℕ) (prop : PropTree) (value : Expr)
       → StandsAt decls n g (Global prop) → prop.value ≡ Some value
-      → StandsInText all (seen_with None [])
+      → StandsInText all (sight_with None [])
       ((see world answers value).notes (context_of (global_iso world answers prop) false None) [])
-      (expr_keys value) (expr_order value)
+      (expr_keys value) (expr_scoped value)
   global_value_stands n g prop value stands given =
-      share_stands _ _ _ _ (prop.word.at ∷ [])
+      value_stands n g (Global prop) stands None prop value _ _ _ given refl
       (share_then _ _ _ _ _ _ (decl_share world answers decls n g (Global prop) stands)
-      (share_then _ _ _ _ _ _ (decl.decl_global world answers n prop)
-      (decl.global_share world answers prop value given)))
-      (value_order n g (Global prop) stands prop value given
-      (order_rises decls ordered n g (Global prop) stands (prop_order prop)
-      (0, omega arith, refl)))
-      (before_body n g (Global prop) stands None [] prop.word.at refl)
+      (decl.decl_global world answers n prop))
+      (decl.global_share world answers prop value given)
+      (global_less decls scoped n g prop stands)
 
   -- The words of types are no `var`s.
   shape_word : (n : ℕ) (one : Decl) (shape : Shape)

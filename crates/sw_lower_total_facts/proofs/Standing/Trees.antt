@@ -1,11 +1,11 @@
 -- Where a tree stands, its parts stand.
-use Rattle.std.proofs.Common.{ℕ, Bool, ◌⊎◌, inl, inr, List, ◌∷◌, ◌++◌, map, flat_map, Option, Some}
-use Rattle.std.proofs.Common.{Contains, ap, sym, subst, ◌∙◌}
+use Rattle.std.proofs.Common.{ℕ, Bool, List, [], ◌∷◌, ◌++◌, map, flat_map, Option, Some}
+use Rattle.std.proofs.Common.{Contains, nat_eq, ap, sym, subst, ◌∙◌}
+use Rattle.std.specs.List.{IsDistinct}
 use Rattle.std.specs.Prelude.{◌≢◌}
 use Rattle.std.proofs.lemmas.List.Elements.{Contains-append_right}
 use Rattle.sw_tree.specs.Keys.{Keys, arg_keys, block_keys, case_arm_keys, expr_keys, if_arm_keys}
 use Rattle.sw_tree.specs.Keys.{joined, link_keys, pattern_keys, stmt_keys}
-use Rattle.sw_tree.specs.Order.{AreRising, block_order, expr_order}
 use Rattle.sw_tree.specs.declared.expr.Arg.{Arg, roll-Arg}
 use Rattle.sw_tree.specs.declared.expr.ClosureParam.{ClosureParam}
 use Rattle.sw_tree.specs.declared.expr.Expr.{Expr}
@@ -25,85 +25,91 @@ use Rattle.sw_tree.specs.declared.stmt.Stmt.TheVariants as stmts
 use Rattle.sw_tree.specs.declared.type_tree.TypeTree.{TypeTree}
 use Rattle.sw_types.specs.declared.ty.Ty.{Ty}
 use Rattle.sw_typing_rules.specs.Judges.{Leaves, closure_of, head_of}
-use Rattle.sw_typing_rules.specs.Statements.{Left, State, arm_vars, closure_vars}
+use Rattle.sw_typing_rules.specs.Statements.{Left, State, arm_vars, closure_vars, param_var}
 use Rattle.sw_typing_rules.specs.declared.scope.Inside.{Inside}
 use Rattle.sw_typing_rules.specs.declared.scope.Var.{Var}
 use Rattle.sw_isolation_rules.specs.Captures.{self_of}
 use Rattle.sw_isolation_rules.specs.Noting.{block_notes, in_await, with_list}
 use Rattle.sw_isolation_rules.specs.declared.note.Note.{Note}
 use Rattle.sw_isolation_rules.specs.declared.uses.Context.{Context}
+use Rattle.sw_tree.proofs.KeyEquations as keys
 use Rattle.sw_lower_rules.specs.Tables.{Tables}
-use Rattle.sw_lower_total_facts.specs.Bound.{seen_in}
-use Rattle.sw_lower_total_facts.specs.Noted.{StandsInText}
-use Rattle.sw_lower_total_facts.proofs.Mentions.Declared.{pattern_declares}
-use Rattle.sw_lower_total_facts.proofs.Mentions.Seen.{keys_of}
+use Rattle.sw_typing_facts.proofs.Lists.Listed.{of_map}
+use Rattle.sw_lower_total_facts.specs.Bound.{sight_in}
+use Rattle.sw_lower_total_facts.specs.Noted.{StandsInText, keys_of}
+use Rattle.sw_lower_total_facts.specs.Scopes.{Scoped, block_scoped, declaring, each, expr_scoped}
+use Rattle.sw_lower_total_facts.proofs.Mentions.Closures.{names_of, params_named}
+use Rattle.sw_lower_total_facts.proofs.Mentions.Declared.{AreNamed, patterns_named}
+use Rattle.sw_lower_total_facts.proofs.Mentions.Declared.{stmt_declares}
+use Rattle.sw_lower_total_facts.proofs.ScopeCounts.{params_are, patterns_are}
 use Rattle.sw_lower_total_facts.proofs.Standing.Closures.{fun_body, head_keys, list_keys, param_keys}
 use Rattle.sw_lower_total_facts.proofs.Standing.Closures.{spawn_body}
 use Rattle.sw_lower_total_facts.proofs.Standing.Expressions as exps
 use Rattle.sw_lower_total_facts.proofs.Standing.NoteForms.{args_notes, case_arms_notes, expr_notes}
 use Rattle.sw_lower_total_facts.proofs.Standing.NoteForms.{fun_inside, if_arms_notes, links_notes}
 use Rattle.sw_lower_total_facts.proofs.Standing.NoteForms.{noted_stmt, notes_in, stmts_notes, task_inside}
-use Rattle.sw_lower_total_facts.proofs.Standing.OrderForms as placed
-use Rattle.sw_lower_total_facts.proofs.Standing.OrderForms.{arg_order, case_arm_order, if_arm_order}
-use Rattle.sw_lower_total_facts.proofs.Standing.OrderForms.{link_order, stmt_order}
-use Rattle.sw_lower_total_facts.proofs.Standing.Orders.{IsBefore, rising_across}
-use Rattle.sw_lower_total_facts.proofs.Standing.Parts.{IsPart, more_seen, part_stands}
-use Rattle.sw_lower_total_facts.proofs.Standing.Seen.{closure_seen, seen_cases, stmt_adds}
+use Rattle.sw_lower_total_facts.proofs.Standing.Parts.{IsPart, later_apart, not_later, part_stands}
+use Rattle.sw_lower_total_facts.proofs.Standing.ScopeForms.{all_scoped, arg_scoped, case_arm_scoped}
+use Rattle.sw_lower_total_facts.proofs.Standing.ScopeForms.{if_arm_scoped, link_scoped, patterns_names}
+use Rattle.sw_lower_total_facts.proofs.Standing.ScopeForms.{stmt_scoped, stmt_stated}
+use Rattle.sw_lower_total_facts.proofs.Standing.Seen.{closed_stands, declared_stands, named_among}
+use Rattle.sw_lower_total_facts.proofs.Standing.Seen.{stmt_among}
 use Rattle.sw_lower_total_facts.proofs.Standing.Statements as stats
 
 module _ (tables : Tables) (all : List Note) where
   -- where trees stand, in a context and with the variables that are seen there
   module _ (context : Context) (listed : List ℕ) (vars : List Var) where
-    abbrev pub StandsHere : List Note → Keys → Keys → Type 0
-    StandsHere notes keys order =
-        StandsInText all (seen_in tables context.owner vars) notes keys order
+    abbrev pub StandsHere : List Note → Keys → Scoped → Type 0
+    StandsHere notes keys scoped =
+        StandsInText all (sight_in tables context.owner vars) notes keys scoped
 
     abbrev pub StandsExpr : Expr → Type 0
     StandsExpr expr =
         StandsHere (expr_notes tables.world tables.answers context listed expr) (expr_keys expr)
-        (expr_order expr)
+        (expr_scoped expr)
 
     abbrev pub StandsBlock : Block → Type 0
     StandsBlock block =
         StandsHere (notes_in tables.world tables.answers context listed block) (block_keys block)
-        (block_order block)
+        (block_scoped block)
 
     abbrev pub StandsStmt : Stmt → Type 0
     StandsStmt stmt =
         StandsHere (noted_stmt tables.world tables.answers context listed stmt) (stmt_keys stmt)
-        (stmt_order stmt)
+        (stmt_scoped stmt)
 
     -- where lists of trees stand
     abbrev pub StandArgs : List Arg → Type 0
     StandArgs args =
         StandsHere (args_notes tables.world tables.answers args context listed)
-        (joined (map arg_keys args)) (joined (map arg_order args))
+        (joined (map arg_keys args)) (each (map arg_scoped args))
 
     abbrev pub StandLinks : List Link → Type 0
     StandLinks links =
         StandsHere (links_notes tables.world tables.answers links context listed)
-        (joined (map link_keys links)) (joined (map link_order links))
+        (joined (map link_keys links)) (each (map link_scoped links))
 
     abbrev pub StandStmts : List Stmt → Type 0
     StandStmts list =
         StandsHere (stmts_notes tables.world tables.answers list context listed)
-        (joined (map stmt_keys list)) (joined (map stmt_order list))
+        (joined (map stmt_keys list)) (all_scoped list)
 
     abbrev pub StandIfArms : List IfArm → Type 0
     StandIfArms arms =
         StandsHere (if_arms_notes tables.world tables.answers arms context listed)
-        (joined (map if_arm_keys arms)) (joined (map if_arm_order arms))
+        (joined (map if_arm_keys arms)) (each (map if_arm_scoped arms))
 
     abbrev pub StandCaseArms : List CaseArm → Type 0
     StandCaseArms arms =
         StandsHere (case_arms_notes tables.world tables.answers arms context listed)
-        (joined (map case_arm_keys arms)) (joined (map case_arm_order arms))
+        (joined (map case_arm_keys arms)) (each (map case_arm_scoped arms))
 
     -- a part of what stands here
-    here : (notes : List Note) (keys order : Keys) (part : List Note) (part_keys part_order : Keys)
-        → IsPart notes keys order part part_keys part_order → StandsHere notes keys order
-        → StandsHere part part_keys part_order
-    here = part_stands all (seen_in tables context.owner vars)
+    here : (notes : List Note) (keys : Keys) (scoped : Scoped) (part : List Note)
+        (part_keys : Keys) (part_scoped : Scoped)
+        → IsPart notes keys scoped part part_keys part_scoped → StandsHere notes keys scoped
+        → StandsHere part part_keys part_scoped
+    here = part_stands all (sight_in tables context.owner vars)
 
     pub member_base_stands : (base : Expr) (name : Name) → StandsExpr (exprs.Member base name)
         → StandsExpr base
@@ -143,9 +149,9 @@ module _ (tables : Tables) (all : List Note) where
         here _ _ _ _ _ _ (exps.prefix_inner tables.world tables.answers context listed op at inner)
 
     pub await_inner_stands : (at : ℕ) (inner : Expr) → StandsExpr (exprs.Await at inner)
-        → StandsInText all (seen_in tables context.owner vars)
+        → StandsInText all (sight_in tables context.owner vars)
         (expr_notes tables.world tables.answers (in_await context) listed inner) (expr_keys inner)
-        (expr_order inner)
+        (expr_scoped inner)
     await_inner_stands at inner =
         here _ _ _ _ _ _ (exps.await_inner tables.world tables.answers context listed at inner)
 
@@ -292,21 +298,19 @@ module _ (tables : Tables) (all : List Note) where
 
     -- The statements after the first stand where its variables are seen too.
     pub stmts_more_stand : (stmt : Stmt) (list : List Stmt) (more : List Var)
-        → ((key : ℕ) → Contains (keys_of more) key → Contains (stmt_order stmt) key)
+        → AreNamed more (stmt_stated stmt).names
+        → ((key : ℕ) → Contains (keys_of more) key → Contains (stmt_keys stmt) key)
         → StandStmts (stmt ∷ list)
-        → StandsInText all (seen_in tables context.owner (vars ++ more))
+        → StandsInText all (sight_in tables context.owner (vars ++ more))
         (stmts_notes tables.world tables.answers list context listed) (joined (map stmt_keys list))
-        (joined (map stmt_order list))
-    stmts_more_stand stmt list more among stands =
-        more_seen all (seen_in tables context.owner vars)
-        (seen_in tables context.owner (vars ++ more)) _ _ _
+        (all_scoped list)
+    stmts_more_stand stmt list more named among stands =
+        declared_stands all (self_of tables.world context.owner) vars more (stmt_stated stmt).names
+        _ _ _ named
+        (λ key has.
+        not_later (stmt_keys stmt) (joined (map stmt_keys list)) key stands.apart (among key has))
         (here _ _ _ _ _ _
         (stats.stmts_more tables.world tables.answers context listed stmt list) stands)
-        (λ key has. elim (seen_cases (self_of tables.world context.owner) vars more key has) [
-          | inl before ↦ inl before
-          | inr new ↦ inr (rising_across (stmt_order stmt) (joined (map stmt_order list)) key
-              stands.rising (among key new))
-        ])
 
     -- The body of an arm stands where the variables of its patterns are seen too.
     pub case_arm_body_stands : (name : Name) (patterns : List Pattern) (body : Block)
@@ -314,60 +318,60 @@ module _ (tables : Tables) (all : List Note) where
         → StandCaseArms
         (roll-CaseArm (record { name = name; patterns = patterns; body = body }) ∷ arms)
         → StandsInText all
-        (seen_in tables context.owner (vars ++ arm_vars (head_of name patterns) payload))
+        (sight_in tables context.owner (vars ++ arm_vars (head_of name patterns) payload))
         (notes_in tables.world tables.answers context listed body) (block_keys body)
-        (block_order body)
+        (block_scoped body)
     case_arm_body_stands name patterns body arms payload stands =
-        more_seen all (seen_in tables context.owner vars) _ _ _ _
+        declared_stands all (self_of tables.world context.owner) vars
+        (arm_vars (head_of name patterns) payload) (patterns_names patterns) _ _ _
+        (patterns_named patterns _)
+        (λ key has.
+        not_later (flat_map pattern_keys patterns) (block_keys body) key whole.apart
+        (subst (λ list. Contains list key) (patterns_are patterns)
+        (named_among (arm_vars (head_of name patterns) payload) (patterns_names patterns)
+        (patterns_named patterns _) key has)))
         (here _ _ _ _ _ _
         (stats.case_arm_body tables.world tables.answers context listed name patterns body arms)
-        stands)
-        (λ key has. elim (seen_cases (self_of tables.world context.owner) vars
-        (arm_vars (head_of name patterns) payload) key has) [
-          | inl before ↦ inl before
-          | inr new ↦ inr (rising_across (flat_map pattern_keys patterns) (block_order body) key
-              whole.rising (pattern_declares patterns _ key new))
-        ]) where
+        stands) where
           whole : StandsHere (notes_in tables.world tables.answers context listed body)
               (flat_map pattern_keys patterns ++ block_keys body)
-              (flat_map pattern_keys patterns ++ block_order body)
+              (declaring (patterns_names patterns) [] (block_scoped body))
           whole = here _ _ _ _ _ _
               (stats.case_arm_whole tables.world tables.answers context listed name patterns body
               arms) stands
 
-    -- what is seen in a closure's body
-    closure_more : (at : ℕ) (captures : List Name) (params : List ClosureParam) (order : Keys)
-        → AreRising (head_keys at captures params ++ order) → (key : ℕ)
-        → Contains (seen_in tables context.owner (closure_vars tables.world vars captures params))
-        key
-        → Contains (seen_in tables context.owner vars) key ⊎ IsBefore order key
-    closure_more at captures params order rising key has =
-        elim (closure_seen tables.world (self_of tables.world context.owner) vars captures params
-        key has) [
-          | inl before ↦ inl before
-          | inr param ↦ inr (rising_across (head_keys at captures params) order key rising
-              (Contains-append_right (at ∷ list_keys captures) (param_keys params) key param))
-        ]
+    -- Parameters are declared before the body.
+    params_apart : (at : ℕ) (captures : List Name) (params : List ClosureParam) (body : Block)
+        → IsDistinct nat_eq (head_keys at captures params ++ block_keys body) → (key : ℕ)
+        → Contains (keys_of (map (param_var tables.world) params)) key
+        → ¬ Contains (block_keys body) key
+    params_apart at captures params body apart key has =
+        not_later (head_keys at captures params) (block_keys body) key apart
+        (Contains-append_right (at ∷ list_keys captures) (param_keys params) key
+        (subst (λ list. Contains list key) (params_are params)
+        (named_among (map (param_var tables.world) params) (names_of params)
+        (params_named tables.world params) key has)))
 
     -- The bodies of closures and tasks stand in contexts of their own.
     pub fun_body_stands : (at : ℕ) (mark : Option Name) (captures : List Name)
         (params : List ClosureParam) (result : Option TypeTree) (body : Block)
         → StandsExpr (exprs.Fun (closure_of at mark captures params result body))
         → StandsInText all
-        (seen_in tables context.owner (closure_vars tables.world vars captures params))
+        (sight_in tables context.owner (closure_vars tables.world vars captures params))
         (block_notes tables.world tables.answers body
         (fun_inside tables.world tables.answers context listed at)
         (with_list tables.world tables.answers context listed captures))
-        (block_keys body) (block_order body)
+        (block_keys body) (block_scoped body)
     fun_body_stands at mark captures params result body stands =
-        more_seen all (seen_in tables context.owner vars) _ _ _ _
+        closed_stands tables.world all (self_of tables.world context.owner) vars at captures params
+        _ _ _
         (here _ _ _ _ _ _
         (fun_body tables.world tables.answers listed context at mark captures params result body)
         stands)
-        (closure_more at captures params (block_order body)
-        (subst AreRising
-        (placed.order-Fun (closure_of at mark captures params result body)
-        ∙ placed.order-closure at mark captures params result body) stands.rising))
+        (params_apart at captures params body
+        (subst (IsDistinct nat_eq)
+        (keys.expr_keys-Fun (closure_of at mark captures params result body)
+        ∙ keys.closure_keys-roll at mark captures params result body) stands.apart))
 
     pub spawn_body_stands : (place : ℕ) (detached : Bool) (at : ℕ) (mark : Option Name)
         (captures : List Name) (params : List ClosureParam) (result : Option TypeTree)
@@ -375,22 +379,23 @@ module _ (tables : Tables) (all : List Note) where
         → StandsExpr
         (exprs.Spawn place detached (closure_of at mark captures params result body))
         → StandsInText all
-        (seen_in tables context.owner (closure_vars tables.world vars captures params))
+        (sight_in tables context.owner (closure_vars tables.world vars captures params))
         (block_notes tables.world tables.answers body
         (task_inside tables.world tables.answers context listed mark detached)
         (with_list tables.world tables.answers context listed captures))
-        (block_keys body) (block_order body)
+        (block_keys body) (block_scoped body)
     spawn_body_stands place detached at mark captures params result body stands =
-        more_seen all (seen_in tables context.owner vars) _ _ _ _
+        closed_stands tables.world all (self_of tables.world context.owner) vars at captures params
+        _ _ _
         (here _ _ _ _ _ _
         (spawn_body tables.world tables.answers listed context place detached at mark captures
         params result body) stands)
-        (closure_more at captures params (block_order body) rising.1) where
-          rising : AreRising (place ∷ head_keys at captures params ++ block_order body)
-          rising = subst AreRising
-              (placed.order-Spawn place detached (closure_of at mark captures params result body)
-              ∙ ap (λ more. place ∷ more)
-              (placed.order-closure at mark captures params result body)) stands.rising
+        (params_apart at captures params body
+        (later_apart place (head_keys at captures params ++ block_keys body)
+        (subst (IsDistinct nat_eq)
+        (keys.expr_keys-Spawn place detached (closure_of at mark captures params result body)
+        ∙ ap (λ more. place ∷ more) (keys.closure_keys-roll at mark captures params result body))
+        stands.apart)))
 
   -- the statements after one, with the variables that are seen then
   pub stmts_after_stand : (context : Context) (listed : List ℕ) (inside : Inside) (state : State)
@@ -398,6 +403,11 @@ module _ (tables : Tables) (all : List Note) where
       → StandStmts context listed state.vars (stmt ∷ list)
       → StandStmts context listed left.state.vars list
   stmts_after_stand context listed inside state stmt list left leaves stands =
-      let adds = stmt_adds tables.world inside state stmt left leaves in
-      subst (λ vars. StandStmts context listed vars list) (sym adds.are)
-      (stmts_more_stand context listed state.vars stmt list adds.more adds.among stands)
+      let declares = stmt_declares tables.world inside state stmt left leaves in
+      subst (λ vars. StandStmts context listed vars list) (sym declares.are)
+      (stmts_more_stand context listed state.vars stmt list declares.more declares.named
+      (λ key has.
+      let (name, among, is) = of_map (λ (name : Name). name.at) (stmt_stated stmt).names key
+      (named_among declares.more (stmt_stated stmt).names declares.named key has) in
+      subst (Contains (stmt_keys stmt)) is
+      (stmt_among tables.world inside state stmt left leaves name among)) stands)

@@ -6,7 +6,7 @@ use Rattle.std.specs.List.{AllByRecursion}
 use Rattle.sw_tree.specs.Folds.{fold_arg, fold_block, fold_case_arm, fold_closure, fold_expr}
 use Rattle.sw_tree.specs.Folds.{fold_if_arm, fold_link, fold_stmt}
 use Rattle.sw_tree.specs.Keys.{Keys, block_keys, joined, pattern_keys}
-use Rattle.sw_tree.specs.Order.{block_order, order_steps}
+use Rattle.sw_tree.specs.Order.{block_order, expr_order, order_steps}
 use Rattle.sw_tree.specs.declared.expr.Arg.{Arg}
 use Rattle.sw_tree.specs.declared.expr.ClosureParam.{ClosureParam}
 use Rattle.sw_tree.specs.declared.expr.Expr.{Expr}
@@ -20,7 +20,7 @@ use Rattle.sw_tree.proofs.KeyCounts as keys
 use Rattle.sw_tree.proofs.KeyCounts.{in_arg, in_block, in_case_arm, in_closure, in_expr, in_if_arm}
 use Rattle.sw_tree.proofs.KeyCounts.{in_link, in_stmt}
 use Rattle.sw_tree.proofs.KeyEquations as key
-use Rattle.sw_tree.proofs.TreeInduction.{Cases, Claims, Given, every_block}
+use Rattle.sw_tree.proofs.TreeInduction.{Cases, Claims, Given, every_block, every_expr}
 
 module _ (c : ℕ) where
   abbrev n : Keys → ℕ
@@ -336,3 +336,7 @@ module _ (c : ℕ) where
   pub block_ordered : (block : Block) → in_block block c ≤ count (block_order block) c
   unfolding block_order
   block_ordered block = every_block claims cases block
+
+  pub expr_ordered : (expr : Expr) → in_expr expr c ≤ count (expr_order expr) c
+  unfolding expr_order
+  expr_ordered expr = every_expr claims cases expr
