@@ -1,7 +1,7 @@
 -- Spellings: lists of tokens by their texts, apart from any one source.
-use Rattle.std.specs.Prelude.{◌≡◌, ◌≤◌, ℕ, Bool, true, List, [], map, slice_range, All, refl}
+use Rattle.std.specs.Prelude.{◌≡◌, ◌+◌, ◌≤◌, ℕ, Bool, true, List, [], ◌∷◌, length, map, slice_range}
+use Rattle.std.specs.Prelude.{All, refl}
 use Rattle.std.specs.Coded.{Coded, code_by, coded_list, coded_ℕ, coded_bool, coded×}
-use Rattle.std.specs.List.Sorted.{IsStrictlyIncreasing}
 use Rattle.std.specs.Str.{IsCharBoundary}
 use Rattle.sw_token.specs.declared.Fixity.{Fixity}
 use Rattle.sw_token.specs.declared.Token.{Token}
@@ -36,11 +36,18 @@ spelling_of source tokens = map (spelled source) tokens
 abbrev pub IsTokenText : List ℕ → Type 0
 IsTokenText text = IsToken true text []
 
--- What may be a spelling of something: tokens, each with the text of a token, at rising positions.
--- How an operator stands and which token is first on its line are free.
+-- no token begins before the one before it ends, and the first begins at the offset `from` or later
+abbrev pub StandApart : ℕ → List Spelled → Type 0
+StandApart from [] = Unit {0}
+StandApart from (token ∷ tokens) =
+    (from ≤ token.at) × StandApart (token.at + length token.text) tokens
+
+-- What may be a spelling of something: tokens, each with the text of a token, of which none begins
+-- before the one before it ends. How an operator stands and which token is first on its line are
+-- free.
 pub record IsSpelling (tokens : List Spelled) : Type 0 where
   pub texts : All (λ token. IsTokenText token.text) tokens
-  pub rising : IsStrictlyIncreasing (map (λ token. token.at) tokens)
+  pub apart : StandApart 0 tokens
 
 -- The token can be read in the source: its span is a part of it that cuts no character in two, and
 -- its kind is that of its text.
