@@ -1,7 +1,7 @@
 -- What a reader has to do with the relation that it reads, as one record, `Reads`. Each way of
 -- putting readers together keeps it. The theorems about a grammar (one value, one fault, and that
 -- the token at fault is the first that can't be taken) follow from the record.
-use Rattle.std.proofs.Common.{◌≡◌, ℕ, suc, ◌<◌, Bool, true, false, cond, ◌⊎◌, inl, inr, List, []}
+use Rattle.std.proofs.Common.{◌≡◌, ℕ, ◌+◌, ◌<◌, Bool, true, false, cond, ◌⊎◌, inl, inr, List, []}
 use Rattle.std.proofs.Common.{◌∷◌, ◌++◌, length, refl, sym, ◌∙◌, ap, subst, append_assoc}
 use Rattle.std.specs.Prelude.{Option, Some, None, Result, Ok, Err}
 use Rattle.sw_token.specs.Spelling.{Spelled, IsTokenText}
@@ -27,20 +27,21 @@ Outside set token = starts set token ≡ false
 abbrev pub Without : {A : Type 0} → Set → Follow A
 Without set value token = Outside set token
 
--- Tokens of a spelling at positions one after another, the first at `from`.
+-- Tokens of a spelling, each where the one before it ends, the first at `from`.
 abbrev pub Fills : ℕ → List Spelled → Type 0
 Fills from [] = Unit {0}
 Fills from (token ∷ others) = (token.at ≡ from) × IsTokenText token.text
-    × Fills (suc from) others
+    × Fills (from + length token.text) others
 
 abbrev pub past : ℕ → List Spelled → ℕ
 past from [] = from
-past from (token ∷ others) = past (suc from) others
+past from (token ∷ others) = past (from + length token.text) others
 
 pub Fills-append : (from : ℕ) (us vs : List Spelled) → Fills from us → Fills (past from us) vs
     → Fills from (us ++ vs)
 Fills-append from [] vs h k = k
-Fills-append from (u ∷ us) vs h k = (h.0, h.1, Fills-append (suc from) us vs h.2 k)
+Fills-append from (u ∷ us) vs h k =
+    (h.0, h.1, Fills-append (from + length u.text) us vs h.2 k)
 
 -- `before` can be completed to a spelling, with new tokens from the position `from` on.
 pub record Filled {A : Type 0} (R : Relation A) (before : List Spelled) (from : ℕ) : Type 0 where

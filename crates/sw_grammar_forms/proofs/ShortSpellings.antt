@@ -1,7 +1,7 @@
 -- Short spellings: each form with a good shape has one, which opens no more nests than its height,
 -- and which begins a line, or doesn't, where the shape says that it may.
-use Rattle.std.proofs.Common.{◌≡◌, ℕ, suc, ◌≤◌, Bool, true, false, cond, ◌&&◌, ◌||◌, inl, inr, List}
-use Rattle.std.proofs.Common.{[], ◌∷◌, ◌++◌, refl, sym, ◌∙◌, ap, arith, not}
+use Rattle.std.proofs.Common.{◌≡◌, ℕ, suc, ◌+◌, ◌≤◌, Bool, true, false, cond, ◌&&◌, ◌||◌, inl, inr}
+use Rattle.std.proofs.Common.{List, [], ◌∷◌, ◌++◌, length, refl, sym, ◌∙◌, ap, arith, not}
 use Rattle.std.proofs.lemmas.List.{append-nil}
 use Rattle.std.proofs.Math.Nat.{le-max_left, le-max_right}
 use Rattle.sw_token.specs.Spelling.{Spelled}
@@ -291,7 +291,7 @@ module _ {N : Type 0} (El : N → Type 0) (shape_of : N → Shape) (depth : ℕ)
         let two = and_left _ _ (and_left _ _ (and_left _ _ ok)) in
         relate (λ a ts h. inl h) (short_form p (and_left _ _ two) low lead way from)
     short_form (forms.nest t n) ok low lead way from =
-        let rest = fill n low (suc from) in
+        let rest = fill n low (from + length t.text) in
         record {
           value = (t.value (example t lead from), rest.value);
           filler = example t lead from ∷ rest.filler;

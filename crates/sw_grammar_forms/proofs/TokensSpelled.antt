@@ -1,17 +1,17 @@
 -- The tokens of a source are a spelling, and the cursor can read them.
-use Rattle.std.proofs.Common.{ℕ, suc, ◌≤◌, List, [], ◌∷◌, arith}
+use Rattle.std.proofs.Common.{ℕ, ◌-◌, List, [], ◌∷◌, drop, arith, length-take}
 use Rattle.std.proofs.lemmas.List.Elements.{All-from_recursion}
 use Rattle.std.specs.Prelude.{All}
 use Rattle.std.specs.List.{AllByRecursion}
 use Rattle.std.specs.Str.{IsUtf8}
 use Rattle.sw_token.specs.declared.Token.{Token}
 use Rattle.sw_token.specs.Tokens.{lexis, IsTokens, IsTokenIn, StandInOrder}
-use Rattle.sw_token.specs.Spelling.{Spelled, spelled, spelling_of, IsSpelling, IsReadable}
+use Rattle.sw_token.specs.Spelling.{spelled, spelling_of, StandApart, IsSpelling, IsReadable}
 use Rattle.sw_token.proofs.TokenLaws.{IsTokens-stand, IsTokens-each_by_recursion, IsTokens-order}
 use Rattle.sw_token.proofs.TokenTexts.{IsTokenText-IsToken}
 use Rattle.sw_token.proofs.Spans.{slice_of, IsTokenIn-stands, borders}
 use Rattle.sw_scan.proofs.Positions.{StandsIn}
-use Rattle.sw_grammar_forms.proofs.Rising.{Rises, HasTokenText, is_spelling}
+use Rattle.sw_grammar_forms.proofs.Rising.{StandApart-earlier, HasTokenText, is_spelling}
 
 -- Each token has the text of a token.
 
@@ -28,21 +28,18 @@ tokens_texts source [] h = tt
 tokens_texts source (token ∷ tokens) h =
     (stands_text source token h.0, tokens_texts source tokens h.1)
 
--- Tokens begin one after another.
+-- Each token ends before the next begins.
 
-Rises-weaker : (m n : ℕ) (ts : List Spelled) → m ≤ n → Rises n ts → Rises m ts
-Rises-weaker m n [] less h = tt
-Rises-weaker m n (t ∷ ts) less h = (omega (arith, h.0), h.1)
-
-order_rises : (source : List ℕ) (from : ℕ) (tokens : List Token)
+order_apart : (source : List ℕ) (from : ℕ) (tokens : List Token)
     → AllByRecursion (IsTokenIn source) tokens → StandInOrder from tokens
-    → Rises from (spelling_of source tokens)
-order_rises source from [] each h = tt
-order_rises source from (token ∷ tokens) each h =
-    let some = each.0.some in (
+    → StandApart from (spelling_of source tokens)
+order_apart source from [] each h = tt
+order_apart source from (token ∷ tokens) each h =
+    let some = each.0.some in
+    let short = length-take (token.span.end - token.span.start) (drop token.span.start source) in (
       h.0,
-      Rises-weaker (suc token.span.start) token.span.end (spelling_of source tokens)
-          (omega arith) (order_rises source token.span.end tokens each.1 h.1),
+      StandApart-earlier _ token.span.end (spelling_of source tokens) (omega arith)
+          (order_apart source token.span.end tokens each.1 h.1),
     )
 
 -- The tokens of a source are a spelling.
@@ -51,7 +48,7 @@ pub tokens_spelled : (source : List ℕ) (tokens : List Token) → IsUtf8 source
 tokens_spelled source tokens utf8 is =
     is_spelling 0 (spelling_of source tokens)
     (tokens_texts source tokens (IsTokens-stand source tokens utf8 is))
-    (order_rises source 0 tokens (IsTokens-each_by_recursion source tokens utf8 is)
+    (order_apart source 0 tokens (IsTokens-each_by_recursion source tokens utf8 is)
     (IsTokens-order source tokens is))
 
 readable : (source : List ℕ) (token : Token) → StandsIn lexis IsUtf8 source token
