@@ -2,9 +2,12 @@ pub mod Counting
 pub mod FoldEquations
 pub mod KeyCounts
 pub mod KeyEquations
+pub mod KeyMembers
+pub mod Members
 pub mod NameCounts
 pub mod NameEquations
 pub mod NamesLemmas
 pub mod NodeKeyLemmas
 pub mod OwnKeys
+pub mod ScopeCounts
 pub mod TreeInduction

@@ -5,5 +5,5 @@ pub mod Keys
 pub mod Names
 pub mod NamesIn
 pub mod NodeKey
-pub mod Order
 pub mod Place
+pub mod Scopes
