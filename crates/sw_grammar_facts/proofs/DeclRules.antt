@@ -2,15 +2,16 @@
 use Rattle.std.proofs.Common.{ℕ, ◌+◌, ◌≤◌, Bool, true, false, List, [], ◌∷◌, None, Some}
 use Rattle.std.proofs.Common.{Option, codes, refl, arith}
 use Rattle.sw_grammar_forms.specs.Form.Form.{either}
-use Rattle.sw_grammar_forms.specs.Relations.{Relation}
+use Rattle.sw_grammar_forms.specs.Quotes.{quote}
+use Rattle.sw_grammar_forms.specs.Relations.{Relation, One}
 use Rattle.sw_grammar_forms.specs.Sets.{quoted, word}
 use Rattle.sw_tree.proofs.Counting.{in_all, in_option, in_all-append}
 use Rattle.sw_tree.specs.declared.name.Name.{Name}
 use Rattle.sw_tree.specs.declared.decl.PropTree.{PropTree}
 use Rattle.sw_tree.specs.declared.decl.Written.{Written}
 use Rattle.sw_tree.specs.declared.decl.Written.TheVariants as writtens
-use Rattle.sw_grammar_facts.proofs.Owning.{none, Owns, own_done, own_then, own_either, own_past}
-use Rattle.sw_grammar_facts.proofs.Owning.{own_with, own_from, own_items}
+use Rattle.sw_grammar_facts.proofs.Owning.{none, Owns, own_done, own_token, own_then, own_either}
+use Rattle.sw_grammar_facts.proofs.Owning.{own_past, own_with, own_from, own_items}
 use Rattle.sw_grammar.specs.Nests.{Nest, El, shape_of, Member}
 use Rattle.sw_grammar.specs.Nests.Nest.{in_payload, in_params, in_entry, in_global_actor}
 use Rattle.sw_grammar.specs.Nests.Nest.{in_struct, in_enum, in_class}
@@ -241,6 +242,9 @@ module _ {id_of : List ℕ → ℕ} (w : Weighing id_of) where
         (own_either _ own_prop (own_either _ own_init own_method_member))) (λ read.
         own_past _ (λ _. own_done _ (λ k. omega arith)))
 
+    own_main : Owns w.of_token none (One (quote (codes "main"))) w.entry
+    own_main = own_token _ (quote (codes "main")) (λ token _ k. w.of_entry token k)
+
     pub own_entry_inside : Keeps w table (entry_inside id_of) none (entered w)
     unfolding entry_inside
     own_entry_inside =
@@ -249,7 +253,7 @@ module _ {id_of : List ℕ → ℕ} (w : Weighing id_of) where
         own_done _ (λ k. omega (arith, w.written-At mark k))))
         (own_either _ (own_past _ (λ _. own_done _ (λ k. omega (arith, w.written-Nonisolated k))))
         (own_done _ (λ k. omega (arith, w.written-Absent k))))) (λ isolation.
-        own_past _ (λ _. own_past _ (λ _. own_then _ _ (own_quote w table (codes "main")) (λ at.
+        own_past _ (λ _. own_past _ (λ _. own_then _ _ own_main (λ at.
         own_past _ (λ _. own_past _ (λ is_async. own_then _ _ (own_block w table nests) (λ body.
         own_past _ (λ _. own_past _ (λ _. own_done _ (λ k. omega arith))))))))))
 

@@ -1,6 +1,6 @@
 -- Weights of declarations and their members, in which types, expressions and statements weigh
 -- nothing.
-use Rattle.std.proofs.Common.{ℕ, ◌+◌, ◌≤◌, Bool, IsSome, IsTrue, List, arith}
+use Rattle.std.proofs.Common.{ℕ, ◌+◌, ◌≤◌, Bool, IsSome, IsTrue, List, length, arith}
 use Rattle.sw_token.specs.Spelling.{Spelled}
 use Rattle.sw_grammar_forms.specs.Sets.{has, word, attribute}
 use Rattle.sw_tree.proofs.Counting.{Weight, in_all}
@@ -15,29 +15,29 @@ use Rattle.sw_tree.specs.declared.name.Name.{Name}
 use Rattle.sw_tree.specs.declared.stmt.Block.{Block}
 use Rattle.sw_grammar_facts.proofs.Owning.{none}
 use Rattle.sw_grammar.specs.Tokens.{name_of, at_name}
+use Rattle.sw_grammar_facts.proofs.Spread.{spread_none}
 use Rattle.sw_grammar_facts.proofs.Weighing.{Weighing}
 
 -- the laws that are left of those of a weighing
 pub record DeclWeights (id_of : List ℕ → ℕ) : Type 0 where
   pub of_token : Spelled → Weight
-  pub place : ℕ → Weight
+  pub entry : ℕ → Weight
   pub node : Name → Weight
   pub label : Name → Weight
   pub func : FuncTree → Weight
   pub prop : PropTree → Weight
   pub case : CaseTree → Weight
   pub decl : Decl → Weight
-  pub of_place : (token : Spelled) (k : ℕ) → place token.at k ≤ of_token token k
+  pub of_entry : (token : Spelled) (k : ℕ) → entry token.at k ≤ of_token token k
   pub of_word : (token : Spelled) → IsTrue (has word token) → (k : ℕ)
       → node (name_of id_of token) k + label (name_of id_of token) k ≤ of_token token k
   pub of_mark : (token : Spelled) → IsTrue (has attribute token) → (k : ℕ)
       → label (at_name id_of token) k ≤ of_token token k
-  pub of_node : (name : Name) (k : ℕ) → place name.at k ≤ node name k
   pub func-is : (given : FuncTree) (k : ℕ) → func given k ≤ node given.word k
   pub prop-is : (given : PropTree) (k : ℕ) → prop given k ≤ node given.word k
   pub case-is : (given : CaseTree) (k : ℕ) → case given k ≤ label given.word k
   pub decl-Entry : (word : Name) (mark : Written) (at : ℕ) (is_async : Bool) (body : Block) (k : ℕ)
-      → decl (decls.Entry word mark at is_async body) k ≤ label word k + place at k
+      → decl (decls.Entry word mark at is_async body) k ≤ label word k + entry at k
   pub decl-Struct : (word : Name) (conforms : Bool) (fields : List PropTree)
       (funcs : List FuncTree) (k : ℕ)
       → decl (decls.Struct word conforms fields funcs) k
@@ -64,7 +64,8 @@ pub record DeclWeights (id_of : List ℕ → ℕ) : Type 0 where
 unfoldable pub weighing : {id_of : List ℕ → ℕ} → DeclWeights id_of → Weighing id_of
 weighing w = record {
   of_token = w.of_token;
-  place = w.place;
+  place = λ at. none;
+  entry = w.entry;
   node = w.node;
   label = w.label;
   type = λ ty. none;
@@ -86,10 +87,12 @@ weighing w = record {
   init = λ init. none;
   case = w.case;
   decl = w.decl;
-  of_place = w.of_place;
+  of_place = λ token k. omega arith;
+  of_span = λ token k. omega (arith, spread_none (length token.text) token.at k);
+  of_entry = w.of_entry;
   of_word = w.of_word;
   of_mark = w.of_mark;
-  of_node = w.of_node;
+  of_node = λ name k. omega arith;
   type-Named = λ name k. omega arith;
   type-Unit = λ at k. omega arith;
   type-Arrow = λ at mark params result k. omega arith;

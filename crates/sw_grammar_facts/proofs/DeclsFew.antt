@@ -11,21 +11,20 @@ use Rattle.sw_grammar_facts.proofs.ProgramRules.{owned}
 abbrev single : Weight
 single k = 1
 
--- A token that gives a node its key weighs one, and a declaration weighs one.
+-- A token that gives a declaration its key weighs one, and a declaration weighs one.
 decls : (id_of : List ℕ → ℕ) → DeclWeights id_of
 decls id_of = record {
   of_token = λ token. single;
-  place = λ at. single;
+  entry = λ at. single;
   node = λ name. single;
   label = λ name. none;
   func = λ func. single;
   prop = λ prop. single;
   case = λ given. none;
   decl = λ decl. single;
-  of_place = λ token k. omega arith;
+  of_entry = λ token k. omega arith;
   of_word = λ token _ k. omega arith;
   of_mark = λ token _ k. omega arith;
-  of_node = λ name k. omega arith;
   func-is = λ given k. omega arith;
   prop-is = λ given k. omega arith;
   case-is = λ given k. omega arith;

@@ -1,10 +1,12 @@
 -- The keys of a program's nodes are counted in its tokens, so they differ.
-use Rattle.std.proofs.Common.{ℕ, suc, ◌≤◌, List, [], ◌∷◌, nat_eq, arith}
+use Rattle.std.proofs.Common.{ℕ, ◌+◌, ◌≤◌, max, true, List, [], ◌∷◌, length, nat_eq, arith}
 use Rattle.std.proofs.lemmas.Grind.{common_steps}
-use Rattle.std.specs.List.{IsDistinct}
-use Rattle.sw_token.specs.Spelling.{Spelled, IsSpelling}
-use Rattle.sw_grammar_forms.proofs.Rising.{Rises, rises}
-use Rattle.sw_tree.proofs.Counting.{Weight, hits, in_all, InOrder, IsDistinct-covers}
+use Rattle.std.proofs.lemmas.List.Elements.{recursion_from_All}
+use Rattle.std.specs.List.{IsDistinct, AllByRecursion}
+use Rattle.sw_token.specs.Spelling.{Spelled, StandApart, IsSpelling}
+use Rattle.sw_token.proofs.Steps.{some_token}
+use Rattle.sw_grammar_forms.proofs.Rising.{HasTokenText, StandApart-earlier}
+use Rattle.sw_tree.proofs.Counting.{Weight, hits, in_all, InOrder, covers_once, IsDistinct-covers}
 use Rattle.sw_tree.proofs.Counting as counting
 use Rattle.sw_tree.proofs.KeyCounts as counts
 use Rattle.sw_tree.specs.Contents.{AreKeyed}
@@ -13,28 +15,36 @@ use Rattle.sw_tree.specs.declared.decl.Decl.{Decl}
 use Rattle.sw_grammar_facts.proofs.Owning.{none}
 use Rattle.sw_grammar.specs.Exprs.{closure_at}
 use Rattle.sw_grammar.specs.Program.{Spells}
+use Rattle.sw_grammar_facts.proofs.Spread.{spread, spread_within}
 use Rattle.sw_grammar_facts.proofs.Weighing.{Weighing}
 use Rattle.sw_grammar_facts.proofs.ProgramRules.{owned}
 
--- a token has the offset at which it begins
+-- A token has the offsets of its text; an empty text, which no token has, counts as one byte.
 abbrev start : Spelled → ℕ
 start token = token.at
 
 abbrev end_of : Spelled → ℕ
-end_of token = suc token.at
+end_of token = token.at + max 1 (length token.text)
 
-abbrev pub beginning : Spelled → Weight
-beginning = counting.here start end_of
+abbrev pub span : Spelled → Weight
+span = counting.here start end_of
 
-pub hits_start : (token : Spelled) (k : ℕ) → hits token.at k ≤ beginning token k
+pub hits_start : (token : Spelled) (k : ℕ) → hits token.at k ≤ span token k
 unfolding hits counting.here
 hits_start token k = grind (arith, common_steps)
+
+spread_span : (token : Spelled) (k : ℕ)
+    → spread hits (length token.text) token.at k ≤ span token k
+unfolding counting.here
+spread_span token k =
+    spread_within (length token.text) token.at (end_of token) k (omega arith)
 
 module _ (id_of : List ℕ → ℕ) where
   keys : Weighing id_of
   keys = record {
-    of_token = beginning;
+    of_token = span;
     place = hits;
+    entry = hits;
     node = λ name. hits name.at;
     label = λ name. none;
     type = λ ty. none;
@@ -57,6 +67,8 @@ module _ (id_of : List ℕ → ℕ) where
     case = λ given. none;
     decl = counts.in_decl;
     of_place = hits_start;
+    of_span = spread_span;
+    of_entry = hits_start;
     of_word = λ token _ k. omega (arith, hits_start token k);
     of_mark = λ token _ k. omega arith;
     of_node = λ name k. omega arith;
@@ -126,18 +138,32 @@ module _ (id_of : List ℕ → ℕ) where
     decl-Global = λ given _ k. omega (arith, counts.in_decl-Global given k);
   }
 
-in_order : (from : ℕ) (tokens : List Spelled) → Rises from tokens
-    → InOrder start end_of from tokens
-in_order from [] rising = tt
-in_order from (token ∷ tokens) rising =
-    (rising.0, omega arith, in_order (suc token.at) tokens rising.1)
+in_order : (from : ℕ) (tokens : List Spelled) → AllByRecursion HasTokenText tokens
+    → StandApart from tokens → InOrder start end_of from tokens
+in_order from [] texts apart = tt
+in_order from (token ∷ tokens) texts apart = (
+  apart.0,
+  omega arith,
+  in_order (end_of token) tokens texts.1
+      (StandApart-earlier (end_of token) _ tokens
+      (omega (arith, some_token true token.text [] texts.0)) apart.1),
+)
+
+spans_in_order : (tokens : List Spelled) → IsSpelling tokens → InOrder start end_of 0 tokens
+spans_in_order tokens is =
+    in_order 0 tokens (recursion_from_All HasTokenText tokens is.texts) is.apart
+
+-- each offset is counted in the tokens of a spelling once at most
+pub counted_once : (tokens : List Spelled) → IsSpelling tokens → (k : ℕ) → in_all span tokens k ≤ 1
+unfolding counting.covers
+counted_once tokens is = covers_once start end_of 0 tokens (spans_in_order tokens is)
 
 -- offsets that are counted in the tokens of a spelling differ
 pub IsDistinct-counted : (ats : List ℕ) (tokens : List Spelled) → IsSpelling tokens
-    → ((k : ℕ) → in_all hits ats k ≤ in_all beginning tokens k) → IsDistinct nat_eq ats
+    → ((k : ℕ) → in_all hits ats k ≤ in_all span tokens k) → IsDistinct nat_eq ats
 unfolding counting.covers
 IsDistinct-counted ats tokens is counted =
-    IsDistinct-covers start end_of 0 tokens (in_order 0 tokens (rises tokens is.rising)) ats counted
+    IsDistinct-covers start end_of 0 tokens (spans_in_order tokens is) ats counted
 
 pub spelled_are_keyed : (id_of : List ℕ → ℕ) (decls : List Decl) (tokens : List Spelled)
     → Spells id_of decls tokens → AreKeyed decls

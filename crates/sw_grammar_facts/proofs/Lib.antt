@@ -1,3 +1,4 @@
+pub mod Spread
 pub mod Weighing
 pub mod NestWeights
 pub mod TypeRules

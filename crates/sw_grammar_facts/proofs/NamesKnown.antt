@@ -23,6 +23,7 @@ use Rattle.sw_grammar.specs.Tokens.{name_of, at_name}
 use Rattle.sw_grammar.specs.Exprs.{closure_at}
 use Rattle.sw_grammar.specs.Program.{Spells}
 use Rattle.sw_grammar_facts.specs.Interned.{name_texts, texts_in, AreInterned}
+use Rattle.sw_grammar_facts.proofs.Spread.{spread_none}
 use Rattle.sw_grammar_facts.proofs.Weighing.{Weighing}
 use Rattle.sw_grammar_facts.proofs.ProgramRules.{owned}
 
@@ -53,6 +54,7 @@ module _ (id_of : List ℕ → ℕ) where
   names = record {
     of_token = of_token;
     place = λ at. none;
+    entry = λ at. none;
     node = misses;
     label = misses;
     type = counts.unknown_type;
@@ -75,6 +77,8 @@ module _ (id_of : List ℕ → ℕ) where
     case = counts.unknown_case;
     decl = counts.unknown_decl;
     of_place = λ token k. omega arith;
+    of_span = λ token k. omega (arith, spread_none (length token.text) token.at k);
+    of_entry = λ token k. omega arith;
     of_word = word_weighs;
     of_mark = mark_weighs;
     of_node = λ name k. omega arith;

@@ -51,7 +51,7 @@ module _ {id_of : List ℕ → ℕ} (w : Weighing id_of) where
   cased arms k = in_all w.case_arm arms.0 k + in_option w.block arms.1 k
 
   abbrev pub entered : Main → Weight
-  entered main k = w.written main.written k + w.place main.at k + w.block main.body k
+  entered main k = w.written main.written k + w.entry main.at k + w.block main.body k
 
   abbrev pub member : Member → Weight
   member (property tree) = w.prop tree

@@ -1,5 +1,5 @@
 -- The keys of a program rise in the order of its text: those of a tree are some of the places of
--- the tokens that spell it, in their order.
+-- the tokens that spell it, in their order. So they tell scopes.
 pub mod Within
 pub mod Following
 pub mod Equations
@@ -12,3 +12,6 @@ pub mod Picking
 pub mod DeclRules
 pub mod ProgramRules
 pub mod KeysRise
+pub mod Scoping
+pub mod OrderCounts
+pub mod ScopedPrograms

@@ -2,7 +2,7 @@
 -- has an operator, and a global variable has a first value. What breaks this weighs something, and
 -- tokens weigh nothing.
 use Rattle.std.proofs.Common.{◌≡◌, ℕ, ◌+◌, ◌≤◌, List, [], ◌∷◌, ◌++◌, map, flat_map, Option, None}
-use Rattle.std.proofs.Common.{Some, option_map, unwrap_or, IsSome, ap, refl, arith}
+use Rattle.std.proofs.Common.{Some, option_map, unwrap_or, IsSome, length, ap, refl, arith}
 use Rattle.std.proofs.lemmas.List.Elements.{All-contains, All-from_recursion}
 use Rattle.std.specs.List.{AllByRecursion}
 use Rattle.sw_token.specs.Spelling.{Spelled}
@@ -26,6 +26,7 @@ use Rattle.sw_tree_facts.proofs.UnwrittenEquations as unwritten
 use Rattle.sw_tree_facts.proofs.UnwrittenEquations.{stmt_unwritten, arg_unwritten}
 use Rattle.sw_tree_facts.proofs.UnwrittenEquations.{closure_unwritten, link_unwritten}
 use Rattle.sw_tree_facts.proofs.UnwrittenEquations.{case_arm_unwritten, if_arm_unwritten}
+use Rattle.sw_grammar_facts.proofs.Spread.{spread_none}
 use Rattle.sw_grammar_facts.proofs.Weighing.{Weighing}
 
 -- one where the value is missing
@@ -62,6 +63,7 @@ module _ (id_of : List ℕ → ℕ) where
   text_forms = record {
     of_token = λ token. none;
     place = λ at. none;
+    entry = λ at. none;
     node = λ name. none;
     label = λ name. none;
     type = λ ty. none;
@@ -84,6 +86,8 @@ module _ (id_of : List ℕ → ℕ) where
     case = λ given. none;
     decl = in_decl;
     of_place = λ token k. omega arith;
+    of_span = λ token k. omega (arith, spread_none (length token.text) token.at k);
+    of_entry = λ token k. omega arith;
     of_word = λ token _ k. omega arith;
     of_mark = λ token _ k. omega arith;
     of_node = λ name k. omega arith;

@@ -1,11 +1,13 @@
 -- What types weigh, and lists that commas part.
-use Rattle.std.proofs.Common.{◌≡◌, ℕ, ◌+◌, true, List, [], ◌∷◌, codes}
-use Rattle.std.proofs.Common.{None, Some, refl, arith}
-use Rattle.sw_grammar_forms.specs.Sets.{Set, word, attribute, within, quoted}
+use Rattle.std.proofs.Common.{◌≡◌, ℕ, ◌+◌, ◌≤◌, true, List, [], ◌∷◌, length, codes}
+use Rattle.std.proofs.Common.{None, Some, refl, sym, ◌∙◌, subst, arith}
+use Rattle.std.proofs.lemmas.Slice.Eq.{bytes_eq-Decides}
+use Rattle.sw_grammar_forms.specs.Sets.{Set, word, attribute, within, quoted, is_quoted}
 use Rattle.sw_grammar_forms.specs.Form.{Shape}
 use Rattle.sw_grammar_forms.specs.Form.Form.{nest}
 use Rattle.sw_grammar_forms.specs.Relations.{Relation, One, spelled}
 use Rattle.sw_grammar_forms.specs.Quotes.{quote, quote_on_line}
+use Rattle.sw_grammar_forms.proofs.SetLaws.{has-quoted}
 use Rattle.sw_grammar_forms.proofs.SetLemmas.{has-within}
 use Rattle.sw_tree.proofs.Counting.{Weight, in_all, in_option, in_all-append}
 use Rattle.sw_grammar_facts.proofs.Owning.{none, Owns, own_done, own_token, own_then, own_either}
@@ -15,6 +17,7 @@ use Rattle.sw_grammar.specs.Nests.Nest.{in_types, in_result, in_task_type}
 use Rattle.sw_grammar.specs.Tokens.{name_in, at_in, value_word, infix_in, a_prefix}
 use Rattle.sw_grammar.specs.Types.{round_type, marked_type, task_type, named_type, type, more_of}
 use Rattle.sw_grammar.specs.Types.{some_of, list_of, types, payload, task_inner}
+use Rattle.sw_grammar_facts.proofs.Spread.{spread}
 use Rattle.sw_grammar_facts.proofs.Weighing.{Weighing}
 use Rattle.sw_grammar_facts.proofs.NestWeights.{weight}
 
@@ -47,6 +50,15 @@ module _ {id_of : List ℕ → ℕ} (w : Weighing id_of) (table : (n : Nest) →
   -- Tokens.
   pub own_quote : (text : List ℕ) → Owns w.of_token none (One (quote text)) w.place
   own_quote text = own_token _ (quote text) (λ token _ k. w.of_place token k)
+
+  -- a quoted text with all its places
+  pub own_whole : (text : List ℕ) → is_quoted text ≡ true
+      → Owns w.of_token none (One (quote text)) (spread w.place (length text))
+  own_whole text is =
+      own_token _ (quote text) (λ token member k.
+      subst (λ chars. spread w.place (length chars) token.at k ≤ w.of_token token k)
+      ((bytes_eq-Decides token.text text).0 (sym (has-quoted text token is) ∙ member))
+      (w.of_span token k))
 
   pub own_name : (set : Set) (text : List ℕ) → within set word ≡ true
       → Owns w.of_token none (One (name_in id_of set text))

@@ -1,6 +1,6 @@
 -- A weight of everything that trees hold, by laws that say what each form of node adds to its
 -- parts, and that tokens weigh what they give.
-use Rattle.std.proofs.Common.{ℕ, ℤ, ◌+◌, ◌≤◌, Bool, IsSome, IsTrue, List, ◌∷◌, Option}
+use Rattle.std.proofs.Common.{ℕ, ℤ, ◌+◌, ◌≤◌, Bool, IsSome, IsTrue, List, ◌∷◌, Option, length}
 use Rattle.sw_token.specs.Spelling.{Spelled}
 use Rattle.sw_grammar_forms.specs.Sets.{has, word, attribute}
 use Rattle.sw_tree.proofs.Counting.{Weight, in_all, in_option}
@@ -35,6 +35,7 @@ use Rattle.sw_tree.specs.declared.decl.Written.TheVariants as writtens
 use Rattle.sw_grammar.specs.Tokens.{name_of, at_name}
 use Rattle.sw_grammar.specs.Nests.{ClosureInside}
 use Rattle.sw_grammar.specs.Exprs.{closure_at}
+use Rattle.sw_grammar_facts.proofs.Spread.{spread}
 
 pub record Weighing (id_of : List ℕ → ℕ) : Type 0 where
   pub of_token : Spelled → Weight
@@ -42,6 +43,8 @@ pub record Weighing (id_of : List ℕ → ℕ) : Type 0 where
   pub place : ℕ → Weight
   pub node : Name → Weight
   pub label : Name → Weight
+  -- the position that is the entry's key, of which a token has one, however long it is
+  pub entry : ℕ → Weight
   pub type : TypeTree → Weight
   pub expr : Expr → Weight
   pub arg : Arg → Weight
@@ -64,6 +67,9 @@ pub record Weighing (id_of : List ℕ → ℕ) : Type 0 where
   pub decl : Decl → Weight
   -- tokens
   pub of_place : (token : Spelled) (k : ℕ) → place token.at k ≤ of_token token k
+  pub of_span : (token : Spelled) (k : ℕ)
+      → spread place (length token.text) token.at k ≤ of_token token k
+  pub of_entry : (token : Spelled) (k : ℕ) → entry token.at k ≤ of_token token k
   pub of_word : (token : Spelled) → IsTrue (has word token) → (k : ℕ)
       → node (name_of id_of token) k + label (name_of id_of token) k ≤ of_token token k
   pub of_mark : (token : Spelled) → IsTrue (has attribute token) → (k : ℕ)
@@ -174,7 +180,7 @@ pub record Weighing (id_of : List ℕ → ℕ) : Type 0 where
       → case given k ≤ label given.word k + in_all type given.types k
   pub decl-Entry : (word : Name) (mark : Written) (at : ℕ) (is_async : Bool) (body : Block) (k : ℕ)
       → decl (decls.Entry word mark at is_async body) k
-      ≤ label word k + written mark k + place at k + block body k
+      ≤ label word k + written mark k + entry at k + block body k
   pub decl-Struct : (word : Name) (conforms : Bool) (fields : List PropTree)
       (funcs : List FuncTree) (k : ℕ)
       → decl (decls.Struct word conforms fields funcs) k

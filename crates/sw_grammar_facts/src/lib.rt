@@ -1,8 +1,8 @@
 //! Laws and lemmas, without code: the declarations of a spelling make a program. Their nodes have
-//! keys of their own, which rise in the order of the text, the words of cases stand apart, global
-//! variables have values, texts can write the trees (no task's body has a parameter, each chain has
-//! an operator), names have texts, and there are no more declarations than tokens. The crate knows
-//! the grammar's forms and what a tree holds. It knows no parser.
+//! keys of their own, which tell scopes, the words of cases differ, global variables have values,
+//! texts can write the trees (no task's body has a parameter, each chain has an operator), names
+//! have texts, and there are no more declarations than tokens. The crate knows the grammar's forms
+//! and what a tree holds. It knows no parser.
 #![tactic(auto)]
 
 ghost use Rattle.std.specs.Prelude.{ℕ, ◌≤◌, List, length};
@@ -10,24 +10,25 @@ ghost use Rattle.sw_token.specs.Spelling.{Spelled};
 ghost use Rattle.sw_tree.specs.CasePlaces.{CasesApart};
 ghost use Rattle.sw_tree.specs.Contents.{AreKeyed, AreNamed};
 ghost use Rattle.sw_tree.specs.Names.{id_in};
-ghost use Rattle.sw_tree.specs.Order.{AreInOrder};
+ghost use Rattle.sw_tree.specs.Scopes.{AreScoped};
 ghost use Rattle.sw_tree.specs.declared.decl.Decl.{Decl};
 ghost use Rattle.sw_tree_facts.specs.Unwritten.{AreWritten};
 ghost use Rattle.sw_tree_facts.specs.Values.{AreValued};
 ghost use Rattle.sw_grammar.specs.Program.{Spells};
 ghost use Rattle.sw_grammar_facts.specs.Interned.{AreInterned};
 
-/// The declarations that a spelling spells have keys of their own, which rise in the order of the
-/// text, and the words of the cases of their enums have places of their own. Each global variable
-/// has a value. No body of a task has a parameter, and each chain has an operator. Where ids are
-/// looked up in texts that have each name of the tokens, each name of the declarations has a text.
+/// The declarations that a spelling spells have keys of their own, which tell for each variable that
+/// a closure uses whether it is declared around the closure or in it. The words of the cases of an
+/// enum differ, in place or in name. Each global variable has a value. No body of a task has a
+/// parameter, and each chain has an operator. Where ids are looked up in texts that have each name
+/// of the tokens, each name of the declarations has a text.
 pub fn spelled_declarations_are_programs()
     ensures keyed { (id_of : List ℕ → ℕ) (decls : List Decl) (tokens : List Spelled)
         → Spells id_of decls tokens → AreKeyed decls }
     ensures apart { (id_of : List ℕ → ℕ) (decls : List Decl) (tokens : List Spelled)
         → Spells id_of decls tokens → CasesApart decls }
-    ensures in_order { (id_of : List ℕ → ℕ) (decls : List Decl) (tokens : List Spelled)
-        → Spells id_of decls tokens → AreInOrder decls }
+    ensures scoped { (id_of : List ℕ → ℕ) (decls : List Decl) (tokens : List Spelled)
+        → Spells id_of decls tokens → AreScoped decls }
     ensures valued { (id_of : List ℕ → ℕ) (decls : List Decl) (tokens : List Spelled)
         → Spells id_of decls tokens → AreValued decls }
     ensures written { (id_of : List ℕ → ℕ) (decls : List Decl) (tokens : List Spelled)

@@ -5,7 +5,7 @@ use Rattle.sw_grammar_forms.specs.Form.Form.{either}
 use Rattle.sw_grammar_forms.specs.Quotes.{quote}
 use Rattle.sw_grammar_forms.specs.Relations.{Relation}
 use Rattle.sw_grammar_forms.specs.Sets.{word}
-use Rattle.sw_tree.specs.Order.{expr_order, block_order, func_order, prop_order}
+use Rattle.sw_grammar_facts.specs.Order.{expr_order, block_order, func_order, prop_order}
 use Rattle.sw_tree.specs.declared.decl.FuncTree.{FuncTree}
 use Rattle.sw_tree.specs.declared.decl.Written.{Written}
 use Rattle.sw_tree.specs.declared.decl.Written.TheVariants as writtens

@@ -7,8 +7,8 @@ use Rattle.sw_tree.proofs.FoldEquations as equations
 use Rattle.sw_tree.specs.Folds.{fold_stmt, fold_arg, fold_closure, fold_link, fold_case_arm}
 use Rattle.sw_tree.specs.Folds.{fold_if_arm}
 use Rattle.sw_tree.specs.Keys.{Keys, joined, pattern_keys}
-use Rattle.sw_tree.specs.Order.{order_steps, expr_order, block_order, func_order}
-use Rattle.sw_tree.specs.Order.{init_order}
+use Rattle.sw_grammar_facts.specs.Order.{order_steps, expr_order, block_order, func_order}
+use Rattle.sw_grammar_facts.specs.Order.{init_order}
 use Rattle.sw_tree.specs.declared.expr.Arg.{Arg, roll-Arg}
 use Rattle.sw_tree.specs.declared.expr.Closure.{Closure, roll-Closure}
 use Rattle.sw_tree.specs.declared.expr.ClosureParam.{ClosureParam}

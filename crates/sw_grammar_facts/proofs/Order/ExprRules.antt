@@ -7,7 +7,7 @@ use Rattle.sw_grammar_forms.specs.Form.Form.{turns, done, terminal}
 use Rattle.sw_grammar_forms.specs.Quotes.{quote, quote_on_line, an_integer}
 use Rattle.sw_grammar_forms.specs.Relations.{Relation}
 use Rattle.sw_grammar_forms.specs.Terminals.{literal, ◌>>=◌}
-use Rattle.sw_tree.specs.Order.{expr_order}
+use Rattle.sw_grammar_facts.specs.Order.{expr_order}
 use Rattle.sw_tree.specs.declared.name.Name.{Name}
 use Rattle.sw_tree.specs.declared.expr.Expr.{Expr}
 use Rattle.sw_tree.specs.declared.expr.Expr.TheVariants as exprs

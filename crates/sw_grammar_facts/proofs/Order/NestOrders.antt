@@ -2,7 +2,7 @@
 -- headers and lists of members.
 use Rattle.std.proofs.Common.{List, [], ◌∷◌, ◌++◌, flat_map, Option}
 use Rattle.sw_tree.specs.Keys.{Keys, pattern_keys}
-use Rattle.sw_tree.specs.Order.{expr_order, block_order, func_order, prop_order, init_order}
+use Rattle.sw_grammar_facts.specs.Order.{expr_order, block_order, func_order, prop_order, init_order}
 use Rattle.sw_tree.specs.declared.stmt.Block.{Block}
 use Rattle.sw_tree.specs.declared.stmt.CaseArm.{CaseArm}
 use Rattle.sw_tree.specs.declared.stmt.IfArm.{IfArm}

@@ -2,7 +2,7 @@
 use Rattle.std.proofs.Common.{ℕ, zero, suc, List, [], ◌∷◌, ◌++◌, map, flat_map}
 use Rattle.std.specs.List.{AllByRecursion}
 use Rattle.sw_tree.specs.Keys.{Keys}
-use Rattle.sw_tree.specs.Order.{func_order, prop_order, init_order, decl_orders}
+use Rattle.sw_grammar_facts.specs.Order.{func_order, prop_order, init_order, decl_orders}
 use Rattle.sw_tree.specs.declared.decl.Decl.{Decl}
 use Rattle.sw_grammar.specs.Decls.{properties_in, initialisers_in, functions_in}
 use Rattle.sw_grammar.specs.Nests.{Member}

@@ -5,7 +5,7 @@ use Rattle.sw_grammar_forms.specs.Quotes.{quote}
 use Rattle.sw_grammar_forms.specs.Relations.{Relation, One, may_start, stays}
 use Rattle.sw_grammar_forms.specs.Sets.{word}
 use Rattle.sw_tree.specs.Keys.{pattern_keys}
-use Rattle.sw_tree.specs.Order.{expr_order, block_order}
+use Rattle.sw_grammar_facts.specs.Order.{expr_order, block_order}
 use Rattle.sw_tree.specs.Place.{is_place}
 use Rattle.sw_tree.specs.declared.expr.Expr.{Expr}
 use Rattle.sw_tree.specs.declared.expr.Expr.TheVariants as exprs

@@ -1,13 +1,14 @@
 -- Lists within lists: some of the items, in the same order. A list within a rising one rises.
-use Rattle.std.proofs.Common.{◌≡◌, ℕ, suc, ◌≤◌, ◌<◌, List, [], ◌∷◌, ◌++◌, map, flat_map}
-use Rattle.std.proofs.Common.{sym, subst, append-nil, arith}
+use Rattle.std.proofs.Common.{◌≡◌, ℕ, suc, ◌+◌, ◌≤◌, ◌<◌, true, List, [], ◌∷◌, ◌++◌, length, map}
+use Rattle.std.proofs.Common.{flat_map, sym, subst, append-nil, arith}
 use Rattle.std.specs.List.{AllByRecursion}
 use Rattle.std.proofs.lemmas.List.{flat_map_more}
-use Rattle.std.proofs.lemmas.List.Elements.{All-from_recursion}
-use Rattle.sw_token.specs.Spelling.{Spelled}
-use Rattle.sw_grammar_forms.proofs.Rising.{Rises}
+use Rattle.std.proofs.lemmas.List.Elements.{All-from_recursion, recursion_from_All}
+use Rattle.sw_token.specs.Spelling.{Spelled, StandApart, IsSpelling}
+use Rattle.sw_token.proofs.Steps.{some_token}
+use Rattle.sw_grammar_forms.proofs.Rising.{HasTokenText}
 use Rattle.sw_tree.specs.Keys.{Keys}
-use Rattle.sw_tree.specs.Order.{AreRising}
+use Rattle.sw_grammar_facts.specs.Order.{AreRising}
 
 pub data Within : Keys → Keys → Type 0 where
   none : Within [] []
@@ -86,12 +87,20 @@ are_rising from (x ∷ xs) all = (
 abbrev pub places : List Spelled → Keys
 places tokens = map (λ token. token.at) tokens
 
-ascending : (from : ℕ) (tokens : List Spelled) → Rises from tokens → Ascends from (places tokens)
-ascending from [] all = tt
-ascending from (token ∷ tokens) all = (all.0, ascending (suc token.at) tokens all.1)
+ascending : (from : ℕ) (tokens : List Spelled) → AllByRecursion HasTokenText tokens
+    → StandApart from tokens → Ascends from (places tokens)
+ascending from [] texts apart = tt
+ascending from (token ∷ tokens) texts apart =
+    let end = token.at + length token.text in (
+      apart.0,
+      ascends_from (suc token.at) end (places tokens)
+          (omega (arith, some_token true token.text [] texts.0))
+          (ascending end tokens texts.1 apart.1),
+    )
 
--- Some of the places of rising tokens rise.
-pub rising_within : (from : ℕ) (tokens : List Spelled) (xs : Keys) → Rises from tokens
+-- Some of the places of the tokens of a spelling rise.
+pub rising_within : (tokens : List Spelled) (xs : Keys) → IsSpelling tokens
     → Within xs (places tokens) → AreRising xs
-rising_within from tokens xs rises is =
-    are_rising from xs (ascends_within from xs (places tokens) is (ascending from tokens rises))
+rising_within tokens xs spelling is =
+    are_rising 0 xs (ascends_within 0 xs (places tokens) is
+    (ascending 0 tokens (recursion_from_All HasTokenText tokens spelling.texts) spelling.apart))
