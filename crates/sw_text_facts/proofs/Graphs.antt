@@ -2,6 +2,7 @@
 -- and clean where it is accepted.
 use Rattle.std.proofs.Common.{◌≡◌, ℕ, List, [], ◌∷◌, Contains, inl, refl}
 use Rattle.sw_tree.specs.declared.decl.Decl.{Decl}
+use Rattle.sw_tree.proofs.Members.{in_map}
 use Rattle.sw_graph.specs.Clean.{IsClean}
 use Rattle.sw_graph.specs.Placed.{IsPlaced}
 use Rattle.sw_graph.specs.declared.graph.Graph.{Graph}
@@ -11,7 +12,7 @@ use Rattle.sw_decls.specs.declared.signature.AsyncDefault.{AsyncDefault}
 use Rattle.sw_typing_rules.specs.Worlds.{World}
 use Rattle.sw_isolation_rules.specs.Programs.{refusals}
 use Rattle.sw_isolation_rules.specs.Races.{races as program_races}
-use Rattle.sw_typing_facts.proofs.Lists.Listed.{in_first, in_map}
+use Rattle.sw_typing_facts.proofs.Lists.Listed.{in_first}
 use Rattle.sw_lower_total_facts.specs.Programs.{IsWelltyped}
 use Rattle.sw_lower_placed_facts.proofs.Graphs.Keeping.{clean_graph, placed_graph}
 use Rattle.sw_region_flow.proofs.OneSites.{no_member}

@@ -7,13 +7,10 @@ pub mod LoweredTexts
 pub mod Meant
 pub mod OneLists
 pub mod OneLowered
-pub mod OrderCounts
 pub mod Ordered
 pub mod Passing
 pub mod Programs
 pub mod Races
 pub mod SameProgram
-pub mod ScopedPrograms
-pub mod Scoping
 pub mod Tables
 pub mod Verdicts

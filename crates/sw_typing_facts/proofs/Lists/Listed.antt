@@ -1,10 +1,9 @@
 -- Elements of lists by their places.
-use Rattle.std.proofs.Common.{◌≡◌, ℕ, zero, suc, ◌<◌, Some, List, [], ◌∷◌, ◌++◌, map, length}
+use Rattle.std.proofs.Common.{◌≡◌, ℕ, zero, suc, ◌<◌, Some, List, [], ◌∷◌, ◌++◌, length}
 use Rattle.std.proofs.Common.{Contains, refl, ap, ◌∙◌, arith}
 use Rattle.std.proofs.lemmas.List.Elements.{Contains-append_left, Contains-append_right}
-use Rattle.std.proofs.lemmas.Option.{get_or_from_slice_get, slice_get-get_or, slice_get-map}
+use Rattle.std.proofs.lemmas.Option.{get_or_from_slice_get, slice_get-get_or}
 use Rattle.std.proofs.lemmas.Option.{slice_get_within}
-use Rattle.std.specs.Option.{option_map}
 use Rattle.std.specs.Prelude.{slice_get}
 
 -- an element of a list is at some place
@@ -23,22 +22,6 @@ pub some_at : {X : Type 0} (xs : List X) (k : ℕ) → k < length xs
 some_at [] k below = absurd (omega arith)
 some_at (x ∷ xs) zero below = (x, refl)
 some_at (x ∷ xs) (suc k) below = some_at xs k (omega (arith, below))
-
--- an element of a list, after a function
-pub in_map : {X Y : Type 0} (f : X → Y) (xs : List X) (x : X) → Contains xs x
-    → Contains (map f xs) (f x)
-in_map f xs x has =
-    let (k, at) = place_in xs x has in
-    in_place (map f xs) k (f x) (slice_get-map f xs k ∙ ap (option_map f) at)
-
--- what an element after a function was made of
-pub of_map : {X Y : Type 0} (f : X → Y) (xs : List X) (y : Y) → Contains (map f xs) y
-    → (x : X) × Contains xs x × (f x ≡ y)
-of_map f [] y (k, below, is) = absurd (omega (arith, below))
-of_map f (x ∷ xs) y (zero, below, is) = (x, (0, omega arith, refl), is)
-of_map f (x ∷ xs) y (suc k, below, is) =
-    let (one, has, same) = of_map f xs y (k, omega (arith, below), is) in
-    (one, Contains-append_right (x ∷ []) xs one has, same)
 
 -- the first of a list, which is in it
 pub in_first : {X : Type 0} (x : X) (xs : List X) → Contains (x ∷ xs) x

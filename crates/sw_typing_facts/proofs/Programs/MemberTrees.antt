@@ -13,13 +13,14 @@ use Rattle.sw_tree.specs.declared.decl.Decl.TheVariants.{Entry, Struct, Enum, Cl
 use Rattle.sw_tree.specs.declared.decl.Decl.TheVariants.{GlobalActor, Func, Global}
 use Rattle.sw_tree.specs.declared.decl.FuncTree.{FuncTree}
 use Rattle.sw_tree.specs.declared.decl.PropTree.{PropTree}
+use Rattle.sw_tree.proofs.Members.{of_map}
 use Rattle.sw_decl_words.specs.Members.{cases_from, earlier_member, first_member, is_named, member_of}
 use Rattle.sw_decl_words.specs.Members.{members_from, members_of, methods_of, parts_from}
 use Rattle.sw_decl_words.specs.Words.{declares}
 use Rattle.sw_decl_words.specs.declared.members.Member.{Member}
 use Rattle.sw_decl_words.specs.declared.members.Owned.{Owned}
 use Rattle.sw_decl_words.specs.declared.members.Role.TheVariants as role
-use Rattle.sw_typing_facts.proofs.Lists.Listed.{in_first, in_rest, of_map}
+use Rattle.sw_typing_facts.proofs.Lists.Listed.{in_first, in_rest}
 use Rattle.sw_typing_facts.proofs.Programs.MadeOf.{member_made}
 use Rattle.sw_typing_facts.proofs.Programs.Standing.{Stands}
 

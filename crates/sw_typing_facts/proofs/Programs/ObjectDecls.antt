@@ -15,6 +15,7 @@ use Rattle.sw_tree.specs.declared.decl.PropTree.{PropTree}
 use Rattle.sw_tree.specs.declared.decl.Written.{Written}
 use Rattle.sw_tree.specs.declared.expr.Expr.{Expr}
 use Rattle.sw_tree.specs.declared.name.Name.{Name}
+use Rattle.sw_tree.proofs.Members.{in_map}
 use Rattle.sw_decl_words.specs.Evident.{Meanings, meanings_of}
 use Rattle.sw_decl_words.specs.Words.{top_meaning}
 use Rattle.sw_decl_words.specs.declared.words.Meaning.{Meaning}
@@ -28,7 +29,6 @@ use Rattle.sw_decl_values.specs.Values.{without_value}
 use Rattle.sw_decls.specs.Declaring.{IsFirstBreach}
 use Rattle.sw_typing_rules.proofs.Steps.{and_left}
 use Rattle.std.proofs.lemmas.List.Elements.{Contains-append_left}
-use Rattle.sw_typing_facts.proofs.Lists.Listed.{in_map}
 use Rattle.sw_typing_facts.proofs.Programs.DeclStands.{none_left, none_right, sound_names}
 use Rattle.sw_typing_facts.proofs.Programs.DeclStands.{sound_values}
 use Rattle.sw_typing_facts.proofs.Programs.Keyed.{counted_where, key_once, one_item}

@@ -15,6 +15,7 @@ use Rattle.sw_tree.specs.declared.decl.Decl.TheVariants.{GlobalActor, Func, Glob
 use Rattle.sw_tree.specs.declared.decl.FuncTree.{FuncTree}
 use Rattle.sw_tree.specs.declared.decl.PropTree.{PropTree}
 use Rattle.sw_tree.specs.declared.name.Name.{Name}
+use Rattle.sw_tree.proofs.Members.{of_map}
 use Rattle.sw_types.specs.declared.shape.Part.{Part}
 use Rattle.sw_types.specs.declared.shape.Shape.{Shape}
 use Rattle.sw_decl_words.specs.Evident.{Meanings, meanings_of}
@@ -27,7 +28,7 @@ use Rattle.sw_decl_words.specs.declared.members.Owned.{Owned}
 use Rattle.sw_decl_words.specs.declared.members.Role.TheVariants as role
 use Rattle.sw_decls.specs.declared.signature.AsyncDefault.{AsyncDefault}
 use Rattle.sw_typing_rules.specs.Worlds.{IsWorldOf, World}
-use Rattle.sw_typing_facts.proofs.Lists.Listed.{in_first, in_rest, of_map}
+use Rattle.sw_typing_facts.proofs.Lists.Listed.{in_first, in_rest}
 use Rattle.sw_typing_facts.proofs.Programs.DeclStands.{shape_there}
 use Rattle.sw_typing_facts.proofs.Programs.MadeOf.{member_made}
 use Rattle.sw_typing_facts.proofs.Programs.MemberTrees.{next_member}
