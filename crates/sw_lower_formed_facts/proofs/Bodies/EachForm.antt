@@ -14,6 +14,7 @@ use Rattle.sw_tree.specs.declared.decl.PropTree.{PropTree}
 use Rattle.sw_tree.specs.declared.decl.Written.{Written}
 use Rattle.sw_tree.specs.declared.name.Name.{Name}
 use Rattle.sw_tree.specs.declared.stmt.Block.{Block}
+use Rattle.sw_tree.proofs.Members.{in_map}
 use Rattle.sw_types.specs.declared.isolation.Iso.{Iso}
 use Rattle.sw_types.specs.declared.isolation.Iso.TheVariants as iso
 use Rattle.sw_types.specs.declared.shape.Shape.{Shape}
@@ -41,7 +42,7 @@ use Rattle.sw_lower_rules.specs.Tables.{Tables}
 use Rattle.sw_lower_formed_facts.proofs.Bodies.FuncBodies.{body_by}
 use Rattle.sw_lower_formed_facts.proofs.Bodies.Initialisers.{IsObject}
 use Rattle.sw_typing_facts.proofs.Lists.Joined.{Gives, both_give, each_gives, none_gives}
-use Rattle.sw_typing_facts.proofs.Lists.Listed.{in_first, in_map}
+use Rattle.sw_typing_facts.proofs.Lists.Listed.{in_first}
 use Rattle.sw_typing_facts.proofs.Programs.DeclParts.{funcs_in, inits_in, props_in}
 use Rattle.sw_typing_facts.proofs.Programs.DeclStands.{shape_there, value_stands}
 use Rattle.sw_typing_facts.proofs.Programs.MadeOf.{func_stands, typed_stands}

@@ -11,6 +11,7 @@ use Rattle.sw_tree.specs.declared.decl.Decl.TheVariants.{GlobalActor, Func, Glob
 use Rattle.sw_tree.specs.declared.decl.InitTree.{InitTree}
 use Rattle.sw_tree.specs.declared.decl.PropTree.{PropTree}
 use Rattle.sw_tree.specs.declared.name.Name.{Name}
+use Rattle.sw_tree.proofs.Members.{in_map}
 use Rattle.sw_types.specs.declared.isolation.Iso.{Iso}
 use Rattle.sw_types.specs.declared.isolation.Iso.TheVariants as iso
 use Rattle.sw_types.specs.declared.shape.Shape.{Shape}
@@ -40,7 +41,7 @@ use Rattle.sw_lower_rules.specs.Tables.{Isolation, Tables, plain}
 use Rattle.sw_lower_formed_facts.specs.Ground.{IsHeader, params_of}
 use Rattle.sw_lower_formed_facts.proofs.Headers.ParamTypes.{AreAnswered, are_typed, kinds_are}
 use Rattle.sw_lower_formed_facts.proofs.Headers.Signed.{declared_func, for_found, func_found, signed_header}
-use Rattle.sw_typing_facts.proofs.Lists.Listed.{between, in_first, in_map, in_place}
+use Rattle.sw_typing_facts.proofs.Lists.Listed.{between, in_first, in_place}
 use Rattle.sw_typing_facts.proofs.Programs.DeclStands.{made_flat}
 use Rattle.sw_typing_facts.proofs.Programs.MadeOf.{func_stands, shape_stands}
 use Rattle.sw_lower_formed_facts.proofs.Bodies.MadeOf.{body_stands}

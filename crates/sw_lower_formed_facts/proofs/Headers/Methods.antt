@@ -9,6 +9,7 @@ use Rattle.sw_tree.specs.declared.decl.Decl.{Decl}
 use Rattle.sw_tree.specs.declared.decl.Decl.TheVariants.{Entry, Struct, Enum, Class, Actor}
 use Rattle.sw_tree.specs.declared.decl.Decl.TheVariants.{GlobalActor, Func, Global}
 use Rattle.sw_tree.specs.declared.decl.FuncTree.{FuncTree}
+use Rattle.sw_tree.proofs.Members.{in_map}
 use Rattle.sw_types.specs.declared.isolation.Iso.{Iso}
 use Rattle.sw_types.specs.declared.isolation.Iso.TheVariants as iso
 use Rattle.sw_types.specs.declared.shape.Shape.{Shape}
@@ -34,7 +35,6 @@ use Rattle.sw_lower_rules.specs.Tables.{Isolation, Tables, plain}
 use Rattle.sw_lower_formed_facts.specs.Ground.{IsHeader, params_of}
 use Rattle.sw_lower_formed_facts.proofs.Headers.ParamTypes.{AreAnswered, kind_of}
 use Rattle.sw_lower_formed_facts.proofs.Headers.Signed.{tree_header}
-use Rattle.sw_typing_facts.proofs.Lists.Listed.{in_map}
 use Rattle.sw_typing_facts.proofs.Programs.MadeOf.{shape_stands}
 use Rattle.sw_typing_facts.proofs.Programs.MemberTrees.{method_place, trees_of}
 

@@ -5,6 +5,7 @@ use Rattle.std.proofs.lemmas.List.Elements.{Contains-append_left}
 use Rattle.sw_list.proofs.Members.{in_flat_map}
 use Rattle.sw_tree.specs.declared.decl.Decl.{Decl}
 use Rattle.sw_tree.specs.declared.decl.ParamTree.{ParamTree}
+use Rattle.sw_tree.proofs.Members.{in_map}
 use Rattle.sw_types.specs.declared.ty.Ty.{Ty}
 use Rattle.sw_graph.specs.declared.function.RegKind.{RegKind}
 use Rattle.sw_graph.specs.declared.function.RegKind.TheVariants.{Plain}
@@ -28,7 +29,7 @@ use Rattle.sw_isolation_rules.specs.Answers.{Answers}
 use Rattle.sw_lower_code.specs.declared.taken.Taken.{Taken}
 use Rattle.sw_lower_rules.specs.Bodies.{param_taken}
 use Rattle.sw_lower_rules.specs.Tables.{Tables, or_void}
-use Rattle.sw_typing_facts.proofs.Lists.Listed.{in_first, in_map, in_rest}
+use Rattle.sw_typing_facts.proofs.Lists.Listed.{in_first, in_rest}
 
 -- Each type that the rules give is the one that is answered.
 abbrev pub AreAnswered : World → Answers → List Decl → Type 0

@@ -4,6 +4,7 @@ use Rattle.std.proofs.Common.{subst}
 use Rattle.std.specs.Prelude.{slice_get}
 use Rattle.sw_tree.specs.declared.decl.InitTree.{InitTree}
 use Rattle.sw_tree.specs.declared.decl.PropTree.{PropTree}
+use Rattle.sw_tree.proofs.Members.{of_map}
 use Rattle.sw_types.specs.Accepts.{IsAcceptedAs}
 use Rattle.sw_types.specs.declared.shape.Part.{Part}
 use Rattle.sw_types.specs.declared.shape.Shape.{Shape}
@@ -21,7 +22,7 @@ use Rattle.sw_typing_rules.specs.Worlds.{World, part_at}
 use Rattle.sw_isolation_rules.specs.Answers.{Answers}
 use Rattle.sw_typing_facts.specs.Rows.{RowsHold}
 use Rattle.sw_lower_formed_facts.proofs.Bodies.Initialisers.{AcceptsAs}
-use Rattle.sw_typing_facts.proofs.Lists.Listed.{in_place, of_map}
+use Rattle.sw_typing_facts.proofs.Lists.Listed.{in_place}
 use Rattle.sw_typing_facts.proofs.Programs.ObjectDecls.{ObjectOk}
 
 -- parts with one name are one
