@@ -36,7 +36,7 @@ use Rattle.sw_typing_facts.specs.Rows.{RowsHold}
 use Rattle.sw_lower_formed_facts.specs.Trees.{IsHere}
 use Rattle.sw_lower_total_facts.specs.Bound.{sight_in}
 use Rattle.sw_lower_total_facts.specs.Noted.{StandsInText}
-use Rattle.sw_lower_total_facts.specs.Scopes.{Scoped, block_scoped, expr_scoped}
+use Rattle.sw_tree.specs.Scopes.{Scoped, block_scoped, expr_scoped}
 use Rattle.sw_lower_total_facts.specs.Trees.{noted_in, noted_of}
 use Rattle.sw_lower_placed_facts.specs.Allowed.{IsAllowed}
 use Rattle.sw_lower_placed_facts.specs.Placing.{PlacesAt, PlacesWith}

@@ -9,7 +9,6 @@ pub mod Lowering
 pub mod Mentions
 pub mod Proceeding
 pub mod Programs
-pub mod ScopeCounts
 pub mod Standing
 pub mod Statements
 pub mod Trees

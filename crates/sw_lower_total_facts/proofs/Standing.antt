@@ -4,7 +4,6 @@ pub mod Closures
 pub mod Covering
 pub mod Declared
 pub mod Expressions
-pub mod Keys
 pub mod NoteForms
 pub mod Noting
 pub mod Ordered

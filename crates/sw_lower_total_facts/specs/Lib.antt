@@ -6,5 +6,4 @@ pub mod Known
 pub mod Noted
 pub mod Proceeding
 pub mod Programs
-pub mod Scopes
 pub mod Trees

@@ -10,7 +10,7 @@ use Rattle.sw_isolation_rules.specs.Lists.{held_in, kinds_in, vars_in}
 use Rattle.sw_isolation_rules.specs.declared.note.Captured.{Captured as Held}
 use Rattle.sw_isolation_rules.specs.declared.note.Kinded.{Kinded}
 use Rattle.sw_isolation_rules.specs.declared.note.Note.{Note}
-use Rattle.sw_lower_total_facts.specs.Scopes.{AreLess, Scoped, Word}
+use Rattle.sw_tree.specs.Scopes.{AreLess, Scoped, Word}
 
 -- the kinds that are noted of a key, what the closure with a key takes, and whether a key is noted
 -- as that of a `var`

@@ -14,7 +14,7 @@ use Rattle.sw_isolation_rules.specs.Programs.{noted}
 use Rattle.sw_isolation_rules.specs.declared.note.Note.{Note}
 use Rattle.sw_lower_rules.specs.Tables.{Tables, isolation_in}
 use Rattle.sw_lower_formed_facts.specs.Programs.{tables_in}
-use Rattle.sw_lower_total_facts.specs.Scopes.{AreScoped}
+use Rattle.sw_tree.specs.Scopes.{AreScoped}
 
 -- all that is noted of a program
 abbrev pub notes_of : World → List Decl → List Note

@@ -23,7 +23,7 @@ use Rattle.sw_typing_facts.specs.EnumWords.{AreUnmeant, in_block, in_expr}
 use Rattle.sw_lower_total_facts.specs.Forms.{BlockProceeds, ExprProceeds}
 use Rattle.sw_lower_total_facts.specs.Noted.{StandsInText}
 use Rattle.sw_lower_total_facts.specs.Proceeding.{BodyIsNumbered}
-use Rattle.sw_lower_total_facts.specs.Scopes.{block_scoped, expr_scoped}
+use Rattle.sw_tree.specs.Scopes.{block_scoped, expr_scoped}
 
 module _ (tables : Tables) (number : Numbers) (all : List Note) where
   -- what is noted of an expression and of a block

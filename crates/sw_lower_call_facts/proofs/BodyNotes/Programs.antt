@@ -19,6 +19,7 @@ use Rattle.sw_tree.specs.declared.name.Name.{Name}
 use Rattle.sw_tree.proofs.Counting.{hits_same, in_option}
 use Rattle.sw_tree.proofs.KeyCounts as keys
 use Rattle.sw_tree.proofs.KeyCounts.{in_block, in_decl, in_expr, in_func, in_init, in_prop}
+use Rattle.sw_tree.proofs.Members.{in_map}
 use Rattle.sw_types.specs.declared.isolation.Iso.{Iso}
 use Rattle.sw_types.specs.declared.isolation.Iso.TheVariants as iso
 use Rattle.sw_types.specs.declared.shape.Shape.{Shape}
@@ -43,7 +44,7 @@ use Rattle.sw_isolation_rules.specs.declared.note.Note.TheVariants.{Mentioned, C
 use Rattle.sw_decl_words.specs.Words.{globals_made}
 use Rattle.sw_lower_rules.specs.Tables.{body_with}
 use Rattle.sw_lower_formed_facts.proofs.Headers.FoundFuncs.{found_func, func_is}
-use Rattle.sw_typing_facts.proofs.Lists.Listed.{in_first, in_map}
+use Rattle.sw_typing_facts.proofs.Lists.Listed.{in_first}
 use Rattle.sw_typing_facts.proofs.Programs.DeclStands.{shape_there}
 use Rattle.sw_typing_facts.proofs.Programs.Keyed.{counted_in}
 use Rattle.sw_typing_facts.proofs.Programs.MadeOf.{func_stands}

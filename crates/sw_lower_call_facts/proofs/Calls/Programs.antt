@@ -14,6 +14,7 @@ use Rattle.sw_tree.specs.declared.decl.FuncTree.{FuncTree}
 use Rattle.sw_tree.specs.declared.decl.InitTree.{InitTree}
 use Rattle.sw_tree.specs.declared.decl.PropTree.{PropTree}
 use Rattle.sw_tree.specs.declared.name.Name.{Name}
+use Rattle.sw_tree.proofs.Members.{of_map}
 use Rattle.sw_graph.specs.Points.{Middle, End, Point, point_in, points_of}
 use Rattle.sw_graph.specs.declared.function.Function.{Function}
 use Rattle.sw_graph.specs.declared.function.TheConstants.{MAX_POINTS}
@@ -40,7 +41,7 @@ use Rattle.sw_lower_rules.specs.Bodies.{AreMade, AreOrdered, decl_bodies, functi
 use Rattle.sw_lower_rules.specs.Bodies.{func_tree_bodies, inits_bodies, numbers_of, program_bodies}
 use Rattle.sw_lower_rules.specs.Bodies.{prop_getters}
 use Rattle.sw_lower_rules.specs.Tables.{Tables}
-use Rattle.sw_typing_facts.proofs.Lists.Listed.{in_place, of_map}
+use Rattle.sw_typing_facts.proofs.Lists.Listed.{in_place}
 use Rattle.sw_lower_formed_facts.proofs.Bodies.MadeOf.{body_made, body_stands}
 use Rattle.sw_typing_facts.proofs.Programs.ObjectDecls.{ObjectOk, actor_ok, class_ok}
 use Rattle.sw_lower_formed_facts.proofs.Programs.SimpleInside.{simple_inside}

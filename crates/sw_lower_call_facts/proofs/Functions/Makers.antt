@@ -24,6 +24,7 @@ use Rattle.sw_decl_words.specs.declared.words.Meaning.{Meaning}
 use Rattle.sw_lower_total_facts.specs.Known.{IsMade}
 use Rattle.sw_tree.specs.declared.decl.FuncTree.{FuncTree}
 use Rattle.sw_tree.specs.declared.decl.Written.{Written}
+use Rattle.sw_tree.proofs.Members.{in_map}
 use Rattle.sw_decls.specs.Declaring.{init_key, key_place, maker_keys}
 use Rattle.sw_decls.specs.Signatures.{actor_iso, func_of, funcs_of, init_of, inits_of}
 use Rattle.sw_decls.specs.declared.signature.AsyncDefault.{AsyncDefault}
@@ -38,7 +39,7 @@ use Rattle.sw_lower_rules.specs.Bodies.{inits_bodies, numbers_of}
 use Rattle.sw_lower_rules.specs.Bodies.{program_bodies, prop_getters, signed}
 use Rattle.sw_lower_rules.specs.Tables.{Tables, plain}
 use Rattle.sw_lower_formed_facts.proofs.Headers.FoundFuncs.{func_is}
-use Rattle.sw_typing_facts.proofs.Lists.Listed.{between, in_first, in_map}
+use Rattle.sw_typing_facts.proofs.Lists.Listed.{between, in_first}
 use Rattle.sw_typing_facts.proofs.Programs.DeclStands.{shape_there}
 use Rattle.sw_typing_facts.proofs.Programs.MadeOf.{func_stands}
 use Rattle.sw_lower_formed_facts.proofs.Bodies.MadeOf.{body_stands}

@@ -15,6 +15,7 @@ use Rattle.sw_tree.specs.declared.decl.Written.{Written}
 use Rattle.sw_tree.specs.declared.decl.Written.TheVariants.{Absent, At, Nonisolated, Concurrent}
 use Rattle.sw_tree.specs.declared.decl.Written.TheVariants.{Nonsending}
 use Rattle.sw_tree.specs.declared.name.Name.{Name}
+use Rattle.sw_tree.proofs.Members.{of_map}
 use Rattle.sw_types.specs.declared.isolation.Iso.{Iso}
 use Rattle.sw_types.specs.declared.isolation.Iso.TheVariants as iso
 use Rattle.sw_types.specs.declared.shape.ShapeKind.TheVariants as kinds
@@ -29,7 +30,7 @@ use Rattle.sw_decls.specs.declared.signature.AsyncDefault.TheVariants as default
 use Rattle.sw_decls.specs.declared.signature.Signature.{Signature}
 use Rattle.sw_typing_rules.specs.Worlds.{IsWorldOf, World}
 use Rattle.sw_decl_words.specs.Words.{globals_made}
-use Rattle.sw_typing_facts.proofs.Lists.Listed.{of_map, only_in}
+use Rattle.sw_typing_facts.proofs.Lists.Listed.{only_in}
 use Rattle.sw_typing_facts.proofs.Programs.DeclStands.{shape_there}
 use Rattle.sw_typing_facts.proofs.Programs.Standing.{Stands, StandsFrom}
 use Rattle.sw_lower_call_facts.specs.Taking.{IsActorAt, IsOfActor}

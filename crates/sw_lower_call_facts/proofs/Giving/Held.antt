@@ -38,9 +38,9 @@ use Rattle.sw_typing_facts.proofs.Programs.Standing.{Stands}
 use Rattle.sw_lower_total_facts.specs.Noted as noted
 use Rattle.sw_lower_total_facts.specs.Noted.{held_of}
 use Rattle.sw_lower_total_facts.specs.Programs.{IsWelltyped, notes_of}
-use Rattle.sw_lower_total_facts.specs.Scopes.{block_scoped}
+use Rattle.sw_tree.specs.Scopes.{block_scoped}
 use Rattle.sw_lower_total_facts.proofs.Programs.Found.{key_found}
-use Rattle.sw_lower_total_facts.proofs.Standing.Keys.{contained}
+use Rattle.sw_tree.proofs.KeyMembers.{contained}
 use Rattle.sw_lower_total_facts.proofs.Standing.Ordered.{owner_of, self_words}
 use Rattle.sw_lower_total_facts.proofs.Standing.Owners.{func_owner, init_owner}
 use Rattle.sw_lower_total_facts.proofs.Standing.Programs.{func_body_stands, init_body_stands}

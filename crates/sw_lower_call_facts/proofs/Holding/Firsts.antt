@@ -5,6 +5,7 @@ use Rattle.std.proofs.lemmas.Bool.{false≢true}
 use Rattle.std.proofs.lemmas.List.Elements.{Contains-append_cases}
 use Rattle.std.specs.List.{filter}
 use Rattle.sw_list.proofs.Members.{none_in}
+use Rattle.sw_tree.proofs.Members.{of_map}
 use Rattle.sw_typing_rules.specs.Worlds.{World}
 use Rattle.sw_isolation_rules.specs.Captures.{firsts, held_self, is_among, mentioned, outer}
 use Rattle.sw_isolation_rules.specs.Captures.{self_of}
@@ -13,7 +14,7 @@ use Rattle.sw_isolation_rules.specs.Kinds.{is_own}
 use Rattle.sw_isolation_rules.specs.declared.note.Mention.{Mention}
 use Rattle.sw_isolation_rules.specs.declared.note.Note.{Note}
 use Rattle.sw_isolation_rules.specs.declared.uses.Context.{Context}
-use Rattle.sw_typing_facts.proofs.Lists.Listed.{in_first, of_map, only_in}
+use Rattle.sw_typing_facts.proofs.Lists.Listed.{in_first, only_in}
 use Rattle.sw_lower_total_facts.proofs.Closures.Firsts.{taken_held}
 use Rattle.sw_lower_total_facts.proofs.Closures.Kept.{among_in, in_among, of_kept}
 

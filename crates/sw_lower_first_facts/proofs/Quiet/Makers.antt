@@ -11,6 +11,7 @@ use Rattle.sw_tree.specs.declared.decl.InitTree.{InitTree}
 use Rattle.sw_tree.specs.declared.decl.PropTree.{PropTree}
 use Rattle.sw_tree.specs.declared.name.Name.{Name}
 use Rattle.sw_tree.specs.declared.stmt.Stmt.{Stmt}
+use Rattle.sw_tree.proofs.Members.{in_map}
 use Rattle.sw_types.specs.declared.shape.Shape.{Shape}
 use Rattle.sw_decl_words.specs.Evident.{meanings_of}
 use Rattle.sw_decl_words.specs.Shaped.{shape_of}
@@ -40,7 +41,7 @@ use Rattle.sw_lower_rules.specs.Carriers.{BlockCode, Given}
 use Rattle.sw_lower_rules.specs.Statements.{block_code}
 use Rattle.sw_lower_rules.specs.Tables.{Tables, name_of, plain}
 use Rattle.sw_lower_formed_facts.proofs.Headers.Signed.{for_found}
-use Rattle.sw_typing_facts.proofs.Lists.Listed.{in_first, in_map}
+use Rattle.sw_typing_facts.proofs.Lists.Listed.{in_first}
 use Rattle.sw_typing_facts.proofs.Programs.DeclStands.{known_is, shape_there, value_stands}
 use Rattle.sw_typing_facts.proofs.Programs.MadeOf.{typed_stands}
 use Rattle.sw_typing_facts.proofs.Programs.NamesApart.{none_of}

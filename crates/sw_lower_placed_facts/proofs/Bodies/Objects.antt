@@ -13,6 +13,7 @@ use Rattle.sw_tree.specs.declared.decl.ParamTree.{ParamTree}
 use Rattle.sw_tree.specs.declared.decl.PropTree.{PropTree}
 use Rattle.sw_tree.specs.declared.expr.Expr.{Expr}
 use Rattle.sw_tree.specs.declared.name.Name.{Name}
+use Rattle.sw_tree.proofs.Members.{in_map}
 use Rattle.sw_types.specs.Accepts.{is_marked}
 use Rattle.sw_types.specs.declared.shape.Shape.{Shape}
 use Rattle.sw_types.specs.declared.ty.Ty.TheVariants as types
@@ -58,7 +59,7 @@ use Rattle.sw_lower_formed_facts.specs.Taking.{TakenOk}
 use Rattle.sw_lower_formed_facts.proofs.Bodies.InitBodies.{all_own, first_in, first_of}
 use Rattle.sw_lower_formed_facts.proofs.Headers.FoundFuncs.{func_is}
 use Rattle.sw_typing_facts.proofs.Lists.Joined.{all_left}
-use Rattle.sw_typing_facts.proofs.Lists.Listed.{in_first, in_map, only_in}
+use Rattle.sw_typing_facts.proofs.Lists.Listed.{in_first, only_in}
 use Rattle.sw_typing_facts.proofs.Programs.DeclParts.{inits_in, props_in}
 use Rattle.sw_typing_facts.proofs.Programs.MadeOf.{func_stands, typed_stands}
 use Rattle.sw_typing_facts.proofs.Programs.ObjectDecls.{ObjectOk}

@@ -15,6 +15,7 @@ use Rattle.sw_tree.specs.declared.decl.ParamTree.{ParamTree}
 use Rattle.sw_tree.specs.declared.decl.PropTree.{PropTree}
 use Rattle.sw_tree.specs.declared.decl.Written.{Written}
 use Rattle.sw_tree.specs.declared.name.Name.{Name}
+use Rattle.sw_tree.proofs.Members.{in_map}
 use Rattle.sw_types.specs.declared.isolation.Iso.{Iso}
 use Rattle.sw_types.specs.declared.isolation.Iso.TheVariants as iso
 use Rattle.sw_types.specs.declared.shape.Shape.{Shape}
@@ -45,7 +46,7 @@ use Rattle.sw_lower_rules.specs.Tables.{Tables, name_of, plain}
 use Rattle.sw_lower_formed_facts.proofs.Headers.Makers.{makers_counted}
 use Rattle.sw_lower_formed_facts.proofs.Headers.Signed.{for_found}
 use Rattle.sw_typing_facts.proofs.Lists.Joined.{all_left, all_right}
-use Rattle.sw_typing_facts.proofs.Lists.Listed.{in_first, in_map}
+use Rattle.sw_typing_facts.proofs.Lists.Listed.{in_first}
 use Rattle.sw_typing_facts.proofs.Programs.DeclParts.{funcs_in}
 use Rattle.sw_typing_facts.proofs.Programs.DeclStands.{made_flat, shape_there, value_stands}
 use Rattle.sw_lower_formed_facts.proofs.Bodies.MadeOf.{body_made, body_stands}

@@ -30,7 +30,7 @@ use Rattle.sw_isolation_rules.specs.Noting.{in_await, member_notes, place_notes,
 use Rattle.sw_isolation_rules.specs.Noting.{word_notes}
 use Rattle.sw_isolation_rules.specs.declared.note.Note.{Note}
 use Rattle.sw_isolation_rules.specs.declared.uses.Context.{Context}
-use Rattle.sw_lower_total_facts.specs.Scopes.{each}
+use Rattle.sw_tree.specs.Scopes.{each}
 use Rattle.sw_lower_total_facts.proofs.Standing.NoteForms as noted
 use Rattle.sw_lower_total_facts.proofs.Standing.NoteForms.{args_notes, case_arms_notes, expr_notes}
 use Rattle.sw_lower_total_facts.proofs.Standing.NoteForms.{if_arms_notes, links_notes, noted_stmt}

@@ -4,6 +4,7 @@ use Rattle.std.proofs.Common.{Some, None, sym, ◌∙◌, subst, arith}
 use Rattle.std.proofs.lemmas.List.Elements.{All-contains}
 use Rattle.std.proofs.lemmas.Option.{none-some, same_Some}
 use Rattle.std.specs.Prelude.{All}
+use Rattle.sw_tree.proofs.Members.{of_map}
 use Rattle.sw_types.specs.declared.ty.Ty.{Ty}
 use Rattle.sw_graph.specs.Mentions.{set_by}
 use Rattle.sw_graph.specs.Placed.{SetsApart}
@@ -14,7 +15,6 @@ use Rattle.sw_graph.specs.declared.instr.Operand.{Operand}
 use Rattle.sw_lower_plans.specs.Run.{Making}
 use Rattle.sw_lower_code.specs.Code.{emit, reg}
 use Rattle.sw_lower_rules.specs.Uses.{give, operand}
-use Rattle.sw_typing_facts.proofs.Lists.Listed.{of_map}
 use Rattle.sw_lower_placed_facts.specs.Allowed.{RegisterHasType, IsAllowed, UseOk}
 use Rattle.sw_lower_placed_facts.specs.Placing.{PlacesAt}
 use Rattle.sw_lower_placed_facts.specs.Hosts.{Program, Host}

@@ -6,6 +6,7 @@ use Rattle.std.proofs.lemmas.Option.{same_Some}
 use Rattle.std.specs.Prelude.{slice_get}
 use Rattle.sw_list.proofs.Members.{none_in}
 use Rattle.sw_tree.specs.declared.decl.Decl.{Decl}
+use Rattle.sw_tree.proofs.Members.{in_map, of_map}
 use Rattle.sw_types.specs.declared.isolation.CallKind.{CallKind}
 use Rattle.sw_types.specs.declared.ty.Ty.{Ty}
 use Rattle.sw_graph.specs.Placed.{named_by}
@@ -24,7 +25,7 @@ use Rattle.sw_lower_rules.specs.Carriers.{ClosureCode}
 use Rattle.sw_lower_rules.specs.Expressions.{closure_body}
 use Rattle.sw_lower_rules.specs.Tables.{Tables, getter_of, name_of, plain}
 use Rattle.sw_lower_formed_facts.proofs.Headers.ByName.{body_found}
-use Rattle.sw_typing_facts.proofs.Lists.Listed.{in_map, of_map, only_in, place_in}
+use Rattle.sw_typing_facts.proofs.Lists.Listed.{only_in, place_in}
 use Rattle.sw_typing_facts.proofs.Programs.Standing.{maker_of}
 use Rattle.sw_lower_total_facts.specs.Programs.{IsWelltyped, noted_tables}
 use Rattle.sw_lower_call_facts.specs.Calls.{CallOf, IsOfBody}

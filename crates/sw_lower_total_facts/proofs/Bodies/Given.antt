@@ -9,7 +9,7 @@ use Rattle.sw_typing_rules.specs.Worlds.{IsWorldOf, World}
 use Rattle.sw_lower_plans.specs.Plan.{Numbers}
 use Rattle.sw_lower_total_facts.specs.Known.{TablesAgree}
 use Rattle.sw_lower_total_facts.specs.Programs.{noted_tables, notes_of}
-use Rattle.sw_lower_total_facts.specs.Scopes.{AreScoped}
+use Rattle.sw_tree.specs.Scopes.{AreScoped}
 use Rattle.sw_lower_total_facts.specs.Trees.{BlocksProceed, ExprsProceed}
 
 -- Nodes have keys of their own, which tell scopes; no declaration breaches a rule, and no node is

@@ -11,6 +11,7 @@ use Rattle.sw_tree.specs.declared.decl.ParamTree.{ParamTree}
 use Rattle.sw_tree.specs.declared.decl.PropTree.{PropTree}
 use Rattle.sw_tree.specs.declared.expr.Expr.{Expr}
 use Rattle.sw_tree.specs.declared.name.Name.{Name}
+use Rattle.sw_tree.proofs.Members.{in_map, of_map}
 use Rattle.sw_types.specs.declared.shape.Part.{Part}
 use Rattle.sw_decl_words.specs.Evident.{Meanings}
 use Rattle.sw_decl_words.specs.Shaped.{part_of}
@@ -26,7 +27,7 @@ use Rattle.sw_lower_rules.specs.Bodies.{first_values, prop_given}
 use Rattle.sw_lower_rules.specs.Carriers.{Given}
 use Rattle.sw_lower_rules.specs.Statements.{expr_code}
 use Rattle.sw_lower_rules.specs.Tables.{Tables}
-use Rattle.sw_typing_facts.proofs.Lists.Listed.{in_first, in_map, in_rest, of_map}
+use Rattle.sw_typing_facts.proofs.Lists.Listed.{in_first, in_rest}
 use Rattle.sw_typing_facts.proofs.Programs.NamesApart.{none_of, next}
 
 -- a name that has a place is one of the names

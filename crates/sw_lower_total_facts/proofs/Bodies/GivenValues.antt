@@ -7,6 +7,7 @@ use Rattle.std.specs.Prelude.{All, flat_map}
 use Rattle.sw_list.proofs.Members.{none_in, of_flat_map}
 use Rattle.sw_tree.specs.declared.decl.Decl.{Decl}
 use Rattle.sw_tree.specs.declared.expr.Expr.{Expr}
+use Rattle.sw_tree.proofs.Members.{in_map, of_map}
 use Rattle.sw_tree_facts.specs.Unwritten.{expr_unwritten}
 use Rattle.sw_decl_words.specs.Evident.{Meanings, meanings_of}
 use Rattle.sw_decl_values.specs.Simple.{is_simple}
@@ -28,7 +29,7 @@ use Rattle.sw_lower_rules.specs.Statements.{expr_code}
 use Rattle.sw_lower_rules.specs.Tables.{Tables}
 use Rattle.sw_lower_formed_facts.specs.Forms.{VarsHold}
 use Rattle.sw_typing_facts.specs.Rows.{RowsHold}
-use Rattle.sw_typing_facts.proofs.Lists.Listed.{in_map, of_map, only_in}
+use Rattle.sw_typing_facts.proofs.Lists.Listed.{only_in}
 use Rattle.sw_typing_facts.proofs.Programs.DeclStands.{known_is}
 use Rattle.sw_lower_formed_facts.proofs.Programs.SimpleInside.{simple_inside}
 use Rattle.sw_lower_total_facts.specs.Bound.{VariableIsBound}

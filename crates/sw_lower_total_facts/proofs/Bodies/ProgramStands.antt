@@ -12,7 +12,7 @@ use Rattle.sw_typing_rules.specs.Worlds.{IsWorldOf, World}
 use Rattle.sw_isolation_rules.specs.Answers.{Answers, answers_in}
 use Rattle.sw_lower_plans.specs.Plan.{Numbers}
 use Rattle.sw_typing_facts.proofs.Programs.DeclParts.{props_in}
-use Rattle.sw_lower_total_facts.specs.Scopes.{AreScoped}
+use Rattle.sw_tree.specs.Scopes.{AreScoped}
 use Rattle.sw_lower_total_facts.proofs.Bodies.AllStand.{AllStand}
 use Rattle.sw_lower_total_facts.proofs.Standing.Ordered.{owner_of}
 use Rattle.sw_lower_total_facts.proofs.Standing.Programs.{entry_body_stands, func_body_stands}

@@ -12,7 +12,7 @@ use Rattle.sw_isolation_rules.specs.declared.note.Mention.{Mention}
 use Rattle.sw_isolation_rules.specs.declared.note.Note.{Note}
 use Rattle.sw_isolation_rules.specs.declared.note.Note.TheVariants.{Mentioned}
 use Rattle.sw_lower_rules.specs.Tables.{Tables}
-use Rattle.sw_typing_facts.proofs.Lists.Listed.{in_first, in_map}
+use Rattle.sw_typing_facts.proofs.Lists.Listed.{in_first}
 use Rattle.sw_lower_total_facts.specs.Noted.{held_of, vars_of}
 use Rattle.sw_lower_total_facts.proofs.Closures.Enclosed.{Enclosure, block, inside, lists, within}
 use Rattle.sw_lower_total_facts.proofs.Closures.Kept.{among_in, kept_in, same_key}
@@ -20,7 +20,8 @@ use Rattle.sw_lower_total_facts.proofs.Closures.Places.{noted_closed}
 use Rattle.sw_lower_total_facts.proofs.Standing.Closing.{alike_closed}
 use Rattle.sw_lower_total_facts.proofs.Standing.Closures.{head_keys, list_keys, param_keys}
 use Rattle.sw_lower_total_facts.proofs.Standing.Covering.{Covers}
-use Rattle.sw_lower_total_facts.proofs.Standing.Keys.{counted}
+use Rattle.sw_tree.proofs.KeyMembers.{counted}
+use Rattle.sw_tree.proofs.Members.{in_map}
 use Rattle.sw_lower_total_facts.proofs.Standing.Noting.{alike_right, alike_then, bare_lacks}
 use Rattle.sw_lower_total_facts.proofs.Standing.Noting.{bare_mentions}
 

@@ -3,6 +3,7 @@ use Rattle.std.proofs.Common.{◌≡◌, ℕ, Bool, true, false, List, flat_map,
 use Rattle.std.proofs.Common.{subst, not}
 use Rattle.std.proofs.lemmas.Bool.{false≢true}
 use Rattle.std.specs.Prelude.{◌&&◌, ◌==◌}
+use Rattle.sw_tree.proofs.Members.{in_map, of_map}
 use Rattle.sw_isolation_rules.specs.Captures.{is_among}
 use Rattle.sw_isolation_rules.specs.Lists.{boxes_in, by_reference, capture_of, captures_in, held_in}
 use Rattle.sw_isolation_rules.specs.Lists.{vars_in}
@@ -11,7 +12,6 @@ use Rattle.sw_isolation_rules.specs.declared.note.Captured.{Captured as Held}
 use Rattle.sw_isolation_rules.specs.declared.note.Mention.{Mention}
 use Rattle.sw_isolation_rules.specs.declared.note.Note.{Note}
 use Rattle.sw_lower_rules.specs.Tables.{Isolation, Tables, isolation_in}
-use Rattle.sw_typing_facts.proofs.Lists.Listed.{in_map, of_map}
 use Rattle.sw_lower_total_facts.proofs.Closures.Kept.{among_in, in_among, kept_in, of_kept}
 use Rattle.sw_lower_total_facts.proofs.Closures.Noted.{capture_as}
 

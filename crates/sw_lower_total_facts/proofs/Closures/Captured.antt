@@ -5,6 +5,7 @@ use Rattle.std.proofs.Common.{true≢false}
 use Rattle.std.proofs.lemmas.List.Elements.{Contains-append_right}
 use Rattle.std.proofs.lemmas.Option.{same_Some}
 use Rattle.std.specs.Prelude.{if◌then◌else◌}
+use Rattle.sw_tree.proofs.Members.{in_map, of_map}
 use Rattle.sw_types.specs.declared.ty.Ty.{Ty}
 use Rattle.sw_types.specs.declared.ty.Ty.TheVariants as types
 use Rattle.sw_graph.specs.declared.function.RegKind.TheVariants.{Plain}
@@ -22,7 +23,6 @@ use Rattle.sw_lower_code.specs.Code.{done, emit, reg, var, ◌>>=◌, ◌>>◌}
 use Rattle.sw_lower_rules.specs.Expressions.{captured}
 use Rattle.sw_lower_rules.specs.Tables.{Tables, isolation_in}
 use Rattle.sw_lower_rules.specs.Uses.{capture, capture_bound, listed_value, operand, typed, unknown}
-use Rattle.sw_typing_facts.proofs.Lists.Listed.{in_map, of_map}
 use Rattle.sw_lower_total_facts.specs.Bound.{VariableIsBound, Ready}
 use Rattle.sw_lower_total_facts.specs.Forms.{Reads}
 use Rattle.sw_lower_total_facts.specs.Noted.{HasHeld}

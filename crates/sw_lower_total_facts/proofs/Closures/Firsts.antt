@@ -7,6 +7,7 @@ use Rattle.std.proofs.lemmas.List.Elements.{Contains-append_cases, Contains-appe
 use Rattle.std.proofs.lemmas.List.Elements.{Contains-append_right}
 use Rattle.std.specs.Prelude.{nat_lt, if◌then◌else◌}
 use Rattle.std.specs.List.{filter}
+use Rattle.sw_tree.proofs.Members.{in_map, of_map}
 use Rattle.sw_typing_rules.specs.Worlds.{World}
 use Rattle.sw_isolation_rules.specs.Captures.{firsts, firsts_from, held_self, is_among, me_mentions}
 use Rattle.sw_isolation_rules.specs.Captures.{mention, mentioned, outer, own_mentions, self_first}
@@ -15,7 +16,7 @@ use Rattle.sw_isolation_rules.specs.Kinds.{is_own}
 use Rattle.sw_isolation_rules.specs.declared.note.Mention.{Mention}
 use Rattle.sw_isolation_rules.specs.declared.note.Note.{Note}
 use Rattle.sw_isolation_rules.specs.declared.uses.Context.{Context}
-use Rattle.sw_typing_facts.proofs.Lists.Listed.{in_first, in_map, in_rest, of_map, only_in}
+use Rattle.sw_typing_facts.proofs.Lists.Listed.{in_first, in_rest, only_in}
 use Rattle.sw_lower_total_facts.proofs.Closures.Kept.{among_in, kept_in, of_kept}
 
 -- the variable of a mention

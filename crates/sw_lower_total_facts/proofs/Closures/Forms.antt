@@ -41,7 +41,7 @@ use Rattle.sw_lower_total_facts.specs.Forms.{BlockProceeds, ExprProceeds, Reads}
 use Rattle.sw_lower_total_facts.specs.Known.{TablesAgree}
 use Rattle.sw_lower_total_facts.specs.Noted.{StandsInText, held_of}
 use Rattle.sw_lower_total_facts.specs.Proceeding.{BodyProceeds, BodyIsNumbered}
-use Rattle.sw_lower_total_facts.specs.Scopes.{Scoped}
+use Rattle.sw_tree.specs.Scopes.{Scoped}
 use Rattle.sw_lower_total_facts.proofs.Closures.Captured.{SaysClosed, captured_proceed}
 use Rattle.sw_lower_total_facts.proofs.Closures.Enclosed.{Enclosure, IsEnclosed, block, lists, outside}
 use Rattle.sw_lower_total_facts.proofs.Closures.Enclosed.{within}

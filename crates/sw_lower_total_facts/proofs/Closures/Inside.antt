@@ -9,6 +9,7 @@ use Rattle.std.proofs.lemmas.List.Elements.{All-weaker, Contains-append_cases}
 use Rattle.std.proofs.lemmas.List.Elements.{Contains-append_left, Contains-append_right}
 use Rattle.std.specs.Prelude.{All}
 use Rattle.sw_tree.specs.declared.expr.ClosureParam.{ClosureParam}
+use Rattle.sw_tree.proofs.Members.{in_map, of_map}
 use Rattle.sw_types.specs.declared.ty.Ty.{Ty}
 use Rattle.sw_typing_rules.specs.Statements.{closure_vars, in_body}
 use Rattle.sw_typing_rules.specs.declared.scope.Returned.{Returned}
@@ -29,7 +30,6 @@ use Rattle.sw_lower_rules.specs.Expressions.{capture_taken, closure_body, closur
 use Rattle.sw_lower_rules.specs.Expressions.{closure_takes}
 use Rattle.sw_lower_rules.specs.Tables.{Tables}
 use Rattle.sw_lower_formed_facts.specs.Forms.{VarHolds, VarsHold}
-use Rattle.sw_typing_facts.proofs.Lists.Listed.{in_map, of_map}
 use Rattle.sw_lower_total_facts.specs.Bound.{VariableIsBound, Ready, seen_in}
 use Rattle.sw_lower_total_facts.specs.Forms.{BlockProceeds}
 use Rattle.sw_lower_total_facts.specs.Known.{TablesAgree}
@@ -44,7 +44,8 @@ use Rattle.sw_lower_total_facts.proofs.Closures.Enclosed.{takes, within}
 use Rattle.sw_lower_total_facts.proofs.Closures.Firsts.{taken_held, taken_mentioned, taken_only}
 use Rattle.sw_lower_total_facts.proofs.Closures.Fitting.{Fits, TakenFits, taken_in_boxes, taken_is_bound}
 use Rattle.sw_lower_total_facts.proofs.Closures.Noted.{capture_as, mentioned_all}
-use Rattle.sw_lower_total_facts.proofs.Closures.Seen.{param_keys, seen_closure, self_fixed}
+use Rattle.sw_lower_total_facts.proofs.Closures.Seen.{seen_closure, self_fixed}
+use Rattle.sw_lower_total_facts.proofs.Standing.Closures.{param_keys}
 use Rattle.sw_lower_total_facts.proofs.Standing.Scopes.{all_of_each}
 
 -- What is mentioned in the block of a closure is mentioned inside the closure, as are its words.

@@ -23,11 +23,11 @@ use Rattle.sw_isolation_rules.specs.declared.note.Note.TheVariants.{Mentioned}
 use Rattle.sw_lower_rules.specs.Tables.{Tables, isolation_in}
 use Rattle.sw_typing_facts.specs.Rows.{RowsHold}
 use Rattle.sw_typing_facts.proofs.Lists.Found.{local_has}
-use Rattle.sw_typing_facts.proofs.Lists.Listed.{in_map, of_map}
 use Rattle.sw_lower_total_facts.specs.Bound.{sight_in}
 use Rattle.sw_lower_total_facts.specs.Noted.{StandsInText, held_of, keys_of, mentions}
-use Rattle.sw_lower_total_facts.specs.Scopes.{Pair, Scoped, Word, declaring, free_word}
-use Rattle.sw_lower_total_facts.specs.Scopes as scope
+use Rattle.sw_tree.specs.Scopes.{Pair, Scoped, Word, declaring, free_word}
+use Rattle.sw_tree.specs.Scopes as scope
+use Rattle.sw_tree.proofs.Members.{in_map, of_map}
 use Rattle.sw_lower_total_facts.proofs.Closures.Captured.{SaysClosed}
 use Rattle.sw_lower_total_facts.proofs.Closures.Enclosed.{Enclosure, IsEnclosed, IsTold, block}
 use Rattle.sw_lower_total_facts.proofs.Closures.Enclosed.{inside, lists, takes, within}

@@ -7,6 +7,7 @@ use Rattle.std.proofs.lemmas.List.Elements.{Contains-append_left, Contains-appen
 use Rattle.std.specs.Prelude.{slice_get}
 use Rattle.sw_tree.specs.declared.expr.ClosureParam.{ClosureParam}
 use Rattle.sw_tree.specs.declared.name.Name.{Name}
+use Rattle.sw_tree.proofs.Members.{in_map}
 use Rattle.sw_types.specs.declared.shape.Shape.{Shape}
 use Rattle.sw_typing_rules.specs.Statements.{capture_rows, captured, closure_vars, param_var}
 use Rattle.sw_typing_rules.specs.Words.{local}
@@ -23,22 +24,16 @@ use Rattle.sw_lower_plans.specs.Plan.{Numbers}
 use Rattle.sw_lower_rules.specs.Tables.{Tables}
 use Rattle.sw_typing_facts.specs.Rows.{RowsHold}
 use Rattle.sw_typing_facts.proofs.Lists.Found.{local_has}
-use Rattle.sw_typing_facts.proofs.Lists.Listed.{in_first, in_map, in_rest, only_in}
+use Rattle.sw_typing_facts.proofs.Lists.Listed.{in_first, in_rest, only_in}
 use Rattle.sw_typing_facts.proofs.Said.Rows.{rows_left, rows_right}
 use Rattle.sw_lower_total_facts.specs.Bound.{seen_in}
 use Rattle.sw_lower_total_facts.specs.Known.{TablesAgree}
+use Rattle.sw_lower_total_facts.proofs.Mentions.Closures.{listed_vars}
+use Rattle.sw_lower_total_facts.proofs.Standing.Closures.{param_keys}
 
 -- the declaration of a variable
 abbrev at : Var → ℕ
 at one = one.at
-
--- the keys of parameters
-abbrev pub param_keys : List ClosureParam → List ℕ
-param_keys params = map (λ (param : ClosureParam). param.name.at) params
-
--- the words of a closure's list, as variables
-abbrev listed_vars : List Var → List Name → List Var
-listed_vars vars words = flat_map (λ (word : Name). captured (local vars word.id)) words
 
 -- What is in one of two lists, by a function of their elements.
 in_either : {X Y : Type 0} (f : X → Y) (one other : List X) (y : Y)

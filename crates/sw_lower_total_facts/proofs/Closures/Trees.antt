@@ -41,7 +41,7 @@ use Rattle.sw_lower_total_facts.specs.Forms.{BlockProceeds, ExprProceeds}
 use Rattle.sw_lower_total_facts.specs.Known.{TablesAgree}
 use Rattle.sw_lower_total_facts.specs.Noted.{Sight, StandsInText, vars_of}
 use Rattle.sw_lower_total_facts.specs.Proceeding.{BodyIsNumbered}
-use Rattle.sw_lower_total_facts.specs.Scopes.{Scoped, block_scoped}
+use Rattle.sw_tree.specs.Scopes.{Scoped, block_scoped}
 use Rattle.sw_lower_total_facts.specs.Trees.{BlockStands, ExprStands, noted_in, noted_of}
 use Rattle.sw_lower_total_facts.proofs.Closures.Apart.{none_in_block, params_apart}
 use Rattle.sw_lower_total_facts.proofs.Closures.Enclosed.{Enclosure, block, lists, within}
@@ -49,10 +49,10 @@ use Rattle.sw_lower_total_facts.proofs.Closures.Forms.{fun_at, fun_noted, fun_pr
 use Rattle.sw_lower_total_facts.proofs.Closures.Forms.{spawn_noted, spawn_proceeds}
 use Rattle.sw_lower_total_facts.proofs.Closures.Places.{IsSeenInside, noted_closed, scoped_with}
 use Rattle.sw_lower_total_facts.proofs.Mentions.Closures.{enclosing, names_of}
-use Rattle.sw_lower_total_facts.proofs.ScopeCounts.{ats, declared_few, params_are}
+use Rattle.sw_tree.proofs.ScopeCounts.{ats, declared_few, params_are}
 use Rattle.sw_lower_total_facts.proofs.Standing.Closures.{head_keys, list_keys, param_keys}
 use Rattle.sw_lower_total_facts.proofs.Standing.Covering.{Covers, block_covers}
-use Rattle.sw_lower_total_facts.proofs.Standing.Keys.{contained, counted}
+use Rattle.sw_tree.proofs.KeyMembers.{contained, counted}
 use Rattle.sw_lower_total_facts.proofs.Standing.NoteForms.{notes-Fun, notes-Spawn}
 use Rattle.sw_lower_total_facts.proofs.Standing.ScopeForms as placed
 use Rattle.sw_lower_total_facts.proofs.Standing.Trees.{fun_body_stands, spawn_body_stands}

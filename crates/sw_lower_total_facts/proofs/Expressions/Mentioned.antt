@@ -3,6 +3,7 @@ use Rattle.std.proofs.Common.{◌≡◌, ℕ, List, [], ◌∷◌, Option, Some,
 use Rattle.std.proofs.lemmas.List.Elements.{Contains-append_left}
 use Rattle.std.specs.Prelude.{Contains, flat_map}
 use Rattle.sw_list.proofs.Members.{in_flat_map}
+use Rattle.sw_tree.proofs.Members.{in_map}
 use Rattle.sw_types.specs.declared.shape.Shape.{Shape}
 use Rattle.sw_typing_rules.specs.Worlds.{World, item}
 use Rattle.sw_typing_rules.specs.declared.row.Meaning.{Meaning}
@@ -17,7 +18,7 @@ use Rattle.sw_isolation_rules.specs.declared.note.Note.{Note}
 use Rattle.sw_isolation_rules.specs.declared.note.Note.TheVariants.{Mentioned}
 use Rattle.sw_isolation_rules.specs.declared.uses.Context.{Context}
 use Rattle.sw_lower_rules.specs.Tables.{Tables}
-use Rattle.sw_typing_facts.proofs.Lists.Listed.{in_first, in_map}
+use Rattle.sw_typing_facts.proofs.Lists.Listed.{in_first}
 use Rattle.sw_lower_total_facts.specs.Bound.{seen_in}
 use Rattle.sw_lower_total_facts.specs.Noted.{mentions}
 

@@ -4,6 +4,7 @@ use Rattle.std.proofs.Common.{ap, sym, subst, refl, ◌∙◌, map, length}
 use Rattle.std.proofs.lemmas.List.Elements.{All-nil, Contains-append_left, Contains-append_right}
 use Rattle.std.specs.Prelude.{Contains, slice_get}
 use Rattle.sw_tree.specs.declared.name.Name.{Name}
+use Rattle.sw_tree.proofs.Members.{in_map}
 use Rattle.sw_types.specs.declared.shape.Part.{Part}
 use Rattle.sw_types.specs.declared.shape.Shape.{Shape}
 use Rattle.sw_types.specs.declared.ty.Ty.TheVariants as types
@@ -36,7 +37,7 @@ use Rattle.sw_lower_rules.specs.Uses.{word_by}
 use Rattle.sw_typing_facts.specs.Rows.{RowsHold}
 use Rattle.sw_lower_formed_facts.proofs.Expressions.Words.{object_no_struct}
 use Rattle.sw_typing_facts.proofs.Lists.Found.{found_in_found}
-use Rattle.sw_typing_facts.proofs.Lists.Listed.{in_map, some_at}
+use Rattle.sw_typing_facts.proofs.Lists.Listed.{some_at}
 use Rattle.sw_typing_facts.proofs.Types.Within.{LayerWithin, out_within}
 use Rattle.sw_lower_total_facts.specs.Bound.{seen_in}
 use Rattle.sw_lower_total_facts.specs.Forms.{ExprProceeds, PlaceProceeds}

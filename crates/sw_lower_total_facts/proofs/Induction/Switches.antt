@@ -39,7 +39,7 @@ use Rattle.sw_typing_facts.proofs.Programs.DeclStands.{none_left, none_right}
 use Rattle.sw_typing_facts.proofs.Said.Rows.{rows_left, rows_right}
 use Rattle.sw_lower_formed_facts.proofs.Statements.Sequences.{arm_vars_hold, cases_vars, some_still}
 use Rattle.sw_lower_total_facts.specs.Bound.{sight_in}
-use Rattle.sw_lower_total_facts.specs.Scopes.{nothing}
+use Rattle.sw_tree.specs.Scopes.{nothing}
 use Rattle.sw_typing_facts.specs.EnumWords.{in_block, in_cases, in_expr, in_stmt}
 use Rattle.sw_lower_total_facts.specs.Forms.{StmtProceeds}
 use Rattle.sw_lower_total_facts.specs.Known.{TablesAgree}

@@ -15,7 +15,7 @@ use Rattle.sw_lower_rules.specs.Tables.{Tables}
 use Rattle.sw_typing_facts.specs.Rows.{RowsHold}
 use Rattle.sw_typing_facts.specs.EnumWords.{AreUnmeant, in_base}
 use Rattle.sw_typing_facts.proofs.Said.EnumNames.{links_enum, member_no_enum}
-use Rattle.sw_lower_total_facts.specs.Scopes.{Scoped}
+use Rattle.sw_tree.specs.Scopes.{Scoped}
 use Rattle.sw_lower_total_facts.proofs.Mentions.Expressions.{word_notes_within}
 use Rattle.sw_lower_total_facts.proofs.Mentions.Seen.{Within, within_both}
 

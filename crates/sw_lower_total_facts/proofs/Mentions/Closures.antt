@@ -18,10 +18,11 @@ use Rattle.sw_isolation_rules.specs.Noting.{Notes, inner_notes, with_list}
 use Rattle.sw_isolation_rules.specs.declared.note.Note.TheVariants.{Mentioned}
 use Rattle.sw_lower_rules.specs.Tables.{Tables}
 use Rattle.sw_typing_facts.specs.Rows.{RowsHold}
-use Rattle.sw_typing_facts.proofs.Lists.Listed.{in_first, in_map, in_rest, only_in}
+use Rattle.sw_typing_facts.proofs.Lists.Listed.{in_first, in_rest, only_in}
 use Rattle.sw_typing_facts.proofs.Said.Rows.{rows_left, rows_right}
-use Rattle.sw_lower_total_facts.specs.Scopes.{Scoped, Word, closing, declaring, free_word}
-use Rattle.sw_lower_total_facts.specs.Scopes as scope
+use Rattle.sw_tree.specs.Scopes.{Scoped, Word, closing, declaring, free_word}
+use Rattle.sw_tree.specs.Scopes as scope
+use Rattle.sw_tree.proofs.Members.{in_map}
 use Rattle.sw_lower_total_facts.proofs.Mentions.Declared.{AreNamed, named_by, none_named}
 use Rattle.sw_lower_total_facts.proofs.Mentions.Declared.{of_name, stays_free}
 use Rattle.sw_lower_total_facts.proofs.Mentions.Notes.{closed_in, each_more, in_join, in_mentioned}

@@ -23,13 +23,13 @@ use Rattle.sw_typing_rules.specs.Worlds.{World}
 use Rattle.sw_typing_rules.specs.declared.scope.Inside.{Inside}
 use Rattle.sw_typing_rules.specs.declared.scope.Var.{Var}
 use Rattle.sw_lower_rules.specs.Tables.{Tables}
-use Rattle.sw_typing_facts.proofs.Lists.Listed.{in_map, of_map}
 use Rattle.sw_lower_formed_facts.proofs.Statements.Sequences.{arms_vars, cases_vars, otherwise_vars}
 use Rattle.sw_lower_formed_facts.proofs.Statements.Sequences.{plain_vars, value_vars, void_vars}
-use Rattle.sw_lower_total_facts.specs.Scopes.{Scoped, Stated, Word, declaring, is_of, is_of_any}
-use Rattle.sw_lower_total_facts.specs.Scopes.{pattern_names, scope_steps}
+use Rattle.sw_tree.specs.Scopes.{Scoped, Stated, Word, declaring, is_of, is_of_any}
+use Rattle.sw_tree.specs.Scopes.{pattern_names, scope_steps}
+use Rattle.sw_tree.proofs.Members.{in_filter, in_map, of_map}
 use Rattle.sw_lower_total_facts.proofs.Mentions.Seen.{Covers, Means}
-use Rattle.sw_lower_total_facts.proofs.Standing.Scopes.{all_of_each, in_filter, local_more}
+use Rattle.sw_lower_total_facts.proofs.Standing.Scopes.{all_of_each, local_more}
 
 -- what is declared: an id, and the key of the declaration
 abbrev pub of_var : Var → ℕ × ℕ

@@ -10,7 +10,7 @@ use Rattle.sw_isolation_rules.specs.Noting.{member_seen, mention_notes, task_not
 use Rattle.sw_isolation_rules.specs.Noting.{use_notes, used_at, value, word_notes, word_seen}
 use Rattle.sw_isolation_rules.specs.Uses.{no_base}
 use Rattle.sw_lower_rules.specs.Tables.{Tables}
-use Rattle.sw_lower_total_facts.specs.Scopes.{Scoped, Stated, both, free_word, using}
+use Rattle.sw_tree.specs.Scopes.{Scoped, Stated, both, free_word, using}
 use Rattle.sw_lower_total_facts.proofs.Mentions.Notes.{in_join, in_mentioned, in_silent}
 use Rattle.sw_lower_total_facts.proofs.Mentions.Seen.{IsSeen, SeenWithin, Within, selves_seen}
 use Rattle.sw_lower_total_facts.proofs.Mentions.Seen.{within_both, within_joined, within_silent}

@@ -47,8 +47,8 @@ use Rattle.sw_typing_facts.specs.EnumWords.{AreUnmeant, in_args, in_arms, in_bas
 use Rattle.sw_typing_facts.specs.EnumWords.{in_closure, in_expr, in_links, in_otherwise, in_stmt}
 use Rattle.sw_typing_facts.specs.EnumWords.{in_stmts}
 use Rattle.sw_lower_total_facts.specs.Noted.{mentions}
-use Rattle.sw_lower_total_facts.specs.Scopes.{Scoped, block_scoped, declaring, each, maybe}
-use Rattle.sw_lower_total_facts.specs.Scopes.{scope_steps, sequence, using}
+use Rattle.sw_tree.specs.Scopes.{Scoped, block_scoped, declaring, each, maybe}
+use Rattle.sw_tree.specs.Scopes.{scope_steps, sequence, using}
 use Rattle.sw_lower_total_facts.proofs.Mentions.Bases.{base_within}
 use Rattle.sw_lower_total_facts.proofs.Mentions.Closures.{captures_visible, closure_within}
 use Rattle.sw_lower_total_facts.proofs.Mentions.Closures.{names_of}

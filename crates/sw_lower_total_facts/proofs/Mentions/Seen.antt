@@ -13,7 +13,7 @@ use Rattle.sw_isolation_rules.specs.declared.uses.Context.{Context}
 use Rattle.sw_lower_rules.specs.Tables.{Tables}
 use Rattle.sw_typing_facts.proofs.Lists.Listed.{in_first, in_rest}
 use Rattle.sw_lower_total_facts.specs.Noted.{keys_of}
-use Rattle.sw_lower_total_facts.specs.Scopes.{Scoped, Word, both}
+use Rattle.sw_tree.specs.Scopes.{Scoped, Word, both}
 use Rattle.sw_lower_total_facts.proofs.Mentions.Notes.{AreIn, Silent, in_join, in_more, in_silent}
 
 -- each of some variables is among these keys

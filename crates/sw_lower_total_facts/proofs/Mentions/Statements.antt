@@ -16,7 +16,7 @@ use Rattle.sw_isolation_rules.specs.declared.uses.Context.{Context}
 use Rattle.sw_lower_rules.specs.Tables.{Tables}
 use Rattle.sw_typing_facts.specs.Rows.{RowsHold}
 use Rattle.sw_lower_formed_facts.proofs.Statements.Cases.{fits_cases}
-use Rattle.sw_lower_total_facts.specs.Scopes.{Scoped, both, declaring, pattern_names}
+use Rattle.sw_tree.specs.Scopes.{Scoped, both, declaring, pattern_names}
 use Rattle.sw_lower_total_facts.proofs.Mentions.Declared.{Declares, declared_covers, patterns_named}
 use Rattle.sw_lower_total_facts.proofs.Mentions.Notes.{Silent}
 use Rattle.sw_lower_total_facts.proofs.Mentions.Seen.{SeenWithin, Within, after, within_both}

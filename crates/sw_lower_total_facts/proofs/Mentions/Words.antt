@@ -44,7 +44,7 @@ use Rattle.sw_typing_facts.specs.Rows.{RowsHold}
 use Rattle.sw_typing_facts.proofs.Lists.Listed.{in_first}
 use Rattle.sw_typing_facts.proofs.Said.Rows.{rows_left, rows_right}
 use Rattle.sw_typing_facts.proofs.Types.Within.{all_append}
-use Rattle.sw_lower_total_facts.specs.Scopes.{Word, free_word}
+use Rattle.sw_tree.specs.Scopes.{Word, free_word}
 use Rattle.sw_lower_total_facts.proofs.Mentions.Notes.{MentionsIn}
 use Rattle.sw_lower_total_facts.proofs.Mentions.Seen.{Means}
 

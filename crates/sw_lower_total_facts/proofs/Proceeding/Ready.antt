@@ -5,6 +5,7 @@ use Rattle.std.proofs.Common.{Some, subst, sym, ◌∙◌}
 use Rattle.std.proofs.lemmas.List.Elements.{Contains-append_left, Contains-append_right}
 use Rattle.std.specs.Prelude.{Ok, Contains, flat_map, ◌==◌, if◌then◌else◌}
 use Rattle.sw_list.proofs.Members.{in_flat_map, of_flat_map}
+use Rattle.sw_tree.proofs.Members.{in_map, of_map}
 use Rattle.sw_isolation_rules.specs.Captures.{mentioned, self_of}
 use Rattle.sw_isolation_rules.specs.Kinds.{is_own}
 use Rattle.sw_isolation_rules.specs.Lists.{held_in}
@@ -16,7 +17,6 @@ use Rattle.sw_lower_plans.specs.Run.{Making, Makes, place_of}
 use Rattle.sw_lower_plans.specs.declared.bound.Bound.{Bound}
 use Rattle.sw_lower_code.specs.Code.{Code, andthen}
 use Rattle.sw_lower_rules.specs.Tables.{Tables}
-use Rattle.sw_typing_facts.proofs.Lists.Listed.{in_map, of_map}
 use Rattle.sw_lower_total_facts.specs.Bound.{VariableIsBound, Ready}
 use Rattle.sw_lower_total_facts.specs.Noted.{HasHeld, mentions}
 use Rattle.sw_lower_total_facts.specs.Proceeding.{Proceeds}

@@ -15,6 +15,7 @@ use Rattle.sw_tree.specs.declared.decl.ParamTree.{ParamTree}
 use Rattle.sw_tree.specs.declared.decl.PropTree.{PropTree}
 use Rattle.sw_tree.specs.declared.name.Name.{Name}
 use Rattle.sw_tree.specs.declared.stmt.Block.{Block}
+use Rattle.sw_tree.proofs.Members.{of_map}
 use Rattle.sw_types.specs.declared.isolation.Iso.{Iso}
 use Rattle.sw_types.specs.declared.isolation.Iso.TheVariants as iso
 use Rattle.sw_types.specs.declared.shape.Shape.{Shape}
@@ -39,7 +40,7 @@ use Rattle.sw_lower_rules.specs.Expressions.{body_code}
 use Rattle.sw_lower_rules.specs.Statements.{block_code}
 use Rattle.sw_lower_rules.specs.Tables.{Isolation, Tables, name_of, plain}
 use Rattle.sw_lower_formed_facts.proofs.Headers.Signed.{for_found}
-use Rattle.sw_typing_facts.proofs.Lists.Listed.{in_first, in_place, of_map, only_in}
+use Rattle.sw_typing_facts.proofs.Lists.Listed.{in_first, in_place, only_in}
 use Rattle.sw_typing_facts.proofs.Programs.MadeOf.{shape_stands}
 use Rattle.sw_lower_formed_facts.proofs.Bodies.MadeOf.{body_stands}
 use Rattle.sw_typing_facts.proofs.Programs.Standing.{Stands}

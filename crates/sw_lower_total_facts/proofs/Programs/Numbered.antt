@@ -7,11 +7,11 @@ use Rattle.std.proofs.lemmas.List.Sorted.{Contains-permutation}
 use Rattle.std.specs.Prelude.{All, IsSome, ◌&&◌, if◌then◌else◌}
 use Rattle.sw_list.proofs.Members.{none_in}
 use Rattle.sw_tree.specs.declared.decl.Decl.{Decl}
+use Rattle.sw_tree.proofs.Members.{in_map}
 use Rattle.sw_lower_plans.specs.declared.name.FunctionName.{FunctionName}
 use Rattle.sw_lower_code.specs.Whole.{Body}
 use Rattle.sw_lower_rules.specs.Bodies.{AreOrdered, numbers_of, program_bodies}
 use Rattle.sw_lower_rules.specs.Tables.{Tables, is_named, is_same, name_of, number_from}
-use Rattle.sw_typing_facts.proofs.Lists.Listed.{in_map}
 use Rattle.sw_lower_total_facts.specs.Proceeding.{BodyIsNumbered}
 
 same_itself : (getter : Bool) → is_same getter getter ≡ true

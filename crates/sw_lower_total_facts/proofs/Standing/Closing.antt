@@ -16,7 +16,7 @@ use Rattle.sw_isolation_rules.specs.declared.note.Note.TheVariants.{Body, Kind, 
 use Rattle.sw_isolation_rules.specs.declared.note.Note.TheVariants.{Mentioned, Captures}
 use Rattle.sw_isolation_rules.specs.declared.uses.Context.{Context}
 use Rattle.sw_lower_total_facts.specs.Noted.{held_of}
-use Rattle.sw_lower_total_facts.proofs.Standing.Keys.{unlike}
+use Rattle.sw_tree.proofs.KeyMembers.{unlike}
 use Rattle.sw_lower_total_facts.proofs.Standing.Noting.{IsAlike, Lacks, alike_left, alike_then}
 use Rattle.sw_lower_total_facts.proofs.Standing.Noting.{bare_lacks, bare_mentions}
 

@@ -15,7 +15,7 @@ use Rattle.sw_isolation_rules.specs.Captures.{list_mentions}
 use Rattle.sw_isolation_rules.specs.Noting.{block_notes, task_races, with_list}
 use Rattle.sw_isolation_rules.specs.declared.note.Note.TheVariants.{Mentioned}
 use Rattle.sw_isolation_rules.specs.declared.uses.Context.{Context}
-use Rattle.sw_lower_total_facts.specs.Scopes.{block_scoped, expr_scoped}
+use Rattle.sw_tree.specs.Scopes.{block_scoped, expr_scoped}
 use Rattle.sw_lower_total_facts.proofs.Mentions.Closures.{enclosing}
 use Rattle.sw_lower_total_facts.proofs.Standing.Closing.{alike_closed}
 use Rattle.sw_lower_total_facts.proofs.Standing.Covering.{bare_task}

@@ -15,7 +15,7 @@ use Rattle.sw_isolation_rules.specs.Answers.{Answers}
 use Rattle.sw_isolation_rules.specs.Noting.{in_await, member_notes, see, word_notes}
 use Rattle.sw_isolation_rules.specs.declared.note.Note.{Note}
 use Rattle.sw_isolation_rules.specs.declared.uses.Context.{Context}
-use Rattle.sw_lower_total_facts.specs.Scopes.{each, expr_scoped, using}
+use Rattle.sw_tree.specs.Scopes.{each, expr_scoped, using}
 use Rattle.sw_lower_total_facts.proofs.Standing.Covering.{Covers, arg_covers, expr_covers}
 use Rattle.sw_lower_total_facts.proofs.Standing.Covering.{link_covers, member_covers, word_covers}
 use Rattle.sw_lower_total_facts.proofs.Standing.NoteForms as noted

@@ -24,7 +24,7 @@ use Rattle.sw_isolation_rules.specs.declared.uses.Used.TheVariants.{Called, Stor
 use Rattle.sw_isolation_rules.specs.declared.uses.Used.TheVariants.{Nothing}
 use Rattle.sw_typing_facts.proofs.Lists.Joined.{both_none}
 use Rattle.sw_lower_total_facts.specs.Noted.{held_of, kinds_of, vars_of}
-use Rattle.sw_lower_total_facts.proofs.Standing.Keys.{unlike}
+use Rattle.sw_tree.proofs.KeyMembers.{unlike}
 
 -- notes after each other
 pub kinds_join : (key : ℕ) (one other : List Note)

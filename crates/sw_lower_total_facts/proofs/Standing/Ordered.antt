@@ -23,13 +23,14 @@ use Rattle.sw_decls.specs.declared.signature.AsyncDefault.{AsyncDefault}
 use Rattle.sw_typing_rules.specs.Worlds.{IsWorldOf, World}
 use Rattle.sw_isolation_rules.specs.Answers.{for_some}
 use Rattle.sw_isolation_rules.specs.Captures.{self_of}
-use Rattle.sw_typing_facts.proofs.Lists.Listed.{between, in_map, only_in}
+use Rattle.sw_typing_facts.proofs.Lists.Listed.{between, only_in}
 use Rattle.sw_typing_facts.proofs.Programs.DeclParts.{funcs_in, inits_in, props_in}
 use Rattle.sw_typing_facts.proofs.Programs.DeclStands.{made_flat, shape_there}
 use Rattle.sw_typing_facts.proofs.Programs.Standing.{Stands, made_by_one}
-use Rattle.sw_lower_total_facts.specs.Scopes.{AreLess, AreScoped, Pair, before, block_scoped}
-use Rattle.sw_lower_total_facts.specs.Scopes.{decl_pairs, func_pairs, init_pairs, prop_pairs}
-use Rattle.sw_lower_total_facts.specs.Scopes.{type_pairs}
+use Rattle.sw_tree.specs.Scopes.{AreLess, AreScoped, Pair, before, block_scoped}
+use Rattle.sw_tree.specs.Scopes.{decl_pairs, func_pairs, init_pairs, prop_pairs}
+use Rattle.sw_tree.specs.Scopes.{type_pairs}
+use Rattle.sw_tree.proofs.Members.{in_map}
 use Rattle.sw_lower_total_facts.proofs.Standing.Declared.{words_of}
 use Rattle.sw_lower_total_facts.proofs.Standing.Scopes.{all_among, all_of_each}
 

@@ -24,10 +24,10 @@ use Rattle.sw_isolation_rules.specs.Noting.{member_notes, see, word_notes}
 use Rattle.sw_isolation_rules.specs.declared.note.Note.{Note}
 use Rattle.sw_isolation_rules.specs.declared.uses.Context.{Context}
 use Rattle.sw_lower_total_facts.specs.Noted.{Sight, StandsInText, kinds_of}
-use Rattle.sw_lower_total_facts.specs.Scopes.{Scoped, block_scoped, declaring, each}
+use Rattle.sw_tree.specs.Scopes.{Scoped, block_scoped, declaring, each}
 use Rattle.sw_lower_total_facts.proofs.Standing.Covering.{block_covers, expr_covers}
 use Rattle.sw_lower_total_facts.proofs.Standing.Expressions.{args_cover}
-use Rattle.sw_lower_total_facts.proofs.Standing.Keys.{contained, counted}
+use Rattle.sw_tree.proofs.KeyMembers.{contained, counted}
 use Rattle.sw_lower_total_facts.proofs.Standing.NoteForms as noted
 use Rattle.sw_lower_total_facts.proofs.Standing.NoteForms.{args_notes, case_arms_notes, expr_notes}
 use Rattle.sw_lower_total_facts.proofs.Standing.NoteForms.{notes_in}

@@ -12,6 +12,7 @@ use Rattle.sw_tree.specs.declared.decl.InitTree.{InitTree}
 use Rattle.sw_tree.specs.declared.decl.Written.{Written}
 use Rattle.sw_tree.specs.declared.name.Name.{Name}
 use Rattle.sw_tree.specs.declared.stmt.Block.{Block}
+use Rattle.sw_tree.proofs.Members.{in_map}
 use Rattle.sw_types.specs.declared.isolation.Iso.{Iso}
 use Rattle.sw_types.specs.declared.isolation.Iso.TheVariants as iso
 use Rattle.sw_decl_words.specs.Shaped.{written_actor}
@@ -24,7 +25,7 @@ use Rattle.sw_typing_rules.specs.Worlds.{IsWorldOf, World}
 use Rattle.sw_isolation_rules.specs.Answers.{Answers}
 use Rattle.sw_isolation_rules.specs.Programs.{func_at}
 use Rattle.sw_lower_formed_facts.proofs.Headers.FoundFuncs.{func_is}
-use Rattle.sw_typing_facts.proofs.Lists.Listed.{in_first, in_map}
+use Rattle.sw_typing_facts.proofs.Lists.Listed.{in_first}
 use Rattle.sw_typing_facts.proofs.Programs.DeclParts.{funcs_in, inits_in}
 use Rattle.sw_typing_facts.proofs.Programs.MadeOf.{func_stands}
 use Rattle.sw_typing_facts.proofs.Programs.Standing.{Stands}

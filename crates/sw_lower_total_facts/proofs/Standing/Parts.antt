@@ -12,9 +12,9 @@ use Rattle.sw_isolation_rules.specs.declared.note.BodyIso.{BodyIso}
 use Rattle.sw_isolation_rules.specs.declared.note.Note.{Note}
 use Rattle.sw_isolation_rules.specs.declared.note.Note.TheVariants.{Body}
 use Rattle.sw_lower_total_facts.specs.Noted.{IsAll, Sight, StandsInText}
-use Rattle.sw_lower_total_facts.specs.Scopes.{Scoped, both}
+use Rattle.sw_tree.specs.Scopes.{Scoped, both}
 use Rattle.sw_lower_total_facts.proofs.Standing.Covering.{Covers}
-use Rattle.sw_lower_total_facts.proofs.Standing.Keys.{contained, counted}
+use Rattle.sw_tree.proofs.KeyMembers.{contained, counted}
 use Rattle.sw_lower_total_facts.proofs.Standing.Noting.{AreBare, IsAlike, alike_body, alike_left}
 use Rattle.sw_lower_total_facts.proofs.Standing.Noting.{alike_right, alike_same, alike_then, bare_lacks}
 use Rattle.sw_lower_total_facts.proofs.Standing.Scopes.{IsWithin, all_among, all_of_each, within_left}

@@ -44,20 +44,20 @@ use Rattle.sw_isolation_rules.specs.Programs.{context_of, decl_notes, func_at, f
 use Rattle.sw_isolation_rules.specs.Programs.{func_notes, init_notes, noted, notes_from}
 use Rattle.sw_isolation_rules.specs.declared.note.Note.{Note}
 use Rattle.sw_decl_words.specs.Words.{globals_made}
-use Rattle.sw_typing_facts.proofs.Lists.Listed.{in_map}
 use Rattle.sw_typing_facts.proofs.Programs.DeclParts.{funcs_in, inits_in, props_in}
 use Rattle.sw_typing_facts.proofs.Programs.MadeOf.{shapes_are}
 use Rattle.sw_typing_facts.proofs.Programs.Standing.{PlaceOf, Stands as StandsAt, StandsFrom}
 use Rattle.sw_typing_facts.proofs.Programs.Standing.{place_of_thing}
 use Rattle.sw_lower_total_facts.specs.Noted.{Sight, StandsInText, keys_of}
-use Rattle.sw_lower_total_facts.specs.Scopes.{AreLess, AreScoped, Scoped, block_scoped, body_pairs}
-use Rattle.sw_lower_total_facts.specs.Scopes.{declaring, expr_scoped, maybe, prop_pairs}
+use Rattle.sw_tree.specs.Scopes.{AreLess, AreScoped, Scoped, block_scoped, body_pairs}
+use Rattle.sw_tree.specs.Scopes.{declaring, expr_scoped, maybe, prop_pairs}
 use Rattle.sw_lower_total_facts.proofs.Mentions.Declared.{AreNamed}
 use Rattle.sw_lower_total_facts.proofs.Standing.Covering.{Covers}
 use Rattle.sw_lower_total_facts.proofs.Standing.Declared as decl
 use Rattle.sw_lower_total_facts.proofs.Standing.Declared.{global_iso, inner_keys}
 use Rattle.sw_lower_total_facts.proofs.Standing.Declared.{keys_split, words_of}
-use Rattle.sw_lower_total_facts.proofs.Standing.Keys.{counted}
+use Rattle.sw_tree.proofs.KeyMembers.{counted}
+use Rattle.sw_tree.proofs.Members.{in_map}
 use Rattle.sw_lower_total_facts.proofs.Standing.Noting.{Lacks, lacks_join, lacks_nothing}
 use Rattle.sw_lower_total_facts.proofs.Standing.Ordered.{IsLess, entry_less, func_less, global_less}
 use Rattle.sw_lower_total_facts.proofs.Standing.Ordered.{init_less, owner_of, prop_less, self_words}

@@ -21,9 +21,9 @@ use Rattle.sw_tree.specs.declared.stmt.Stmt.TheVariants as stmts
 use Rattle.sw_tree.specs.declared.type_tree.TypeTree.{TypeTree}
 use Rattle.sw_tree.proofs.FoldEquations as eq
 use Rattle.sw_typing_rules.specs.Judges.{closure_of}
-use Rattle.sw_lower_total_facts.specs.Scopes.{Scoped, Stated, block_scoped, both, declaring, each}
-use Rattle.sw_lower_total_facts.specs.Scopes.{expr_scoped, maybe, pattern_names, scope_steps}
-use Rattle.sw_lower_total_facts.specs.Scopes.{sequence, using}
+use Rattle.sw_tree.specs.Scopes.{Scoped, Stated, block_scoped, both, declaring, each}
+use Rattle.sw_tree.specs.Scopes.{expr_scoped, maybe, pattern_names, scope_steps}
+use Rattle.sw_tree.specs.Scopes.{sequence, using}
 use Rattle.sw_lower_total_facts.proofs.Mentions.Closures.{enclosing}
 
 -- a statement, with the variables that it declares

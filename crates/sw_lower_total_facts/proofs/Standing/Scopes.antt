@@ -1,17 +1,16 @@
 -- Parts of scopes: free words of a part are free in the whole, and the pairs of the whole have
 -- those of the part. And what a word means where more variables are declared.
 use Rattle.std.proofs.Common.{◌≡◌, ◌⊎◌, inl, inr, ℕ, Bool, true, false, List, [], ◌∷◌, ◌++◌, Option}
-use Rattle.std.proofs.Common.{None, Some, Contains, refl, sym, subst, ◌∙◌, ap}
-use Rattle.std.specs.List.{filter}
+use Rattle.std.proofs.Common.{None, Some, Contains, refl, subst, ◌∙◌, ap}
 use Rattle.std.specs.Prelude.{All, ◌<◌, ◌==◌, fold, if◌then◌else◌}
-use Rattle.std.proofs.lemmas.List.Elements.{All-contains, Contains-append_cases}
+use Rattle.std.proofs.lemmas.List.Elements.{All-contains}
 use Rattle.std.proofs.lemmas.List.Elements.{Contains-append_left, Contains-append_right}
 use Rattle.std.proofs.lemmas.List.Elements.{Contains-get_or}
 use Rattle.std.proofs.lemmas.List.Sums.{fold-append}
 use Rattle.sw_list.proofs.Members.{first_in, first_or_later, later_in, none_in}
 use Rattle.sw_typing_rules.specs.Words.{local}
 use Rattle.sw_typing_rules.specs.declared.scope.Var.{Var}
-use Rattle.sw_lower_total_facts.specs.Scopes.{AreLess, Pair, Scoped, Word, both}
+use Rattle.sw_tree.specs.Scopes.{AreLess, Pair, Scoped, Word, both}
 
 -- what holds of each thing that a list contains holds of all
 pub all_of_each : {X : Type 0} (P : X → Type 0) (xs : List X) → ((x : X) → Contains xs x → P x)
@@ -29,35 +28,6 @@ all_left P xs ys = all_among P (xs ++ ys) xs (Contains-append_left xs ys)
 
 pub all_right : {X : Type 0} (P : X → Type 0) (xs ys : List X) → All P (xs ++ ys) → All P ys
 all_right P xs ys = all_among P (xs ++ ys) ys (Contains-append_right xs ys)
-
--- What passes the test is what the filter keeps.
-pub of_filter : {X : Type 0} (p : X → Bool) (xs : List X) (x : X) → Contains (filter p xs) x
-    → Contains xs x
-of_filter p [] x has = has
-of_filter p (y ∷ ys) x has = by (p y) has (of_filter p ys x) where
-  by : (keeps : Bool) → Contains (if keeps then y ∷ filter p ys else filter p ys) x
-      → (Contains (filter p ys) x → Contains ys x) → Contains (y ∷ ys) x
-  by true has later = elim (first_or_later y (filter p ys) x has) [
-    | inl here ↦ subst (Contains (y ∷ ys)) here (first_in y ys)
-    | inr there ↦ later_in y ys x (later there)
-  ]
-  by false has later = later_in y ys x (later has)
-
-pub in_filter : {X : Type 0} (p : X → Bool) (xs : List X) (x : X) → Contains xs x → p x ≡ true
-    → Contains (filter p xs) x
-in_filter p [] x has passes = has
-in_filter {X} p (y ∷ ys) x has passes =
-    by (p y) refl (first_or_later y ys x has) (λ there. in_filter p ys x there passes) where
-      by : (keeps : Bool) → p y ≡ keeps → (y ≡ x) ⊎ Contains ys x
-          → (Contains ys x → Contains (filter p ys) x)
-          → Contains (if keeps then y ∷ filter p ys else filter p ys) x
-      by true is (inl here) later =
-          subst (Contains (y ∷ filter p ys)) here (first_in y (filter p ys))
-      by true is (inr there) later = later_in y (filter p ys) x (later there)
-      by false is (inl here) later = absurd (apart (sym passes ∙ ap p (sym here) ∙ is)) where
-        apart : true ≡ false → ⊥
-        apart same = cc
-      by false is (inr there) later = later there
 
 -- Free words of a part are free in the whole; where the whole's pairs are less, so are the part's.
 pub record IsWithin (whole part : Scoped) : Type 0 where

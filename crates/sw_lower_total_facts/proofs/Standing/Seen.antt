@@ -24,17 +24,17 @@ use Rattle.sw_typing_rules.specs.Worlds.{World}
 use Rattle.sw_typing_rules.specs.declared.scope.Inside.{Inside}
 use Rattle.sw_typing_rules.specs.declared.scope.Var.{Var}
 use Rattle.sw_isolation_rules.specs.declared.note.Note.{Note}
-use Rattle.sw_typing_facts.proofs.Lists.Listed.{in_map, of_map}
 use Rattle.sw_lower_total_facts.specs.Noted.{Sight, StandsInText, keys_of}
-use Rattle.sw_lower_total_facts.specs.Scopes.{AreLess, Pair, Scoped, Stated, Word, before}
-use Rattle.sw_lower_total_facts.specs.Scopes.{before_word, before_words, declaring, is_of}
-use Rattle.sw_lower_total_facts.specs.Scopes.{is_of_any, scope_steps}
-use Rattle.sw_lower_total_facts.specs.Scopes as scope
+use Rattle.sw_tree.specs.Scopes.{AreLess, Pair, Scoped, Stated, Word, before}
+use Rattle.sw_tree.specs.Scopes.{before_word, before_words, declaring, is_of}
+use Rattle.sw_tree.specs.Scopes.{is_of_any, scope_steps}
+use Rattle.sw_tree.specs.Scopes as scope
+use Rattle.sw_tree.proofs.Members.{in_filter, in_map, of_map}
 use Rattle.sw_lower_total_facts.proofs.Mentions.Closures.{enclosing, inner_free, listed_vars, names_of}
 use Rattle.sw_lower_total_facts.proofs.Mentions.Closures.{params_named}
 use Rattle.sw_lower_total_facts.proofs.Mentions.Declared.{AreNamed, named_by, none_named, stays_free}
 use Rattle.sw_lower_total_facts.proofs.Standing.ScopeForms.{stmt_stated}
-use Rattle.sw_lower_total_facts.proofs.Standing.Scopes.{all_of_each, all_right, in_filter, local_more}
+use Rattle.sw_lower_total_facts.proofs.Standing.Scopes.{all_of_each, all_right, local_more}
 
 -- what is visible
 abbrev pub sight : Keys → List Var → Sight

@@ -23,7 +23,7 @@ use Rattle.sw_isolation_rules.specs.Answers.{Answers}
 use Rattle.sw_isolation_rules.specs.Noting.{place_notes, see, var_notes}
 use Rattle.sw_isolation_rules.specs.declared.note.Note.{Note}
 use Rattle.sw_isolation_rules.specs.declared.uses.Context.{Context}
-use Rattle.sw_lower_total_facts.specs.Scopes.{block_scoped, both, declaring, each, expr_scoped}
+use Rattle.sw_tree.specs.Scopes.{block_scoped, both, declaring, each, expr_scoped}
 use Rattle.sw_lower_total_facts.proofs.Standing.Covering.{Covers, block_covers, case_arm_covers}
 use Rattle.sw_lower_total_facts.proofs.Standing.Covering.{expr_covers, if_arm_covers, place_covers}
 use Rattle.sw_lower_total_facts.proofs.Standing.Covering.{stmt_covers, stores_bare, var_covers}

@@ -34,14 +34,14 @@ use Rattle.sw_isolation_rules.specs.declared.note.Note.{Note}
 use Rattle.sw_isolation_rules.specs.declared.uses.Context.{Context}
 use Rattle.sw_tree.proofs.KeyEquations as keys
 use Rattle.sw_lower_rules.specs.Tables.{Tables}
-use Rattle.sw_typing_facts.proofs.Lists.Listed.{of_map}
 use Rattle.sw_lower_total_facts.specs.Bound.{sight_in}
 use Rattle.sw_lower_total_facts.specs.Noted.{StandsInText, keys_of}
-use Rattle.sw_lower_total_facts.specs.Scopes.{Scoped, block_scoped, declaring, each, expr_scoped}
+use Rattle.sw_tree.specs.Scopes.{Scoped, block_scoped, declaring, each, expr_scoped}
 use Rattle.sw_lower_total_facts.proofs.Mentions.Closures.{names_of, params_named}
 use Rattle.sw_lower_total_facts.proofs.Mentions.Declared.{AreNamed, patterns_named}
 use Rattle.sw_lower_total_facts.proofs.Mentions.Declared.{stmt_declares}
-use Rattle.sw_lower_total_facts.proofs.ScopeCounts.{params_are, patterns_are}
+use Rattle.sw_tree.proofs.ScopeCounts.{params_are, patterns_are}
+use Rattle.sw_tree.proofs.Members.{of_map}
 use Rattle.sw_lower_total_facts.proofs.Standing.Closures.{fun_body, head_keys, list_keys, param_keys}
 use Rattle.sw_lower_total_facts.proofs.Standing.Closures.{spawn_body}
 use Rattle.sw_lower_total_facts.proofs.Standing.Expressions as exps

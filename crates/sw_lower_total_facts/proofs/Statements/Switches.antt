@@ -7,6 +7,7 @@ use Rattle.std.proofs.lemmas.List.Elements.{All-weaker, Contains-append_left, Co
 use Rattle.std.proofs.lemmas.Option.{same_Some}
 use Rattle.std.specs.Option.{unwrap_or}
 use Rattle.std.specs.Prelude.{All, Contains, Ok, slice_get}
+use Rattle.sw_tree.proofs.Members.{in_map}
 use Rattle.sw_types.specs.declared.shape.CaseShape.{CaseShape}
 use Rattle.sw_types.specs.declared.shape.Shape.{Shape}
 use Rattle.sw_types.specs.declared.ty.Ty.{Ty}
@@ -34,7 +35,6 @@ use Rattle.sw_lower_rules.specs.Tables.{Tables}
 use Rattle.sw_lower_rules.specs.Uses.{no_shape, shape_at, shape_of}
 use Rattle.sw_lower_rules.specs.declared.targets.Targets.{Targets}
 use Rattle.sw_typing_facts.specs.Rows.{RowsHold}
-use Rattle.sw_typing_facts.proofs.Lists.Listed.{in_map}
 use Rattle.sw_lower_formed_facts.proofs.Statements.Cases.{SwitchFits, enum_cases, HeadFits, switch_well}
 use Rattle.sw_lower_formed_facts.proofs.Statements.Switches.{cases_inside, head_in, heads_of}
 use Rattle.sw_typing_facts.proofs.Types.Forms.{is_Named}
