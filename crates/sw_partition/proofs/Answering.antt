@@ -9,12 +9,15 @@ use Rattle.std.specs.Int.{bit_at}
 use Rattle.std.proofs.lemmas.Bool.{cases_eq, cases_lt, cases_order}
 use Rattle.std.proofs.lemmas.List.{get_or-replicate, get_or_past, get_or_read}
 use Rattle.std.proofs.lemmas.List.Sorted.{searched}
+use Rattle.std.proofs.lemmas.Nat.{same_from_place}
 use Rattle.std.proofs.lemmas.Nat.Bits.{bit_at-zero}
 use Rattle.std.proofs.Math.ListN.{length-replicate}
 use Rattle.sw_partition.specs.Regions.{Regions, words_for, bit_of, mark_of, Together, HasPair}
 use Rattle.sw_partition.specs.Regions.{HasSomePair}
-use Rattle.sw_partition.specs.Effects.{IsBlank, IsGiven, IsLeastSite}
-use Rattle.sw_partition.specs.Tables.{AreNumbers, AreTables, IsClassMarked, IsFirstBit}
+use Rattle.sw_partition.specs.Effects.{IsBlank, IsGiven, IsGivenOne, IsClassed, IsLeastSite}
+use Rattle.sw_partition.specs.Tables.{AreLabels, AreNumbers, AreTables, SetsBit, IsClassMarked}
+use Rattle.sw_partition.specs.Tables.{IsFirstBit}
+use Rattle.sw_partition.proofs.Bits.{row_bit}
 use Rattle.sw_partition.proofs.Effecting.{column_in_row, written, refilled, zero_not_one}
 
 -- ---- sites in rising order
@@ -210,6 +213,188 @@ give_done x site width column label words_len labels sites words seen_words word
     (record { labels = labels; sites = sites; words = v }))
     (sym (refilled words_len words' words words_len_is m.length_same))
     (given x site column labels sites words words' x_lt found.0 found.1 m))
+
+-- ---- give_one
+given_one : (x site column : ℕ) (labels sites words words' : List ℕ) → x < length labels
+    → column < length sites → slice_index sites column ≡ site
+    → SetsBit (x * (words_for (length sites) * 64) + column) words words'
+    → IsGivenOne x site (record { labels = labels; sites = sites; words = words })
+    (record { labels = labels; sites = sites; words = words' })
+given_one x site column labels sites words words' x_lt column_lt is_site sets = record {
+  elements_same = refl;
+  sites_same = refl;
+  together = λ a b. (
+    (λ t. record { left = t.left; right = t.right; same = t.same }),
+    (λ t. record { left = t.left; right = t.right; same = t.same }),
+  );
+  pairs = λ a s. (forth a s, back a s);
+}
+  where
+    forth : (a s : ℕ) → HasPair (record { labels = labels; sites = sites; words = words' }) a s
+        → (HasPair (record { labels = labels; sites = sites; words = words }) a s
+        ⊎ ((a ≡ x) × (s ≡ site)))
+    forth a s has = elim (cases_eq (a * (words_for (length sites) * 64) + has.column) (x * (words_for (length sites) * 64) + column)) [
+      | inl same ↦ (let w = same_from_place a has.column x column (words_for (length sites) * 64)
+          (column_in_row sites has.column has.in_range) (column_in_row sites column column_lt)
+          same in
+          inr (w.0, sym has.is_site ∙ (ap (slice_index sites) w.1 ∙ is_site)))
+      | inr apart ↦ inl (record {
+        element = has.element;
+        column = has.column;
+        in_range = has.in_range;
+        is_site = has.is_site;
+        marked = sym (sets.others (a * (words_for (length sites) * 64) + has.column) apart) ∙ has.marked;
+      })
+    ]
+
+    back : (a s : ℕ) → (HasPair (record { labels = labels; sites = sites; words = words }) a s
+        ⊎ ((a ≡ x) × (s ≡ site)))
+        → HasPair (record { labels = labels; sites = sites; words = words' }) a s
+    back a s (inl has) = record {
+      element = has.element;
+      column = has.column;
+      in_range = has.in_range;
+      is_site = has.is_site;
+      marked = elim (cases_eq (a * (words_for (length sites) * 64) + has.column) (x * (words_for (length sites) * 64) + column)) [
+        | inl same ↦ ap (bit_of words') same ∙ sets.set
+        | inr apart ↦ sets.others (a * (words_for (length sites) * 64) + has.column) apart ∙ has.marked
+      ];
+    }
+    back a s (inr w) = record {
+      element = subst (λ v. v < length labels) (sym w.0) x_lt;
+      column = column;
+      in_range = column_lt;
+      is_site = is_site ∙ sym w.1;
+      marked = ap (λ v. bit_of words' (v * (words_for (length sites) * 64) + column)) w.0 ∙ sets.set;
+    }
+
+given_one_tables : (x column : ℕ) (labels sites words words' : List ℕ) → x ≢ 0
+    → column < length sites → AreTables labels sites words
+    → SetsBit (x * (words_for (length sites) * 64) + column) words words'
+    → AreTables labels sites words'
+given_one_tables x column labels sites words words' not_here column_lt tables sets = record {
+  here = tables.here;
+  few = tables.few;
+  labelled = tables.labelled;
+  rising = tables.rising;
+  full = sets.length_same ∙ tables.full;
+  clear = λ a k a_lt past k_lt. sets.others (a * (words_for (length sites) * 64) + k)
+      (λ e. let w = same_from_place a k x column (words_for (length sites) * 64) k_lt
+      (column_in_row sites column column_lt) e in
+      omega (arith, w.1, past, column_lt)) ∙ tables.clear a k a_lt past k_lt;
+  here_bare = λ k k_lt. sets.others (0 * (words_for (length sites) * 64) + k)
+      (λ e. not_here (sym (same_from_place 0 k x column (words_for (length sites) * 64) k_lt
+      (column_in_row sites column column_lt) e).0)) ∙ tables.here_bare k k_lt;
+}
+
+-- give_one, as the code makes it
+pub give_one_done : (x site width column words_len : ℕ)
+    (labels sites words seen_words words' : List ℕ) (now : Regions)
+    → record { labels = labels; sites = sites; words = words } ≡ now → seen_words ≡ words
+    → width ≡ words_for (length sites) → words_len ≡ length words → x < length now.labels → x ≢ 0
+    → (column < length sites) × (slice_index sites column ≡ site) → AreTables labels sites words
+    → SetsBit ((x * width + column / 64) * 64 + column % 64) seen_words words'
+    → AreTables labels sites (written words_len words' words)
+    × IsGivenOne x site now (record {
+      labels = labels;
+      sites = sites;
+      words =
+          written words_len words' words;
+    })
+give_one_done x site width column words_len labels sites words seen_words words' now now_is
+    words_are width_is words_len_is x_now not_here found tables sets =
+    let x_lt : x < length labels =
+    subst (λ (v : Regions). x < length v.labels) (sym now_is) x_now in
+    let s : SetsBit (x * (words_for (length sites) * 64) + column) words words' =
+    subst (λ w. SetsBit (x * (w * 64) + column) words words') width_is
+    (subst (λ n. SetsBit n words words') (row_bit x width column)
+    (subst (λ v. SetsBit ((x * width + column / 64) * 64 + column % 64) v words') words_are
+    sets)) in
+    subst (λ (n : Regions). AreTables labels sites (written words_len words' words)
+    × IsGivenOne x site n
+    (record { labels = labels; sites = sites; words = written words_len words' words })) now_is
+    (subst (λ v. AreTables labels sites v
+    × IsGivenOne x site (record { labels = labels; sites = sites; words = words })
+    (record { labels = labels; sites = sites; words = v }))
+    (sym (refilled words_len words' words words_len_is s.length_same)) (
+      given_one_tables x column labels sites words words' not_here found.0 tables s,
+      given_one x site column labels sites words words' x_lt found.0 found.1 s,
+    ))
+
+-- ---- set_classes
+classed_tables : (classes labels sites words : List ℕ) → length classes ≡ length labels
+    → AreLabels classes → AreTables labels sites words → AreTables classes sites words
+classed_tables classes labels sites words same are tables = record {
+  here = omega (arith, same, tables.here);
+  few = omega (arith, same, tables.few);
+  labelled = are;
+  rising = tables.rising;
+  full = tables.full ∙ ap (λ n. n * words_for (length sites)) (sym same);
+  clear = λ a k a_lt past k_lt. tables.clear a k (subst (λ n. a < n) same a_lt) past k_lt;
+  here_bare = tables.here_bare;
+}
+
+classed : (classes labels sites words : List ℕ) → length classes ≡ length labels
+    → IsClassed classes (record { labels = labels; sites = sites; words = words })
+    (record { labels = classes; sites = sites; words = words })
+classed classes labels sites words same = record {
+  elements_same = same;
+  sites_same = refl;
+  together = λ a b. (
+    λ t. (subst (λ n. a < n) same t.left, subst (λ n. b < n) same t.right, t.same),
+    λ w. record {
+      left = subst (λ n. a < n) (sym same) w.0;
+      right = subst (λ n. b < n) (sym same) w.1;
+      same = w.2;
+    },
+  );
+  pairs = λ a site. (
+    λ has. record {
+      element = subst (λ n. a < n) same has.element;
+      column = has.column;
+      in_range = has.in_range;
+      is_site = has.is_site;
+      marked = has.marked;
+    },
+    λ has. record {
+      element = subst (λ n. a < n) (sym same) has.element;
+      column = has.column;
+      in_range = has.in_range;
+      is_site = has.is_site;
+      marked = has.marked;
+    },
+  );
+}
+
+-- set_classes, as the code makes it
+pub set_classes_done : (labels_len : ℕ) (classes labels labels' sites words : List ℕ)
+    (now : Regions) → record { labels = labels; sites = sites; words = words } ≡ now
+    → labels_len ≡ length labels → length classes ≡ length now.labels → AreLabels classes
+    → AreTables labels sites words → labels' ≡ classes
+    → AreTables (written labels_len labels' labels) sites words
+    × IsClassed classes now (record {
+      labels = written labels_len labels' labels;
+      sites = sites;
+      words = words;
+    })
+set_classes_done labels_len classes labels labels' sites words now now_is labels_len_is count are
+    tables is =
+    let same : length classes ≡ length labels =
+    count ∙ ap (λ (v : Regions). length v.labels) (sym now_is) in
+    let l : written labels_len labels' labels ≡ classes =
+    refilled labels_len labels' labels labels_len_is (ap length is ∙ same) ∙ is in
+    subst (λ (n : Regions). AreTables (written labels_len labels' labels) sites words
+    × IsClassed classes n (record {
+      labels = written labels_len labels' labels;
+      sites = sites;
+      words = words;
+    })) now_is
+    (subst (λ v. AreTables v sites words
+    × IsClassed classes (record { labels = labels; sites = sites; words = words })
+    (record { labels = v; sites = sites; words = words })) (sym l) (
+      classed_tables classes labels sites words same are tables,
+      classed classes labels sites words same,
+    ))
 
 -- ---- need
 row_column : (x w k : ℕ) → x * w * 64 + k ≡ x * (w * 64) + k

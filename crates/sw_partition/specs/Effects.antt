@@ -1,5 +1,6 @@
 -- What the operations do to a region state, after SE-0414.
-use Rattle.std.specs.Prelude.{◌≡◌, ◌≢◌, ℕ, ◌<◌, ◌≤◌, List, length, ◌↔◌, ◌⊎◌, ◌==◌, if◌then◌else◌}
+use Rattle.std.specs.Prelude.{◌≡◌, ◌≢◌, ℕ, ◌<◌, ◌≤◌, List, length, slice_index, ◌↔◌, ◌⊎◌, ◌==◌}
+use Rattle.std.specs.Prelude.{if◌then◌else◌}
 use Rattle.sw_partition.specs.Regions.{Regions, Together, HasPair, HasSomePair}
 
 -- each of the elements is alone, and there are no pairs
@@ -44,6 +45,22 @@ pub record IsGiven (x given : ℕ) (old new : Regions) : Type 0 where
   pub together : (a b : ℕ) → Together new a b ↔ Together old a b
   pub pairs : (a site : ℕ) → HasPair new a site
       ↔ (HasPair old a site ⊎ ((site ≡ given) × (a ≢ 0) × Together old a x))
+
+-- element x, and no other of its class, gets a pair with the site
+pub record IsGivenOne (x given : ℕ) (old new : Regions) : Type 0 where
+  pub elements_same : length new.labels ≡ length old.labels
+  pub sites_same : new.sites ≡ old.sites
+  pub together : (a b : ℕ) → Together new a b ↔ Together old a b
+  pub pairs : (a site : ℕ) → HasPair new a site
+      ↔ (HasPair old a site ⊎ ((a ≡ x) × (site ≡ given)))
+
+-- the elements are together for which the list has the same class
+pub record IsClassed (classes : List ℕ) (old new : Regions) : Type 0 where
+  pub elements_same : length new.labels ≡ length old.labels
+  pub sites_same : new.sites ≡ old.sites
+  pub together : (a b : ℕ) → Together new a b ↔ ((a < length old.labels)
+      × (b < length old.labels) × (slice_index classes a ≡ slice_index classes b))
+  pub pairs : (a site : ℕ) → HasPair new a site ↔ HasPair old a site
 
 -- element x may be given away: it has no pair, and it is not with `Here`
 abbrev pub IsFree : Regions → ℕ → Type 0

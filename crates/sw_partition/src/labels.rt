@@ -29,6 +29,18 @@ pub(crate) fn relabel(labels: &mut [u32], from: u32, to: u32)
     }
 }
 
+/// Gives each element the label that the other table has for it.
+pub(crate) fn replace(labels: &mut [u32], other: &[u64])
+    requires length { length other.now ≡ length labels.old }
+    requires few { length labels.old < 2 ^ 32 }
+    requires other { AreLabels other.now }
+    ensures { labels.new ≡ other.now }
+{
+    for x in 0..labels.len() {
+        labels[x] = other[x] as u32;
+    }
+}
+
 /// Makes the element its own label; another element of its class becomes the label of the others.
 pub(crate) fn release(labels: &mut [u32], x: usize)
     requires x { x < length labels.old }

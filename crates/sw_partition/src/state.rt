@@ -5,10 +5,13 @@ ghost use Rattle.std.specs.List.Sorted.{IsStrictlyIncreasing};
 ghost use Rattle.sw_partition.specs.Regions.{size_of, Together, HasPair, HasSomePair};
 ghost use Rattle.sw_partition.specs.Regions.{IsWithin};
 ghost use Rattle.sw_partition.specs.Effects.{IsBlank, IsFree, IsLeastSite, IsFreshened, IsPut};
-ghost use Rattle.sw_partition.specs.Effects.{IsJoined, IsGiven};
+ghost use Rattle.sw_partition.specs.Effects.{IsJoined, IsGiven, IsGivenOne, IsClassed};
+ghost use Rattle.sw_partition.specs.Tables.{AreLabels};
 
-use crate::labels::{first_with, is_coarser, numbers, relabel, release, unite};
-use crate::words::{clear, copy, covers, fill, first_bit, is_set, mark_class, words_for, zeros};
+use crate::labels::{first_with, is_coarser, numbers, relabel, release, replace, unite};
+use crate::words::{
+    clear, copy, covers, fill, first_bit, is_set, mark, mark_class, words_for, zeros,
+};
 use std::alloc::{AllocError, Global};
 use std::marker::Model;
 use std::sync::ledger::Ledger;
@@ -137,6 +140,29 @@ impl Partition {
         let column = self.sites.binary_search(&site).unwrap();
         let label = self.labels[x as usize];
         mark_class(&mut self.words, &self.labels, label, width, column);
+    }
+
+    /// The element gets a pair with the site, and no other of its class does.
+    pub fn give_one(&mut self, x: u32, site: u32)
+        requires element { x < length self.old.labels }
+        requires not_here { x ≢ 0 }
+        requires site { Contains self.old.sites site }
+        ensures { IsGivenOne x site self.old self.new }
+    {
+        let width = words_for(self.sites.len());
+        let column = self.sites.binary_search(&site).unwrap();
+        let row = x as usize * width;
+        mark(&mut self.words, row + column / 64, column % 64);
+    }
+
+    /// The classes become those of the list, which has for each element one element of its class,
+    /// the same for all of a class. `class_of` gives such a list.
+    pub fn set_classes(&mut self, classes: &[u64])
+        requires elements { length classes.now ≡ length self.old.labels }
+        requires classes { AreLabels classes.now }
+        ensures { IsClassed classes.now self.old self.new }
+    {
+        replace(&mut self.labels, classes);
     }
 
     /// How many elements there are.
