@@ -1,6 +1,5 @@
--- A region state that is made of pairs and classes, step by step.
-use Rattle.std.specs.Prelude.{◌≡◌, ◌≢◌, ℕ, ◌<◌, ◌↔◌, ◌⊎◌, List, length, slice_index, Contains}
-use Rattle.std.specs.Prelude.{nat_lt, if◌then◌else◌}
+-- A region state that is given pairs.
+use Rattle.std.specs.Prelude.{◌≡◌, ◌≢◌, ℕ, ◌<◌, ◌↔◌, ◌⊎◌, List, length, Contains}
 use Rattle.sw_partition.specs.Regions.{Regions, Together, HasPair}
 use Rattle.sw_cert.specs.declared.line.Pair.{Pair}
 
@@ -16,15 +15,3 @@ pub record IsGivenAll (old : Regions) (given : List Pair) (new : Regions) : Type
   pub together : (x y : ℕ) → Together new x y ↔ Together old x y
   pub pairs : (x site : ℕ) → HasPair new x site
       ↔ (HasPair old x site ⊎ Contains given (record { element = x; site = site }))
-
--- the class of an element, where those of the first elements are named and each other is alone
-abbrev pub named : ℕ → List ℕ → ℕ → ℕ
-named count classes x = if nat_lt x count then slice_index classes x else x
-
--- the second state has the pairs of the first, and the classes that are named
-pub record IsJoinedAll (count : ℕ) (classes : List ℕ) (old new : Regions) : Type 0 where
-  pub elements_same : length new.labels ≡ length old.labels
-  pub sites_same : new.sites ≡ old.sites
-  pub together : (x y : ℕ) → Together new x y ↔ ((x < length old.labels)
-      × (y < length old.labels) × (named count classes x ≡ named count classes y))
-  pub pairs : (x site : ℕ) → HasPair new x site ↔ HasPair old x site

@@ -17,20 +17,20 @@ overflow_cast-pair-in-loop-pair c =
     let small = c.requires.small _ is.2 in
     omega (arith, small)
 
-pub give-requires-clause-element : goal.give-requires-clause-element
-give-requires-clause-element c =
+pub give_one-requires-clause-element : goal.give_one-requires-clause-element
+give_one-requires-clause-element c =
     let is = c.requires.pairs.each _ (Contains-get_or c.args.pairs.now c.loop-pair.pair-index
     (record { element = 0; site = 0 }) c.loop-pair-test.true) in
     omega (arith, is.1, c.loop-pair.invariant.elements_same)
 
-pub give-requires-clause-not_here : goal.give-requires-clause-not_here
-give-requires-clause-not_here c =
+pub give_one-requires-clause-not_here : goal.give_one-requires-clause-not_here
+give_one-requires-clause-not_here c =
     let is = c.requires.pairs.each _ (Contains-get_or c.args.pairs.now c.loop-pair.pair-index
     (record { element = 0; site = 0 }) c.loop-pair-test.true) in
     is.0
 
-pub give-requires-clause-site : goal.give-requires-clause-site
-give-requires-clause-site c =
+pub give_one-requires-clause-site : goal.give_one-requires-clause-site
+give_one-requires-clause-site c =
     let is = c.requires.pairs.each _ (Contains-get_or c.args.pairs.now c.loop-pair.pair-index
     (record { element = 0; site = 0 }) c.loop-pair-test.true) in
     subst (λ (l : List ℕ). Contains l (get_or c.args.pairs.now c.loop-pair.pair-index
@@ -38,9 +38,7 @@ give-requires-clause-site c =
 
 pub loop-pair-preserved : goal.loop-pair-preserved
 loop-pair-preserved c =
-    let is = c.requires.pairs.each _ (Contains-get_or c.args.pairs.now c.loop-pair.pair-index
-    (record { element = 0; site = 0 }) c.loop-pair-test.true) in
-    given_more c.args.state.now c.loop-pair.state c.give.new.self _ _ _ c.requires.alone is.0 is.1
-    c.loop-pair.invariant c.give.ensures
+    given_more c.args.state.now c.loop-pair.state c.give_one.new.self _ _ _ c.loop-pair.invariant
+    c.give_one.ensures
     (take_more c.args.pairs.now c.loop-pair.pair-index (record { element = 0; site = 0 })
     c.loop-pair-test.true)
