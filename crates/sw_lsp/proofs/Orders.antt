@@ -1,0 +1,37 @@
+-- The tokens of a text end one after the other.
+use Rattle.std.proofs.Common.{◌≡◌, ◌≤◌, ◌<◌, ◌+◌, ℕ, zero, suc, List, [], ◌∷◌, length, get_or, arith, false, inl, inr, subst, sym}
+use Rattle.std.proofs.lemmas.List.Sorted.{IsNonDecreasingBy-from_all_adjacent}
+use Rattle.std.specs.List.Sorted.{IsNonDecreasingBy}
+use Rattle.sw_token.specs.declared.Fixity.TheVariants.{None as NoFixity}
+use Rattle.sw_token.specs.declared.Kind.TheVariants.{Underscore}
+use Rattle.sw_token.specs.declared.Token.{Token}
+use Rattle.sw_token.specs.Tokens.{StandInOrder}
+use Rattle.sw_token.proofs.TokenLaws.{IsTokens-each, IsTokens-order}
+use Rattle.sw_lsp.specs.Ranges.{AreTokensIn}
+
+-- a token that stands in no list
+pub no_token : Token
+no_token = record { kind = Underscore; span = record { start = 0; end = 0 }; fixity = NoFixity; first = false }
+
+next_ends_later : (from : ℕ) (tokens : List Token) → StandInOrder from tokens
+    → ((k : ℕ) (d : Token) → k < length tokens → (get_or tokens k d).span.start < (get_or tokens k d).span.end)
+    → (k : ℕ) (d : Token) → k + 1 < length tokens
+    → (get_or tokens k d).span.end ≤ (get_or tokens (suc k) d).span.end
+next_ends_later from [] order some k d lt = absurd (omega (arith, lt))
+next_ends_later from (t ∷ []) order some k d lt = absurd (omega (arith, lt))
+next_ends_later from (t ∷ u ∷ ts) order some zero d lt =
+    let later : u.span.start < u.span.end = some 1 d (omega (arith, lt)) in
+    omega (arith, order.1.0, later)
+next_ends_later from (t ∷ u ∷ ts) order some (suc k) d lt =
+    next_ends_later t.span.end (u ∷ ts) order.1 (λ j e l. some (suc j) e (omega (arith, l))) k d
+    (omega (arith, lt))
+
+pub ends_rise : (text : List ℕ) (tokens : List Token) → AreTokensIn text tokens
+    → IsNonDecreasingBy (λ token. token.span.end) tokens
+ends_rise text tokens (inl is) =
+    IsNonDecreasingBy-from_all_adjacent (λ token. token.span.end) tokens (λ k d lt.
+    subst (λ j. (get_or tokens k d).span.end ≤ (get_or tokens j d).span.end) (omega arith)
+    (next_ends_later 0 tokens (IsTokens-order text tokens is.1)
+    (λ j e l. (IsTokens-each text tokens is.0 is.1 j e l).some) k d (omega (arith, lt))))
+ends_rise text tokens (inr none) = subst (IsNonDecreasingBy (λ token. token.span.end)) (sym none.0)
+    (λ i j d le lt. absurd (omega (arith, lt)))

@@ -1,0 +1,127 @@
+//! Ranges of a text: what a position of it stands for.
+ghost use Rattle.std.specs.Prelude.{◌≡◌, ◌≤◌, length, IfOk};
+ghost use Rattle.std.specs.List.{prefix_len};
+ghost use Rattle.std.specs.List.Sorted.{IsNonDecreasingBy};
+ghost use Rattle.sw_lsp.specs.Ranges.{AreTokensIn, character_end, ended, end_of, goes_on};
+ghost use Rattle.sw_lsp.specs.Ranges.{range_of, token_end};
+
+use crate::place::place_of;
+use std::alloc::{AllocError, Global};
+use std::marker::Model;
+use sw_lsp_text::Range;
+use sw_text::{MAX_LENGTH, Source, TextFault};
+use sw_token::{LexFault, Token, tokens};
+
+/// A text with its tokens. Contracts see both.
+#[derive(Drop)]
+pub struct RangeTable<'a> {
+    bytes: &'a [u8],
+    tokens: Vec<Token>,
+}
+
+impl<'a> Model for RangeTable<'a> {
+    ghost use Rattle.std.specs.Prelude.{ℕ, ◌≤◌, List, length};
+    ghost use Rattle.std.specs.List.Sorted.{IsNonDecreasingBy};
+    ghost use Rattle.sw_token.specs.declared.Token.{Token};
+    ghost use Rattle.sw_lsp.specs.Ranges.{Tokenized};
+
+    ghost Value = { Tokenized };
+
+    ghost view = { λ table. record { text = table.bytes.now; tokens = table.tokens.items } };
+
+    ghost invariant = { λ table. (length table.bytes.now ≤ 262144)
+        × IsNonDecreasingBy (λ (token : Token). token.span.end) table.tokens.items };
+}
+
+impl<'a> RangeTable<'a> {
+    /// Finds the tokens of a text.
+    pub fn new(alloc: Global, bytes: &'a [u8]) -> Result<RangeTable<'a>, AllocError>
+        requires { length bytes.now ≤ MAX_LENGTH }
+        ensures text { IfOk result (λ table. table.text ≡ bytes.now) }
+        ensures tokens { IfOk result (λ table. AreTokensIn bytes.now table.tokens) }
+    {
+        let tokens = tokens_in(alloc, bytes)?;
+        Ok(RangeTable { bytes, tokens })
+    }
+
+    /// The position at which the range of a position ends.
+    fn end_of(&self, at: usize) -> usize
+        ensures { result ≡ end_of self.now at }
+    {
+        match token_end(self.tokens.as_slice(), at) {
+            Some(end) => end,
+            None => character_end(self.bytes, at),
+        }
+    }
+
+    /// The range of the position `at`, a byte offset.
+    pub fn range_of(&self, at: u32) -> Range
+        ensures { result ≡ range_of self.now at }
+    {
+        let at = at as usize;
+        Range {
+            start: place_of(self.bytes, at),
+            end: place_of(self.bytes, self.end_of(at)),
+        }
+    }
+}
+
+/// The tokens of a text. There are none where it isn't UTF-8, or has a lexical fault.
+fn tokens_in(alloc: Global, bytes: &[u8]) -> Result<Vec<Token>, AllocError>
+    requires { length bytes.now ≤ MAX_LENGTH }
+    ensures { IfOk result (λ list. AreTokensIn bytes.now list.items) }
+{
+    let source = match Source::new(alloc, bytes) {
+        Ok(source) => source,
+        Err(TextFault::NotUtf8 { .. }) => return Ok(Vec::new(alloc)),
+        Err(TextFault::Memory) => return Err(AllocError),
+    };
+    match tokens(alloc, &source) {
+        Ok(tokens) => Ok(tokens),
+        Err(LexFault::Memory) => Err(AllocError),
+        Err(_fault) => Ok(Vec::new(alloc)),
+    }
+}
+
+/// How many tokens end at a position or before it.
+fn ended(tokens: &[Token], at: usize) -> usize
+    requires { IsNonDecreasingBy (λ token. token.span.end) tokens.now }
+    ensures { result ≡ ended tokens.now at }
+{
+    tokens.partition_point(|token| token.span.end as usize <= at)
+}
+
+/// Where the token over a position ends, if there is one.
+fn token_end(tokens: &[Token], at: usize) -> Option<usize>
+    requires { IsNonDecreasingBy (λ token. token.span.end) tokens.now }
+    ensures { result ≡ token_end tokens.now at }
+{
+    let token = tokens.get(ended(tokens, at))?;
+    if token.span.start as usize <= at {
+        Some(token.span.end as usize)
+    } else {
+        None
+    }
+}
+
+/// How many bytes at the start of `bytes` go on with a character.
+fn goes_on_len(bytes: &[u8]) -> usize
+    ensures value { result ≡ prefix_len goes_on bytes.now }
+    ensures within { result ≤ length bytes.now }
+{
+    bytes
+        .iter()
+        .take_while(|byte| **byte >= 128 && **byte < 192)
+        .count()
+}
+
+/// Where the character at a position ends.
+fn character_end(bytes: &[u8], at: usize) -> usize
+    ensures { result ≡ character_end bytes.now at }
+{
+    if at < bytes.len() {
+        at + 1 + goes_on_len(&bytes[at + 1..])
+    } else {
+        bytes.len()
+    }
+}
