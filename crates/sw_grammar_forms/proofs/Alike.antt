@@ -6,9 +6,9 @@ use Rattle.std.specs.Prelude.{Option, Ok, Err}
 use Rattle.sw_token.specs.declared.Fixity.{Fixity}
 use Rattle.sw_token.specs.Spelling.{Spelled}
 use Rattle.sw_grammar_forms.specs.Sets.{Set, has, starts}
-use Rattle.sw_grammar_forms.specs.Form.{Shape, Terminal, Claim, Form, one}
+use Rattle.sw_grammar_forms.specs.Form.{Shape, Terminal, Claim, Form, one, a_word}
 use Rattle.sw_grammar_forms.specs.Form as forms
-use Rattle.sw_grammar_forms.specs.Relations.{head, may_start, stays}
+use Rattle.sw_grammar_forms.specs.Relations.{head, may_start, stays, is_none_of}
 use Rattle.sw_grammar_forms.specs.Reader.{Answer, Reader, refused, and_then, then_read}
 use Rattle.sw_grammar_forms.specs.Reader.{next, opening, check, checked, choose, repeat, set_if, only_if}
 use Rattle.sw_grammar_forms.specs.Reader.{pure, skipping, read_item, read_items, reading}
@@ -139,6 +139,14 @@ module _ {N : Type 0} {El : N → Type 0} {shape_of : N → Shape} {depth : ℕ}
   pub same_token : {A : Type 0} (t : Terminal A)
       → Same {shape_of = shape_of} depth F G Any (forms.terminal t) (forms.terminal t)
   same_token t = record { answers = alike_next Any t t refl (λ _. tt) }
+
+  -- a word that is none of some texts, with other values
+  pub same_word_but : {A : Type 0} (texts : List (List ℕ)) (v w : Spelled → A)
+      → Same {shape_of = shape_of} depth F G Any (forms.word_but texts v) (forms.word_but texts w)
+  same_word_but texts v w = record {
+    answers = alike_checked Any (is_none_of texts) (is_none_of texts) (next (a_word v))
+        (next (a_word w)) (λ _. refl) (alike_next Any (a_word v) (a_word w) refl (λ _. tt));
+  }
 
   pub same_then : {A B : Type 0} {s t : Shape} {P : A → A → Type 0} {Q : B → B → Type 0}
       {p q : Form El shape_of s A} {f g : A → Form El shape_of t B}

@@ -1,15 +1,20 @@
 -- The readers of one token, step by step as the cursor takes them.
 use Rattle.std.proofs.Common.{◌≡◌, ℕ, zero, suc, ℤ, Bool, true, false, cond, not, ◌&&◌, List, []}
-use Rattle.std.proofs.Common.{◌∷◌, length, refl, sym, ◌∙◌, ap, subst, ◌<◌, arith}
+use Rattle.std.proofs.Common.{◌∷◌, length, drop, refl, sym, ◌∙◌, ap, subst, ◌<◌, ◌≤◌, ◌+◌, ◌-◌, arith}
+use Rattle.std.proofs.Common.{All, slice_index_or}
 use Rattle.std.specs.Prelude.{Option, Some, None, Ok, Err}
 use Rattle.std.specs.Str.{IsUtf8, IsCharBoundary}
+use Rattle.std.proofs.lemmas.List.{length-take}
+use Rattle.std.proofs.lemmas.List.Elements.{All-head}
+use Rattle.std.proofs.lemmas.Slice.Eq.{bytes_eq-Decides}
 use Rattle.std.proofs.lemmas.Str.{IsCharBoundary-after_ascii}
 use Rattle.sw_token.specs.declared.Fixity.{Fixity}
 use Rattle.sw_token.specs.declared.Fixity.TheVariants as fixities
 use Rattle.sw_token.specs.declared.Kind.{Kind}
 use Rattle.sw_token.specs.declared.Kind.TheVariants as kinds
 use Rattle.sw_token.specs.Kinds.{kind_of}
-use Rattle.sw_token.specs.Spelling.{Spelled}
+use Rattle.sw_token.specs.Spelling.{Spelled, IsReadable, spelled, spelling_of}
+use Rattle.sw_token.specs.declared.Token.{Token}
 use Rattle.sw_grammar_forms.specs.Sets.{Set, has, starts, quoted, is_quoted, is_quoted_operator, standing}
 use Rattle.sw_grammar_forms.specs.Sets.{word, integer, attribute, not_first, is_integer}
 use Rattle.sw_grammar_forms.specs.Form.{Terminal}
@@ -49,6 +54,33 @@ pub sees_quoted : (text : List ℕ) (token : Option Spelled) → is_quoted text 
     → has_text text token ≡ starts (quoted text) token
 sees_quoted text None h = refl
 sees_quoted text (Some token) h = sym (has-quoted text token h)
+
+-- a token that is seen by its text has it
+pub seen_text : (text : List ℕ) (token : Option Spelled) → is_quoted text ≡ true
+    → starts (quoted text) token ≡ true → text_of token ≡ text
+seen_text text None h sees = absurd (cc)
+seen_text text (Some token) h sees =
+    (bytes_eq-Decides token.text text).0 (sym (has-quoted text token h) ∙ sees)
+
+-- a token of a source is no longer than its span
+span_holds : (source : List ℕ) (token : Token) → IsReadable source token
+    → token.span.start + length (spelled source token).text ≤ token.span.end
+span_holds source token is = omega (
+  arith,
+  is.ordered,
+  length-take (token.span.end - token.span.start) (drop token.span.start source),
+)
+
+-- the first of some tokens ends below a bound of its span's end
+pub first_within : (source : List ℕ) (tokens : List Token) (other : Token) (seen : List Spelled)
+    (bound : ℕ) → seen ≡ spelling_of source tokens → All (IsReadable source) tokens
+    → 0 < length seen → (slice_index_or tokens 0 other).span.end < bound
+    → (slice_index_or tokens 0 other).span.start + length (text_of (head seen)) < bound
+first_within source [] other seen bound same all some less =
+    absurd (omega (arith, some, ap length same))
+first_within source (token ∷ tokens) other seen bound same all some less =
+    subst (λ some. token.span.start + length (text_of (head some)) < bound) (sym same)
+    (omega (arith, span_holds source token (All-head (IsReadable source) token tokens all), less))
 
 pub starts_word : (token : Option Spelled) → names token ≡ starts word token
 starts_word None = refl

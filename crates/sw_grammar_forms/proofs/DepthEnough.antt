@@ -4,10 +4,10 @@ use Rattle.std.proofs.Common.{◌∷◌, ◌++◌, length, subst, arith, codes}
 use Rattle.std.specs.Prelude.{Option, Ok, Err}
 use Rattle.sw_token.specs.Spelling.{Spelled}
 use Rattle.sw_grammar_forms.specs.Sets.{Set, has, starts, quoted}
-use Rattle.sw_grammar_forms.specs.Form.{Shape, Terminal, Form}
+use Rattle.sw_grammar_forms.specs.Form.{Shape, Terminal, Form, a_word}
 use Rattle.sw_grammar_forms.specs.Form as forms
 use Rattle.sw_grammar_forms.specs.Quotes.{quote}
-use Rattle.sw_grammar_forms.specs.Relations.{head, may_start, stays}
+use Rattle.sw_grammar_forms.specs.Relations.{head, may_start, stays, is_none_of}
 use Rattle.sw_grammar_forms.specs.Reader.{Answer, Reader, refused, pure, and_then, then_read}
 use Rattle.sw_grammar_forms.specs.Reader.{take_if, next, opening, check, checked, choose, set_if, repeat}
 use Rattle.sw_grammar_forms.specs.Reader.{loop, read_item, read_items, skipping, only_if, finish, whole}
@@ -122,6 +122,9 @@ module _ {N : Type 0} (El : N → Type 0) (shape_of : N → Shape)
       → Calm d (reads El shape_of body d form)
   calm_form d inner (forms.done value) = calm_pure d value
   calm_form d inner (forms.terminal t) = calm_next d t
+  calm_form d inner (forms.word_but texts value) =
+      calm_then d (check (is_none_of texts)) (λ _. next (a_word value))
+      (calm_check d (is_none_of texts)) (λ _. calm_next d (a_word value))
   calm_form d inner (forms.followed p f) =
       calm_then d (reads El shape_of body d p) (λ a. reads El shape_of body d (f a))
       (calm_form d inner p) (λ a. calm_form d inner (f a))

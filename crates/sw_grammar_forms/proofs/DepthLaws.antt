@@ -7,9 +7,9 @@ use Rattle.std.specs.Prelude.{Option, Ok, Err}
 use Rattle.std.proofs.Math.Nat.{le-max_left, le-max_right}
 use Rattle.sw_token.specs.Spelling.{Spelled}
 use Rattle.sw_grammar_forms.specs.Sets.{Set, has, starts, quoted}
-use Rattle.sw_grammar_forms.specs.Form.{Shape, Terminal, Form}
+use Rattle.sw_grammar_forms.specs.Form.{Shape, Terminal, Form, a_word}
 use Rattle.sw_grammar_forms.specs.Form as forms
-use Rattle.sw_grammar_forms.specs.Relations.{head, may_start, stays}
+use Rattle.sw_grammar_forms.specs.Relations.{head, may_start, stays, is_none_of}
 use Rattle.sw_grammar_forms.specs.Reader.{Answer, Reader, refused, pure, and_then, then_read, take_if}
 use Rattle.sw_grammar_forms.specs.Reader.{next, opening, check, choose, repeat, finish, whole, set_if}
 use Rattle.sw_grammar_forms.specs.Reader.{only_if, read_item, read_items, skipping, checked}
@@ -98,6 +98,7 @@ module _ {N : Type 0} (El : N → Type 0) (shape_of : N → Shape)
       → Agrees (reads El shape_of body d form) (reads El shape_of body (suc d) form)
   form_agrees d inner (forms.done value) ts h = refl
   form_agrees d inner (forms.terminal t) ts h = refl
+  form_agrees d inner (forms.word_but texts value) ts h = refl
   form_agrees d inner (forms.followed p f) ts h =
       then_agrees (reads El shape_of body d p) (reads El shape_of body (suc d) p)
       (λ a. reads El shape_of body d (f a)) (λ a. reads El shape_of body (suc d) (f a))
@@ -242,6 +243,12 @@ never_next t (token ∷ ts) = never_cond (has t.set token) (Ok (t.value token, t
 never_check : (test : Option Spelled → Bool) (ts : List Spelled) → NotDeep (check test ts)
 never_check test ts = never_cond (test (head ts)) (Ok (tt {0}, ts)) (refused ts) tt tt
 
+pub never_word : {A : Type 0} (texts : List (List ℕ)) (value : Spelled → A) (ts : List Spelled)
+    → NotDeep (checked (is_none_of texts) (next (a_word value)) ts)
+never_word texts value ts =
+    never_then (check (is_none_of texts)) (λ _. next (a_word value))
+    (never_check (is_none_of texts)) (λ _. never_next (a_word value)) ts
+
 never_repeat : {S : Type 0} (set : Set) (is_open : S → Bool) (f : S → Reader S)
     → ((s : S) (ts : List Spelled) → NotDeep (f s ts)) → (n : ℕ) (s : S) (ts : List Spelled)
     → NotDeep (repeat set is_open f n s ts)
@@ -275,6 +282,7 @@ module _ {N : Type 0} (El : N → Type 0) (shape_of : N → Shape)
       → NotDeep (reads El shape_of body d form ts)
   never d (forms.done value) ts = tt
   never d (forms.terminal t) ts = never_next t ts
+  never d (forms.word_but texts value) ts = never_word texts value ts
   never d (forms.followed p f) ts = never_then (reads El shape_of body d p)
       (λ a. reads El shape_of body d (f a)) (never d p) (λ a. never d (f a)) ts
   never d (forms.either {s = s} p q) ts =

@@ -10,10 +10,10 @@ use Rattle.std.proofs.Math.Nat.{le-max_left, le-max_right}
 use Rattle.sw_token.specs.Spelling.{Spelled}
 use Rattle.sw_grammar_forms.specs.Sets.{has, starts}
 use Rattle.sw_grammar_forms.specs.Form.{Shape, Terminal, Form, one, choice, is_shorter, star, started}
-use Rattle.sw_grammar_forms.specs.Form.{is_item}
+use Rattle.sw_grammar_forms.specs.Form.{is_item, a_word}
 use Rattle.sw_grammar_forms.specs.Form as forms
 use Rattle.sw_grammar_forms.specs.Relations.{Relation, head, NoToken, One, FollowedBy, Either, Turns}
-use Rattle.sw_grammar_forms.specs.Relations.{may_start}
+use Rattle.sw_grammar_forms.specs.Relations.{may_start, is_none_of}
 use Rattle.sw_grammar_forms.specs.Relations.{stays, Only, OneMore, Passing}
 use Rattle.sw_grammar_forms.specs.Relations.Turns.{stop, turn}
 use Rattle.sw_grammar_forms.specs.Reader.{Fault, Answer, Reader, refused, pure, and_then, then_read, next}
@@ -432,6 +432,13 @@ module _ {N : Type 0} (El : N → Type 0) (shape_of : N → Shape)
         (λ x token h. tt)
     law_form (forms.terminal t) ok =
         narrow (widen (reads_next t (fill_one t ok)) (λ a ts h. (0, h))) (λ x token h. tt)
+    law_form (forms.word_but texts value) ok =
+        narrow (reads_checked (Wide El shape_of body (forms.word_but texts value))
+        (is_none_of texts)
+        (reads_next (a_word value) (fill_one (a_word value) refl))
+        (λ a prefix rest h. subst (λ us. head (us ++ rest) ≡ head us) (sym h.alone) refl)
+        (λ a ts h is. (0, (h, is))) (fill_wide (forms.word_but texts value) ok))
+        (λ x token h. tt)
     law_form (forms.followed {s = s} {t = t} p f) ok =
         let three = and_left _ _ ok in let two = and_left _ _ three in
         reads_then (Wide El shape_of body (forms.followed p f)) (law_form p (and_left _ _ two))

@@ -8,7 +8,7 @@ use Rattle.sw_grammar_forms.specs.Sets.{Set, has}
 use Rattle.sw_grammar_forms.specs.Sets as sets
 use Rattle.sw_grammar_forms.specs.Form.{Shape, Claim, Form, one, seq, choice}
 use Rattle.sw_grammar_forms.specs.Form.{is_shorter, star, nested, started, inline, claimed, listed}
-use Rattle.sw_grammar_forms.specs.Form.{listed_some}
+use Rattle.sw_grammar_forms.specs.Form.{listed_some, a_word}
 use Rattle.sw_grammar_forms.specs.Form as forms
 use Rattle.sw_grammar_forms.specs.Relations.{Relation, head, Turns, stays, spelled, Only, OneMore}
 use Rattle.sw_grammar_forms.specs.Relations.Turns.{stop, turn}
@@ -201,6 +201,8 @@ module _ {N : Type 0} (El : N → Type 0) (shape_of : N → Shape) where
       subst (λ us. StartsWith forms.empty us) (sym h.1) refl
   starts_form inside (forms.terminal t) ok a ts h =
       subst (λ us. StartsWith (one t) us) (sym h.alone) h.member
+  starts_form inside (forms.word_but texts value) ok a ts h =
+      subst (λ us. StartsWith (one (a_word value)) us) (sym h.0.alone) h.0.member
   starts_form inside (forms.followed {s = s} {t = t} p f) ok b ts h =
       let both = and_left _ _ (and_left _ _ ok) in
       subst (λ us. StartsWith (seq s t) us) (sym h.whole)
@@ -264,6 +266,7 @@ module _ {N : Type 0} (El : N → Type 0) (shape_of : N → Shape) where
       → spelled El shape_of inside form a ts → spelled El shape_of more form a ts
   spelled_more inside more grows (forms.done value) a ts h = h
   spelled_more inside more grows (forms.terminal t) a ts h = h
+  spelled_more inside more grows (forms.word_but texts value) a ts h = h
   spelled_more inside more grows (forms.followed p f) b ts h = record {
     value = h.value;
     left = h.left;

@@ -1,3 +1,4 @@
+pub mod Fresh
 pub mod ReaderLaws
 pub mod LoopLaws
 pub mod SetLemmas

@@ -6,9 +6,10 @@ use Rattle.std.specs.Prelude.{Ok, Err}
 use Rattle.sw_token.specs.Spelling.{Spelled}
 use Rattle.sw_grammar_forms.specs.Sets.{has, starts, apart}
 use Rattle.sw_grammar_forms.specs.Form.{Shape, Terminal, Form, choice, is_shorter, star, items_ext}
+use Rattle.sw_grammar_forms.specs.Form.{a_word}
 use Rattle.sw_grammar_forms.specs.Form as forms
 use Rattle.sw_grammar_forms.specs.Relations.{Relation, head, Turns, OneMore, may_start, stays}
-use Rattle.sw_grammar_forms.specs.Relations.{is_first_on_line}
+use Rattle.sw_grammar_forms.specs.Relations.{is_first_on_line, is_none_of}
 use Rattle.sw_grammar_forms.specs.Relations.Turns.{stop, turn}
 use Rattle.sw_grammar_forms.specs.Reader.{Answer, Reader, refused, pure, then_read, take_if, next}
 use Rattle.sw_grammar_forms.specs.Reader.{opening, choose, read_item, read_items, skipping, checked}
@@ -28,7 +29,7 @@ use Rattle.sw_grammar_forms.proofs.ItemLaws.{reads_one_more, is_items_turn}
 use Rattle.sw_grammar_forms.proofs.FormLaws.{deeper, deeper_more, join_more, fill_led, starts_at}
 use Rattle.sw_grammar_forms.proofs.FormLaws.{law_inside, law, is_turn}
 use Rattle.sw_grammar_forms.proofs.DepthLaws.{NotDeep, reads_deeper, item_agrees, never_skip}
-use Rattle.sw_grammar_forms.proofs.DepthLaws.{never_then, never_next}
+use Rattle.sw_grammar_forms.proofs.DepthLaws.{never_then, never_next, never_word}
 use Rattle.sw_grammar_forms.proofs.Opening.{TooDeepBefore, Passes, passes, Opened, Opening}
 use Rattle.sw_grammar_forms.proofs.Opening.{not_empty, resaid, opens_never, opens_then, opens_choose}
 use Rattle.sw_grammar_forms.proofs.Opening.{opens_checked, opens_only, Begin}
@@ -465,6 +466,9 @@ module _ {N : Type 0} (El : N → Type 0) (shape_of : N → Shape)
       → s.ok ≡ true → Opening (O d form) (reader d form)
   opens_form d inner (forms.done value) ok = opens_never (pure value) (λ ts. tt)
   opens_form d inner (forms.terminal t) ok = opens_never (next t) (never_next t)
+  opens_form d inner (forms.word_but texts value) ok =
+      opens_never (checked (is_none_of texts) (next (a_word value)))
+      (never_word texts value)
   opens_form d inner (forms.followed {s = s} {t = t} p f) ok =
       let three = and_left _ _ ok in let two = and_left _ _ three in
       opens_then (law_at d p (and_left _ _ two)) (passes_form d p (and_left _ _ two))

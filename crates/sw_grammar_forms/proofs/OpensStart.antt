@@ -75,6 +75,7 @@ module _ {N : Type 0} (El : N → Type 0) (shape_of : N → Shape)
       → (us : List Spelled) → opens_in El shape_of body into form us → Leads s us
   leads (forms.done value) ok us h = absurd h
   leads (forms.terminal t) ok us h = absurd h
+  leads (forms.word_but texts value) ok us h = absurd h
   leads (forms.followed {s = s} {t = t} p f) ok us (inl h) =
       then_leads s t us (leads p (and_left _ _ (and_left _ _ (and_left _ _ ok))) us h)
   leads (forms.followed {s = s} {t = t} p f) ok us (inr h) =

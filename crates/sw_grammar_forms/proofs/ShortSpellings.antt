@@ -4,8 +4,9 @@ use Rattle.std.proofs.Common.{◌≡◌, ℕ, suc, ◌+◌, ◌≤◌, Bool, tru
 use Rattle.std.proofs.Common.{List, [], ◌∷◌, ◌++◌, length, refl, sym, ◌∙◌, ap, arith, not}
 use Rattle.std.proofs.lemmas.List.{append-nil}
 use Rattle.std.proofs.Math.Nat.{le-max_left, le-max_right}
+use Rattle.sw_token.specs.declared.Fixity.TheVariants as fixities
 use Rattle.sw_token.specs.Spelling.{Spelled}
-use Rattle.sw_grammar_forms.specs.Sets.{has}
+use Rattle.sw_grammar_forms.specs.Sets.{has, word}
 use Rattle.sw_grammar_forms.specs.Form.{Shape, Terminal, Form, empty, one, is_usable, is_shorter}
 use Rattle.sw_grammar_forms.specs.Form.{claimed, listed_some}
 use Rattle.sw_grammar_forms.specs.Form as forms
@@ -13,6 +14,7 @@ use Rattle.sw_grammar_forms.specs.Relations.{Relation, head, is_first_on_line, F
 use Rattle.sw_grammar_forms.specs.Relations.{may_start}
 use Rattle.sw_grammar_forms.specs.Relations.{stays, spelled, OneMore, Turns}
 use Rattle.sw_grammar_forms.specs.Relations.Turns.{stop}
+use Rattle.sw_grammar_forms.proofs.Fresh.{fresh, fresh_in_word, fresh_is_token, fresh_is_other}
 use Rattle.sw_grammar_forms.proofs.ReaderLaws.{Fills, past, Fills-append, Filled}
 use Rattle.sw_grammar_forms.proofs.SetLemmas.{and_left, and_right, or_left, not_true, sample_is_token}
 use Rattle.sw_grammar_forms.proofs.FormLemmas.{Covers, covers, GoodItem, good_item}
@@ -59,6 +61,15 @@ unfolding has
 example_in t true from h = h
 example_in t false from h = h
 
+abbrev fresh_token : List (List ℕ) → Bool → ℕ → Spelled
+fresh_token texts lead from =
+    record { text = fresh texts; at = from; fixity = fixities.None; first = lead }
+
+fresh_member : (texts : List (List ℕ)) (lead : Bool) (from : ℕ)
+    → has word (fresh_token texts lead from) ≡ true
+unfolding has
+fresh_member texts lead from = fresh_in_word texts fixities.None lead
+
 not_both : (b : Bool) → b ≡ false → b ≡ true → ⊥
 not_both b h k = let both : false ≡ true = sym h ∙ k in cc
 
@@ -67,6 +78,7 @@ ways : {N : Type 0} (El : N → Type 0) (shape_of : N → Shape) {s : Shape} {A 
     → is_usable s ≡ true
 ways El shape_of (forms.done value) ok = refl
 ways El shape_of (forms.terminal t) ok = and_right _ _ ok
+ways El shape_of (forms.word_but texts value) ok = refl
 ways El shape_of (forms.followed p f) ok = and_right _ _ ok
 ways El shape_of (forms.either p q) ok = and_right _ _ ok
 ways El shape_of (forms.turns is_open state f) ok = refl
@@ -183,6 +195,27 @@ module _ {N : Type 0} (El : N → Type 0) (shape_of : N → Shape) (depth : ℕ)
       fills = (refl, sample_is_token t.text (and_left _ _ ok), tt);
       empty = λ h. absurd (not_both false refl h);
       led = λ h. record { token = example t lead from; others = []; whole = refl; is = refl };
+    }
+    short_form (forms.word_but texts value) ok low lead way from = record {
+      value = value (fresh_token texts lead from);
+      filler = fresh_token texts lead from ∷ [];
+      spelled = (
+        record {
+          token = fresh_token texts lead from;
+          member = fresh_member texts lead from;
+          value = refl;
+          alone = refl;
+        },
+        fresh_is_other texts,
+      );
+      fills = (refl, fresh_is_token texts, tt);
+      empty = λ h. absurd (not_both false refl h);
+      led = λ h. record {
+        token = fresh_token texts lead from;
+        others = [];
+        whole = refl;
+        is = refl;
+      };
     }
     short_form (forms.followed {A = C} {s = s} {t = t} p f) ok low lead way from =
         let both = and_left _ _ (and_left _ _ ok) in

@@ -4,9 +4,10 @@
 use Rattle.std.specs.Prelude.{ℕ, suc, nat_le, max, Bool, true, false, not, ◌&&◌, ◌||◌}
 use Rattle.std.specs.Prelude.{if◌then◌else◌, List, [], ◌++◌, codes}
 use Rattle.sw_token.specs.declared.Fixity.{Fixity}
+use Rattle.sw_token.specs.declared.Fixity.TheVariants as fixities
 use Rattle.sw_token.specs.Spelling.{Spelled}
 use Rattle.sw_grammar_forms.specs.Sets.{Set, is_sample, class_of, is_in, quoted, apart, within, not_first}
-use Rattle.sw_grammar_forms.specs.Sets.{first_only}
+use Rattle.sw_grammar_forms.specs.Sets.{first_only, word}
 
 -- One token of a set, and the value that it gives.
 pub record Terminal (A : Type 0) : Type 0 where
@@ -19,6 +20,10 @@ pub record Terminal (A : Type 0) : Type 0 where
 -- whether the example is in the set, where it is the first on its line or isn't
 abbrev pub shows : Set → List ℕ → Fixity → Bool → Bool
 shows set text fixity first = is_in set (class_of text fixity first)
+
+-- any word that names something
+abbrev pub a_word : {A : Type 0} → (Spelled → A) → Terminal A
+a_word value = record { set = word; value = value; text = codes "print"; fixity = fixities.None }
 
 -- What is known of the spellings of a form.
 pub record Shape : Type 0 where
@@ -237,6 +242,8 @@ module _ {N : Type 0} (El : N → Type 0) (shape_of : N → Shape) where
     -- no token; the value is this
     done : {A : Type 0} → A → Form empty A
     terminal : {A : Type 0} → (t : Terminal A) → Form (one t) A
+    -- a word that names something and is none of these texts
+    word_but : {A : Type 0} → List (List ℕ) → (value : Spelled → A) → Form (one (a_word value)) A
     -- one form after another, which may depend on the value of the first
     followed : {A B : Type 0} {s t : Shape} → Form s A → (A → Form t B) → Form (seq s t) B
     -- the first of two where the next token begins it

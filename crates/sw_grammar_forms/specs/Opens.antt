@@ -39,6 +39,7 @@ module _ {N : Type 0} (El : N → Type 0) (shape_of : N → Shape)
       → Saying
   opens_in into (forms.done value) tokens = ⊥
   opens_in into (forms.terminal t) tokens = ⊥
+  opens_in into (forms.word_but texts value) tokens = ⊥
   opens_in into (forms.followed p f) tokens =
       opens_in into p tokens
       ⊎ After (Wide El shape_of body p) (λ a us. opens_in into (f a) us) tokens

@@ -6,9 +6,9 @@ use Rattle.std.specs.Prelude.{Option, Result, Ok, Err, not, ◌++◌, codes}
 use Rattle.sw_token.specs.Spelling.{Spelled}
 use Rattle.sw_grammar_forms.specs.Sets.{Set, has, starts, quoted}
 use Rattle.sw_grammar_forms.specs.Quotes.{quote}
-use Rattle.sw_grammar_forms.specs.Form.{Shape, Terminal, Form}
+use Rattle.sw_grammar_forms.specs.Form.{Shape, Terminal, Form, a_word}
 use Rattle.sw_grammar_forms.specs.Form as forms
-use Rattle.sw_grammar_forms.specs.Relations.{head, may_start, stays}
+use Rattle.sw_grammar_forms.specs.Relations.{head, may_start, stays, is_none_of}
 
 -- why a reader stops
 pub data Fault : Type 0 where
@@ -115,6 +115,8 @@ abbrev pub reading : {N : Type 0} (El : N → Type 0) (shape_of : N → Shape)
     → ℕ → ((n : N) → Reader (El n)) → {s : Shape} {A : Type 0} → Form El shape_of s A → Reader A
 reading El shape_of depth inside (forms.done value) = pure value
 reading El shape_of depth inside (forms.terminal t) = next t
+reading El shape_of depth inside (forms.word_but texts value) =
+    checked (is_none_of texts) (next (a_word value))
 reading El shape_of depth inside (forms.followed p f) =
     then_read (reading El shape_of depth inside p) (λ a. reading El shape_of depth inside (f a))
 reading El shape_of depth inside (forms.either {s = s} p q) =

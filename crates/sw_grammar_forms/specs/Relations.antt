@@ -1,9 +1,10 @@
 -- Relations between values and the tokens that spell them, and how a form puts them together.
 use Rattle.std.specs.Prelude.{◌≡◌, ◌⊎◌, Bool, true, false, not, IsTrue, List, [], ◌∷◌, ◌++◌, Option}
-use Rattle.std.specs.Prelude.{Some, None, codes}
+use Rattle.std.specs.Prelude.{Some, None, codes, ℕ, bytes_eq}
+use Rattle.std.specs.List.{list_any}
 use Rattle.sw_token.specs.Spelling.{Spelled}
 use Rattle.sw_grammar_forms.specs.Sets.{has}
-use Rattle.sw_grammar_forms.specs.Form.{Shape, Terminal, Form}
+use Rattle.sw_grammar_forms.specs.Form.{Shape, Terminal, Form, a_word}
 use Rattle.sw_grammar_forms.specs.Form as forms
 use Rattle.sw_grammar_forms.specs.Quotes.{quote}
 
@@ -63,6 +64,11 @@ abbrev pub stays : Option Spelled → Bool
 stays None = true
 stays (Some token) = not token.first
 
+-- whether the next token has none of these texts; the end has none
+abbrev pub is_none_of : List (List ℕ) → Option Spelled → Bool
+is_none_of texts None = true
+is_none_of texts (Some token) = not (list_any (λ text. bytes_eq token.text text) texts)
+
 -- a `;`, or nothing, and which of the two
 abbrev pub Skipped : Relation Bool
 Skipped = Either (FollowedBy (One (quote (codes ";"))) (λ _. NoToken true)) (NoToken false)
@@ -79,6 +85,8 @@ abbrev pub spelled : {N : Type 0} (El : N → Type 0) (shape_of : N → Shape)
     → ((n : N) → Relation (El n)) → {s : Shape} {A : Type 0} → Form El shape_of s A → Relation A
 spelled El shape_of inside (forms.done value) = NoToken value
 spelled El shape_of inside (forms.terminal t) = One t
+spelled El shape_of inside (forms.word_but texts value) =
+    Passing (is_none_of texts) (One (a_word value))
 spelled El shape_of inside (forms.followed p f) =
     FollowedBy (spelled El shape_of inside p) (λ a. spelled El shape_of inside (f a))
 spelled El shape_of inside (forms.either p q) =

@@ -13,8 +13,9 @@ use Rattle.sw_token.specs.Kinds.{kind_of}
 use Rattle.sw_token.specs.Operators.{operators}
 use Rattle.sw_token.specs.Spelling.{Spelled}
 
--- the marks and words that the grammar of programs quotes, and `print`, which no rule quotes: it is
--- the example of a name
+-- The marks and words that the grammar of programs quotes, and `print`, which no rule quotes: it is
+-- the example of a name. None begins with `aa`, so that there is a word that is none of any texts
+-- (`fresh`, in the proofs).
 abbrev pub other_texts : List (List ℕ)
 other_texts =
     codes "(" ∷ codes ")" ∷ codes "{" ∷ codes "}" ∷ codes "[" ∷ codes "]" ∷ codes "," ∷ codes ":"

@@ -1,6 +1,6 @@
 //! The tokens of a source that are left to read, and the steps over one token.
 
-ghost use Rattle.std.specs.Prelude.{◌≡◌, ◌<◌, length, map, drop, All, IsTrue, OnOk};
+ghost use Rattle.std.specs.Prelude.{◌≡◌, ◌+◌, ◌<◌, ◌^◌, length, map, drop, All, IsTrue, OnOk, IfOk};
 ghost use Rattle.std.specs.List.{list_all, list_any};
 ghost use Rattle.sw_token.specs.Spelling.{IsReadable, spelling_of};
 ghost use Rattle.sw_grammar_forms.specs.Sets.{is_quoted, is_quoted_operator, quoted, standing, starts};
@@ -13,7 +13,7 @@ ghost use Rattle.sw_grammar_forms.specs.Outcome.{is_attribute, is_literal, liter
 
 use super::stop::Stop;
 use std::marker::Model;
-use sw_text::Source;
+use sw_text::{Source, Span};
 use sw_token::{Fixity, Kind, Token};
 
 /// The tokens that are left. Contracts see the list of them with their texts.
@@ -225,6 +225,17 @@ impl<'a> Cursor<'a> {
         at
     }
 
+    /// The same, with where the token ends: positions inside it don't wrap.
+    fn take_whole(&mut self) -> u32
+        requires { 0 < length self.old }
+        ensures taken { Takes self.old result self.new }
+        ensures whole { result + length (text_of (head self.old)) < 2 ^ 32 }
+    {
+        let at = start(self.left[0].span);
+        self.left = &self.left[1..];
+        at
+    }
+
     /// The number of tokens that are left.
     pub fn count(&self) -> usize
         ensures { result ≡ length self.now }
@@ -255,6 +266,18 @@ impl<'a> Cursor<'a> {
             return Err(self.stop());
         }
         Ok(self.take())
+    }
+
+    /// The same, where a position inside the token is computed from its own: none of them wraps.
+    pub fn expect_whole(&mut self, text: &str) -> Result<u32, Stop>
+        requires { IsTrue (is_quoted text.now) }
+        ensures taken { Gives (next (quote text.now) self.old) result self.new }
+        ensures whole { IfOk result (λ at. at + length text.now < 2 ^ 32) }
+    {
+        if !self.sees(text) {
+            return Err(self.stop());
+        }
+        Ok(self.take_whole())
     }
 
     /// Takes the token with this text, which opens a nest, where `depth` more may be opened, and
@@ -327,4 +350,12 @@ impl<'a> Cursor<'a> {
         }
         Err(self.stop())
     }
+}
+
+/// Where a span starts. It ends at a number of 32 bits, too.
+fn start(span: Span) -> u32
+    ensures start { result ≡ span.start }
+    ensures end { span.end < 2 ^ 32 }
+{
+    span.start
 }
