@@ -1,7 +1,8 @@
 -- Which tokens blocks, expressions and types have doesn't depend on the indices of names.
-use Rattle.std.proofs.Common.{ℕ, Bool, List}
+use Rattle.std.proofs.Common.{ℕ, Bool}
 use Rattle.sw_grammar_forms.specs.Reader.{Reader}
 use Rattle.sw_grammar_forms.proofs.Alike.{Alike, Any, alike_inside}
+use Rattle.sw_grammar.specs.Around.{Around}
 use Rattle.sw_grammar.specs.Nests.{Nest, El, shape_of}
 use Rattle.sw_grammar.specs.Nests.Nest.{in_types, in_payload, in_result, in_task_type, in_round}
 use Rattle.sw_grammar.specs.Nests.Nest.{in_args, in_member, in_empty, in_captures}
@@ -23,7 +24,7 @@ use Rattle.sw_grammar.proofs.StmtsAlike.{same_block, same_statements, same_closu
 use Rattle.sw_grammar.proofs.StmtsAlike.{same_task_inside, same_patterns_inside}
 use Rattle.sw_grammar.proofs.StmtsAlike.{same_switch_inside}
 
-module _ (f g : List ℕ → ℕ) where
+module _ (f g : Around) where
   same_bodies : (depth : ℕ) (F G : (n : Nest) → Reader (El n))
       → ((n : Nest) → OfBody n → Alike (NestAlike n) (F n) (G n)) → (n : Nest) → OfBody n
       → SameForm depth F G (NestAlike n) (body f n) (body g n)

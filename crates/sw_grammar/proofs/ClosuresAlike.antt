@@ -7,6 +7,7 @@ use Rattle.sw_grammar_forms.specs.Quotes.{quote}
 use Rattle.sw_grammar_forms.specs.Reader.{Reader}
 use Rattle.sw_grammar_forms.specs.Terminals.{◌>>=◌, expect, skip}
 use Rattle.sw_grammar_forms.proofs.Alike.{Alike, Any, same_done, same_then, same_either, same_rule}
+use Rattle.sw_grammar.specs.Around.{Around}
 use Rattle.sw_grammar.specs.Nests.{Nest, El, Form}
 use Rattle.sw_grammar.specs.Nests.Nest.{in_captures, in_closure_params, in_empty}
 use Rattle.sw_grammar.specs.Tokens.{name_in, at_in, at_word}
@@ -18,7 +19,7 @@ use Rattle.sw_grammar.proofs.TypesAlike.{NestAlike, OfBody, SameForm, same_quote
 use Rattle.sw_grammar.proofs.TypesAlike.{same_at, same_some_of, same_list_of, same_opened}
 use Rattle.sw_grammar.proofs.TypesAlike.{same_type}
 
-module _ (f g : List ℕ → ℕ) (depth : ℕ) (F G : (n : Nest) → Reader (El n)) where
+module _ (f g : Around) (depth : ℕ) (F G : (n : Nest) → Reader (El n)) where
   abbrev Alike-form : {s : Shape} {A : Type 0} → (A → A → Type 0) → Form s A → Form s A → Type 0
   Alike-form P p q = SameForm depth F G P p q
 

@@ -17,6 +17,7 @@ use Rattle.sw_tree.specs.declared.name.Name.{Name}
 use Rattle.sw_tree.specs.declared.expr.Expr.{Expr}
 use Rattle.sw_tree.specs.declared.expr.Expr.TheVariants as exprs
 use Rattle.sw_tree.specs.declared.expr.Arg.{Arg}
+use Rattle.sw_grammar.specs.Around.{Around}
 use Rattle.sw_grammar.specs.Nests.{Nest, El, Form, Link}
 use Rattle.sw_grammar.specs.Nests.Nest.{in_round, in_args, in_member, in_empty, in_closure, in_task}
 use Rattle.sw_grammar.specs.Tokens.{value_word, times, plus, compares, infix_op, infix_in, a_prefix}
@@ -73,7 +74,7 @@ calls_alike name other (Some _) None is = absurd (cc)
 calls_alike name other (Some xs) (Some ys) is =
     fold_expr-Call place_steps name xs ∙ sym (fold_expr-Call place_steps other ys)
 
-module _ (f g : List ℕ → ℕ) (depth : ℕ) (F G : (n : Nest) → Reader (El n)) where
+module _ (f g : Around) (depth : ℕ) (F G : (n : Nest) → Reader (El n)) where
   abbrev Alike-form : {s : Shape} {A : Type 0} → (A → A → Type 0) → Form s A → Form s A → Type 0
   Alike-form P p q = SameForm depth F G P p q
 

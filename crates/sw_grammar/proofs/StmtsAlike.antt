@@ -15,6 +15,7 @@ use Rattle.sw_tree.specs.declared.expr.Expr.{Expr}
 use Rattle.sw_tree.specs.declared.expr.Expr.TheVariants as exprs
 use Rattle.sw_tree.specs.Place.{is_place, place_steps}
 use Rattle.sw_tree.proofs.FoldEquations.{fold_expr-Me}
+use Rattle.sw_grammar.specs.Around.{Around}
 use Rattle.sw_grammar.specs.Nests.{Nest, El, Form}
 use Rattle.sw_grammar.specs.Nests.Nest.{in_block, in_switch, in_patterns}
 use Rattle.sw_grammar.specs.Tokens.{name_in, value_word, an_assignment, an_equals}
@@ -22,8 +23,8 @@ use Rattle.sw_grammar.specs.Exprs.{expr, more_operands}
 use Rattle.sw_grammar.specs.Stmts.{Arms, Cases, block, value, type_if, binding, bind, discard}
 use Rattle.sw_grammar.specs.Stmts.{after_place, word_stmt, self_stmt, task_stmt, plain_stmt, arm}
 use Rattle.sw_grammar.specs.Stmts.{else_part, if_stmt, while_stmt, switch_stmt, return_stmt}
-use Rattle.sw_grammar.specs.Stmts.{break_stmt, continue_stmt, stmt, statements, closure_inside}
-use Rattle.sw_grammar.specs.Stmts.{task_inside, pattern, patterns_inside, patterns_if, arm_body}
+use Rattle.sw_grammar.specs.Stmts.{break_stmt, continue_stmt, other_stmt, stmt, statements}
+use Rattle.sw_grammar.specs.Stmts.{closure_inside, task_inside, pattern, patterns_inside, patterns_if, arm_body}
 use Rattle.sw_grammar.specs.Stmts.{case_part, default_part, switch_inside}
 use Rattle.sw_grammar.proofs.TypesAlike.{NestAlike, OfBody, SameForm, same_quote, same_name}
 use Rattle.sw_grammar.proofs.TypesAlike.{same_some_of, same_opened, same_type}
@@ -44,7 +45,7 @@ self_place : (at other : ℕ) → PlacesAlike (exprs.Me at) (exprs.Me other)
 unfolding is_place
 self_place at other = fold_expr-Me place_steps at ∙ sym (fold_expr-Me place_steps other)
 
-module _ (f g : List ℕ → ℕ) (depth : ℕ) (F G : (n : Nest) → Reader (El n)) where
+module _ (f g : Around) (depth : ℕ) (F G : (n : Nest) → Reader (El n)) where
   abbrev Alike-form : {s : Shape} {A : Type 0} → (A → A → Type 0) → Form s A → Form s A → Type 0
   Alike-form P p q = SameForm depth F G P p q
 
@@ -200,13 +201,18 @@ module _ (f g : List ℕ → ℕ) (depth : ℕ) (F G : (n : Nest) → Reader (El
         same_rule (same_then (text_alike (codes "return")) (λ _ _ _. same_either
         (same_then (same_same_line (expr_alike true)) (λ _ _ _. same_done tt)) (same_done tt)))
 
+    same_other_stmt : Alike-form Any (other_stmt f) (other_stmt g)
+    unfolding other_stmt
+    same_other_stmt =
+        same_rule (same_either same_discard (same_either same_if
+        (same_either same_while (same_either same_switch (same_either same_return
+        (same_either same_break (same_either same_continue (same_either same_word_stmt
+        (same_either same_self_stmt (same_either same_task_stmt same_plain_stmt))))))))))
+
     same_stmt : Alike-form Any (stmt f) (stmt g)
     unfolding stmt
     same_stmt =
-        same_rule (same_either same_bind (same_either same_discard (same_either same_if
-        (same_either same_while (same_either same_switch (same_either same_return
-        (same_either same_break (same_either same_continue (same_either same_word_stmt
-        (same_either same_self_stmt (same_either same_task_stmt same_plain_stmt)))))))))))
+        same_rule (same_either same_bind (same_then same_other_stmt (λ _ _ _. same_done tt)))
 
     same_items : Alike-form EndAlike (items (stmt f)) (items (stmt g))
     same_items = same_more_items refl same_stmt
@@ -239,7 +245,7 @@ module _ (f g : List ℕ → ℕ) (depth : ℕ) (F G : (n : Nest) → Reader (El
 
     same_arm_body : Alike-form EndAlike (arm_body f) (arm_body g)
     unfolding arm_body
-    same_arm_body = same_rule (same_some_items same_stmt)
+    same_arm_body = same_rule (same_then (same_some_items same_stmt) (λ _ _ is. same_done is))
 
     same_case_part : (cases others : Cases)
         → Alike-form CasesAlike (case_part f cases) (case_part g others)

@@ -13,6 +13,7 @@ use Rattle.sw_grammar_forms.proofs.Alike.{same_rule}
 use Rattle.sw_tree.specs.declared.expr.Expr.{Expr}
 use Rattle.sw_tree.specs.declared.type_tree.TypeTree.{TypeTree}
 use Rattle.sw_tree.specs.Place.{is_place}
+use Rattle.sw_grammar.specs.Around.{Around}
 use Rattle.sw_grammar.specs.Nests.{Nest, El, shape_of, Form, Link}
 use Rattle.sw_grammar.specs.Nests.Nest.{in_types, in_payload, in_result, in_task_type, in_round}
 use Rattle.sw_grammar.specs.Nests.Nest.{in_args, in_member, in_empty, in_captures}
@@ -87,7 +88,7 @@ abbrev pub SameForm : ℕ → ((n : Nest) → Reader (El n)) → ((n : Nest) →
 SameForm depth F G P p q = Same {shape_of = shape_of} depth F G P p q
 
 -- `f` and `g` give the indices of names.
-module _ (f g : List ℕ → ℕ) (depth : ℕ) (F G : (n : Nest) → Reader (El n)) where
+module _ (f g : Around) (depth : ℕ) (F G : (n : Nest) → Reader (El n)) where
   abbrev Alike-form : {s : Shape} {A : Type 0} → (A → A → Type 0) → Form s A → Form s A → Type 0
   Alike-form P p q = SameForm depth F G P p q
 
@@ -96,11 +97,11 @@ module _ (f g : List ℕ → ℕ) (depth : ℕ) (F G : (n : Nest) → Reader (El
 
   pub same_name : (set : Set) (text : List ℕ)
       → Alike-form Any (terminal (name_in f set text)) (terminal (name_in g set text))
-  same_name set text = same_token_of set text fixities.None (name_of f) (name_of g)
+  same_name set text = same_token_of set text fixities.None (name_of f.id_of) (name_of g.id_of)
 
   pub same_at : (set : Set) (text : List ℕ)
       → Alike-form Any (terminal (at_in f set text)) (terminal (at_in g set text))
-  same_at set text = same_token_of set text fixities.None (at_name f) (at_name g)
+  same_at set text = same_token_of set text fixities.None (at_name f.id_of) (at_name g.id_of)
 
   -- Lists.
   module _ {A : Type 0} {s : Shape} (p q : Form s A) (item : Alike-form Any p q) where

@@ -1,5 +1,5 @@
 -- Closures and tasks.
-use Rattle.std.specs.Prelude.{ℕ, Option, Some, None, List, [], ◌∷◌, ◌++◌, codes}
+use Rattle.std.specs.Prelude.{Option, Some, None, List, [], ◌∷◌, ◌++◌, codes}
 use Rattle.sw_grammar_forms.specs.Sets.{Set, quoted, one_of, word}
 use Rattle.sw_grammar_forms.specs.Form.{solid}
 use Rattle.sw_grammar_forms.specs.Form.Form.{done, terminal, either, nest, shaped}
@@ -9,6 +9,7 @@ use Rattle.sw_tree.specs.declared.name.Name.{Name}
 use Rattle.sw_tree.specs.declared.type_tree.TypeTree.{TypeTree}
 use Rattle.sw_tree.specs.declared.expr.ClosureParam.{ClosureParam}
 use Rattle.sw_tree.specs.declared.stmt.Stmt.{Stmt}
+use Rattle.sw_grammar.specs.Around.{Around}
 use Rattle.sw_grammar.specs.Tokens.{at_word, type_ext, name_in, at_in}
 use Rattle.sw_grammar.specs.Nests.{in_captures, in_closure_params, in_empty, shape_of, Form}
 use Rattle.sw_grammar.specs.Nests.{ClosureInside}
@@ -45,15 +46,15 @@ inside_of header body = record {
 abbrev pub signature_ext : Set
 signature_ext = quoted (codes "->") ++ type_ext
 
-module _ (id_of : List ℕ → ℕ) where
+module _ (around : Around) where
   unfoldable pub captured : Form (solid word [] 0) Name
   captured = shaped _ (do
-    name ← terminal (name_in id_of word (codes "print"))
+    name ← terminal (name_in around word (codes "print"))
     done name)
 
   -- Word {"," Word} "]"
   unfoldable pub captured_words : Form (shape_of in_captures) (List Name)
-  captured_words = shaped _ (some_of id_of (codes "]") captured)
+  captured_words = shaped _ (some_of around (codes "]") captured)
 
   -- caps
   unfoldable pub captures : Form (solid (quoted (codes "[")) [] 1) (List Name)
@@ -68,20 +69,20 @@ module _ (id_of : List ℕ → ℕ) where
   -- Word ":" type
   unfoldable pub closure_param : Form (solid word type_ext 0) ClosureParam
   closure_param = shaped _ (do
-    name ← terminal (name_in id_of word (codes "print"))
+    name ← terminal (name_in around word (codes "print"))
     _ ← expect (codes ":")
-    written ← type id_of
+    written ← type around
     done (record { name = name; ty = written }))
 
   unfoldable pub closure_params : Form (shape_of in_closure_params) (List ClosureParam)
-  closure_params = shaped _ (list_of id_of (codes ")") closure_param)
+  closure_params = shaped _ (list_of around (codes ")") closure_param)
 
   -- ["->" type]
   unfoldable pub result_if : Form (loose (quoted (codes "->")) (quoted (codes "->") ++ type_ext))
       (Option TypeTree)
   result_if = shaped _ (either (do
     _ ← expect (codes "->")
-    written ← type id_of
+    written ← type around
     done (Some written)) (done None))
 
   -- "(" parameters ")" ["->" type]
@@ -100,7 +101,7 @@ module _ (id_of : List ℕ → ℕ) where
       (loose (one_of (codes "@Sendable" ∷ codes "[" ∷ codes "(" ∷ []))
       (one_of (codes "@Sendable" ∷ codes "[" ∷ codes "(" ∷ []))) Header
   header = shaped _ (either (do
-    mark ← terminal (at_in id_of (quoted (codes "@Sendable")) (codes "@Sendable"))
+    mark ← terminal (at_in around (quoted (codes "@Sendable")) (codes "@Sendable"))
     words ← captures_if
     written ← signature_if
     _ ← expect (codes "in")
@@ -132,7 +133,7 @@ module _ (id_of : List ℕ → ℕ) where
       (loose (at_word ++ one_of (codes "[" ∷ codes "(" ∷ []))
       (at_word ++ one_of (codes "[" ∷ codes "(" ∷ []))) Header
   task_header = shaped _ (either (do
-    mark ← terminal (at_in id_of at_word (codes "@Sendable"))
+    mark ← terminal (at_in around at_word (codes "@Sendable"))
     words ← captures_if
     written ← task_signature_if
     _ ← expect (codes "in")

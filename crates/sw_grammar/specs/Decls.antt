@@ -18,6 +18,7 @@ use Rattle.sw_tree.specs.declared.decl.FuncTree.{FuncTree}
 use Rattle.sw_tree.specs.declared.decl.CaseTree.{CaseTree}
 use Rattle.sw_tree.specs.declared.decl.Decl.{Decl}
 use Rattle.sw_tree.specs.declared.decl.Decl.TheVariants as decls
+use Rattle.sw_grammar.specs.Around.{Around}
 use Rattle.sw_grammar.specs.Tokens.{at_word, plain_at_word, type_ext, expr_ext, infix_op, an_equals}
 use Rattle.sw_grammar.specs.Tokens.{binding_first, name_in, at_in}
 use Rattle.sw_grammar.specs.Nests.{in_payload, in_empty, in_params, in_isolation, in_entry}
@@ -96,10 +97,10 @@ decl_first =
     ++ one_of (codes "nonisolated" ∷ codes "@concurrent" ∷ codes "struct" ∷ codes "enum"
     ∷ codes "actor" ∷ []) ++ annotated_first
 
-module _ (id_of : List ℕ → ℕ) where
+module _ (around : Around) where
   unfoldable pub declared : Form (solid word [] 0) Name
   declared = shaped _ (do
-    name ← terminal (name_in id_of word (codes "print"))
+    name ← terminal (name_in around word (codes "print"))
     done name)
 
   -- "nonsending" ")"
@@ -140,7 +141,7 @@ module _ (id_of : List ℕ → ℕ) where
     _ ← expect (codes ":")
     sending ← skip (codes "sending")
     _ ← skip (codes "@escaping")
-    ty ← type id_of
+    ty ← type around
     done (record { label = label; name = name; sending = sending; ty = ty }))
 
   -- [Word|"_"] Word ":" ["sending"] ["@escaping"] type
@@ -156,7 +157,7 @@ module _ (id_of : List ℕ → ℕ) where
 
   -- [param {"," param}] ")"
   unfoldable pub params_inside : Form (shape_of in_params) (List ParamTree)
-  params_inside = shaped _ (list_of id_of (codes ")") param)
+  params_inside = shaped _ (list_of around (codes ")") param)
 
   unfoldable pub params : Form (solid (quoted (codes "(")) [] 1) (List ParamTree)
   params = shaped _ (do
@@ -169,7 +170,7 @@ module _ (id_of : List ℕ → ℕ) where
   sent_result = shaped _ (either (do
     _ ← expect (codes "->")
     sends ← skip (codes "sending")
-    ty ← type id_of
+    ty ← type around
     done (sends, Some ty)) (done (false, None)))
 
   -- "func" Word params ["async"] ["->" ["sending"] type] block, after the isolation that is written
@@ -180,7 +181,7 @@ module _ (id_of : List ℕ → ℕ) where
     given ← params
     is_async ← async_if isolation
     result ← sent_result
-    body ← block id_of
+    body ← block around
     done (record {
       written = isolation;
       word = name;
@@ -194,7 +195,7 @@ module _ (id_of : List ℕ → ℕ) where
   -- a function of a type
   unfoldable pub method : Form (solid method_first [] 1) FuncTree
   method = shaped _ (either (do
-    mark ← terminal (at_in id_of at_word (codes "@Sendable"))
+    mark ← terminal (at_in around at_word (codes "@Sendable"))
     func_after (written.At mark)) (either (nonisolated >>= func_after)
       (either (concurrent >>= func_after) (func_after written.Absent))))
 
@@ -207,7 +208,7 @@ module _ (id_of : List ℕ → ℕ) where
   unfoldable pub value_if : Form (loose (infix_op (codes "=")) (infix_op (codes "=") ++ expr_ext))
       (Option Expr)
   value_if = shaped _ (either (do
-    given ← value id_of
+    given ← value around
     done (Some given)) (done None))
 
   -- Word ":" type
@@ -215,7 +216,7 @@ module _ (id_of : List ℕ → ℕ) where
   field_after mutable = shaped _ (do
     name ← declared
     _ ← expect (codes ":")
-    ty ← type id_of
+    ty ← type around
     done (property (property_of mutable name (Some ty) None)))
 
   unfoldable pub field : Form (solid binding_first type_ext 0) Member
@@ -231,10 +232,10 @@ module _ (id_of : List ℕ → ℕ) where
     name ← declared
     either (do
       _ ← expect (codes ":")
-      ty ← type id_of
+      ty ← type around
       given ← value_if
       done (property (property_of mutable name (Some ty) given))) (do
-        given ← value id_of
+        given ← value around
         done (property (property_of mutable name None (Some given)))))
 
   unfoldable pub prop : Form (solid binding_first property_ext 0) Member
@@ -246,7 +247,7 @@ module _ (id_of : List ℕ → ℕ) where
   init = shaped _ (do
     at ← expect (codes "init")
     given ← params
-    body ← block id_of
+    body ← block around
     done (initialiser (record { at = at; params = given; body = body })))
 
   -- Word ["(" type {"," type} ")"]
@@ -263,7 +264,7 @@ module _ (id_of : List ℕ → ℕ) where
   enum_cases = shaped _ (do
     _ ← expect (codes "case")
     first ← enum_case
-    all ← more_of id_of (first ∷ []) enum_case
+    all ← more_of around (first ∷ []) enum_case
     done (cases all))
 
   -- [":" "Sendable"]
@@ -296,7 +297,7 @@ module _ (id_of : List ℕ → ℕ) where
   unfoldable pub entry_inside : Form (shape_of in_entry) Main
   entry_inside = shaped _ (do
     isolation ← either (do
-      mark ← terminal (at_in id_of at_word (codes "@Sendable"))
+      mark ← terminal (at_in around at_word (codes "@Sendable"))
       done (written.At mark))
         (either (expect (codes "nonisolated") >>= λ _. done written.Nonisolated)
         (done written.Absent))
@@ -305,7 +306,7 @@ module _ (id_of : List ℕ → ℕ) where
     at ← expect (codes "main")
     _ ← nest (quote (codes "(")) in_empty
     is_async ← skip (codes "async")
-    body ← block id_of
+    body ← block around
     _ ← skip (codes ";")
     _ ← expect (codes "}")
     done (record { written = isolation; at = at; is_async = is_async; body = body }))
@@ -383,8 +384,8 @@ module _ (id_of : List ℕ → ℕ) where
   unfoldable pub global_value : Written → Bool → Form (solid word expr_ext 0) Decl
   global_value isolation mutable = shaped _ (do
     name ← declared
-    ty ← type_if id_of
-    given ← value id_of
+    ty ← type_if around
+    given ← value around
     done (decls.Global (record {
       written = isolation;
       mutable = mutable;
@@ -405,11 +406,11 @@ module _ (id_of : List ℕ → ℕ) where
 
   unfoldable pub decl : Form (solid decl_first expr_ext 0) Decl
   decl = shaped _ (either (do
-    mark ← terminal (at_in id_of (quoted (codes "@main")) (codes "@main"))
+    mark ← terminal (at_in around (quoted (codes "@main")) (codes "@main"))
     either entry (annotated (written.At mark))) (either (do
-      mark ← terminal (at_in id_of (quoted (codes "@globalActor")) (codes "@globalActor"))
+      mark ← terminal (at_in around (quoted (codes "@globalActor")) (codes "@globalActor"))
       either global_actor (annotated (written.At mark))) (either (do
-        mark ← terminal (at_in id_of plain_at_word (codes "@Sendable"))
+        mark ← terminal (at_in around plain_at_word (codes "@Sendable"))
         annotated (written.At mark)) (either (nonisolated >>= func_decl)
       (either (concurrent >>= func_decl)
       (either struct_decl (either enum_decl (either actor_decl (annotated written.Absent)))))))))

@@ -13,6 +13,7 @@ use Rattle.sw_tree.specs.declared.expr.Arg.{Arg, roll-Arg}
 use Rattle.sw_tree.specs.declared.expr.Link.{Link as Operand, roll-Link}
 use Rattle.sw_tree.specs.declared.expr.Closure.{Closure, roll-Closure}
 use Rattle.sw_tree.specs.declared.stmt.Block.{roll-Block}
+use Rattle.sw_grammar.specs.Around.{Around}
 use Rattle.sw_grammar.specs.Tokens.{value_word, literal_first, expr_first, expr_ext, postfix_ext}
 use Rattle.sw_grammar.specs.Tokens.{times, plus, compares, infix_op, prefix_ops, infix_in, a_prefix}
 use Rattle.sw_grammar.specs.Tokens.{name_in}
@@ -86,7 +87,7 @@ operand_first = prefix_ops ++ postfix_first
 abbrev pub operators : Set
 operators = times ++ plus ++ compares ++ infix_op (codes "&&") ++ infix_op (codes "||")
 
-module _ (id_of : List ℕ → ℕ) where
+module _ (around : Around) where
   -- "." Word [args] {"." Word [args]}
   unfoldable pub members : Form (loose (quoted (codes ".")) postfix_ext) (List Link)
   members = shaped _ (either (do
@@ -103,7 +104,7 @@ module _ (id_of : List ℕ → ℕ) where
   -- Word [args] {"." Word [args]}, after the first "."
   unfoldable pub member : Form (shape_of in_member) (List Link)
   member = shaped _ (do
-    name ← terminal (name_in id_of word (codes "print"))
+    name ← terminal (name_in around word (codes "print"))
     args ← call
     links ← members
     done ((name, args) ∷ links))
@@ -177,7 +178,7 @@ module _ (id_of : List ℕ → ℕ) where
   -- primary { "." Word [args] }
   unfoldable pub postfix : Bool → Form (solid postfix_first postfix_ext 0) Expr
   postfix closures = shaped _ (either (do
-    name ← terminal (name_in id_of value_word (codes "print"))
+    name ← terminal (name_in around value_word (codes "print"))
     after_word name) (do
       base ← either (expect (codes "Task") >>= after_task closures) (other_primary closures)
       after_operand base))
@@ -286,12 +287,12 @@ module _ (id_of : List ℕ → ℕ) where
   -- [Word ":"] expr
   unfoldable pub arg : Form (solid expr_first (expr_ext ++ quoted (codes ":")) 0) Arg
   arg = shaped _ (either (do
-    name ← terminal (name_in id_of value_word (codes "print"))
+    name ← terminal (name_in around value_word (codes "print"))
     either (labelled name) (do
       first ← after_word name
       value ← more_operands true first
       done (argument None value))) (either (do
-        name ← terminal (name_in id_of (quoted (codes "Task")) (codes "Task"))
+        name ← terminal (name_in around (quoted (codes "Task")) (codes "Task"))
         either (labelled name) (do
           base ← after_task true name.at
           first ← after_operand base
@@ -302,7 +303,7 @@ module _ (id_of : List ℕ → ℕ) where
 
   -- arg {"," arg} ")", or ")"
   unfoldable pub args : Form (shape_of in_args) (List Arg)
-  args = shaped _ (list_of id_of (codes ")") arg)
+  args = shaped _ (list_of around (codes ")") arg)
 
   -- expr ")"
   unfoldable pub round : Form (shape_of in_round) Expr

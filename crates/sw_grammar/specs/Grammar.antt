@@ -1,5 +1,6 @@
 -- The grammar: what stands in each nest.
-use Rattle.std.specs.Prelude.{◌≡◌, ℕ, true, List, refl}
+use Rattle.std.specs.Prelude.{◌≡◌, true, refl}
+use Rattle.sw_grammar.specs.Around.{Around}
 use Rattle.sw_grammar.specs.Nests.{Nest, El, shape_of, Form}
 use Rattle.sw_grammar.specs.Nests.Nest.{in_types, in_payload, in_result, in_task_type, in_round}
 use Rattle.sw_grammar.specs.Nests.Nest.{in_args, in_member, in_empty, in_captures}
@@ -13,29 +14,29 @@ use Rattle.sw_grammar.specs.Stmts as stmts
 use Rattle.sw_grammar.specs.Decls as decls
 
 -- what stands in each nest
-abbrev pub body : (id_of : List ℕ → ℕ) (n : Nest) → Form (shape_of n) (El n)
-body id_of in_types = types.types id_of
-body id_of in_payload = types.payload id_of
-body id_of in_result = types.type id_of
-body id_of in_task_type = types.task_inner id_of
-body id_of in_round = exprs.round id_of
-body id_of in_args = exprs.args id_of
-body id_of in_member = exprs.member id_of
-body id_of in_empty = exprs.nothing id_of
-body id_of in_captures = closures.captured_words id_of
-body id_of in_closure_params = closures.closure_params id_of
-body id_of in_closure = stmts.closure_inside id_of
-body id_of in_task = stmts.task_inside id_of
-body id_of in_block = stmts.statements id_of
-body id_of in_switch = stmts.switch_inside id_of
-body id_of in_patterns = stmts.patterns_inside id_of
-body id_of in_params = decls.params_inside id_of
-body id_of in_isolation = decls.isolation_inside id_of
-body id_of in_entry = decls.entry_inside id_of
-body id_of in_global_actor = decls.global_actor_inside id_of
-body id_of in_struct = decls.struct_inside id_of
-body id_of in_enum = decls.enum_inside id_of
-body id_of in_class = decls.class_inside id_of
+abbrev pub body : (around : Around) (n : Nest) → Form (shape_of n) (El n)
+body around in_types = types.types around
+body around in_payload = types.payload around
+body around in_result = types.type around
+body around in_task_type = types.task_inner around
+body around in_round = exprs.round around
+body around in_args = exprs.args around
+body around in_member = exprs.member around
+body around in_empty = exprs.nothing around
+body around in_captures = closures.captured_words around
+body around in_closure_params = closures.closure_params around
+body around in_closure = stmts.closure_inside around
+body around in_task = stmts.task_inside around
+body around in_block = stmts.statements around
+body around in_switch = stmts.switch_inside around
+body around in_patterns = stmts.patterns_inside around
+body around in_params = decls.params_inside around
+body around in_isolation = decls.isolation_inside around
+body around in_entry = decls.entry_inside around
+body around in_global_actor = decls.global_actor_inside around
+body around in_struct = decls.struct_inside around
+body around in_enum = decls.enum_inside around
+body around in_class = decls.class_inside around
 
 -- The shapes of the nests are good.
 pub good : (n : Nest) → (shape_of n).ok ≡ true

@@ -6,18 +6,20 @@ use Rattle.sw_grammar_forms.specs.Whole.{IsSpelledAs, IsSpelled, IsUnexpectedIn,
 use Rattle.sw_grammar_forms.specs.Whole.{IsShallow}
 use Rattle.sw_grammar_forms.specs.Opens.{opens}
 use Rattle.sw_tree.specs.declared.decl.Decl.{Decl}
+use Rattle.sw_grammar.specs.Around.{outermost}
 use Rattle.sw_grammar.specs.Nests.{El, shape_of}
 use Rattle.sw_grammar.specs.Decls.{program}
 use Rattle.sw_grammar.specs.Grammar.{body}
 
 -- The tokens have the form of these declarations.
 abbrev pub SpellsDecls : (List ℕ → ℕ) → List Decl → List Spelled → Type 0
-SpellsDecls id_of decls tokens = Wide El shape_of (body id_of) (program id_of) decls tokens
+SpellsDecls id_of decls tokens =
+    Wide El shape_of (body (outermost id_of)) (program (outermost id_of)) decls tokens
 
 -- the same, where at most `depth` constructs are open at a token
 abbrev pub SpellsWithin : (List ℕ → ℕ) → ℕ → List Decl → List Spelled → Type 0
 SpellsWithin id_of depth decls tokens =
-    spells El shape_of (body id_of) depth (program id_of) decls tokens
+    spells El shape_of (body (outermost id_of)) depth (program (outermost id_of)) decls tokens
 
 -- The tokens are a spelling of the program that these declarations are.
 abbrev pub Spells : (List ℕ → ℕ) → List Decl → List Spelled → Type 0
@@ -38,7 +40,8 @@ IsProgramWithin id_of depth tokens = IsSpelled (SpellsWithin id_of depth) tokens
 
 -- The last of the tokens opens a nest where `depth` nests are open before it.
 abbrev pub Opens : (List ℕ → ℕ) → ℕ → List Spelled → Type 0
-Opens id_of depth tokens = opens El shape_of (body id_of) depth (program id_of) tokens
+Opens id_of depth tokens =
+    opens El shape_of (body (outermost id_of)) depth (program (outermost id_of)) tokens
 
 -- The token after the first `n` is the first that opens a nest where `depth` are open, and a
 -- program's spelling begins with it and those before it.

@@ -12,6 +12,7 @@ use Rattle.sw_tree.specs.declared.operator.InfixOp.{InfixOp}
 use Rattle.sw_tree.specs.declared.operator.InfixOp.TheVariants as infixes
 use Rattle.sw_tree.specs.declared.operator.AssignOp.{AssignOp}
 use Rattle.sw_tree.specs.declared.operator.AssignOp.TheVariants as assigns
+use Rattle.sw_grammar.specs.Around.{Around}
 
 -- the operator with this text, between two operands
 abbrev pub infix_op : List ℕ → Set
@@ -108,11 +109,22 @@ module _ (id_of : List ℕ → ℕ) where
   abbrev pub at_name : Spelled → Name
   at_name token = record { at = token.at; id = id_of (drop 1 token.text) }
 
+module _ (around : Around) where
   abbrev pub name_in : Set → List ℕ → Terminal Name
-  name_in set text = record { set = set; value = name_of; text = text; fixity = fixities.None }
+  name_in set text = record {
+    set = set;
+    value = name_of around.id_of;
+    text = text;
+    fixity = fixities.None;
+  }
 
   abbrev pub at_in : Set → List ℕ → Terminal Name
-  at_in set text = record { set = set; value = at_name; text = text; fixity = fixities.None }
+  at_in set text = record {
+    set = set;
+    value = at_name around.id_of;
+    text = text;
+    fixity = fixities.None;
+  }
 
 abbrev pub prefix_of : List ℕ → PrefixOp
 prefix_of text = if bytes_eq text (codes "!") then prefixes.Not else prefixes.Negate

@@ -7,6 +7,7 @@ use Rattle.sw_grammar_forms.specs.Terminals.{◌>>=◌, expect}
 use Rattle.sw_grammar_forms.specs.Quotes.{quote}
 use Rattle.sw_tree.specs.declared.type_tree.TypeTree.{TypeTree}
 use Rattle.sw_tree.specs.declared.type_tree.TypeTree.TheVariants as trees
+use Rattle.sw_grammar.specs.Around.{Around}
 use Rattle.sw_grammar.specs.Tokens.{value_word, type_first, type_ext, name_in, at_in}
 use Rattle.sw_grammar.specs.Nests.{in_types, in_payload, in_result, in_task_type, shape_of, Form}
 
@@ -14,7 +15,7 @@ abbrev pub is_empty : {A : Type 0} → List A → Bool
 is_empty [] = true
 is_empty (_ ∷ _) = false
 
-module _ (id_of : List ℕ → ℕ) where
+module _ (around : Around) where
   -- "(" types ")" "->" type | "(" ")"
   unfoldable pub round_type : Form (solid (quoted (codes "(")) type_ext 1) TypeTree
   round_type = shaped _ (do
@@ -26,7 +27,7 @@ module _ (id_of : List ℕ → ℕ) where
   -- "@Sendable" "(" types ")" "->" type
   unfoldable pub marked_type : Form (solid (quoted (codes "@Sendable")) type_ext 1) TypeTree
   marked_type = shaped _ (do
-    mark ← terminal (at_in id_of (quoted (codes "@Sendable")) (codes "@Sendable"))
+    mark ← terminal (at_in around (quoted (codes "@Sendable")) (codes "@Sendable"))
     params ← nest (quote (codes "(")) in_types
     result ← nest (quote (codes "->")) in_result
     done (trees.Arrow params.0 (Some mark) params.1 result.1))
@@ -34,14 +35,14 @@ module _ (id_of : List ℕ → ℕ) where
   -- "Task" "<" type "," "Never" ">", or the word alone
   unfoldable pub task_type : Form (solid (quoted (codes "Task")) type_ext 0) TypeTree
   task_type = shaped _ (do
-    name ← terminal (name_in id_of (quoted (codes "Task")) (codes "Task"))
+    name ← terminal (name_in around (quoted (codes "Task")) (codes "Task"))
     either (do
       inner ← nest (quote (codes "<")) in_task_type
       done (trees.TaskOf name.at inner.1)) (done (trees.Named name)))
 
   unfoldable pub named_type : Form (solid value_word [] 0) TypeTree
   named_type = shaped _ (do
-    name ← terminal (name_in id_of value_word (codes "print"))
+    name ← terminal (name_in around value_word (codes "print"))
     done (trees.Named name))
 
   -- a type
