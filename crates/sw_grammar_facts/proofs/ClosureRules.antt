@@ -1,10 +1,10 @@
 -- What the headers of closures and tasks weigh.
-use Rattle.std.proofs.Common.{ℕ, List}
 use Rattle.std.proofs.Common.{codes, refl, arith}
 use Rattle.sw_grammar_forms.specs.Sets.{quoted, word}
 use Rattle.sw_grammar_forms.specs.Relations.{Relation}
 use Rattle.sw_tree.proofs.Counting.{in_all, in_option}
 use Rattle.sw_grammar_facts.proofs.Owning.{none, Owns, own_done, own_then, own_either, own_past}
+use Rattle.sw_grammar.specs.Around.{Around}
 use Rattle.sw_grammar.specs.Nests.{Nest, El}
 use Rattle.sw_grammar.specs.Nests.Nest.{in_captures, in_closure_params}
 use Rattle.sw_grammar.specs.Tokens.{at_word}
@@ -17,57 +17,57 @@ use Rattle.sw_grammar_facts.proofs.NestWeights.{weight, signed, headed, task_sig
 use Rattle.sw_grammar_facts.proofs.TypeRules.{Keeps, own_list_of, own_some_of, own_name, own_mark}
 use Rattle.sw_grammar_facts.proofs.TypeRules.{own_opened, own_type}
 
-module _ {id_of : List ℕ → ℕ} (w : Weighing id_of) (table : (n : Nest) → Relation (El n))
+module _ {around : Around} (w : Weighing around.id_of) (table : (n : Nest) → Relation (El n))
     (nests : (n : Nest) → Owns w.of_token none (table n) (weight w n)) where
-  own_captured : Keeps w table (captured id_of) none w.node
+  own_captured : Keeps w table (captured around) none w.node
   unfolding captured
   own_captured =
       own_then _ _ (own_name w table word (codes "print") refl) (λ name.
       own_done _ (λ k. omega arith))
 
-  pub own_captured_words : Keeps w table (captured_words id_of) none (in_all w.node)
+  pub own_captured_words : Keeps w table (captured_words around) none (in_all w.node)
   unfolding captured_words
-  own_captured_words = own_some_of w table (captured id_of) w.node own_captured (codes "]")
+  own_captured_words = own_some_of w table (captured around) w.node own_captured (codes "]")
 
-  own_captures : Keeps w table (captures id_of) none (in_all w.node)
+  own_captures : Keeps w table (captures around) none (in_all w.node)
   unfolding captures
   own_captures =
       own_then _ _ (own_opened w table nests (codes "[") in_captures) (λ words.
       own_done _ (λ k. omega arith))
 
-  own_captures_if : Keeps w table (captures_if id_of) none (in_all w.node)
+  own_captures_if : Keeps w table (captures_if around) none (in_all w.node)
   unfolding captures_if in_all
   own_captures_if = own_either _ own_captures (own_done _ (λ k. omega arith))
 
-  own_closure_param : Keeps w table (closure_param id_of) none w.closure_param
+  own_closure_param : Keeps w table (closure_param around) none w.closure_param
   unfolding closure_param
   own_closure_param =
       own_then _ _ (own_name w table word (codes "print") refl) (λ name. own_past _ (λ _.
       own_then _ _ (own_type w table nests) (λ written. own_done _ (λ k.
       omega (arith, w.closure_param-is (record { name = name; ty = written }) k)))))
 
-  pub own_closure_params : Keeps w table (closure_params id_of) none (in_all w.closure_param)
+  pub own_closure_params : Keeps w table (closure_params around) none (in_all w.closure_param)
   unfolding closure_params
   own_closure_params =
-      own_list_of w table (closure_param id_of) w.closure_param own_closure_param (codes ")")
+      own_list_of w table (closure_param around) w.closure_param own_closure_param (codes ")")
 
-  own_result_if : Keeps w table (result_if id_of) none (in_option w.type)
+  own_result_if : Keeps w table (result_if around) none (in_option w.type)
   unfolding result_if in_option
   own_result_if =
       own_either _ (own_past _ (λ _. own_then _ _ (own_type w table nests) (λ written.
       own_done _ (λ k. omega arith)))) (own_done _ (λ k. omega arith))
 
-  own_signature : Keeps w table (signature id_of) none (signed w)
+  own_signature : Keeps w table (signature around) none (signed w)
   unfolding signature
   own_signature =
       own_then _ _ (own_opened w table nests (codes "(") in_closure_params) (λ params.
       own_then _ _ own_result_if (λ result. own_done _ (λ k. omega arith)))
 
-  own_signature_if : Keeps w table (signature_if id_of) none (signed w)
+  own_signature_if : Keeps w table (signature_if around) none (signed w)
   unfolding signature_if in_all in_option
   own_signature_if = own_either _ own_signature (own_done _ (λ k. omega arith))
 
-  pub own_header : Keeps w table (header id_of) none (headed w)
+  pub own_header : Keeps w table (header around) none (headed w)
   unfolding header in_all in_option
   own_header =
       own_either _ (own_then _ _
@@ -80,17 +80,17 @@ module _ {id_of : List ℕ → ℕ} (w : Weighing id_of) (table : (n : Nest) →
       own_past _ (λ _. own_done _ (λ k. omega arith))))
       (own_done _ (λ k. omega arith))))
 
-  own_task_signature : Keeps w table (task_signature id_of) none (task_signed w)
+  own_task_signature : Keeps w table (task_signature around) none (task_signed w)
   unfolding task_signature in_all
   own_task_signature =
       own_past _ (λ _. own_past _ (λ _. own_then _ _ own_result_if (λ result.
       own_done _ (λ k. omega arith))))
 
-  own_task_signature_if : Keeps w table (task_signature_if id_of) none (task_signed w)
+  own_task_signature_if : Keeps w table (task_signature_if around) none (task_signed w)
   unfolding task_signature_if in_all in_option
   own_task_signature_if = own_either _ own_task_signature (own_done _ (λ k. omega arith))
 
-  pub own_task_header : Keeps w table (task_header id_of) none (task_headed w)
+  pub own_task_header : Keeps w table (task_header around) none (task_headed w)
   unfolding task_header in_all in_option
   own_task_header =
       own_either _ (own_then _ _ (own_mark w table at_word (codes "@Sendable") refl) (λ mark.

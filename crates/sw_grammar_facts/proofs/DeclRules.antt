@@ -12,6 +12,7 @@ use Rattle.sw_tree.specs.declared.decl.Written.{Written}
 use Rattle.sw_tree.specs.declared.decl.Written.TheVariants as writtens
 use Rattle.sw_grammar_facts.proofs.Owning.{none, Owns, own_done, own_token, own_then, own_either}
 use Rattle.sw_grammar_facts.proofs.Owning.{own_past, own_with, own_from, own_items}
+use Rattle.sw_grammar.specs.Around.{Around}
 use Rattle.sw_grammar.specs.Nests.{Nest, El, shape_of, Member}
 use Rattle.sw_grammar.specs.Nests.Nest.{in_payload, in_params, in_entry, in_global_actor}
 use Rattle.sw_grammar.specs.Nests.Nest.{in_struct, in_enum, in_class}
@@ -32,7 +33,7 @@ use Rattle.sw_grammar_facts.proofs.TypeRules.{Keeps, own_list_of, own_more_of, o
 use Rattle.sw_grammar_facts.proofs.TypeRules.{own_mark, own_opened, own_type}
 use Rattle.sw_grammar_facts.proofs.StmtRules.{own_block, own_value, own_type_if}
 
-module _ {id_of : List ℕ → ℕ} (w : Weighing id_of) where
+module _ {around : Around} (w : Weighing around.id_of) where
   -- the members of a type, by their kinds
   members_weigh : (members : List Member) (k : ℕ)
       → in_all w.prop (properties_in members) k + in_all w.init (initialisers_in members) k
@@ -53,31 +54,31 @@ module _ {id_of : List ℕ → ℕ} (w : Weighing id_of) where
   module _ (table : (n : Nest) → Relation (El n))
       (nests : (n : Nest) → Owns w.of_token none (table n) (weight w n)) where
     -- a word that is declared may be a label too
-    own_declared : Keeps w table (declared id_of) none (λ name k. w.node name k + w.label name k)
+    own_declared : Keeps w table (declared around) none (λ name k. w.node name k + w.label name k)
     unfolding declared
     own_declared =
         own_then _ _ (own_name w table word (codes "print") refl) (λ name.
         own_done _ (λ k. omega arith))
 
-    pub own_isolation_inside : Keeps w table (isolation_inside id_of) none (λ at. none)
+    pub own_isolation_inside : Keeps w table (isolation_inside around) none (λ at. none)
     unfolding isolation_inside
     own_isolation_inside =
         own_past _ (λ _. own_past _ (λ _. own_done _ (λ k. omega arith)))
 
-    own_nonisolated : Keeps w table (nonisolated id_of) none w.written
+    own_nonisolated : Keeps w table (nonisolated around) none w.written
     unfolding nonisolated
     own_nonisolated =
         own_past _ (λ _. own_either _
         (own_past _ (λ _. own_done _ (λ k. omega (arith, w.written-Nonsending k))))
         (own_done _ (λ k. omega (arith, w.written-Nonisolated k))))
 
-    own_concurrent : Keeps w table (concurrent id_of) none w.written
+    own_concurrent : Keeps w table (concurrent around) none w.written
     unfolding concurrent
     own_concurrent =
         own_past _ (λ _. own_past _ (λ _. own_done _ (λ k. omega (arith, w.written-Concurrent k))))
 
     own_param_type : (label : Option Name) (name : Name)
-        → Keeps w table (param_type id_of label name)
+        → Keeps w table (param_type around label name)
         (λ k. w.node name k + in_option w.label label k) w.param
     unfolding param_type
     own_param_type label name =
@@ -88,7 +89,7 @@ module _ {id_of : List ℕ → ℕ} (w : Weighing id_of) where
           w.param-is (record { label = label; name = name; sending = sending; ty = ty }) k,
         ))))))
 
-    own_param : Keeps w table (param id_of) none w.param
+    own_param : Keeps w table (param around) none w.param
     unfolding param in_option
     own_param =
         own_either _ (own_then _ _ own_declared (λ first. own_either _
@@ -98,24 +99,24 @@ module _ {id_of : List ℕ → ℕ} (w : Weighing id_of) where
         (own_past _ (λ _. own_then _ _ own_declared (λ name.
         own_with _ (λ k. omega arith) (own_param_type None name))))
 
-    pub own_params_inside : Keeps w table (params_inside id_of) none (in_all w.param)
+    pub own_params_inside : Keeps w table (params_inside around) none (in_all w.param)
     unfolding params_inside
-    own_params_inside = own_list_of w table (param id_of) w.param own_param (codes ")")
+    own_params_inside = own_list_of w table (param around) w.param own_param (codes ")")
 
-    own_params : Keeps w table (params id_of) none (in_all w.param)
+    own_params : Keeps w table (params around) none (in_all w.param)
     unfolding params
     own_params =
         own_then _ _ (own_opened w table nests (codes "(") in_params) (λ given.
         own_done _ (λ k. omega arith))
 
-    own_sent_result : Keeps w table (sent_result id_of) none (λ sent. in_option w.type sent.1)
+    own_sent_result : Keeps w table (sent_result around) none (λ sent. in_option w.type sent.1)
     unfolding sent_result in_option
     own_sent_result =
         own_either _ (own_past _ (λ _. own_past _ (λ _. own_then _ _ (own_type w table nests)
         (λ ty. own_done _ (λ k. omega arith))))) (own_done _ (λ k. omega arith))
 
     own_func_after : (isolation : Written)
-        → Keeps w table (func_after id_of isolation) (w.written isolation) w.func
+        → Keeps w table (func_after around isolation) (w.written isolation) w.func
     unfolding func_after
     own_func_after isolation =
         own_past _ (λ _. own_then _ _ own_declared (λ name. own_then _ _ own_params (λ given.
@@ -134,7 +135,7 @@ module _ {id_of : List ℕ → ℕ} (w : Weighing id_of) where
           }) k,
         ))))))))
 
-    own_method : Keeps w table (method id_of) none w.func
+    own_method : Keeps w table (method around) none w.func
     unfolding method
     own_method =
         own_either _ (own_then _ _ (own_mark w table at_word (codes "@Sendable") refl) (λ mark.
@@ -145,17 +146,17 @@ module _ {id_of : List ℕ → ℕ} (w : Weighing id_of) where
         own_with _ (λ k. omega arith) (own_func_after isolation)))
         (own_with _ (λ k. omega (arith, w.written-Absent k)) (own_func_after writtens.Absent))))
 
-    own_method_member : Keeps w table (method_member id_of) none (member w)
+    own_method_member : Keeps w table (method_member around) none (member w)
     unfolding method_member
     own_method_member = own_then _ _ own_method (λ tree. own_done _ (λ k. omega arith))
 
-    own_value_if : Keeps w table (value_if id_of) none (in_option w.expr)
+    own_value_if : Keeps w table (value_if around) none (in_option w.expr)
     unfolding value_if in_option
     own_value_if =
         own_either _ (own_then _ _ (own_value w table nests) (λ given.
         own_done _ (λ k. omega arith))) (own_done _ (λ k. omega arith))
 
-    own_field_after : (mutable : Bool) → Keeps w table (field_after id_of mutable) none (member w)
+    own_field_after : (mutable : Bool) → Keeps w table (field_after around mutable) none (member w)
     unfolding field_after in_option
     own_field_after mutable =
         own_then _ _ own_declared (λ name. own_past _ (λ _.
@@ -166,13 +167,13 @@ module _ {id_of : List ℕ → ℕ} (w : Weighing id_of) where
           w.written-Absent k,
         )))))
 
-    own_field : Keeps w table (field id_of) none (member w)
+    own_field : Keeps w table (field around) none (member w)
     unfolding field
     own_field =
         own_either _ (own_past _ (λ _. own_field_after false))
         (own_past _ (λ _. own_field_after true))
 
-    own_prop_after : (mutable : Bool) → Keeps w table (prop_after id_of mutable) none (member w)
+    own_prop_after : (mutable : Bool) → Keeps w table (prop_after around mutable) none (member w)
     unfolding prop_after in_option
     own_prop_after mutable =
         own_then _ _ own_declared (λ name. own_either _
@@ -190,20 +191,20 @@ module _ {id_of : List ℕ → ℕ} (w : Weighing id_of) where
           w.written-Absent k,
         )))))
 
-    own_prop : Keeps w table (prop id_of) none (member w)
+    own_prop : Keeps w table (prop around) none (member w)
     unfolding prop
     own_prop =
         own_either _ (own_past _ (λ _. own_prop_after false))
         (own_past _ (λ _. own_prop_after true))
 
-    own_init : Keeps w table (init id_of) none (member w)
+    own_init : Keeps w table (init around) none (member w)
     unfolding init
     own_init =
         own_then _ _ (own_quote w table (codes "init")) (λ at. own_then _ _ own_params (λ given.
         own_then _ _ (own_block w table nests) (λ body. own_done _ (λ k.
         omega (arith, w.init-is (record { at = at; params = given; body = body }) k)))))
 
-    own_enum_case : Keeps w table (enum_case id_of) none w.case
+    own_enum_case : Keeps w table (enum_case around) none w.case
     unfolding enum_case in_all
     own_enum_case =
         own_then _ _ own_declared (λ name. own_either _
@@ -211,41 +212,41 @@ module _ {id_of : List ℕ → ℕ} (w : Weighing id_of) where
         omega (arith, w.case-is (record { word = name; types = given.1 }) k))))
         (own_done _ (λ k. omega (arith, w.case-is (record { word = name; types = [] }) k))))
 
-    own_enum_cases : Keeps w table (enum_cases id_of) none (member w)
+    own_enum_cases : Keeps w table (enum_cases around) none (member w)
     unfolding enum_cases in_all
     own_enum_cases =
         own_past _ (λ _. own_then _ _ own_enum_case (λ first.
         own_from _ none (in_all w.case) (λ k. omega arith)
-        (own_more_of w table (enum_case id_of) w.case own_enum_case (first ∷ [])) (λ all.
+        (own_more_of w table (enum_case around) w.case own_enum_case (first ∷ [])) (λ all.
         own_done _ (λ k. omega arith))))
 
-    pub own_struct_inside : Keeps w table (struct_inside id_of) none (in_all (member w))
+    pub own_struct_inside : Keeps w table (struct_inside around) none (in_all (member w))
     unfolding struct_inside
     own_struct_inside =
-        own_then _ _ (own_items _ El shape_of table (either (field id_of) (method_member id_of))
+        own_then _ _ (own_items _ El shape_of table (either (field around) (method_member around))
         (member w) (own_either _ own_field own_method_member)) (λ read. own_past _ (λ _.
         own_done _ (λ k. omega arith)))
 
-    pub own_enum_inside : Keeps w table (enum_inside id_of) none (in_all (member w))
+    pub own_enum_inside : Keeps w table (enum_inside around) none (in_all (member w))
     unfolding enum_inside
     own_enum_inside =
         own_then _ _ (own_items _ El shape_of table
-        (either (enum_cases id_of) (method_member id_of)) (member w)
+        (either (enum_cases around) (method_member around)) (member w)
         (own_either _ own_enum_cases own_method_member)) (λ read. own_past _ (λ _.
         own_done _ (λ k. omega arith)))
 
-    pub own_class_inside : Keeps w table (class_inside id_of) none (in_all (member w))
+    pub own_class_inside : Keeps w table (class_inside around) none (in_all (member w))
     unfolding class_inside
     own_class_inside =
         own_then _ _ (own_items _ El shape_of table
-        (either (prop id_of) (either (init id_of) (method_member id_of))) (member w)
+        (either (prop around) (either (init around) (method_member around))) (member w)
         (own_either _ own_prop (own_either _ own_init own_method_member))) (λ read.
         own_past _ (λ _. own_done _ (λ k. omega arith)))
 
     own_main : Owns w.of_token none (One (quote (codes "main"))) w.entry
     own_main = own_token _ (quote (codes "main")) (λ token _ k. w.of_entry token k)
 
-    pub own_entry_inside : Keeps w table (entry_inside id_of) none (entered w)
+    pub own_entry_inside : Keeps w table (entry_inside around) none (entered w)
     unfolding entry_inside
     own_entry_inside =
         own_then _ w.written (own_either _
@@ -257,14 +258,14 @@ module _ {id_of : List ℕ → ℕ} (w : Weighing id_of) where
         own_past _ (λ _. own_past _ (λ is_async. own_then _ _ (own_block w table nests) (λ body.
         own_past _ (λ _. own_past _ (λ _. own_done _ (λ k. omega arith))))))))))
 
-    pub own_global_actor_inside : Keeps w table (global_actor_inside id_of) none w.label
+    pub own_global_actor_inside : Keeps w table (global_actor_inside around) none w.label
     unfolding global_actor_inside
     own_global_actor_inside =
         own_past _ (λ _. own_past _ (λ _. own_past _ (λ _. own_past _ (λ _.
         own_then _ _ own_declared (λ name. own_past _ (λ _. own_past _ (λ _. own_past _ (λ _.
         own_done _ (λ k. omega arith)))))))))
 
-    own_entry : Keeps w table (entry id_of) none w.decl
+    own_entry : Keeps w table (entry around) none w.decl
     unfolding entry
     own_entry =
         own_past _ (λ _. own_then _ _ own_declared (λ name.
@@ -274,14 +275,14 @@ module _ {id_of : List ℕ → ℕ} (w : Weighing id_of) where
           w.decl-Entry name main.1.written main.1.at main.1.is_async main.1.body k,
         )))))
 
-    own_global_actor : Keeps w table (global_actor id_of) none w.decl
+    own_global_actor : Keeps w table (global_actor around) none w.decl
     unfolding global_actor
     own_global_actor =
         own_past _ (λ _. own_then _ _ own_declared (λ name.
         own_then _ _ (own_opened w table nests (codes "{") in_global_actor) (λ made.
         own_done _ (λ k. omega (arith, w.decl-GlobalActor name made.1 k)))))
 
-    own_struct_decl : Keeps w table (struct_decl id_of) none w.decl
+    own_struct_decl : Keeps w table (struct_decl around) none w.decl
     unfolding struct_decl
     own_struct_decl =
         own_past _ (λ _. own_then _ _ own_declared (λ name. own_past _ (λ sendable.
@@ -292,7 +293,7 @@ module _ {id_of : List ℕ → ℕ} (w : Weighing id_of) where
           members_weigh all.1 k,
         ))))))
 
-    own_enum_decl : Keeps w table (enum_decl id_of) none w.decl
+    own_enum_decl : Keeps w table (enum_decl around) none w.decl
     unfolding enum_decl
     own_enum_decl =
         own_past _ (λ _. own_then _ _ own_declared (λ name. own_past _ (λ sendable.
@@ -303,7 +304,7 @@ module _ {id_of : List ℕ → ℕ} (w : Weighing id_of) where
           members_weigh all.1 k,
         ))))))
 
-    own_actor_decl : Keeps w table (actor_decl id_of) none w.decl
+    own_actor_decl : Keeps w table (actor_decl around) none w.decl
     unfolding actor_decl
     own_actor_decl =
         own_past _ (λ _. own_then _ _ own_declared (λ name.
@@ -315,7 +316,7 @@ module _ {id_of : List ℕ → ℕ} (w : Weighing id_of) where
         )))))
 
     own_class_after : (isolation : Written)
-        → Keeps w table (class_after id_of isolation) (w.written isolation) w.decl
+        → Keeps w table (class_after around isolation) (w.written isolation) w.decl
     unfolding class_after
     own_class_after isolation =
         own_past _ (λ _. own_past _ (λ _. own_then _ _ own_declared (λ name.
@@ -329,14 +330,14 @@ module _ {id_of : List ℕ → ℕ} (w : Weighing id_of) where
         )))))))
 
     own_func_decl : (isolation : Written)
-        → Keeps w table (func_decl id_of isolation) (w.written isolation) w.decl
+        → Keeps w table (func_decl around isolation) (w.written isolation) w.decl
     unfolding func_decl
     own_func_decl isolation =
         own_from _ none w.func (λ k. omega arith) (own_func_after isolation) (λ tree.
         own_done _ (λ k. omega (arith, w.decl-Func tree k)))
 
     own_global_value : (isolation : Written) (mutable : Bool)
-        → Keeps w table (global_value id_of isolation mutable) (w.written isolation) w.decl
+        → Keeps w table (global_value around isolation mutable) (w.written isolation) w.decl
     unfolding global_value in_option
     own_global_value isolation mutable =
         own_then _ _ own_declared (λ name. own_then _ _ (own_type_if w table nests) (λ ty.
@@ -351,25 +352,25 @@ module _ {id_of : List ℕ → ℕ} (w : Weighing id_of) where
         omega (arith, w.decl-Global it refl k, w.prop-is it k)))))
 
     own_global_after : (isolation : Written)
-        → Keeps w table (global_after id_of isolation) (w.written isolation) w.decl
+        → Keeps w table (global_after around isolation) (w.written isolation) w.decl
     unfolding global_after
     own_global_after isolation =
         own_either _ (own_past _ (λ _. own_global_value isolation false))
         (own_past _ (λ _. own_global_value isolation true))
 
     own_annotated : (isolation : Written)
-        → Keeps w table (annotated id_of isolation) (w.written isolation) w.decl
+        → Keeps w table (annotated around isolation) (w.written isolation) w.decl
     unfolding annotated
     own_annotated isolation =
         own_either _ (own_class_after isolation) (own_either _ (own_func_decl isolation)
         (own_global_after isolation))
 
     own_marked : (mark : Name)
-        → Keeps w table (annotated id_of (writtens.At mark)) (w.label mark) w.decl
+        → Keeps w table (annotated around (writtens.At mark)) (w.label mark) w.decl
     own_marked mark =
         own_with _ (λ k. omega (arith, w.written-At mark k)) (own_annotated (writtens.At mark))
 
-    own_decl : Keeps w table (decl id_of) none w.decl
+    own_decl : Keeps w table (decl around) none w.decl
     unfolding decl
     own_decl =
         own_either _ (own_then _ _ (own_mark w table (quoted (codes "@main")) (codes "@main") refl)
@@ -388,8 +389,8 @@ module _ {id_of : List ℕ → ℕ} (w : Weighing id_of) where
         (own_either _ own_struct_decl (own_either _ own_enum_decl (own_either _ own_actor_decl
         (own_with _ (λ k. omega (arith, w.written-Absent k)) (own_annotated writtens.Absent)))))))))
 
-    pub own_program : Keeps w table (program id_of) none (in_all w.decl)
+    pub own_program : Keeps w table (program around) none (in_all w.decl)
     unfolding program
     own_program =
-        own_then _ _ (own_items _ El shape_of table (decl id_of) w.decl own_decl) (λ read.
+        own_then _ _ (own_items _ El shape_of table (decl around) w.decl own_decl) (λ read.
         own_done _ (λ k. omega arith))

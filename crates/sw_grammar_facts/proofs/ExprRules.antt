@@ -16,6 +16,7 @@ use Rattle.sw_tree.specs.declared.expr.Link.{Link as Operand}
 use Rattle.sw_tree.specs.declared.stmt.Block.{roll-Block}
 use Rattle.sw_grammar_facts.proofs.Owning.{none, Owns, own_done, own_token, own_then, own_either}
 use Rattle.sw_grammar_facts.proofs.Owning.{own_only, own_past, own_turns, own_with, own_from, own_when}
+use Rattle.sw_grammar.specs.Around.{Around}
 use Rattle.sw_grammar.specs.Nests.{Nest, El, Form, Link, ClosureInside}
 use Rattle.sw_grammar.specs.Nests.Nest.{in_round, in_args, in_member, in_closure, in_task}
 use Rattle.sw_grammar.specs.Tokens.{value_word, times, plus, compares, infix_op, infix_in}
@@ -31,7 +32,7 @@ use Rattle.sw_grammar_facts.proofs.NestWeights.{weight, dotted, inside}
 use Rattle.sw_grammar_facts.proofs.TypeRules.{Keeps, own_list_of, own_quote, own_name, own_infix}
 use Rattle.sw_grammar_facts.proofs.TypeRules.{own_prefix, own_opened, own_opened_on_line}
 
-module _ {id_of : List ℕ → ℕ} (w : Weighing id_of) where
+module _ {around : Around} (w : Weighing around.id_of) where
   with_members_weigh : (base : Expr) (links : List Link) (k : ℕ)
       → w.expr (with_members base links) k ≤ w.expr base k + in_all (dotted w) links k
   unfolding in_all in_option
@@ -100,19 +101,19 @@ module _ {id_of : List ℕ → ℕ} (w : Weighing id_of) where
     own_literal = own_token _ an_integer (λ token _ k. w.of_place token k)
 
     module _ (nests : (n : Nest) → Owns w.of_token none (table n) (weight w n)) where
-      own_members : Keeps w table (members id_of) none (in_all (dotted w))
+      own_members : Keeps w table (members around) none (in_all (dotted w))
       unfolding members in_all
       own_members =
           own_either _ (own_then _ _ (own_opened w table nests (codes ".") in_member) (λ links.
           own_done _ (λ k. omega arith))) (own_done _ (λ k. omega arith))
 
-      own_call : Keeps w table (call id_of) none (in_option (in_all w.arg))
+      own_call : Keeps w table (call around) none (in_option (in_all w.arg))
       unfolding call in_option
       own_call =
           own_either _ (own_then _ _ (own_opened_on_line w table nests (codes "(") in_args)
           (λ given. own_done _ (λ k. omega arith))) (own_done _ (λ k. omega arith))
 
-      pub own_member : Keeps w table (member id_of) none (in_all (dotted w))
+      pub own_member : Keeps w table (member around) none (in_all (dotted w))
       unfolding member in_all
       own_member =
           own_then _ _ (own_name w table word (codes "print") refl) (λ name.
@@ -120,20 +121,20 @@ module _ {id_of : List ℕ → ℕ} (w : Weighing id_of) where
           own_done _ (λ k. omega arith))))
 
       pub own_after_word : (name : Name)
-          → Keeps w table (after_word id_of name) (w.node name) w.expr
+          → Keeps w table (after_word around name) (w.node name) w.expr
       unfolding after_word called
       own_after_word name =
           own_then _ _ own_call (λ given. own_then _ _ own_members (λ links.
           own_done _ (λ k. let one = called_weighs name given links k in omega (arith, one))))
 
       pub own_after_operand : (base : Expr)
-          → Keeps w table (after_operand id_of base) (w.expr base) w.expr
+          → Keeps w table (after_operand around base) (w.expr base) w.expr
       unfolding after_operand
       own_after_operand base =
           own_then _ _ own_members (λ links. own_done _ (λ k.
           omega (arith, with_members_weigh base links k)))
 
-      pub own_a_literal : Keeps w table (a_literal id_of) none w.expr
+      pub own_a_literal : Keeps w table (a_literal around) none w.expr
       unfolding a_literal
       own_a_literal =
           own_either _ (own_then _ _ own_literal (λ value. own_done _ (λ k.
@@ -144,7 +145,7 @@ module _ {id_of : List ℕ → ℕ} (w : Weighing id_of) where
           omega (arith, w.expr-Bool at false k)))))
 
       own_after_task_dot : (closures : Bool) (at : ℕ)
-          → Keeps w table (after_task_dot id_of closures at) (w.place at) w.expr
+          → Keeps w table (after_task_dot around closures at) (w.place at) w.expr
       unfolding after_task_dot
       own_after_task_dot closures at =
           own_when _ closures (λ _. own_past _ (λ _.
@@ -157,7 +158,7 @@ module _ {id_of : List ℕ → ℕ} (w : Weighing id_of) where
           (own_past _ (λ _. own_past _ (λ _. own_done _ (λ k. omega (arith, w.expr-Yield at k)))))
 
       pub own_after_task : (closures : Bool) (at : ℕ)
-          → Keeps w table (after_task id_of closures at) (w.place at) w.expr
+          → Keeps w table (after_task around closures at) (w.place at) w.expr
       unfolding after_task
       own_after_task closures at =
           own_when _ closures (λ _.
@@ -169,19 +170,19 @@ module _ {id_of : List ℕ → ℕ} (w : Weighing id_of) where
           ))))
           (own_past _ (λ _. own_after_task_dot closures at))
 
-      own_bracketed : Keeps w table (bracketed id_of) none w.expr
+      own_bracketed : Keeps w table (bracketed around) none w.expr
       unfolding bracketed
       own_bracketed =
           own_then _ _ (own_opened w table nests (codes "(") in_round) (λ inner.
           own_done _ (λ k. omega arith))
 
-      own_me : Keeps w table (me id_of) none w.expr
+      own_me : Keeps w table (me around) none w.expr
       unfolding me
       own_me =
           own_then _ _ (own_quote w table (codes "self")) (λ at. own_done _ (λ k.
           omega (arith, w.expr-Me at k)))
 
-      own_closure : Keeps w table (closure id_of) none w.expr
+      own_closure : Keeps w table (closure around) none w.expr
       unfolding closure
       own_closure =
           own_then _ _ (own_opened w table nests (codes "{") in_closure) (λ body. own_done _ (λ k.
@@ -192,13 +193,13 @@ module _ {id_of : List ℕ → ℕ} (w : Weighing id_of) where
           )))
 
       own_other_primary : (closures : Bool)
-          → Keeps w table (other_primary id_of closures) none w.expr
+          → Keeps w table (other_primary around closures) none w.expr
       unfolding other_primary
       own_other_primary closures =
           own_when _ closures (λ _. own_closure) (own_either _ own_a_literal (own_either _ own_me
           own_bracketed))
 
-      own_postfix : (closures : Bool) → Keeps w table (postfix id_of closures) none w.expr
+      own_postfix : (closures : Bool) → Keeps w table (postfix around closures) none w.expr
       unfolding postfix
       own_postfix closures =
           own_either _ (own_then _ _ (own_name w table value_word (codes "print") refl) (λ name.
@@ -208,44 +209,44 @@ module _ {id_of : List ℕ → ℕ} (w : Weighing id_of) where
           (own_other_primary closures)) (λ base.
           own_with _ (λ k. omega arith) (own_after_operand base)))
 
-      pub own_negated : (closures : Bool) → Keeps w table (negated id_of closures) none w.expr
+      pub own_negated : (closures : Bool) → Keeps w table (negated around closures) none w.expr
       unfolding negated
       own_negated closures =
           own_then _ _ (own_prefix w table) (λ op. own_then _ _ (own_postfix closures)
           (λ operand. own_done _ (λ k. omega (arith, w.expr-Prefix op.0 op.1 operand k))))
 
-      own_unary : (closures : Bool) → Keeps w table (unary id_of closures) none w.expr
+      own_unary : (closures : Bool) → Keeps w table (unary around closures) none w.expr
       unfolding unary
       own_unary closures = own_either _ (own_negated closures) (own_postfix closures)
 
       own_more_times : (closures : Bool) (first : Expr)
-          → Keeps w table (more_times id_of closures first) (w.expr first) w.expr
+          → Keeps w table (more_times around closures first) (w.expr first) w.expr
       unfolding more_times
       own_more_times closures first =
-          own_then _ _ (own_links times (codes "*") (unary id_of closures) (own_unary closures))
+          own_then _ _ (own_links times (codes "*") (unary around closures) (own_unary closures))
           (λ links. own_done _ (λ k. omega (arith, chained_weighs first links k)))
 
-      own_product : (closures : Bool) → Keeps w table (product id_of closures) none w.expr
+      own_product : (closures : Bool) → Keeps w table (product around closures) none w.expr
       unfolding product
       own_product closures =
           own_then _ _ (own_unary closures) (λ first.
           own_with _ (λ k. omega arith) (own_more_times closures first))
 
       own_more_plus : (closures : Bool) (first : Expr)
-          → Keeps w table (more_plus id_of closures first) (w.expr first) w.expr
+          → Keeps w table (more_plus around closures first) (w.expr first) w.expr
       unfolding more_plus
       own_more_plus closures first =
-          own_then _ _ (own_links plus (codes "+") (product id_of closures) (own_product closures))
+          own_then _ _ (own_links plus (codes "+") (product around closures) (own_product closures))
           (λ links. own_done _ (λ k. omega (arith, chained_weighs first links k)))
 
-      own_sum : (closures : Bool) → Keeps w table (sum id_of closures) none w.expr
+      own_sum : (closures : Bool) → Keeps w table (sum around closures) none w.expr
       unfolding sum
       own_sum closures =
           own_then _ _ (own_product closures) (λ first.
           own_with _ (λ k. omega arith) (own_more_plus closures first))
 
       own_more_compares : (closures : Bool) (first : Expr)
-          → Keeps w table (more_compares id_of closures first) (w.expr first) w.expr
+          → Keeps w table (more_compares around closures first) (w.expr first) w.expr
       unfolding more_compares in_all
       own_more_compares closures first =
           own_either _ (own_then _ _ (own_infix w table compares (codes "==")) (λ op.
@@ -256,36 +257,36 @@ module _ {id_of : List ℕ → ℕ} (w : Weighing id_of) where
             w.link-roll op.0 op.1 operand k,
           ))))) (own_done _ (λ k. omega arith))
 
-      own_comparison : (closures : Bool) → Keeps w table (comparison id_of closures) none w.expr
+      own_comparison : (closures : Bool) → Keeps w table (comparison around closures) none w.expr
       unfolding comparison
       own_comparison closures =
           own_then _ _ (own_sum closures) (λ first.
           own_with _ (λ k. omega arith) (own_more_compares closures first))
 
       own_more_and : (closures : Bool) (first : Expr)
-          → Keeps w table (more_and id_of closures first) (w.expr first) w.expr
+          → Keeps w table (more_and around closures first) (w.expr first) w.expr
       unfolding more_and
       own_more_and closures first =
-          own_then _ _ (own_links (infix_op (codes "&&")) (codes "&&") (comparison id_of closures)
+          own_then _ _ (own_links (infix_op (codes "&&")) (codes "&&") (comparison around closures)
           (own_comparison closures))
           (λ links. own_done _ (λ k. omega (arith, chained_weighs first links k)))
 
-      own_conjunction : (closures : Bool) → Keeps w table (conjunction id_of closures) none w.expr
+      own_conjunction : (closures : Bool) → Keeps w table (conjunction around closures) none w.expr
       unfolding conjunction
       own_conjunction closures =
           own_then _ _ (own_comparison closures) (λ first.
           own_with _ (λ k. omega arith) (own_more_and closures first))
 
       own_more_or : (closures : Bool) (first : Expr)
-          → Keeps w table (more_or id_of closures first) (w.expr first) w.expr
+          → Keeps w table (more_or around closures first) (w.expr first) w.expr
       unfolding more_or
       own_more_or closures first =
-          own_then _ _ (own_links (infix_op (codes "||")) (codes "||") (conjunction id_of closures)
+          own_then _ _ (own_links (infix_op (codes "||")) (codes "||") (conjunction around closures)
           (own_conjunction closures))
           (λ links. own_done _ (λ k. omega (arith, chained_weighs first links k)))
 
       pub own_more_operands : (closures : Bool) (first : Expr)
-          → Keeps w table (more_operands id_of closures first) (w.expr first) w.expr
+          → Keeps w table (more_operands around closures first) (w.expr first) w.expr
       unfolding more_operands
       own_more_operands closures first =
           own_from _ none w.expr (λ k. omega arith) (own_more_times closures first) (λ product.
@@ -294,7 +295,7 @@ module _ {id_of : List ℕ → ℕ} (w : Weighing id_of) where
           own_from _ none w.expr (λ k. omega arith) (own_more_and closures compared) (λ both.
           own_with _ (λ k. omega arith) (own_more_or closures both)))))
 
-      pub own_awaited : (closures : Bool) → Keeps w table (awaited id_of closures) none w.expr
+      pub own_awaited : (closures : Bool) → Keeps w table (awaited around closures) none w.expr
       unfolding awaited
       own_awaited closures =
           own_then _ _ (own_quote w table (codes "await")) (λ at.
@@ -302,13 +303,13 @@ module _ {id_of : List ℕ → ℕ} (w : Weighing id_of) where
           own_from _ (w.place at) w.expr (λ k. omega arith) (own_more_operands closures first)
           (λ inner. own_done _ (λ k. omega (arith, w.expr-Await at inner k)))))
 
-      pub own_expr : (closures : Bool) → Keeps w table (expr id_of closures) none w.expr
+      pub own_expr : (closures : Bool) → Keeps w table (expr around closures) none w.expr
       unfolding expr
       own_expr closures =
           own_either _ (own_awaited closures) (own_then _ _ (own_unary closures) (λ first.
           own_with _ (λ k. omega arith) (own_more_operands closures first)))
 
-      own_other_expr : Keeps w table (other_expr id_of) none w.expr
+      own_other_expr : Keeps w table (other_expr around) none w.expr
       unfolding other_expr
       own_other_expr =
           own_either _ (own_awaited true) (own_then _ _ (own_either _ (own_negated true)
@@ -316,13 +317,13 @@ module _ {id_of : List ℕ → ℕ} (w : Weighing id_of) where
           own_with _ (λ k. omega arith) (own_after_operand base)))) (λ first.
           own_with _ (λ k. omega arith) (own_more_operands true first)))
 
-      own_labelled : (label : Name) → Keeps w table (labelled id_of label) (w.label label) w.arg
+      own_labelled : (label : Name) → Keeps w table (labelled around label) (w.label label) w.arg
       unfolding labelled in_option
       own_labelled label =
           own_past _ (λ _. own_then _ _ (own_expr true) (λ value. own_done _ (λ k.
           omega (arith, w.arg-roll (Some label) value k))))
 
-      own_arg : Keeps w table (arg id_of) none w.arg
+      own_arg : Keeps w table (arg around) none w.arg
       unfolding arg in_option
       own_arg =
           own_either _ (own_then _ _ (own_name w table value_word (codes "print") refl) (λ name.
@@ -340,15 +341,15 @@ module _ {id_of : List ℕ → ℕ} (w : Weighing id_of) where
           (own_then _ _ own_other_expr (λ value. own_done _ (λ k.
           omega (arith, w.arg-roll None value k)))))
 
-      pub own_args : Keeps w table (args id_of) none (in_all w.arg)
+      pub own_args : Keeps w table (args around) none (in_all w.arg)
       unfolding args
-      own_args = own_list_of w table (arg id_of) w.arg own_arg (codes ")")
+      own_args = own_list_of w table (arg around) w.arg own_arg (codes ")")
 
-      pub own_round : Keeps w table (round id_of) none w.expr
+      pub own_round : Keeps w table (round around) none w.expr
       unfolding round
       own_round =
           own_then _ _ (own_expr true) (λ inner. own_past _ (λ _. own_done _ (λ k. omega arith)))
 
-      pub own_nothing_inside : Keeps w table (nothing id_of) none (λ at. none)
+      pub own_nothing_inside : Keeps w table (nothing around) none (λ at. none)
       unfolding nothing
       own_nothing_inside = own_past _ (λ _. own_done _ (λ k. omega arith))

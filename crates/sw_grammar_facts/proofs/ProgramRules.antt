@@ -6,6 +6,7 @@ use Rattle.sw_grammar_forms.specs.Spells.{inside}
 use Rattle.sw_tree.proofs.Counting.{in_all}
 use Rattle.sw_tree.specs.declared.decl.Decl.{Decl}
 use Rattle.sw_grammar_facts.proofs.Owning.{none, Owns, own_inside}
+use Rattle.sw_grammar.specs.Around.{Around, outermost}
 use Rattle.sw_grammar.specs.Nests.{Nest, El, shape_of}
 use Rattle.sw_grammar.specs.Nests.Nest.{in_types, in_payload, in_result, in_task_type, in_round}
 use Rattle.sw_grammar.specs.Nests.Nest.{in_args, in_member, in_empty, in_captures}
@@ -27,10 +28,10 @@ use Rattle.sw_grammar_facts.proofs.DeclRules.{own_entry_inside, own_global_actor
 use Rattle.sw_grammar_facts.proofs.DeclRules.{own_struct_inside, own_enum_inside, own_class_inside}
 use Rattle.sw_grammar_facts.proofs.DeclRules.{own_program}
 
-module _ {id_of : List ℕ → ℕ} (w : Weighing id_of) where
+module _ {around : Around} (w : Weighing around.id_of) where
   own_body : (table : (n : Nest) → Relation (El n))
       → ((n : Nest) → Owns w.of_token none (table n) (weight w n))
-      → (n : Nest) → Keeps w table (body id_of n) none (weight w n)
+      → (n : Nest) → Keeps w table (body around n) none (weight w n)
   own_body table nests in_types = own_types w table nests
   own_body table nests in_payload = own_payload w table nests
   own_body table nests in_result = own_type w table nests
@@ -54,10 +55,13 @@ module _ {id_of : List ℕ → ℕ} (w : Weighing id_of) where
   own_body table nests in_enum = own_enum_inside w table nests
   own_body table nests in_class = own_class_inside w table nests
 
+module _ {id_of : List ℕ → ℕ} (w : Weighing id_of) where
   -- declarations weigh no more than the tokens that spell them
   pub owned : (decls : List Decl) (tokens : List Spelled) → SpellsDecls id_of decls tokens
       → (k : ℕ) → in_all w.decl decls k ≤ in_all w.of_token tokens k
   owned decls tokens spelled k =
-      let nests = own_inside w.of_token El shape_of (body id_of) (weight w) own_body spelled.0 in
-      let it = own_program w (inside El shape_of (body id_of) spelled.0) nests in
+      let nests = own_inside w.of_token El shape_of (body (outermost id_of)) (weight w)
+      (own_body {around = outermost id_of} w) spelled.0 in
+      let it = own_program {around = outermost id_of} w
+      (inside El shape_of (body (outermost id_of)) spelled.0) nests in
       let less = it.owns decls tokens spelled.1 k in omega arith

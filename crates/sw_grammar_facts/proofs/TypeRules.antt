@@ -12,6 +12,7 @@ use Rattle.sw_grammar_forms.proofs.SetLemmas.{has-within}
 use Rattle.sw_tree.proofs.Counting.{Weight, in_all, in_option, in_all-append}
 use Rattle.sw_grammar_facts.proofs.Owning.{none, Owns, own_done, own_token, own_then, own_either}
 use Rattle.sw_grammar_facts.proofs.Owning.{own_only, own_past, own_turns, own_nest, own_from}
+use Rattle.sw_grammar.specs.Around.{Around}
 use Rattle.sw_grammar.specs.Nests.{Nest, El, shape_of, Form}
 use Rattle.sw_grammar.specs.Nests.Nest.{in_types, in_result, in_task_type}
 use Rattle.sw_grammar.specs.Tokens.{name_in, at_in, value_word, infix_in, a_prefix}
@@ -21,7 +22,7 @@ use Rattle.sw_grammar_facts.proofs.Spread.{spread}
 use Rattle.sw_grammar_facts.proofs.Weighing.{Weighing}
 use Rattle.sw_grammar_facts.proofs.NestWeights.{weight}
 
-module _ {id_of : List ℕ → ℕ} (w : Weighing id_of) (table : (n : Nest) → Relation (El n)) where
+module _ {around : Around} (w : Weighing around.id_of) (table : (n : Nest) → Relation (El n)) where
   -- a form's values weigh no more than what is left over and its tokens
   abbrev pub Keeps : {s : Shape} {A : Type 0} → Form s A → Weight → (A → Weight) → Type 0
   Keeps form base weigh = Owns w.of_token base (spelled El shape_of table form) weigh
@@ -30,19 +31,19 @@ module _ {id_of : List ℕ → ℕ} (w : Weighing id_of) (table : (n : Nest) →
   module _ {A : Type 0} {s : Shape} (item : Form s A) (u : A → Weight) (each : Keeps item none u)
     where
       pub own_more_of : (first : List A)
-          → Keeps (more_of id_of first item) (in_all u first) (in_all u)
+          → Keeps (more_of around first item) (in_all u first) (in_all u)
       unfolding in_all
       own_more_of first =
           own_turns _ (λ xs. own_only _ true (own_past _ (λ _. own_then _ u each (λ x.
           own_done _ (λ k. omega (arith, in_all-append u xs (x ∷ []) k)))))) first
 
-      pub own_some_of : (text : List ℕ) → Keeps (some_of id_of text item) none (in_all u)
+      pub own_some_of : (text : List ℕ) → Keeps (some_of around text item) none (in_all u)
       unfolding in_all
       own_some_of text =
           own_then _ u each (λ x. own_from _ none (in_all u) (λ k. omega arith)
           (own_more_of (x ∷ [])) (λ xs. own_past _ (λ _. own_done _ (λ k. omega arith))))
 
-      pub own_list_of : (text : List ℕ) → Keeps (list_of id_of text item) none (in_all u)
+      pub own_list_of : (text : List ℕ) → Keeps (list_of around text item) none (in_all u)
       unfolding in_all
       own_list_of text =
           own_either _ (own_past _ (λ _. own_done _ (λ k. omega arith))) (own_some_of text)
@@ -61,16 +62,16 @@ module _ {id_of : List ℕ → ℕ} (w : Weighing id_of) (table : (n : Nest) →
       (w.of_span token k))
 
   pub own_name : (set : Set) (text : List ℕ) → within set word ≡ true
-      → Owns w.of_token none (One (name_in id_of set text))
+      → Owns w.of_token none (One (name_in around set text))
       (λ name k. w.node name k + w.label name k)
   own_name set text less =
-      own_token _ (name_in id_of set text)
+      own_token _ (name_in around set text)
       (λ token member k. w.of_word token (has-within set word token less member) k)
 
   pub own_mark : (set : Set) (text : List ℕ) → within set attribute ≡ true
-      → Owns w.of_token none (One (at_in id_of set text)) w.label
+      → Owns w.of_token none (One (at_in around set text)) w.label
   own_mark set text less =
-      own_token _ (at_in id_of set text)
+      own_token _ (at_in around set text)
       (λ token member k. w.of_mark token (has-within set attribute token less member) k)
 
   pub own_infix : (set : Set) (text : List ℕ)
@@ -95,7 +96,7 @@ module _ {id_of : List ℕ → ℕ} (w : Weighing id_of) (table : (n : Nest) →
         (own_token _ (quote_on_line text) (λ token _ k. w.of_place token k)) (nests n)
         (λ a b k. omega arith)
 
-    own_round_type : Keeps (round_type id_of) none w.type
+    own_round_type : Keeps (round_type around) none w.type
     unfolding round_type in_option
     own_round_type =
         own_then _ _ (own_opened (codes "(") in_types) (λ params. own_either _
@@ -103,7 +104,7 @@ module _ {id_of : List ℕ → ℕ} (w : Weighing id_of) (table : (n : Nest) →
         omega (arith, w.type-Arrow params.0 None params.1 result.1 k))))
         (own_only _ _ (own_done _ (λ k. omega (arith, w.type-Unit params.0 k)))))
 
-    own_marked_type : Keeps (marked_type id_of) none w.type
+    own_marked_type : Keeps (marked_type around) none w.type
     unfolding marked_type in_option
     own_marked_type =
         own_then _ _ (own_mark (quoted (codes "@Sendable")) (codes "@Sendable") refl) (λ mark.
@@ -111,7 +112,7 @@ module _ {id_of : List ℕ → ℕ} (w : Weighing id_of) (table : (n : Nest) →
         own_then _ _ (own_opened (codes "->") in_result) (λ result. own_done _ (λ k.
         omega (arith, w.type-Arrow params.0 (Some mark) params.1 result.1 k)))))
 
-    own_task_type : Keeps (task_type id_of) none w.type
+    own_task_type : Keeps (task_type around) none w.type
     unfolding task_type
     own_task_type =
         own_then _ _ (own_name (quoted (codes "Task")) (codes "Task") refl) (λ name. own_either _
@@ -119,27 +120,27 @@ module _ {id_of : List ℕ → ℕ} (w : Weighing id_of) (table : (n : Nest) →
         omega (arith, w.type-TaskOf name.at inner.1 k))))
         (own_done _ (λ k. omega (arith, w.type-Named name k))))
 
-    own_named_type : Keeps (named_type id_of) none w.type
+    own_named_type : Keeps (named_type around) none w.type
     unfolding named_type
     own_named_type =
         own_then _ _ (own_name value_word (codes "print") refl) (λ name.
         own_done _ (λ k. omega (arith, w.type-Named name k)))
 
-    pub own_type : Keeps (type id_of) none w.type
+    pub own_type : Keeps (type around) none w.type
     unfolding type
     own_type =
         own_either _ own_marked_type (own_either _ own_round_type (own_either _ own_task_type
         own_named_type))
 
-    pub own_types : Keeps (types id_of) none (in_all w.type)
+    pub own_types : Keeps (types around) none (in_all w.type)
     unfolding types
-    own_types = own_list_of (type id_of) w.type own_type (codes ")")
+    own_types = own_list_of (type around) w.type own_type (codes ")")
 
-    pub own_payload : Keeps (payload id_of) none (in_all w.type)
+    pub own_payload : Keeps (payload around) none (in_all w.type)
     unfolding payload
-    own_payload = own_some_of (type id_of) w.type own_type (codes ")")
+    own_payload = own_some_of (type around) w.type own_type (codes ")")
 
-    pub own_task_inner : Keeps (task_inner id_of) none w.type
+    pub own_task_inner : Keeps (task_inner around) none w.type
     unfolding task_inner
     own_task_inner =
         own_then _ _ own_type (λ inner. own_past _ (λ _. own_past _ (λ _. own_past _ (λ _.

@@ -1,8 +1,9 @@
 -- The order of the keys of headers of closures and tasks.
-use Rattle.std.proofs.Common.{ℕ, List, [], ◌++◌, flat_map, codes}
+use Rattle.std.proofs.Common.{[], ◌++◌, flat_map, codes}
 use Rattle.sw_grammar_forms.specs.Quotes.{quote}
 use Rattle.sw_grammar_forms.specs.Relations.{Relation}
 use Rattle.sw_grammar_forms.specs.Sets.{word}
+use Rattle.sw_grammar.specs.Around.{Around}
 use Rattle.sw_grammar.specs.Nests.{Nest, El}
 use Rattle.sw_grammar.specs.Nests.Nest.{in_captures, in_closure_params}
 use Rattle.sw_grammar.specs.Closures.{captured, captured_words, captures, captures_if}
@@ -16,52 +17,52 @@ use Rattle.sw_grammar_facts.proofs.Order.ListRules.{follow_some_of, follow_enclo
 use Rattle.sw_grammar_facts.proofs.Order.NestOrders.{order, signed, headed}
 use Rattle.sw_grammar_facts.proofs.Order.Within.{none, within_same}
 
-module _ (id_of : List ℕ → ℕ) (table : (n : Nest) → Relation (El n))
+module _ (around : Around) (table : (n : Nest) → Relation (El n))
     (nests : (n : Nest) → Follows [] (table n) (order n)) where
-  follow_captured : Ordered table (captured id_of) [] name_key
+  follow_captured : Ordered table (captured around) [] name_key
   unfolding captured
   follow_captured =
-      follow_then _ (follow_name id_of word (codes "print")) (λ name.
+      follow_then _ (follow_name around word (codes "print")) (λ name.
       follow_done (within_same (name_key name)))
 
-  pub follow_captured_words : Ordered table (captured_words id_of) [] (flat_map name_key)
+  pub follow_captured_words : Ordered table (captured_words around) [] (flat_map name_key)
   unfolding captured_words
   follow_captured_words =
-      follow_some_of table id_of (captured id_of) name_key follow_captured (codes "]")
+      follow_some_of table around (captured around) name_key follow_captured (codes "]")
 
-  follow_captures : Ordered table (captures id_of) [] (flat_map name_key)
+  follow_captures : Ordered table (captures around) [] (flat_map name_key)
   unfolding captures
   follow_captures =
       follow_then _ (follow_enclosed table nests (quote (codes "[")) in_captures) (λ words.
       follow_done (within_same (flat_map name_key words.1)))
 
-  follow_captures_if : Ordered table (captures_if id_of) [] (flat_map name_key)
+  follow_captures_if : Ordered table (captures_if around) [] (flat_map name_key)
   unfolding captures_if
   follow_captures_if = follow_either follow_captures (follow_done none)
 
-  follow_closure_param : Ordered table (closure_param id_of) [] closure_param_key
+  follow_closure_param : Ordered table (closure_param around) [] closure_param_key
   unfolding closure_param
   follow_closure_param =
-      follow_then _ (follow_name id_of word (codes "print")) (λ name. follow_past (λ _.
+      follow_then _ (follow_name around word (codes "print")) (λ name. follow_past (λ _.
       follow_past (λ _. follow_done (within_same (name_key name)))))
 
-  pub follow_closure_params : Ordered table (closure_params id_of) [] (flat_map closure_param_key)
+  pub follow_closure_params : Ordered table (closure_params around) [] (flat_map closure_param_key)
   unfolding closure_params
   follow_closure_params =
-      follow_list_of table id_of (closure_param id_of) closure_param_key follow_closure_param
+      follow_list_of table around (closure_param around) closure_param_key follow_closure_param
       (codes ")")
 
-  follow_signature : Ordered table (signature id_of) [] signed
+  follow_signature : Ordered table (signature around) [] signed
   unfolding signature
   follow_signature =
       follow_then _ (follow_enclosed table nests (quote (codes "(")) in_closure_params) (λ params.
       follow_past (λ _. follow_done (within_same (flat_map closure_param_key params.1))))
 
-  follow_signature_if : Ordered table (signature_if id_of) [] signed
+  follow_signature_if : Ordered table (signature_if around) [] signed
   unfolding signature_if
   follow_signature_if = follow_either follow_signature (follow_done none)
 
-  pub follow_header : Ordered table (header id_of) [] headed
+  pub follow_header : Ordered table (header around) [] headed
   unfolding header
   follow_header =
       follow_either (follow_past (λ mark. follow_then _ follow_captures_if (λ words.
@@ -75,16 +76,16 @@ module _ (id_of : List ℕ → ℕ) (table : (n : Nest) → Relation (El n))
       (follow_done none)))
 
   -- the parameters of a task are none
-  follow_task_signature : Ordered table (task_signature id_of) [] signed
+  follow_task_signature : Ordered table (task_signature around) [] signed
   unfolding task_signature
   follow_task_signature =
       follow_past (λ _. follow_past (λ _. follow_past (λ _. follow_done none)))
 
-  follow_task_signature_if : Ordered table (task_signature_if id_of) [] signed
+  follow_task_signature_if : Ordered table (task_signature_if around) [] signed
   unfolding task_signature_if
   follow_task_signature_if = follow_either follow_task_signature (follow_done none)
 
-  pub follow_task_header : Ordered table (task_header id_of) [] headed
+  pub follow_task_header : Ordered table (task_header around) [] headed
   unfolding task_header
   follow_task_header =
       follow_either (follow_past (λ mark. follow_then _ follow_captures_if (λ words.

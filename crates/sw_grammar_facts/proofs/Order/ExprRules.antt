@@ -14,6 +14,7 @@ use Rattle.sw_tree.specs.declared.expr.Expr.TheVariants as exprs
 use Rattle.sw_tree.specs.declared.expr.Arg.{Arg}
 use Rattle.sw_tree.specs.declared.expr.Link.{Link as Operand}
 use Rattle.sw_tree.specs.declared.stmt.Block.{roll-Block}
+use Rattle.sw_grammar.specs.Around.{Around}
 use Rattle.sw_grammar.specs.Nests.{Nest, El, Form, Link, ClosureInside}
 use Rattle.sw_grammar.specs.Nests.Nest.{in_round, in_args, in_member, in_closure, in_task}
 use Rattle.sw_grammar.specs.Tokens.{value_word, times, plus, compares, infix_op, infix_in}
@@ -81,7 +82,7 @@ closure_at_order at it =
     (λ keys. at ∷ flat_map name_key it.captures ++ flat_map closure_param_key it.params ++ keys)
     (orders.block_order-roll it.body)
 
-module _ (id_of : List ℕ → ℕ) (table : (n : Nest) → Relation (El n)) where
+module _ (around : Around) (table : (n : Nest) → Relation (El n)) where
   -- operators and their operands
   follow_links : {s : Shape} (set : Set) (text : List ℕ) (operand : Form s Expr)
       → Ordered table operand [] expr_order
@@ -100,41 +101,41 @@ module _ (id_of : List ℕ → ℕ) (table : (n : Nest) → Relation (El n)) whe
   follow_literal = follow_token an_integer (λ token. within_same (only token.at))
 
   module _ (nests : (n : Nest) → Follows [] (table n) (order n)) where
-    follow_members : Ordered table (members id_of) [] (flat_map dotted)
+    follow_members : Ordered table (members around) [] (flat_map dotted)
     unfolding members
     follow_members =
         follow_either (follow_then _ (follow_enclosed table nests (quote (codes ".")) in_member)
         (λ links. follow_done (within_same (flat_map dotted links.1)))) (follow_done none)
 
-    follow_call : Ordered table (call id_of) [] (optional (flat_map arg_order))
+    follow_call : Ordered table (call around) [] (optional (flat_map arg_order))
     unfolding call
     follow_call =
         follow_either (follow_then _
         (follow_enclosed table nests (quote_on_line (codes "(")) in_args) (λ given.
         follow_done (within_same (flat_map arg_order given.1)))) (follow_done none)
 
-    pub follow_member : Ordered table (member id_of) [] (flat_map dotted)
+    pub follow_member : Ordered table (member around) [] (flat_map dotted)
     unfolding member
     follow_member =
-        follow_then _ (follow_name id_of word (codes "print")) (λ name.
+        follow_then _ (follow_name around word (codes "print")) (λ name.
         follow_then _ follow_call (λ given. follow_then _ follow_members (λ links.
         follow_done (within_same (flat_map dotted ((name, given) ∷ links))))))
 
     pub follow_after_word : (name : Name)
-        → Ordered table (after_word id_of name) (name_key name) expr_order
+        → Ordered table (after_word around name) (name_key name) expr_order
     unfolding after_word called
     follow_after_word name =
         follow_then _ follow_call (λ given. follow_then _ follow_members (λ links.
         follow_done (within_is (called_order name given links))))
 
     pub follow_after_operand : (base : Expr)
-        → Ordered table (after_operand id_of base) (expr_order base) expr_order
+        → Ordered table (after_operand around base) (expr_order base) expr_order
     unfolding after_operand
     follow_after_operand base =
         follow_then _ follow_members (λ links.
         follow_done (within_is (with_members_order base links)))
 
-    pub follow_a_literal : Ordered table (a_literal id_of) [] expr_order
+    pub follow_a_literal : Ordered table (a_literal around) [] expr_order
     unfolding a_literal
     follow_a_literal =
         follow_either (follow_then _ follow_literal (λ value.
@@ -152,7 +153,7 @@ module _ (id_of : List ℕ → ℕ) (table : (n : Nest) → Relation (El n)) whe
         ∙ ap (λ keys. at ∷ keys) (closure_at_order brace it)
 
     follow_after_task_dot : (closures : Bool) (at : ℕ)
-        → Ordered table (after_task_dot id_of closures at) (only at) expr_order
+        → Ordered table (after_task_dot around closures at) (only at) expr_order
     unfolding after_task_dot
     follow_after_task_dot closures at =
         follow_when closures (λ _. follow_past (λ _.
@@ -162,7 +163,7 @@ module _ (id_of : List ℕ → ℕ) (table : (n : Nest) → Relation (El n)) whe
         follow_done (within_is (orders.expr_order-Yield at)))))
 
     pub follow_after_task : (closures : Bool) (at : ℕ)
-        → Ordered table (after_task id_of closures at) (only at) expr_order
+        → Ordered table (after_task around closures at) (only at) expr_order
     unfolding after_task
     follow_after_task closures at =
         follow_when closures (λ _.
@@ -170,19 +171,19 @@ module _ (id_of : List ℕ → ℕ) (table : (n : Nest) → Relation (El n)) whe
         follow_done (within_is (spawned at false body.0 body.1))))
         (follow_past (λ _. follow_after_task_dot closures at))
 
-    follow_bracketed : Ordered table (bracketed id_of) [] expr_order
+    follow_bracketed : Ordered table (bracketed around) [] expr_order
     unfolding bracketed
     follow_bracketed =
         follow_then _ (follow_enclosed table nests (quote (codes "(")) in_round) (λ inner.
         follow_done (within_same (expr_order inner.1)))
 
-    follow_me : Ordered table (me id_of) [] expr_order
+    follow_me : Ordered table (me around) [] expr_order
     unfolding me
     follow_me =
         follow_then _ (follow_quote (codes "self")) (λ at.
         follow_done (within_is (orders.expr_order-Me at)))
 
-    follow_closure : Ordered table (closure id_of) [] expr_order
+    follow_closure : Ordered table (closure around) [] expr_order
     unfolding closure
     follow_closure =
         follow_then _ (follow_opened table nests (codes "{") in_closure) (λ body.
@@ -190,56 +191,56 @@ module _ (id_of : List ℕ → ℕ) (table : (n : Nest) → Relation (El n)) whe
         ∙ closure_at_order body.0 body.1)))
 
     follow_other_primary : (closures : Bool)
-        → Ordered table (other_primary id_of closures) [] expr_order
+        → Ordered table (other_primary around closures) [] expr_order
     unfolding other_primary
     follow_other_primary closures =
         follow_when closures (λ _. follow_closure) (follow_either follow_a_literal
         (follow_either follow_me follow_bracketed))
 
-    follow_postfix : (closures : Bool) → Ordered table (postfix id_of closures) [] expr_order
+    follow_postfix : (closures : Bool) → Ordered table (postfix around closures) [] expr_order
     unfolding postfix
     follow_postfix closures =
         follow_either
-        (follow_then _ (follow_name id_of value_word (codes "print")) follow_after_word)
+        (follow_then _ (follow_name around value_word (codes "print")) follow_after_word)
         (follow_then _ (follow_either (follow_then _ (follow_quote (codes "Task"))
         (follow_after_task closures)) (follow_other_primary closures)) follow_after_operand)
 
-    pub follow_negated : (closures : Bool) → Ordered table (negated id_of closures) [] expr_order
+    pub follow_negated : (closures : Bool) → Ordered table (negated around closures) [] expr_order
     unfolding negated
     follow_negated closures =
         follow_then _ follow_prefix (λ op. follow_then _ (follow_postfix closures) (λ operand.
         follow_done (within_is (orders.expr_order-Prefix op.0 op.1 operand))))
 
-    follow_unary : (closures : Bool) → Ordered table (unary id_of closures) [] expr_order
+    follow_unary : (closures : Bool) → Ordered table (unary around closures) [] expr_order
     unfolding unary
     follow_unary closures = follow_either (follow_negated closures) (follow_postfix closures)
 
     follow_more_times : (closures : Bool) (first : Expr)
-        → Ordered table (more_times id_of closures first) (expr_order first) expr_order
+        → Ordered table (more_times around closures first) (expr_order first) expr_order
     unfolding more_times
     follow_more_times closures first =
         follow_then _
-        (follow_links times (codes "*") (unary id_of closures) (follow_unary closures))
+        (follow_links times (codes "*") (unary around closures) (follow_unary closures))
         (λ links. follow_done (within_is (chained_order first links)))
 
-    follow_product : (closures : Bool) → Ordered table (product id_of closures) [] expr_order
+    follow_product : (closures : Bool) → Ordered table (product around closures) [] expr_order
     unfolding product
     follow_product closures = follow_then _ (follow_unary closures) (follow_more_times closures)
 
     follow_more_plus : (closures : Bool) (first : Expr)
-        → Ordered table (more_plus id_of closures first) (expr_order first) expr_order
+        → Ordered table (more_plus around closures first) (expr_order first) expr_order
     unfolding more_plus
     follow_more_plus closures first =
         follow_then _
-        (follow_links plus (codes "+") (product id_of closures) (follow_product closures))
+        (follow_links plus (codes "+") (product around closures) (follow_product closures))
         (λ links. follow_done (within_is (chained_order first links)))
 
-    follow_sum : (closures : Bool) → Ordered table (sum id_of closures) [] expr_order
+    follow_sum : (closures : Bool) → Ordered table (sum around closures) [] expr_order
     unfolding sum
     follow_sum closures = follow_then _ (follow_product closures) (follow_more_plus closures)
 
     follow_more_compares : (closures : Bool) (first : Expr)
-        → Ordered table (more_compares id_of closures first) (expr_order first) expr_order
+        → Ordered table (more_compares around closures first) (expr_order first) expr_order
     unfolding more_compares
     follow_more_compares closures first =
         follow_either (follow_then _ (follow_infix compares (codes "==")) (λ op.
@@ -250,35 +251,36 @@ module _ (id_of : List ℕ → ℕ) (table : (n : Nest) → Relation (El n)) whe
         ∙ sym (append_assoc (expr_order first) (only op.1) (expr_order operand)))))))
         (follow_done (within_same (expr_order first)))
 
-    follow_comparison : (closures : Bool) → Ordered table (comparison id_of closures) [] expr_order
+    follow_comparison : (closures : Bool) → Ordered table (comparison around closures) [] expr_order
     unfolding comparison
     follow_comparison closures = follow_then _ (follow_sum closures) (follow_more_compares closures)
 
     follow_more_and : (closures : Bool) (first : Expr)
-        → Ordered table (more_and id_of closures first) (expr_order first) expr_order
+        → Ordered table (more_and around closures first) (expr_order first) expr_order
     unfolding more_and
     follow_more_and closures first =
-        follow_then _ (follow_links (infix_op (codes "&&")) (codes "&&") (comparison id_of closures)
+        follow_then _ (follow_links (infix_op (codes "&&")) (codes "&&") (comparison around
+        closures)
         (follow_comparison closures))
         (λ links. follow_done (within_is (chained_order first links)))
 
     follow_conjunction : (closures : Bool)
-        → Ordered table (conjunction id_of closures) [] expr_order
+        → Ordered table (conjunction around closures) [] expr_order
     unfolding conjunction
     follow_conjunction closures =
         follow_then _ (follow_comparison closures) (follow_more_and closures)
 
     follow_more_or : (closures : Bool) (first : Expr)
-        → Ordered table (more_or id_of closures first) (expr_order first) expr_order
+        → Ordered table (more_or around closures first) (expr_order first) expr_order
     unfolding more_or
     follow_more_or closures first =
         follow_then _
-        (follow_links (infix_op (codes "||")) (codes "||") (conjunction id_of closures)
+        (follow_links (infix_op (codes "||")) (codes "||") (conjunction around closures)
         (follow_conjunction closures))
         (λ links. follow_done (within_is (chained_order first links)))
 
     pub follow_more_operands : (closures : Bool) (first : Expr)
-        → Ordered table (more_operands id_of closures first) (expr_order first) expr_order
+        → Ordered table (more_operands around closures first) (expr_order first) expr_order
     unfolding more_operands
     follow_more_operands closures first =
         follow_next expr_order (follow_more_times closures first) (λ product.
@@ -286,7 +288,7 @@ module _ (id_of : List ℕ → ℕ) (table : (n : Nest) → Relation (El n)) whe
         follow_next expr_order (follow_more_compares closures sum) (λ compared.
         follow_next expr_order (follow_more_and closures compared) (follow_more_or closures))))
 
-    pub follow_awaited : (closures : Bool) → Ordered table (awaited id_of closures) [] expr_order
+    pub follow_awaited : (closures : Bool) → Ordered table (awaited around closures) [] expr_order
     unfolding awaited
     follow_awaited closures =
         follow_then _ (follow_quote (codes "await")) (λ at.
@@ -295,34 +297,34 @@ module _ (id_of : List ℕ → ℕ) (table : (n : Nest) → Relation (El n)) whe
         (follow_more_operands closures first)
         (λ inner. follow_done (within_is (orders.expr_order-Await at inner)))))
 
-    pub follow_expr : (closures : Bool) → Ordered table (expr id_of closures) [] expr_order
+    pub follow_expr : (closures : Bool) → Ordered table (expr around closures) [] expr_order
     unfolding expr
     follow_expr closures =
         follow_either (follow_awaited closures)
         (follow_then _ (follow_unary closures) (follow_more_operands closures))
 
-    follow_other_expr : Ordered table (other_expr id_of) [] expr_order
+    follow_other_expr : Ordered table (other_expr around) [] expr_order
     unfolding other_expr
     follow_other_expr =
         follow_either (follow_awaited true) (follow_then _ (follow_either (follow_negated true)
         (follow_then _ (follow_other_primary true) follow_after_operand))
         (follow_more_operands true))
 
-    follow_labelled : (label : Name) → Ordered table (labelled id_of label) [] arg_order
+    follow_labelled : (label : Name) → Ordered table (labelled around label) [] arg_order
     unfolding labelled
     follow_labelled label =
         follow_past (λ _. follow_then _ (follow_expr true) (λ value.
         follow_done (within_is (orders.arg_order-roll (Some label) value))))
 
-    follow_arg : Ordered table (arg id_of) [] arg_order
+    follow_arg : Ordered table (arg around) [] arg_order
     unfolding arg
     follow_arg =
-        follow_either (follow_then _ (follow_name id_of value_word (codes "print")) (λ name.
+        follow_either (follow_then _ (follow_name around value_word (codes "print")) (λ name.
         follow_either (follow_with (within_nothing (name_key name)) (follow_labelled name))
         (follow_next expr_order (follow_after_word name) (λ first.
         follow_next expr_order (follow_more_operands true first) (λ value.
         follow_done (within_is (orders.arg_order-roll None value)))))))
-        (follow_either (follow_then _ (follow_name id_of (quoted (codes "Task")) (codes "Task"))
+        (follow_either (follow_then _ (follow_name around (quoted (codes "Task")) (codes "Task"))
         (λ name. follow_either (follow_with (within_nothing (name_key name)) (follow_labelled name))
         (follow_next expr_order (follow_after_task true name.at) (λ base.
         follow_next expr_order (follow_after_operand base) (λ first.
@@ -331,11 +333,11 @@ module _ (id_of : List ℕ → ℕ) (table : (n : Nest) → Relation (El n)) whe
         (follow_then _ follow_other_expr (λ value.
         follow_done (within_is (orders.arg_order-roll None value)))))
 
-    pub follow_args : Ordered table (args id_of) [] (flat_map arg_order)
+    pub follow_args : Ordered table (args around) [] (flat_map arg_order)
     unfolding args
-    follow_args = follow_list_of table id_of (arg id_of) arg_order follow_arg (codes ")")
+    follow_args = follow_list_of table around (arg around) arg_order follow_arg (codes ")")
 
-    pub follow_round : Ordered table (round id_of) [] expr_order
+    pub follow_round : Ordered table (round around) [] expr_order
     unfolding round
     follow_round =
         follow_then _ (follow_expr true) (λ inner. follow_past (λ _.

@@ -6,6 +6,7 @@ use Rattle.sw_grammar_forms.specs.Form.Form.{nest}
 use Rattle.sw_grammar_forms.specs.Quotes.{quote}
 use Rattle.sw_grammar_forms.specs.Relations.{Relation, One, spelled}
 use Rattle.sw_tree.specs.Keys.{Keys}
+use Rattle.sw_grammar.specs.Around.{Around}
 use Rattle.sw_grammar.specs.Nests.{Nest, El, shape_of, Form}
 use Rattle.sw_grammar.specs.Tokens.{name_in, infix_in, a_prefix}
 use Rattle.sw_grammar.specs.Types.{more_of, some_of, list_of}
@@ -21,10 +22,10 @@ use Rattle.sw_grammar_facts.proofs.Order.Within.{none, within_same, within_is, m
 pub follow_quote : (text : List ℕ) → Follows [] (One (quote text)) only
 follow_quote text = follow_token (quote text) (λ token. within_same (only token.at))
 
-pub follow_name : (id_of : List ℕ → ℕ) (set : Set) (text : List ℕ)
-    → Follows [] (One (name_in id_of set text)) name_key
-follow_name id_of set text =
-    follow_token (name_in id_of set text) (λ token. within_same (only token.at))
+pub follow_name : (around : Around) (set : Set) (text : List ℕ)
+    → Follows [] (One (name_in around set text)) name_key
+follow_name around set text =
+    follow_token (name_in around set text) (λ token. within_same (only token.at))
 
 pub follow_infix : (set : Set) (text : List ℕ)
     → Follows [] (One (infix_in set text)) (λ op. only op.1)
@@ -39,21 +40,21 @@ module _ (table : (n : Nest) → Relation (El n)) where
   Ordered form base w = Follows base (spelled El shape_of table form) w
 
   -- lists
-  module _ (id_of : List ℕ → ℕ) {A : Type 0} {s : Shape} (item : Form s A) (u : A → Keys)
+  module _ (around : Around) {A : Type 0} {s : Shape} (item : Form s A) (u : A → Keys)
       (each : Ordered item [] u) where
     pub follow_more_of : (first : List A)
-        → Ordered (more_of id_of first item) (flat_map u first) (flat_map u)
+        → Ordered (more_of around first item) (flat_map u first) (flat_map u)
     follow_more_of first =
         follow_turns {w = flat_map u} (λ xs. follow_only true (follow_past (λ _.
         follow_then u each (λ x. follow_done (within_is (more_in u xs x)))))) first
 
-    pub follow_some_of : (text : List ℕ) → Ordered (some_of id_of text item) [] (flat_map u)
+    pub follow_some_of : (text : List ℕ) → Ordered (some_of around text item) [] (flat_map u)
     follow_some_of text =
         follow_then u each (λ x. follow_from [] (flat_map u) (within_is (append-nil (u x)))
         (follow_more_of (x ∷ []))
         (λ xs. follow_past (λ _. follow_done (within_same (flat_map u xs)))))
 
-    pub follow_list_of : (text : List ℕ) → Ordered (list_of id_of text item) [] (flat_map u)
+    pub follow_list_of : (text : List ℕ) → Ordered (list_of around text item) [] (flat_map u)
     follow_list_of text = follow_either (follow_past (λ _. follow_done none)) (follow_some_of text)
 
   -- nests

@@ -4,6 +4,7 @@ use Rattle.sw_token.specs.Spelling.{Spelled}
 use Rattle.sw_grammar_forms.specs.Relations.{Relation}
 use Rattle.sw_grammar_forms.specs.Spells.{inside}
 use Rattle.sw_tree.specs.declared.decl.Decl.{Decl}
+use Rattle.sw_grammar.specs.Around.{Around, outermost}
 use Rattle.sw_grammar.specs.Grammar.{body}
 use Rattle.sw_grammar.specs.Nests.{Nest, El, shape_of}
 use Rattle.sw_grammar.specs.Nests.Nest.{in_types, in_payload, in_result, in_task_type, in_round}
@@ -26,37 +27,40 @@ use Rattle.sw_grammar_facts.proofs.Order.StmtRules.{follow_statements, follow_sw
 use Rattle.sw_grammar_facts.proofs.Order.StmtRules.{follow_patterns_inside}
 use Rattle.sw_grammar_facts.proofs.Order.Within.{Within, places}
 
-module _ (id_of : List ℕ → ℕ) where
+module _ (around : Around) where
   follow_body : (table : (n : Nest) → Relation (El n))
       → ((n : Nest) → Follows [] (table n) (order n))
-      → (n : Nest) → Ordered table (body id_of n) [] (order n)
+      → (n : Nest) → Ordered table (body around n) [] (order n)
   follow_body table nests in_types = follow_nothing
   follow_body table nests in_payload = follow_nothing
   follow_body table nests in_result = follow_nothing
   follow_body table nests in_task_type = follow_nothing
-  follow_body table nests in_round = follow_round id_of table nests
-  follow_body table nests in_args = follow_args id_of table nests
-  follow_body table nests in_member = follow_member id_of table nests
+  follow_body table nests in_round = follow_round around table nests
+  follow_body table nests in_args = follow_args around table nests
+  follow_body table nests in_member = follow_member around table nests
   follow_body table nests in_empty = follow_nothing
-  follow_body table nests in_captures = follow_captured_words id_of table nests
-  follow_body table nests in_closure_params = follow_closure_params id_of table nests
-  follow_body table nests in_closure = follow_closure_inside id_of table nests
-  follow_body table nests in_task = follow_task_inside id_of table nests
-  follow_body table nests in_block = follow_statements id_of table nests
-  follow_body table nests in_switch = follow_switch_inside id_of table nests
-  follow_body table nests in_patterns = follow_patterns_inside id_of table nests
-  follow_body table nests in_params = follow_params_inside id_of table nests
+  follow_body table nests in_captures = follow_captured_words around table nests
+  follow_body table nests in_closure_params = follow_closure_params around table nests
+  follow_body table nests in_closure = follow_closure_inside around table nests
+  follow_body table nests in_task = follow_task_inside around table nests
+  follow_body table nests in_block = follow_statements around table nests
+  follow_body table nests in_switch = follow_switch_inside around table nests
+  follow_body table nests in_patterns = follow_patterns_inside around table nests
+  follow_body table nests in_params = follow_params_inside around table nests
   follow_body table nests in_isolation = follow_nothing
-  follow_body table nests in_entry = follow_entry_inside id_of table nests
+  follow_body table nests in_entry = follow_entry_inside around table nests
   follow_body table nests in_global_actor = follow_nothing
-  follow_body table nests in_struct = follow_struct_inside id_of table nests
-  follow_body table nests in_enum = follow_enum_inside id_of table nests
-  follow_body table nests in_class = follow_class_inside id_of table nests
+  follow_body table nests in_struct = follow_struct_inside around table nests
+  follow_body table nests in_enum = follow_enum_inside around table nests
+  follow_body table nests in_class = follow_class_inside around table nests
 
+module _ (id_of : List ℕ → ℕ) where
   -- one list of each declaration, one after another
   pub program_follows : (i : ℕ) (decls : List Decl) (tokens : List Spelled)
       → SpellsDecls id_of decls tokens → Within (flat_map (decl_order i) decls) (places tokens)
   program_follows i decls tokens spelled =
-      let nests = follow_inside El shape_of (body id_of) order follow_body spelled.0 in
-      (follow_program id_of (inside El shape_of (body id_of) spelled.0) nests i).follows
+      let nests = follow_inside El shape_of (body (outermost id_of)) order
+      (follow_body (outermost id_of)) spelled.0 in
+      (follow_program (outermost id_of) (inside El shape_of (body (outermost id_of)) spelled.0)
+      nests i).follows
       decls tokens spelled.1
