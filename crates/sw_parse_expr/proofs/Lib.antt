@@ -1,4 +1,5 @@
+pub mod ItemTurns
 pub mod LinkLoops
 pub mod MemberSteps
 pub mod PlacedNests
-pub mod StmtLoops
+pub mod StmtTurns

@@ -9,23 +9,24 @@ use Rattle.sw_grammar_forms.specs.Reader.{Answer, and_then, then_read, pure, ope
 use Rattle.sw_grammar_forms.specs.declared.stop.Stop.{Stop}
 use Rattle.sw_grammar_forms.proofs.NestReads.{nest_reads}
 use Rattle.sw_grammar_forms.proofs.ReaderLaws.{bind_step}
+use Rattle.sw_grammar.specs.Around.{Around}
 use Rattle.sw_grammar.specs.Nests.{Nest, El, shape_of}
 use Rattle.sw_grammar.specs.Grammar.{body}
 use Rattle.sw_grammar.specs.Reading.{read}
 use Rattle.sw_parse_parts.specs.Nested.{made}
 
-module _ (id_of : List ℕ → ℕ) (n : Nest) (depth : ℕ) (t : Terminal ℕ) (ts us : List Spelled)
+module _ (around : Around) (n : Nest) (depth : ℕ) (t : Terminal ℕ) (ts us : List Spelled)
     (at : ℕ) (opened : opening depth t ts ≡ Ok (at, us)) where
   -- the reader of a nest that is open is that of its inside
-  pub nest_opened : read id_of depth (nest t n) ts
-      ≡ then_read (read id_of (depth - 1) (body id_of n)) (λ x. pure {A = ℕ × El n} (at, x)) us
+  pub nest_opened : read around depth (nest t n) ts
+      ≡ then_read (read around (depth - 1) (body around n)) (λ x. pure {A = ℕ × El n} (at, x)) us
   nest_opened =
-      nest_reads El shape_of (body id_of) depth t n ts
+      nest_reads El shape_of (body around) depth t n ts
       ∙ bind_step (opening depth t ts) _ (at, us) _ opened refl
 
   pub placed : {A : Type 0} (f : ℕ → El n → A) (result : Result A Stop) (left : List Spelled)
-      → Gives (made (f at) (read id_of (depth - 1) (body id_of n)) us) result left
-      → Gives (then_read (read id_of depth (nest t n)) (λ x. pure (f x.0 x.1)) ts) result left
+      → Gives (made (f at) (read around (depth - 1) (body around n)) us) result left
+      → Gives (then_read (read around depth (nest t n)) (λ x. pure (f x.0 x.1)) ts) result left
   placed {A = A} f result left gives = subst (λ a. Gives a result left) (sym same) gives
     where
       by : (answer : Answer (El n))
@@ -37,8 +38,8 @@ module _ (id_of : List ℕ → ℕ) (n : Nest) (depth : ℕ) (t : Terminal ℕ) 
       by (Ok x) = refl
       by (Err fault) = refl
 
-      same : then_read (read id_of depth (nest t n)) (λ x. pure (f x.0 x.1)) ts
-          ≡ made (f at) (read id_of (depth - 1) (body id_of n)) us
+      same : then_read (read around depth (nest t n)) (λ x. pure (f x.0 x.1)) ts
+          ≡ made (f at) (read around (depth - 1) (body around n)) us
       same = ap (λ answer. and_then {X = (ℕ × El n) × List Spelled} {Y = A × List Spelled} answer
           (λ x. Ok (f x.0.0 x.0.1, x.1))) nest_opened
-          ∙ by (read id_of (depth - 1) (body id_of n) us)
+          ∙ by (read around (depth - 1) (body around n) us)

@@ -9,6 +9,7 @@ use Rattle.sw_grammar_forms.specs.Terminals.{◌>>=◌, expect}
 use Rattle.sw_tree.specs.declared.expr.Closure.{Closure, roll-Closure}
 use Rattle.sw_tree.specs.declared.stmt.Stmt.{Stmt}
 use Rattle.sw_tree.specs.declared.stmt.Block.{roll-Block}
+use Rattle.sw_grammar.specs.Around.{Around}
 use Rattle.sw_grammar.specs.Nests.{Form}
 use Rattle.sw_grammar.specs.Tokens.{at_word, at_in}
 use Rattle.sw_grammar.specs.Exprs.{loose}
@@ -55,58 +56,58 @@ abbrev in_shape : Shape
 in_shape = seq (one (quote (codes "in"))) empty
 
 -- a closure's header that begins with `@Sendable`
-abbrev pub marked_header : (id_of : List ℕ → ℕ)
-    → Form (seq (one (at_in id_of (quoted (codes "@Sendable")) (codes "@Sendable")))
+abbrev pub marked_header : (around : Around)
+    → Form (seq (one (at_in around (quoted (codes "@Sendable")) (codes "@Sendable")))
     (seq captures_shape (seq signature_shape in_shape))) closures.Header
-marked_header id_of = do
-  mark ← terminal (at_in id_of (quoted (codes "@Sendable")) (codes "@Sendable"))
-  words ← captures_if id_of
-  written ← signature_if id_of
+marked_header around = do
+  mark ← terminal (at_in around (quoted (codes "@Sendable")) (codes "@Sendable"))
+  words ← captures_if around
+  written ← signature_if around
   _ ← expect (codes "in")
   done (header_of (Some mark) words written)
 
 -- a closure's header that begins with a capture list
-abbrev pub captured_header : (List ℕ → ℕ)
+abbrev pub captured_header : Around
     → Form (seq list_shape (seq signature_shape in_shape)) closures.Header
-captured_header id_of = do
-  words ← captures id_of
-  written ← signature_if id_of
+captured_header around = do
+  words ← captures around
+  written ← signature_if around
   _ ← expect (codes "in")
   done (header_of None words written)
 
 -- a closure's header that begins with its parameters
-abbrev pub signed_header : (List ℕ → ℕ)
+abbrev pub signed_header : Around
     → Form (seq (solid (quoted (codes "(")) signature_ext 1) in_shape) closures.Header
-signed_header id_of = do
-  written ← signature id_of
+signed_header around = do
+  written ← signature around
   _ ← expect (codes "in")
   done (header_of None [] written)
 
 -- a task's header that begins with an attribute
-abbrev pub marked_task_header : (id_of : List ℕ → ℕ)
-    → Form (seq (one (at_in id_of at_word (codes "@Sendable")))
+abbrev pub marked_task_header : (around : Around)
+    → Form (seq (one (at_in around at_word (codes "@Sendable")))
     (seq captures_shape (seq brackets_shape in_shape))) closures.Header
-marked_task_header id_of = do
-  mark ← terminal (at_in id_of at_word (codes "@Sendable"))
-  words ← captures_if id_of
-  written ← task_signature_if id_of
+marked_task_header around = do
+  mark ← terminal (at_in around at_word (codes "@Sendable"))
+  words ← captures_if around
+  written ← task_signature_if around
   _ ← expect (codes "in")
   done (header_of (Some mark) words written)
 
 -- a task's header that begins with a capture list
-abbrev pub captured_task_header : (List ℕ → ℕ)
+abbrev pub captured_task_header : Around
     → Form (seq list_shape (seq brackets_shape in_shape)) closures.Header
-captured_task_header id_of = do
-  words ← captures id_of
-  written ← task_signature_if id_of
+captured_task_header around = do
+  words ← captures around
+  written ← task_signature_if around
   _ ← expect (codes "in")
   done (header_of None words written)
 
 -- a task's header that begins with its brackets
-abbrev pub signed_task_header : (List ℕ → ℕ)
+abbrev pub signed_task_header : Around
     → Form (seq (solid (quoted (codes "(")) (quoted (codes "async") ++ signature_ext) 1) in_shape)
     closures.Header
-signed_task_header id_of = do
-  written ← task_signature id_of
+signed_task_header around = do
+  written ← task_signature around
   _ ← expect (codes "in")
   done (header_of None [] written)

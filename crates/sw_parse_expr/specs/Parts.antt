@@ -13,17 +13,20 @@ use Rattle.sw_tree.specs.declared.expr.Expr.TheVariants as exprs
 use Rattle.sw_tree.specs.declared.expr.Arg.{Arg}
 use Rattle.sw_tree.specs.declared.expr.Link.{Link as Operand}
 use Rattle.sw_tree.specs.declared.stmt.Stmt.{Stmt}
+use Rattle.sw_grammar.specs.Around.{Around}
 use Rattle.sw_grammar.specs.Nests.{Form, Link}
 use Rattle.sw_grammar.specs.Tokens.{name_in, prefix_ops, postfix_ext, expr_ext}
 use Rattle.sw_grammar.specs.Exprs.{loose, argument, linked, labelled, after_word, after_operand}
 use Rattle.sw_grammar.specs.Exprs.{after_task, more_operands, call, negated, other_primary}
 use Rattle.sw_grammar.specs.Exprs.{operators, other_first}
-use Rattle.sw_grammar.specs.Stmts.{stmt}
+use Rattle.sw_grammar.specs.Stmts.{joined, stmt}
 use Rattle.sw_grammar.specs.Reading.{read}
+use Rattle.sw_parse_parts.specs.Nested.{made}
 
 -- reads statements, up to a token that begins none
-abbrev pub stmts_of : (List ℕ → ℕ) → ℕ → Reader (List Stmt)
-stmts_of id_of depth = then_read (read id_of depth (items (stmt id_of))) (λ state. pure state.0)
+abbrev pub stmts_of : Around → ℕ → Reader (List Stmt)
+stmts_of around depth =
+    made (λ state. joined state.0) (read around depth (items (stmt around)))
 
 -- an expression with one member after it
 abbrev pub with_member : Expr → Link → Expr
@@ -31,10 +34,10 @@ with_member base (name, None) = exprs.Member base name
 with_member base (name, Some args) = exprs.Method base name args
 
 -- reads a member after its `.`: a word, and its arguments where they come
-abbrev pub one_member : (List ℕ → ℕ) → ℕ → Reader Link
-one_member id_of depth =
-    then_read (next (name_in id_of word (codes "print")))
-    (λ name. then_read (read id_of depth (call id_of)) (λ args. pure (name, args)))
+abbrev pub one_member : Around → ℕ → Reader Link
+one_member around depth =
+    then_read (next (name_in around word (codes "print")))
+    (λ name. then_read (read around depth (call around)) (λ args. pure (name, args)))
 
 -- reads an operator and its right operand
 abbrev pub link_with : Terminal (InfixOp × ℕ) → Reader Expr → Reader Operand
@@ -56,33 +59,33 @@ abbrev label_shape : Shape
 label_shape = solid (quoted (codes ":")) expr_ext 0
 
 -- an argument after the word that begins it
-abbrev pub word_arg : (List ℕ → ℕ) → Name
+abbrev pub word_arg : Around → Name
     → Form (alt label_shape (seq (loose postfix_ext postfix_ext) (seq rest_shape empty))) Arg
-word_arg id_of name = either (labelled id_of name) (do
-  first ← after_word id_of name
-  value ← more_operands id_of true first
+word_arg around name = either (labelled around name) (do
+  first ← after_word around name
+  value ← more_operands around true first
   done (argument None value))
 
 -- an argument after the `Task` that begins it
-abbrev pub task_arg : (List ℕ → ℕ) → Name
+abbrev pub task_arg : Around → Name
     → Form (alt label_shape (seq (solid (quoted (codes "{") ++ quoted (codes ".")) [] 1)
     (seq (loose (quoted (codes ".")) postfix_ext) (seq rest_shape empty)))) Arg
-task_arg id_of name = either (labelled id_of name) (do
-  base ← after_task id_of true name.at
-  first ← after_operand id_of base
-  value ← more_operands id_of true first
+task_arg around name = either (labelled around name) (do
+  base ← after_task around true name.at
+  first ← after_operand around base
+  value ← more_operands around true first
   done (argument None value))
 
 -- a primary that begins with no word that names a value
-abbrev pub no_word : (List ℕ → ℕ) → Bool
+abbrev pub no_word : Around → Bool
     → Form (alt (seq (one (quote (codes "Task")))
     (solid (quoted (codes "{") ++ quoted (codes ".")) [] 1)) (solid other_first [] 0)) Expr
-no_word id_of closures =
-    either (expect (codes "Task") >>= after_task id_of closures) (other_primary id_of closures)
+no_word around closures =
+    either (expect (codes "Task") >>= after_task around closures) (other_primary around closures)
 
 -- an operand that begins with neither a word nor `Task`
-abbrev pub other_operand : (List ℕ → ℕ)
+abbrev pub other_operand : Around
     → Form (alt (solid prefix_ops postfix_ext 0)
     (seq (solid other_first [] 0) (loose (quoted (codes ".")) postfix_ext))) Expr
-other_operand id_of =
-    either (negated id_of true) (other_primary id_of true >>= after_operand id_of)
+other_operand around =
+    either (negated around true) (other_primary around true >>= after_operand around)

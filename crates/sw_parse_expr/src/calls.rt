@@ -3,11 +3,11 @@
 ghost use Rattle.std.specs.Prelude.{[], ◌∷◌, codes};
 ghost use Rattle.sw_grammar_forms.specs.Outcome.{Gives};
 ghost use Rattle.sw_grammar_forms.specs.Quotes.{quote_on_line};
-ghost use Rattle.sw_tree.specs.Names.{id_in};
 ghost use Rattle.sw_grammar.specs.Exprs as exprs;
 ghost use Rattle.sw_grammar.specs.Types.{more_of};
 ghost use Rattle.sw_grammar.specs.Nests.Nest.{in_args};
 ghost use Rattle.sw_grammar.specs.Reading.{read};
+ghost use Rattle.sw_parse_parts.specs.Around.{known};
 ghost use Rattle.sw_parse_parts.specs.Nested.{made, nested};
 ghost use Rattle.sw_parse_expr.specs.Below.{Below};
 ghost use Rattle.sw_parse_expr.specs.Parts.{word_arg, task_arg, with_member, one_member};
@@ -18,42 +18,43 @@ use super::operands::after_task;
 use std::alloc::Global;
 use sw_grammar_forms::{Cursor, Stop};
 use sw_list::{Boxed, ListOf};
-use sw_parse_parts::{sees_value_word, task_word, value_word, word};
-use sw_tree::{Arg, ArgList, Expr, Name, Names};
+use sw_parse_parts::{Around, sees_value_word, task_word, value_word, word};
+use sw_tree::{Arg, ArgList, Expr, Name};
 
 /// The arguments of a call, where a `(` comes that isn't the first on its line.
 #[tactic(auto, unfolding(sw_grammar::specs::Exprs::call))]
 fn call<I: Inner>(
     alloc: Global,
     inner: &I,
-    names: &Names,
+    around: &Around<'_>,
     tokens: &mut Cursor<'_>,
     depth: u32,
 ) -> Result<Option<ArgList>, Stop>
     requires { Below I.reads inner.now depth }
-    ensures { Gives (read (id_in names.now) depth (exprs.call (id_in names.now)) tokens.old) result
+    ensures { Gives (read (known around.now) depth (exprs.call (known around.now)) tokens.old)
+        result
         tokens.new }
 {
     if !tokens.sees_on_line("(") {
         return Ok(None);
     }
-    Ok(Some(round_args(alloc, inner, names, tokens, depth)?))
+    Ok(Some(round_args(alloc, inner, around, tokens, depth)?))
 }
 
 /// The arguments in `(` and `)`.
 fn round_args<I: Inner>(
     alloc: Global,
     inner: &I,
-    names: &Names,
+    around: &Around<'_>,
     tokens: &mut Cursor<'_>,
     depth: u32,
 ) -> Result<ArgList, Stop>
     requires { Below I.reads inner.now depth }
-    ensures { Gives (nested (id_in names.now) depth (quote_on_line (codes "(")) in_args tokens.old)
+    ensures { Gives (nested (known around.now) depth (quote_on_line (codes "(")) in_args tokens.old)
         result tokens.new }
 {
     tokens.open_on_line("(", depth)?;
-    args_inside(alloc, inner, names, tokens, depth - 1)
+    args_inside(alloc, inner, around, tokens, depth - 1)
 }
 
 /// Arguments up to their `)`.
@@ -61,20 +62,21 @@ fn round_args<I: Inner>(
 fn args_inside<I: Inner>(
     alloc: Global,
     inner: &I,
-    names: &Names,
+    around: &Around<'_>,
     tokens: &mut Cursor<'_>,
     depth: u32,
 ) -> Result<ArgList, Stop>
     requires { I.reads inner.now depth }
-    ensures { Gives (read (id_in names.now) depth (exprs.args (id_in names.now)) tokens.old) result
+    ensures { Gives (read (known around.now) depth (exprs.args (known around.now)) tokens.old)
+        result
         tokens.new }
 {
     if tokens.sees(")") {
         tokens.expect(")")?;
         return Ok(ListOf::new(alloc));
     }
-    let first = inner.arg(alloc, names, tokens, depth)?;
-    let args = more_args(alloc, inner, names, tokens, depth, first)?;
+    let first = inner.arg(alloc, around, tokens, depth)?;
+    let args = more_args(alloc, inner, around, tokens, depth, first)?;
     tokens.expect(")")?;
     Ok(args)
 }
@@ -83,19 +85,19 @@ fn args_inside<I: Inner>(
 fn more_args<I: Inner>(
     alloc: Global,
     inner: &I,
-    names: &Names,
+    around: &Around<'_>,
     tokens: &mut Cursor<'_>,
     depth: u32,
     first: Arg,
 ) -> Result<ArgList, Stop>
     requires { I.reads inner.now depth }
-    ensures { Gives (read (id_in names.now) depth (more_of (id_in names.now) (first ∷ [])
-        (exprs.arg (id_in names.now))) tokens.old) result tokens.new }
+    ensures { Gives (read (known around.now) depth (more_of (known around.now) (first ∷ [])
+        (exprs.arg (known around.now))) tokens.old) result tokens.new }
 {
     let mut args = Vec::new(alloc);
     args.push(first)?;
     while tokens.skip(",") {
-        args.push(inner.arg(alloc, names, tokens, depth)?)?;
+        args.push(inner.arg(alloc, around, tokens, depth)?)?;
     }
     Ok(ListOf::from_vec(args))
 }
@@ -106,21 +108,21 @@ fn more_args<I: Inner>(
 pub fn after_word<I: Inner>(
     alloc: Global,
     inner: &I,
-    names: &Names,
+    around: &Around<'_>,
     tokens: &mut Cursor<'_>,
     depth: u32,
     name: Name,
 ) -> Result<Expr, Stop>
     requires { Below I.reads inner.now depth }
-    ensures { Gives (read (id_in names.now) depth (exprs.after_word (id_in names.now) name)
+    ensures { Gives (read (known around.now) depth (exprs.after_word (known around.now) name)
         tokens.old) result tokens.new }
 {
-    match call(alloc, inner, names, tokens, depth)? {
+    match call(alloc, inner, around, tokens, depth)? {
         Some(args) => {
             let base = Expr::Call { name, args };
-            after_operand(alloc, inner, names, tokens, depth, base)
+            after_operand(alloc, inner, around, tokens, depth, base)
         }
-        None => after_operand(alloc, inner, names, tokens, depth, Expr::Use { name }),
+        None => after_operand(alloc, inner, around, tokens, depth, Expr::Use { name }),
     }
 }
 
@@ -130,13 +132,13 @@ pub fn after_word<I: Inner>(
 pub fn after_operand<I: Inner>(
     alloc: Global,
     inner: &I,
-    names: &Names,
+    around: &Around<'_>,
     tokens: &mut Cursor<'_>,
     depth: u32,
     base: Expr,
 ) -> Result<Expr, Stop>
     requires { Below I.reads inner.now depth }
-    ensures { Gives (read (id_in names.now) depth (exprs.after_operand (id_in names.now) base)
+    ensures { Gives (read (known around.now) depth (exprs.after_operand (known around.now) base)
         tokens.old) result tokens.new }
 {
     let mut room = depth;
@@ -144,7 +146,7 @@ pub fn after_operand<I: Inner>(
     while tokens.sees(".") {
         tokens.open(".", room)?;
         room -= 1;
-        whole = member(alloc, inner, names, tokens, room, whole)?;
+        whole = member(alloc, inner, around, tokens, room, whole)?;
     }
     Ok(whole)
 }
@@ -154,23 +156,23 @@ pub fn after_operand<I: Inner>(
 pub fn arg<I: Inner>(
     alloc: Global,
     inner: &I,
-    names: &Names,
+    around: &Around<'_>,
     tokens: &mut Cursor<'_>,
     depth: u32,
 ) -> Result<Arg, Stop>
     requires { Below I.reads inner.now depth }
-    ensures { Gives (read (id_in names.now) depth (exprs.arg (id_in names.now)) tokens.old) result
+    ensures { Gives (read (known around.now) depth (exprs.arg (known around.now)) tokens.old) result
         tokens.new }
 {
     if sees_value_word(tokens) {
-        let name = value_word(names, tokens)?;
-        return word_arg(alloc, inner, names, tokens, depth, name);
+        let name = value_word(around, tokens)?;
+        return word_arg(alloc, inner, around, tokens, depth, name);
     }
     if tokens.sees("Task") {
-        let name = task_word(names, tokens)?;
-        return task_arg(alloc, inner, names, tokens, depth, name);
+        let name = task_word(around, tokens)?;
+        return task_arg(alloc, inner, around, tokens, depth, name);
     }
-    let value = other_expr(alloc, inner, names, tokens, depth)?;
+    let value = other_expr(alloc, inner, around, tokens, depth)?;
     Ok(Arg { label: None, value })
 }
 
@@ -179,17 +181,17 @@ pub fn arg<I: Inner>(
 fn labelled<I: Inner>(
     alloc: Global,
     inner: &I,
-    names: &Names,
+    around: &Around<'_>,
     tokens: &mut Cursor<'_>,
     depth: u32,
     label: Name,
 ) -> Result<Arg, Stop>
     requires { Below I.reads inner.now depth }
-    ensures { Gives (read (id_in names.now) depth (exprs.labelled (id_in names.now) label)
+    ensures { Gives (read (known around.now) depth (exprs.labelled (known around.now) label)
         tokens.old) result tokens.new }
 {
     tokens.expect(":")?;
-    let value = expr(alloc, inner, names, tokens, depth, true)?;
+    let value = expr(alloc, inner, around, tokens, depth, true)?;
     Ok(Arg {
         label: Some(label),
         value,
@@ -200,20 +202,20 @@ fn labelled<I: Inner>(
 fn word_arg<I: Inner>(
     alloc: Global,
     inner: &I,
-    names: &Names,
+    around: &Around<'_>,
     tokens: &mut Cursor<'_>,
     depth: u32,
     name: Name,
 ) -> Result<Arg, Stop>
     requires { Below I.reads inner.now depth }
-    ensures { Gives (read (id_in names.now) depth (word_arg (id_in names.now) name) tokens.old)
+    ensures { Gives (read (known around.now) depth (word_arg (known around.now) name) tokens.old)
         result tokens.new }
 {
     if tokens.sees(":") {
-        return labelled(alloc, inner, names, tokens, depth, name);
+        return labelled(alloc, inner, around, tokens, depth, name);
     }
-    let first = after_word(alloc, inner, names, tokens, depth, name)?;
-    let value = more_operands(alloc, inner, names, tokens, depth, true, first)?;
+    let first = after_word(alloc, inner, around, tokens, depth, name)?;
+    let value = more_operands(alloc, inner, around, tokens, depth, true, first)?;
     Ok(Arg { label: None, value })
 }
 
@@ -221,21 +223,21 @@ fn word_arg<I: Inner>(
 fn task_arg<I: Inner>(
     alloc: Global,
     inner: &I,
-    names: &Names,
+    around: &Around<'_>,
     tokens: &mut Cursor<'_>,
     depth: u32,
     name: Name,
 ) -> Result<Arg, Stop>
     requires { Below I.reads inner.now depth }
-    ensures { Gives (read (id_in names.now) depth (task_arg (id_in names.now) name) tokens.old)
+    ensures { Gives (read (known around.now) depth (task_arg (known around.now) name) tokens.old)
         result tokens.new }
 {
     if tokens.sees(":") {
-        return labelled(alloc, inner, names, tokens, depth, name);
+        return labelled(alloc, inner, around, tokens, depth, name);
     }
-    let base = after_task(alloc, inner, names, tokens, depth, true, name.at)?;
-    let first = after_operand(alloc, inner, names, tokens, depth, base)?;
-    let value = more_operands(alloc, inner, names, tokens, depth, true, first)?;
+    let base = after_task(alloc, inner, around, tokens, depth, true, name.at)?;
+    let first = after_operand(alloc, inner, around, tokens, depth, base)?;
+    let value = more_operands(alloc, inner, around, tokens, depth, true, first)?;
     Ok(Arg { label: None, value })
 }
 
@@ -243,17 +245,18 @@ fn task_arg<I: Inner>(
 fn member<I: Inner>(
     alloc: Global,
     inner: &I,
-    names: &Names,
+    around: &Around<'_>,
     tokens: &mut Cursor<'_>,
     depth: u32,
     base: Expr,
 ) -> Result<Expr, Stop>
     requires { Below I.reads inner.now depth }
-    ensures { Gives (made (with_member base) (one_member (id_in names.now) depth) tokens.old) result
+    ensures { Gives (made (with_member base) (one_member (known around.now) depth) tokens.old)
+        result
         tokens.new }
 {
-    let name = word(names, tokens)?;
-    match call(alloc, inner, names, tokens, depth)? {
+    let name = word(around, tokens)?;
+    match call(alloc, inner, around, tokens, depth)? {
         Some(args) => Ok(Expr::Method {
             base: Boxed::new(alloc, base)?,
             name,

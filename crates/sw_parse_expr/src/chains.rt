@@ -2,10 +2,10 @@
 
 ghost use Rattle.std.specs.Prelude.{◌≡◌, [], IfOk, codes};
 ghost use Rattle.sw_grammar_forms.specs.Outcome.{Gives};
-ghost use Rattle.sw_tree.specs.Names.{id_in};
 ghost use Rattle.sw_grammar.specs.Exprs as exprs;
 ghost use Rattle.sw_grammar.specs.Tokens.{times, plus, infix_op, infix_in};
 ghost use Rattle.sw_grammar.specs.Reading.{read};
+ghost use Rattle.sw_parse_parts.specs.Around.{known};
 ghost use Rattle.sw_parse_expr.specs.Below.{Below};
 ghost use Rattle.sw_parse_expr.specs.Parts.{links_after, link_with, other_operand};
 
@@ -16,28 +16,28 @@ use std::alloc::{AllocError, Global};
 use sw_grammar_forms::{Cursor, Stop};
 use sw_list::{Boxed, ListOf};
 use sw_parse_parts::{
-    infix_and, infix_compare, infix_or, infix_plus, infix_times, sees_compare, sees_plus,
+    Around, infix_and, infix_compare, infix_or, infix_plus, infix_times, sees_compare, sees_plus,
     sees_prefix, sees_times,
 };
 use sw_token::Fixity;
-use sw_tree::{Expr, Link, LinkList, Names};
+use sw_tree::{Expr, Link, LinkList};
 
 /// The operators `*`, `/` and `%` after the first operand.
 #[tactic(auto, unfolding(sw_grammar::specs::Exprs::more_times))]
 fn more_times<I: Inner>(
     alloc: Global,
     inner: &I,
-    names: &Names,
+    around: &Around<'_>,
     tokens: &mut Cursor<'_>,
     depth: u32,
     closures: bool,
     first: Expr,
 ) -> Result<Expr, Stop>
     requires { Below I.reads inner.now depth }
-    ensures { Gives (read (id_in names.now) depth (exprs.more_times (id_in names.now) closures
+    ensures { Gives (read (known around.now) depth (exprs.more_times (known around.now) closures
         first) tokens.old) result tokens.new }
 {
-    let links = times_links(alloc, inner, names, tokens, depth, closures)?;
+    let links = times_links(alloc, inner, around, tokens, depth, closures)?;
     Ok(chained(alloc, first, links)?)
 }
 
@@ -46,17 +46,17 @@ fn more_times<I: Inner>(
 fn product<I: Inner>(
     alloc: Global,
     inner: &I,
-    names: &Names,
+    around: &Around<'_>,
     tokens: &mut Cursor<'_>,
     depth: u32,
     closures: bool,
 ) -> Result<Expr, Stop>
     requires { Below I.reads inner.now depth }
-    ensures { Gives (read (id_in names.now) depth (exprs.product (id_in names.now) closures)
+    ensures { Gives (read (known around.now) depth (exprs.product (known around.now) closures)
         tokens.old) result tokens.new }
 {
-    let first = unary(alloc, inner, names, tokens, depth, closures)?;
-    more_times(alloc, inner, names, tokens, depth, closures, first)
+    let first = unary(alloc, inner, around, tokens, depth, closures)?;
+    more_times(alloc, inner, around, tokens, depth, closures, first)
 }
 
 /// The operators `+` and `-` after the first operand.
@@ -64,17 +64,18 @@ fn product<I: Inner>(
 fn more_plus<I: Inner>(
     alloc: Global,
     inner: &I,
-    names: &Names,
+    around: &Around<'_>,
     tokens: &mut Cursor<'_>,
     depth: u32,
     closures: bool,
     first: Expr,
 ) -> Result<Expr, Stop>
     requires { Below I.reads inner.now depth }
-    ensures { Gives (read (id_in names.now) depth (exprs.more_plus (id_in names.now) closures first)
+    ensures { Gives (read (known around.now) depth (exprs.more_plus (known around.now) closures
+        first)
         tokens.old) result tokens.new }
 {
-    let links = plus_links(alloc, inner, names, tokens, depth, closures)?;
+    let links = plus_links(alloc, inner, around, tokens, depth, closures)?;
     Ok(chained(alloc, first, links)?)
 }
 
@@ -83,17 +84,18 @@ fn more_plus<I: Inner>(
 fn sum<I: Inner>(
     alloc: Global,
     inner: &I,
-    names: &Names,
+    around: &Around<'_>,
     tokens: &mut Cursor<'_>,
     depth: u32,
     closures: bool,
 ) -> Result<Expr, Stop>
     requires { Below I.reads inner.now depth }
-    ensures { Gives (read (id_in names.now) depth (exprs.sum (id_in names.now) closures) tokens.old)
+    ensures { Gives (read (known around.now) depth (exprs.sum (known around.now) closures)
+        tokens.old)
         result tokens.new }
 {
-    let first = product(alloc, inner, names, tokens, depth, closures)?;
-    more_plus(alloc, inner, names, tokens, depth, closures, first)
+    let first = product(alloc, inner, around, tokens, depth, closures)?;
+    more_plus(alloc, inner, around, tokens, depth, closures, first)
 }
 
 /// A comparison after its first operand, where it comes. There is at most one.
@@ -101,21 +103,21 @@ fn sum<I: Inner>(
 fn more_compares<I: Inner>(
     alloc: Global,
     inner: &I,
-    names: &Names,
+    around: &Around<'_>,
     tokens: &mut Cursor<'_>,
     depth: u32,
     closures: bool,
     first: Expr,
 ) -> Result<Expr, Stop>
     requires { Below I.reads inner.now depth }
-    ensures { Gives (read (id_in names.now) depth (exprs.more_compares (id_in names.now) closures
+    ensures { Gives (read (known around.now) depth (exprs.more_compares (known around.now) closures
         first) tokens.old) result tokens.new }
 {
     if !sees_compare(tokens) {
         return Ok(first);
     }
     let (op, at) = infix_compare(tokens)?;
-    let operand = sum(alloc, inner, names, tokens, depth, closures)?;
+    let operand = sum(alloc, inner, around, tokens, depth, closures)?;
     let links = ListOf::one(alloc, Link { op, at, operand })?;
     Ok(chained(alloc, first, links)?)
 }
@@ -125,17 +127,17 @@ fn more_compares<I: Inner>(
 fn comparison<I: Inner>(
     alloc: Global,
     inner: &I,
-    names: &Names,
+    around: &Around<'_>,
     tokens: &mut Cursor<'_>,
     depth: u32,
     closures: bool,
 ) -> Result<Expr, Stop>
     requires { Below I.reads inner.now depth }
-    ensures { Gives (read (id_in names.now) depth (exprs.comparison (id_in names.now) closures)
+    ensures { Gives (read (known around.now) depth (exprs.comparison (known around.now) closures)
         tokens.old) result tokens.new }
 {
-    let first = sum(alloc, inner, names, tokens, depth, closures)?;
-    more_compares(alloc, inner, names, tokens, depth, closures, first)
+    let first = sum(alloc, inner, around, tokens, depth, closures)?;
+    more_compares(alloc, inner, around, tokens, depth, closures, first)
 }
 
 /// The operators `&&` after the first operand.
@@ -143,17 +145,18 @@ fn comparison<I: Inner>(
 fn more_and<I: Inner>(
     alloc: Global,
     inner: &I,
-    names: &Names,
+    around: &Around<'_>,
     tokens: &mut Cursor<'_>,
     depth: u32,
     closures: bool,
     first: Expr,
 ) -> Result<Expr, Stop>
     requires { Below I.reads inner.now depth }
-    ensures { Gives (read (id_in names.now) depth (exprs.more_and (id_in names.now) closures first)
+    ensures { Gives (read (known around.now) depth (exprs.more_and (known around.now) closures
+        first)
         tokens.old) result tokens.new }
 {
-    let links = and_links(alloc, inner, names, tokens, depth, closures)?;
+    let links = and_links(alloc, inner, around, tokens, depth, closures)?;
     Ok(chained(alloc, first, links)?)
 }
 
@@ -162,17 +165,17 @@ fn more_and<I: Inner>(
 fn conjunction<I: Inner>(
     alloc: Global,
     inner: &I,
-    names: &Names,
+    around: &Around<'_>,
     tokens: &mut Cursor<'_>,
     depth: u32,
     closures: bool,
 ) -> Result<Expr, Stop>
     requires { Below I.reads inner.now depth }
-    ensures { Gives (read (id_in names.now) depth (exprs.conjunction (id_in names.now) closures)
+    ensures { Gives (read (known around.now) depth (exprs.conjunction (known around.now) closures)
         tokens.old) result tokens.new }
 {
-    let first = comparison(alloc, inner, names, tokens, depth, closures)?;
-    more_and(alloc, inner, names, tokens, depth, closures, first)
+    let first = comparison(alloc, inner, around, tokens, depth, closures)?;
+    more_and(alloc, inner, around, tokens, depth, closures, first)
 }
 
 /// The operators `||` after the first operand.
@@ -180,17 +183,17 @@ fn conjunction<I: Inner>(
 fn more_or<I: Inner>(
     alloc: Global,
     inner: &I,
-    names: &Names,
+    around: &Around<'_>,
     tokens: &mut Cursor<'_>,
     depth: u32,
     closures: bool,
     first: Expr,
 ) -> Result<Expr, Stop>
     requires { Below I.reads inner.now depth }
-    ensures { Gives (read (id_in names.now) depth (exprs.more_or (id_in names.now) closures first)
+    ensures { Gives (read (known around.now) depth (exprs.more_or (known around.now) closures first)
         tokens.old) result tokens.new }
 {
-    let links = or_links(alloc, inner, names, tokens, depth, closures)?;
+    let links = or_links(alloc, inner, around, tokens, depth, closures)?;
     Ok(chained(alloc, first, links)?)
 }
 
@@ -199,21 +202,21 @@ fn more_or<I: Inner>(
 pub fn more_operands<I: Inner>(
     alloc: Global,
     inner: &I,
-    names: &Names,
+    around: &Around<'_>,
     tokens: &mut Cursor<'_>,
     depth: u32,
     closures: bool,
     first: Expr,
 ) -> Result<Expr, Stop>
     requires { Below I.reads inner.now depth }
-    ensures { Gives (read (id_in names.now) depth (exprs.more_operands (id_in names.now) closures
+    ensures { Gives (read (known around.now) depth (exprs.more_operands (known around.now) closures
         first) tokens.old) result tokens.new }
 {
-    let product = more_times(alloc, inner, names, tokens, depth, closures, first)?;
-    let sum = more_plus(alloc, inner, names, tokens, depth, closures, product)?;
-    let comparison = more_compares(alloc, inner, names, tokens, depth, closures, sum)?;
-    let conjunction = more_and(alloc, inner, names, tokens, depth, closures, comparison)?;
-    more_or(alloc, inner, names, tokens, depth, closures, conjunction)
+    let product = more_times(alloc, inner, around, tokens, depth, closures, first)?;
+    let sum = more_plus(alloc, inner, around, tokens, depth, closures, product)?;
+    let comparison = more_compares(alloc, inner, around, tokens, depth, closures, sum)?;
+    let conjunction = more_and(alloc, inner, around, tokens, depth, closures, comparison)?;
+    more_or(alloc, inner, around, tokens, depth, closures, conjunction)
 }
 
 /// `await` and what it covers.
@@ -221,18 +224,18 @@ pub fn more_operands<I: Inner>(
 pub fn awaited<I: Inner>(
     alloc: Global,
     inner: &I,
-    names: &Names,
+    around: &Around<'_>,
     tokens: &mut Cursor<'_>,
     depth: u32,
     closures: bool,
 ) -> Result<Expr, Stop>
     requires { Below I.reads inner.now depth }
-    ensures { Gives (read (id_in names.now) depth (exprs.awaited (id_in names.now) closures)
+    ensures { Gives (read (known around.now) depth (exprs.awaited (known around.now) closures)
         tokens.old) result tokens.new }
 {
     let at = tokens.expect("await")?;
-    let first = unary(alloc, inner, names, tokens, depth, closures)?;
-    let whole = more_operands(alloc, inner, names, tokens, depth, closures, first)?;
+    let first = unary(alloc, inner, around, tokens, depth, closures)?;
+    let whole = more_operands(alloc, inner, around, tokens, depth, closures, first)?;
     Ok(Expr::Await {
         at,
         inner: Boxed::new(alloc, whole)?,
@@ -244,20 +247,20 @@ pub fn awaited<I: Inner>(
 pub fn expr<I: Inner>(
     alloc: Global,
     inner: &I,
-    names: &Names,
+    around: &Around<'_>,
     tokens: &mut Cursor<'_>,
     depth: u32,
     closures: bool,
 ) -> Result<Expr, Stop>
     requires { Below I.reads inner.now depth }
-    ensures { Gives (read (id_in names.now) depth (exprs.expr (id_in names.now) closures)
+    ensures { Gives (read (known around.now) depth (exprs.expr (known around.now) closures)
         tokens.old) result tokens.new }
 {
     if tokens.sees("await") {
-        return awaited(alloc, inner, names, tokens, depth, closures);
+        return awaited(alloc, inner, around, tokens, depth, closures);
     }
-    let first = unary(alloc, inner, names, tokens, depth, closures)?;
-    more_operands(alloc, inner, names, tokens, depth, closures, first)
+    let first = unary(alloc, inner, around, tokens, depth, closures)?;
+    more_operands(alloc, inner, around, tokens, depth, closures, first)
 }
 
 /// An expression that begins with neither a word nor `Task`.
@@ -265,38 +268,38 @@ pub fn expr<I: Inner>(
 pub fn other_expr<I: Inner>(
     alloc: Global,
     inner: &I,
-    names: &Names,
+    around: &Around<'_>,
     tokens: &mut Cursor<'_>,
     depth: u32,
 ) -> Result<Expr, Stop>
     requires { Below I.reads inner.now depth }
-    ensures { Gives (read (id_in names.now) depth (exprs.other_expr (id_in names.now)) tokens.old)
+    ensures { Gives (read (known around.now) depth (exprs.other_expr (known around.now)) tokens.old)
         result tokens.new }
 {
     if tokens.sees("await") {
-        return awaited(alloc, inner, names, tokens, depth, true);
+        return awaited(alloc, inner, around, tokens, depth, true);
     }
-    let first = other_operand(alloc, inner, names, tokens, depth)?;
-    more_operands(alloc, inner, names, tokens, depth, true, first)
+    let first = other_operand(alloc, inner, around, tokens, depth)?;
+    more_operands(alloc, inner, around, tokens, depth, true, first)
 }
 
 /// An operand that begins with neither a word nor `Task`.
 fn other_operand<I: Inner>(
     alloc: Global,
     inner: &I,
-    names: &Names,
+    around: &Around<'_>,
     tokens: &mut Cursor<'_>,
     depth: u32,
 ) -> Result<Expr, Stop>
     requires { Below I.reads inner.now depth }
-    ensures { Gives (read (id_in names.now) depth (other_operand (id_in names.now)) tokens.old)
+    ensures { Gives (read (known around.now) depth (other_operand (known around.now)) tokens.old)
         result tokens.new }
 {
     if sees_prefix(tokens) {
-        return negated(alloc, inner, names, tokens, depth, true);
+        return negated(alloc, inner, around, tokens, depth, true);
     }
-    let base = other_primary(alloc, inner, names, tokens, depth, true)?;
-    after_operand(alloc, inner, names, tokens, depth, base)
+    let base = other_primary(alloc, inner, around, tokens, depth, true)?;
+    after_operand(alloc, inner, around, tokens, depth, base)
 }
 
 /// A chain of an operand and what comes after it; the operand alone where nothing does.
@@ -316,18 +319,18 @@ fn chained(alloc: Global, first: Expr, links: LinkList) -> Result<Expr, AllocErr
 fn times_links<I: Inner>(
     alloc: Global,
     inner: &I,
-    names: &Names,
+    around: &Around<'_>,
     tokens: &mut Cursor<'_>,
     depth: u32,
     closures: bool,
 ) -> Result<LinkList, Stop>
     requires { Below I.reads inner.now depth }
-    ensures { Gives (read (id_in names.now) depth (links_after [] (infix_in times (codes "*"))
-        (exprs.unary (id_in names.now) closures)) tokens.old) result tokens.new }
+    ensures { Gives (read (known around.now) depth (links_after [] (infix_in times (codes "*"))
+        (exprs.unary (known around.now) closures)) tokens.old) result tokens.new }
 {
     let mut links = Vec::new(alloc);
     while sees_times(tokens) {
-        links.push(times_link(alloc, inner, names, tokens, depth, closures)?)?;
+        links.push(times_link(alloc, inner, around, tokens, depth, closures)?)?;
     }
     Ok(ListOf::from_vec(links))
 }
@@ -336,17 +339,17 @@ fn times_links<I: Inner>(
 fn times_link<I: Inner>(
     alloc: Global,
     inner: &I,
-    names: &Names,
+    around: &Around<'_>,
     tokens: &mut Cursor<'_>,
     depth: u32,
     closures: bool,
 ) -> Result<Link, Stop>
     requires { Below I.reads inner.now depth }
-    ensures { Gives (link_with (infix_in times (codes "*")) (read (id_in names.now) depth
-        (exprs.unary (id_in names.now) closures)) tokens.old) result tokens.new }
+    ensures { Gives (link_with (infix_in times (codes "*")) (read (known around.now) depth
+        (exprs.unary (known around.now) closures)) tokens.old) result tokens.new }
 {
     let (op, at) = infix_times(tokens)?;
-    let operand = unary(alloc, inner, names, tokens, depth, closures)?;
+    let operand = unary(alloc, inner, around, tokens, depth, closures)?;
     Ok(Link { op, at, operand })
 }
 
@@ -354,18 +357,18 @@ fn times_link<I: Inner>(
 fn plus_links<I: Inner>(
     alloc: Global,
     inner: &I,
-    names: &Names,
+    around: &Around<'_>,
     tokens: &mut Cursor<'_>,
     depth: u32,
     closures: bool,
 ) -> Result<LinkList, Stop>
     requires { Below I.reads inner.now depth }
-    ensures { Gives (read (id_in names.now) depth (links_after [] (infix_in plus (codes "+"))
-        (exprs.product (id_in names.now) closures)) tokens.old) result tokens.new }
+    ensures { Gives (read (known around.now) depth (links_after [] (infix_in plus (codes "+"))
+        (exprs.product (known around.now) closures)) tokens.old) result tokens.new }
 {
     let mut links = Vec::new(alloc);
     while sees_plus(tokens) {
-        links.push(plus_link(alloc, inner, names, tokens, depth, closures)?)?;
+        links.push(plus_link(alloc, inner, around, tokens, depth, closures)?)?;
     }
     Ok(ListOf::from_vec(links))
 }
@@ -374,17 +377,17 @@ fn plus_links<I: Inner>(
 fn plus_link<I: Inner>(
     alloc: Global,
     inner: &I,
-    names: &Names,
+    around: &Around<'_>,
     tokens: &mut Cursor<'_>,
     depth: u32,
     closures: bool,
 ) -> Result<Link, Stop>
     requires { Below I.reads inner.now depth }
-    ensures { Gives (link_with (infix_in plus (codes "+")) (read (id_in names.now) depth
-        (exprs.product (id_in names.now) closures)) tokens.old) result tokens.new }
+    ensures { Gives (link_with (infix_in plus (codes "+")) (read (known around.now) depth
+        (exprs.product (known around.now) closures)) tokens.old) result tokens.new }
 {
     let (op, at) = infix_plus(tokens)?;
-    let operand = product(alloc, inner, names, tokens, depth, closures)?;
+    let operand = product(alloc, inner, around, tokens, depth, closures)?;
     Ok(Link { op, at, operand })
 }
 
@@ -392,19 +395,19 @@ fn plus_link<I: Inner>(
 fn and_links<I: Inner>(
     alloc: Global,
     inner: &I,
-    names: &Names,
+    around: &Around<'_>,
     tokens: &mut Cursor<'_>,
     depth: u32,
     closures: bool,
 ) -> Result<LinkList, Stop>
     requires { Below I.reads inner.now depth }
-    ensures { Gives (read (id_in names.now) depth (links_after []
+    ensures { Gives (read (known around.now) depth (links_after []
         (infix_in (infix_op (codes "&&")) (codes "&&"))
-        (exprs.comparison (id_in names.now) closures)) tokens.old) result tokens.new }
+        (exprs.comparison (known around.now) closures)) tokens.old) result tokens.new }
 {
     let mut links = Vec::new(alloc);
     while tokens.sees_operator("&&", Fixity::Infix) {
-        links.push(and_link(alloc, inner, names, tokens, depth, closures)?)?;
+        links.push(and_link(alloc, inner, around, tokens, depth, closures)?)?;
     }
     Ok(ListOf::from_vec(links))
 }
@@ -413,18 +416,18 @@ fn and_links<I: Inner>(
 fn and_link<I: Inner>(
     alloc: Global,
     inner: &I,
-    names: &Names,
+    around: &Around<'_>,
     tokens: &mut Cursor<'_>,
     depth: u32,
     closures: bool,
 ) -> Result<Link, Stop>
     requires { Below I.reads inner.now depth }
     ensures { Gives (link_with (infix_in (infix_op (codes "&&")) (codes "&&"))
-        (read (id_in names.now) depth (exprs.comparison (id_in names.now) closures)) tokens.old)
+        (read (known around.now) depth (exprs.comparison (known around.now) closures)) tokens.old)
         result tokens.new }
 {
     let (op, at) = infix_and(tokens)?;
-    let operand = comparison(alloc, inner, names, tokens, depth, closures)?;
+    let operand = comparison(alloc, inner, around, tokens, depth, closures)?;
     Ok(Link { op, at, operand })
 }
 
@@ -432,19 +435,19 @@ fn and_link<I: Inner>(
 fn or_links<I: Inner>(
     alloc: Global,
     inner: &I,
-    names: &Names,
+    around: &Around<'_>,
     tokens: &mut Cursor<'_>,
     depth: u32,
     closures: bool,
 ) -> Result<LinkList, Stop>
     requires { Below I.reads inner.now depth }
-    ensures { Gives (read (id_in names.now) depth (links_after []
+    ensures { Gives (read (known around.now) depth (links_after []
         (infix_in (infix_op (codes "||")) (codes "||"))
-        (exprs.conjunction (id_in names.now) closures)) tokens.old) result tokens.new }
+        (exprs.conjunction (known around.now) closures)) tokens.old) result tokens.new }
 {
     let mut links = Vec::new(alloc);
     while tokens.sees_operator("||", Fixity::Infix) {
-        links.push(or_link(alloc, inner, names, tokens, depth, closures)?)?;
+        links.push(or_link(alloc, inner, around, tokens, depth, closures)?)?;
     }
     Ok(ListOf::from_vec(links))
 }
@@ -453,17 +456,17 @@ fn or_links<I: Inner>(
 fn or_link<I: Inner>(
     alloc: Global,
     inner: &I,
-    names: &Names,
+    around: &Around<'_>,
     tokens: &mut Cursor<'_>,
     depth: u32,
     closures: bool,
 ) -> Result<Link, Stop>
     requires { Below I.reads inner.now depth }
     ensures { Gives (link_with (infix_in (infix_op (codes "||")) (codes "||"))
-        (read (id_in names.now) depth (exprs.conjunction (id_in names.now) closures)) tokens.old)
+        (read (known around.now) depth (exprs.conjunction (known around.now) closures)) tokens.old)
         result tokens.new }
 {
     let (op, at) = infix_or(tokens)?;
-    let operand = conjunction(alloc, inner, names, tokens, depth, closures)?;
+    let operand = conjunction(alloc, inner, around, tokens, depth, closures)?;
     Ok(Link { op, at, operand })
 }

@@ -5,12 +5,12 @@ ghost use Rattle.sw_grammar_forms.specs.Outcome.{Gives};
 ghost use Rattle.sw_grammar_forms.specs.Form.Form.{nest};
 ghost use Rattle.sw_grammar_forms.specs.Quotes.{quote};
 ghost use Rattle.sw_grammar_forms.specs.Reader.{then_read, pure};
-ghost use Rattle.sw_tree.specs.Names.{id_in};
 ghost use Rattle.sw_grammar.specs.Exprs as exprs;
 ghost use Rattle.sw_grammar.specs.Closures as closures;
 ghost use Rattle.sw_grammar.specs.Stmts as stmts;
 ghost use Rattle.sw_grammar.specs.Nests.Nest.{in_closure, in_task};
 ghost use Rattle.sw_grammar.specs.Reading.{read};
+ghost use Rattle.sw_parse_parts.specs.Around.{known};
 ghost use Rattle.sw_parse_parts.specs.Nested.{made};
 ghost use Rattle.sw_parse_expr.specs.Below.{Below};
 ghost use Rattle.sw_parse_expr.specs.Parts.{stmts_of};
@@ -24,10 +24,10 @@ use std::alloc::Global;
 use sw_grammar_forms::{Cursor, Stop};
 use sw_list::ListOf;
 use sw_parse_parts::{
-    attribute, captures, captures_if, sees_attribute, sees_stmt, sendable, signature, signature_if,
-    task_signature, task_signature_if,
+    Around, attribute, captures, captures_if, sees_attribute, sees_stmt, sendable, signature,
+    signature_if, task_signature, task_signature_if,
 };
-use sw_tree::{Block, Closure, ClosureParamList, Name, NameList, Names, StmtList, TypeTree};
+use sw_tree::{Block, Closure, ClosureParamList, Name, NameList, StmtList, TypeTree};
 
 /// What a closure has before its statements.
 #[derive(Drop)]
@@ -43,21 +43,21 @@ pub struct Header {
 #[tactic(auto, unfolding(sw_grammar::specs::Closures::header))]
 fn closure_header(
     alloc: Global,
-    names: &Names,
+    around: &Around<'_>,
     tokens: &mut Cursor<'_>,
     depth: u32,
 ) -> Result<Header, Stop>
-    ensures { Gives (made header_value (read (id_in names.now) depth
-        (closures.header (id_in names.now))) tokens.old) result tokens.new }
+    ensures { Gives (made header_value (read (known around.now) depth
+        (closures.header (known around.now))) tokens.old) result tokens.new }
 {
     if tokens.sees("@Sendable") {
-        return marked_header(alloc, names, tokens, depth);
+        return marked_header(alloc, around, tokens, depth);
     }
     if tokens.sees("[") {
-        return captured_header(alloc, names, tokens, depth);
+        return captured_header(alloc, around, tokens, depth);
     }
     if tokens.sees("(") {
-        return signed_header(alloc, names, tokens, depth);
+        return signed_header(alloc, around, tokens, depth);
     }
     Ok(no_header(alloc))
 }
@@ -66,21 +66,21 @@ fn closure_header(
 #[tactic(auto, unfolding(sw_grammar::specs::Closures::task_header))]
 fn task_header(
     alloc: Global,
-    names: &Names,
+    around: &Around<'_>,
     tokens: &mut Cursor<'_>,
     depth: u32,
 ) -> Result<Header, Stop>
-    ensures { Gives (made header_value (read (id_in names.now) depth
-        (closures.task_header (id_in names.now))) tokens.old) result tokens.new }
+    ensures { Gives (made header_value (read (known around.now) depth
+        (closures.task_header (known around.now))) tokens.old) result tokens.new }
 {
     if sees_attribute(tokens) {
-        return marked_task_header(alloc, names, tokens, depth);
+        return marked_task_header(alloc, around, tokens, depth);
     }
     if tokens.sees("[") {
-        return captured_task_header(alloc, names, tokens, depth);
+        return captured_task_header(alloc, around, tokens, depth);
     }
     if tokens.sees("(") {
-        return signed_task_header(alloc, names, tokens, depth);
+        return signed_task_header(alloc, around, tokens, depth);
     }
     Ok(no_header(alloc))
 }
@@ -90,18 +90,19 @@ fn task_header(
 pub fn statements<I: Inner>(
     alloc: Global,
     inner: &I,
-    names: &Names,
+    around: &Around<'_>,
     tokens: &mut Cursor<'_>,
     depth: u32,
 ) -> Result<StmtList, Stop>
     requires { I.reads inner.now depth }
-    ensures { Gives (stmts_of (id_in names.now) depth tokens.old) result tokens.new }
+    ensures { Gives (stmts_of (known around.now) depth tokens.old) result tokens.new }
 {
     let mut stmts = Vec::new(alloc);
     let mut ended = true;
     while sees_stmt(tokens) {
         tokens.start(!ended)?;
-        stmts.push(inner.stmt(alloc, names, tokens, depth)?)?;
+        let mut more = inner.stmt(alloc, around, tokens, depth)?.into_vec();
+        stmts.append(&mut more)?;
         ended = tokens.skip(";");
     }
     Ok(ListOf::from_vec(stmts))
@@ -111,16 +112,16 @@ pub fn statements<I: Inner>(
 pub fn closure<I: Inner>(
     alloc: Global,
     inner: &I,
-    names: &Names,
+    around: &Around<'_>,
     tokens: &mut Cursor<'_>,
     depth: u32,
 ) -> Result<Closure, Stop>
     requires { Below I.reads inner.now depth }
-    ensures { Gives (then_read (read (id_in names.now) depth (nest (quote (codes "{")) in_closure))
+    ensures { Gives (then_read (read (known around.now) depth (nest (quote (codes "{")) in_closure))
         (λ x. pure (exprs.closure_at x.0 x.1)) tokens.old) result tokens.new }
 {
     let at = tokens.open("{", depth)?;
-    closure_inside(alloc, inner, names, tokens, depth - 1, at)
+    closure_inside(alloc, inner, around, tokens, depth - 1, at)
 }
 
 /// A closure after its `{`, which stands at this position.
@@ -128,17 +129,17 @@ pub fn closure<I: Inner>(
 fn closure_inside<I: Inner>(
     alloc: Global,
     inner: &I,
-    names: &Names,
+    around: &Around<'_>,
     tokens: &mut Cursor<'_>,
     depth: u32,
     at: u32,
 ) -> Result<Closure, Stop>
     requires { I.reads inner.now depth }
-    ensures { Gives (made (exprs.closure_at at) (read (id_in names.now) depth
-        (stmts.closure_inside (id_in names.now))) tokens.old) result tokens.new }
+    ensures { Gives (made (exprs.closure_at at) (read (known around.now) depth
+        (stmts.closure_inside (known around.now))) tokens.old) result tokens.new }
 {
-    let header = closure_header(alloc, names, tokens, depth)?;
-    let stmts = statements(alloc, inner, names, tokens, depth)?;
+    let header = closure_header(alloc, around, tokens, depth)?;
+    let stmts = statements(alloc, inner, around, tokens, depth)?;
     tokens.expect("}")?;
     Ok(closure_of(at, header, stmts))
 }
@@ -147,16 +148,16 @@ fn closure_inside<I: Inner>(
 pub fn task_body<I: Inner>(
     alloc: Global,
     inner: &I,
-    names: &Names,
+    around: &Around<'_>,
     tokens: &mut Cursor<'_>,
     depth: u32,
 ) -> Result<Closure, Stop>
     requires { Below I.reads inner.now depth }
-    ensures { Gives (then_read (read (id_in names.now) depth (nest (quote (codes "{")) in_task))
+    ensures { Gives (then_read (read (known around.now) depth (nest (quote (codes "{")) in_task))
         (λ x. pure (exprs.closure_at x.0 x.1)) tokens.old) result tokens.new }
 {
     let at = tokens.open("{", depth)?;
-    task_inside(alloc, inner, names, tokens, depth - 1, at)
+    task_inside(alloc, inner, around, tokens, depth - 1, at)
 }
 
 /// The body of a task after its `{`, which stands at this position.
@@ -164,17 +165,17 @@ pub fn task_body<I: Inner>(
 fn task_inside<I: Inner>(
     alloc: Global,
     inner: &I,
-    names: &Names,
+    around: &Around<'_>,
     tokens: &mut Cursor<'_>,
     depth: u32,
     at: u32,
 ) -> Result<Closure, Stop>
     requires { I.reads inner.now depth }
-    ensures { Gives (made (exprs.closure_at at) (read (id_in names.now) depth
-        (stmts.task_inside (id_in names.now))) tokens.old) result tokens.new }
+    ensures { Gives (made (exprs.closure_at at) (read (known around.now) depth
+        (stmts.task_inside (known around.now))) tokens.old) result tokens.new }
 {
-    let header = task_header(alloc, names, tokens, depth)?;
-    let stmts = statements(alloc, inner, names, tokens, depth)?;
+    let header = task_header(alloc, around, tokens, depth)?;
+    let stmts = statements(alloc, inner, around, tokens, depth)?;
     tokens.expect("}")?;
     Ok(closure_of(at, header, stmts))
 }
@@ -208,17 +209,17 @@ fn no_header(alloc: Global) -> Header
 /// A closure's header that begins with `@Sendable`.
 fn marked_header(
     alloc: Global,
-    names: &Names,
+    around: &Around<'_>,
     tokens: &mut Cursor<'_>,
     depth: u32,
 ) -> Result<Header, Stop>
-    ensures { Gives (made header_value (read (id_in names.now) depth
-        (marked_header (id_in names.now)))
+    ensures { Gives (made header_value (read (known around.now) depth
+        (marked_header (known around.now)))
         tokens.old) result tokens.new }
 {
-    let mark = sendable(names, tokens)?;
-    let captures = captures_if(alloc, names, tokens, depth)?;
-    let (params, result) = signature_if(alloc, names, tokens, depth)?;
+    let mark = sendable(around, tokens)?;
+    let captures = captures_if(alloc, around, tokens, depth)?;
+    let (params, result) = signature_if(alloc, around, tokens, depth)?;
     tokens.expect("in")?;
     Ok(Header {
         mark: Some(mark),
@@ -231,16 +232,16 @@ fn marked_header(
 /// A closure's header that begins with a capture list.
 fn captured_header(
     alloc: Global,
-    names: &Names,
+    around: &Around<'_>,
     tokens: &mut Cursor<'_>,
     depth: u32,
 ) -> Result<Header, Stop>
-    ensures { Gives (made header_value (read (id_in names.now) depth
-        (captured_header (id_in names.now)))
+    ensures { Gives (made header_value (read (known around.now) depth
+        (captured_header (known around.now)))
         tokens.old) result tokens.new }
 {
-    let captures = captures(alloc, names, tokens, depth)?;
-    let (params, result) = signature_if(alloc, names, tokens, depth)?;
+    let captures = captures(alloc, around, tokens, depth)?;
+    let (params, result) = signature_if(alloc, around, tokens, depth)?;
     tokens.expect("in")?;
     Ok(Header {
         mark: None,
@@ -253,15 +254,15 @@ fn captured_header(
 /// A closure's header that begins with its parameters.
 fn signed_header(
     alloc: Global,
-    names: &Names,
+    around: &Around<'_>,
     tokens: &mut Cursor<'_>,
     depth: u32,
 ) -> Result<Header, Stop>
-    ensures { Gives (made header_value (read (id_in names.now) depth
-        (signed_header (id_in names.now)))
+    ensures { Gives (made header_value (read (known around.now) depth
+        (signed_header (known around.now)))
         tokens.old) result tokens.new }
 {
-    let (params, result) = signature(alloc, names, tokens, depth)?;
+    let (params, result) = signature(alloc, around, tokens, depth)?;
     tokens.expect("in")?;
     Ok(Header {
         mark: None,
@@ -274,17 +275,17 @@ fn signed_header(
 /// A task's header that begins with an attribute.
 fn marked_task_header(
     alloc: Global,
-    names: &Names,
+    around: &Around<'_>,
     tokens: &mut Cursor<'_>,
     depth: u32,
 ) -> Result<Header, Stop>
-    ensures { Gives (made header_value (read (id_in names.now) depth
-        (marked_task_header (id_in names.now)))
+    ensures { Gives (made header_value (read (known around.now) depth
+        (marked_task_header (known around.now)))
         tokens.old) result tokens.new }
 {
-    let mark = attribute(names, tokens)?;
-    let captures = captures_if(alloc, names, tokens, depth)?;
-    let (params, result) = task_signature_if(alloc, names, tokens, depth)?;
+    let mark = attribute(around, tokens)?;
+    let captures = captures_if(alloc, around, tokens, depth)?;
+    let (params, result) = task_signature_if(alloc, around, tokens, depth)?;
     tokens.expect("in")?;
     Ok(Header {
         mark: Some(mark),
@@ -297,16 +298,16 @@ fn marked_task_header(
 /// A task's header that begins with a capture list.
 fn captured_task_header(
     alloc: Global,
-    names: &Names,
+    around: &Around<'_>,
     tokens: &mut Cursor<'_>,
     depth: u32,
 ) -> Result<Header, Stop>
-    ensures { Gives (made header_value (read (id_in names.now) depth
-        (captured_task_header (id_in names.now)))
+    ensures { Gives (made header_value (read (known around.now) depth
+        (captured_task_header (known around.now)))
         tokens.old) result tokens.new }
 {
-    let captures = captures(alloc, names, tokens, depth)?;
-    let (params, result) = task_signature_if(alloc, names, tokens, depth)?;
+    let captures = captures(alloc, around, tokens, depth)?;
+    let (params, result) = task_signature_if(alloc, around, tokens, depth)?;
     tokens.expect("in")?;
     Ok(Header {
         mark: None,
@@ -319,15 +320,15 @@ fn captured_task_header(
 /// A task's header that begins with its brackets.
 fn signed_task_header(
     alloc: Global,
-    names: &Names,
+    around: &Around<'_>,
     tokens: &mut Cursor<'_>,
     depth: u32,
 ) -> Result<Header, Stop>
-    ensures { Gives (made header_value (read (id_in names.now) depth
-        (signed_task_header (id_in names.now)))
+    ensures { Gives (made header_value (read (known around.now) depth
+        (signed_task_header (known around.now)))
         tokens.old) result tokens.new }
 {
-    let (params, result) = task_signature(alloc, names, tokens, depth)?;
+    let (params, result) = task_signature(alloc, around, tokens, depth)?;
     tokens.expect("in")?;
     Ok(Header {
         mark: None,

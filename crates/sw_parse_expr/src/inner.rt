@@ -2,14 +2,15 @@
 
 ghost use Rattle.std.specs.Prelude.{ℕ, true};
 ghost use Rattle.sw_grammar_forms.specs.Outcome.{Gives};
-ghost use Rattle.sw_tree.specs.Names.{id_in};
 ghost use Rattle.sw_grammar.specs.Exprs as exprs;
 ghost use Rattle.sw_grammar.specs.Stmts as stmts;
 ghost use Rattle.sw_grammar.specs.Reading.{read};
+ghost use Rattle.sw_parse_parts.specs.Around.{known};
 
 use std::alloc::Global;
 use sw_grammar_forms::{Cursor, Stop};
-use sw_tree::{Arg, Expr, Names, Stmt};
+use sw_parse_parts::Around;
+use sw_tree::{Arg, Expr, StmtList};
 
 /// A parser of what stands in nests: expressions, arguments and statements further in.
 ///
@@ -26,35 +27,35 @@ pub trait Inner {
     fn expr(
         &self,
         alloc: Global,
-        names: &Names,
+        around: &Around<'_>,
         tokens: &mut Cursor<'_>,
         depth: u32,
     ) -> Result<Expr, Stop>
         requires { reads self.now depth }
-        ensures { Gives (read (id_in names.now) depth (exprs.expr (id_in names.now) true)
+        ensures { Gives (read (known around.now) depth (exprs.expr (known around.now) true)
             tokens.old) result tokens.new };
 
     /// An argument of a call, with its label where it has one.
     fn arg(
         &self,
         alloc: Global,
-        names: &Names,
+        around: &Around<'_>,
         tokens: &mut Cursor<'_>,
         depth: u32,
     ) -> Result<Arg, Stop>
         requires { reads self.now depth }
-        ensures { Gives (read (id_in names.now) depth (exprs.arg (id_in names.now)) tokens.old)
+        ensures { Gives (read (known around.now) depth (exprs.arg (known around.now)) tokens.old)
             result tokens.new };
 
-    /// A statement, without the `;` after it.
+    /// A statement, without the `;` after it, as the statements that it stands for.
     fn stmt(
         &self,
         alloc: Global,
-        names: &Names,
+        around: &Around<'_>,
         tokens: &mut Cursor<'_>,
         depth: u32,
-    ) -> Result<Stmt, Stop>
+    ) -> Result<StmtList, Stop>
         requires { reads self.now depth }
-        ensures { Gives (read (id_in names.now) depth (stmts.stmt (id_in names.now)) tokens.old)
+        ensures { Gives (read (known around.now) depth (stmts.stmt (known around.now)) tokens.old)
             result tokens.new };
 }

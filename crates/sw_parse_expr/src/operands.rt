@@ -1,9 +1,9 @@
 //! Operands: what stands between operators.
 
 ghost use Rattle.sw_grammar_forms.specs.Outcome.{Gives};
-ghost use Rattle.sw_tree.specs.Names.{id_in};
 ghost use Rattle.sw_grammar.specs.Exprs as exprs;
 ghost use Rattle.sw_grammar.specs.Reading.{read};
+ghost use Rattle.sw_parse_parts.specs.Around.{known};
 ghost use Rattle.sw_parse_expr.specs.Below.{Below};
 ghost use Rattle.sw_parse_expr.specs.Parts.{no_word};
 
@@ -14,28 +14,28 @@ use std::alloc::Global;
 use sw_grammar_forms::{Cursor, Stop};
 use sw_list::Boxed;
 use sw_parse_parts::{
-    a_literal, empty, prefix_op, sees_literal, sees_prefix, sees_value_word, value_word,
+    Around, a_literal, empty, prefix_op, sees_literal, sees_prefix, sees_value_word, value_word,
 };
-use sw_tree::{Expr, Names};
+use sw_tree::Expr;
 
 /// What stands after `Task` and `.`.
 #[tactic(auto, unfolding(sw_grammar::specs::Exprs::after_task_dot))]
 fn after_task_dot<I: Inner>(
     alloc: Global,
     inner: &I,
-    names: &Names,
+    around: &Around<'_>,
     tokens: &mut Cursor<'_>,
     depth: u32,
     closures: bool,
     at: u32,
 ) -> Result<Expr, Stop>
     requires { Below I.reads inner.now depth }
-    ensures { Gives (read (id_in names.now) depth (exprs.after_task_dot (id_in names.now) closures
+    ensures { Gives (read (known around.now) depth (exprs.after_task_dot (known around.now) closures
         at) tokens.old) result tokens.new }
 {
     if closures && tokens.sees("detached") {
         tokens.expect("detached")?;
-        let body = task_body(alloc, inner, names, tokens, depth)?;
+        let body = task_body(alloc, inner, around, tokens, depth)?;
         return Ok(Expr::Spawn {
             at,
             detached: true,
@@ -43,7 +43,7 @@ fn after_task_dot<I: Inner>(
         });
     }
     tokens.expect("yield")?;
-    empty(names, tokens, depth)?;
+    empty(around, tokens, depth)?;
     Ok(Expr::Yield { at })
 }
 
@@ -52,18 +52,18 @@ fn after_task_dot<I: Inner>(
 pub fn after_task<I: Inner>(
     alloc: Global,
     inner: &I,
-    names: &Names,
+    around: &Around<'_>,
     tokens: &mut Cursor<'_>,
     depth: u32,
     closures: bool,
     at: u32,
 ) -> Result<Expr, Stop>
     requires { Below I.reads inner.now depth }
-    ensures { Gives (read (id_in names.now) depth (exprs.after_task (id_in names.now) closures at)
+    ensures { Gives (read (known around.now) depth (exprs.after_task (known around.now) closures at)
         tokens.old) result tokens.new }
 {
     if closures && tokens.sees("{") {
-        let body = task_body(alloc, inner, names, tokens, depth)?;
+        let body = task_body(alloc, inner, around, tokens, depth)?;
         return Ok(Expr::Spawn {
             at,
             detached: false,
@@ -71,7 +71,7 @@ pub fn after_task<I: Inner>(
         });
     }
     tokens.expect(".")?;
-    after_task_dot(alloc, inner, names, tokens, depth, closures, at)
+    after_task_dot(alloc, inner, around, tokens, depth, closures, at)
 }
 
 /// An expression in brackets.
@@ -79,16 +79,16 @@ pub fn after_task<I: Inner>(
 fn bracketed<I: Inner>(
     alloc: Global,
     inner: &I,
-    names: &Names,
+    around: &Around<'_>,
     tokens: &mut Cursor<'_>,
     depth: u32,
 ) -> Result<Expr, Stop>
     requires { Below I.reads inner.now depth }
-    ensures { Gives (read (id_in names.now) depth (exprs.bracketed (id_in names.now)) tokens.old)
+    ensures { Gives (read (known around.now) depth (exprs.bracketed (known around.now)) tokens.old)
         result tokens.new }
 {
     tokens.open("(", depth)?;
-    round(alloc, inner, names, tokens, depth - 1)
+    round(alloc, inner, around, tokens, depth - 1)
 }
 
 /// What stands in the brackets, up to the `)`.
@@ -96,15 +96,16 @@ fn bracketed<I: Inner>(
 fn round<I: Inner>(
     alloc: Global,
     inner: &I,
-    names: &Names,
+    around: &Around<'_>,
     tokens: &mut Cursor<'_>,
     depth: u32,
 ) -> Result<Expr, Stop>
     requires { I.reads inner.now depth }
-    ensures { Gives (read (id_in names.now) depth (exprs.round (id_in names.now)) tokens.old) result
+    ensures { Gives (read (known around.now) depth (exprs.round (known around.now)) tokens.old)
+        result
         tokens.new }
 {
-    let expr = inner.expr(alloc, names, tokens, depth)?;
+    let expr = inner.expr(alloc, around, tokens, depth)?;
     tokens.expect(")")?;
     Ok(expr)
 }
@@ -114,25 +115,25 @@ fn round<I: Inner>(
 pub fn other_primary<I: Inner>(
     alloc: Global,
     inner: &I,
-    names: &Names,
+    around: &Around<'_>,
     tokens: &mut Cursor<'_>,
     depth: u32,
     closures: bool,
 ) -> Result<Expr, Stop>
     requires { Below I.reads inner.now depth }
-    ensures { Gives (read (id_in names.now) depth (exprs.other_primary (id_in names.now) closures)
+    ensures { Gives (read (known around.now) depth (exprs.other_primary (known around.now) closures)
         tokens.old) result tokens.new }
 {
     if closures && tokens.sees("{") {
-        return closure_expr(alloc, inner, names, tokens, depth);
+        return closure_expr(alloc, inner, around, tokens, depth);
     }
     if sees_literal(tokens) {
-        return a_literal(names, tokens, depth);
+        return a_literal(around, tokens, depth);
     }
     if tokens.sees("self") {
-        return me(names, tokens, depth);
+        return me(around, tokens, depth);
     }
-    bracketed(alloc, inner, names, tokens, depth)
+    bracketed(alloc, inner, around, tokens, depth)
 }
 
 /// A primary with its members.
@@ -140,21 +141,21 @@ pub fn other_primary<I: Inner>(
 fn postfix<I: Inner>(
     alloc: Global,
     inner: &I,
-    names: &Names,
+    around: &Around<'_>,
     tokens: &mut Cursor<'_>,
     depth: u32,
     closures: bool,
 ) -> Result<Expr, Stop>
     requires { Below I.reads inner.now depth }
-    ensures { Gives (read (id_in names.now) depth (exprs.postfix (id_in names.now) closures)
+    ensures { Gives (read (known around.now) depth (exprs.postfix (known around.now) closures)
         tokens.old) result tokens.new }
 {
     if sees_value_word(tokens) {
-        let name = value_word(names, tokens)?;
-        return after_word(alloc, inner, names, tokens, depth, name);
+        let name = value_word(around, tokens)?;
+        return after_word(alloc, inner, around, tokens, depth, name);
     }
-    let base = no_word(alloc, inner, names, tokens, depth, closures)?;
-    after_operand(alloc, inner, names, tokens, depth, base)
+    let base = no_word(alloc, inner, around, tokens, depth, closures)?;
+    after_operand(alloc, inner, around, tokens, depth, base)
 }
 
 /// A prefix operator and its operand.
@@ -162,17 +163,17 @@ fn postfix<I: Inner>(
 pub fn negated<I: Inner>(
     alloc: Global,
     inner: &I,
-    names: &Names,
+    around: &Around<'_>,
     tokens: &mut Cursor<'_>,
     depth: u32,
     closures: bool,
 ) -> Result<Expr, Stop>
     requires { Below I.reads inner.now depth }
-    ensures { Gives (read (id_in names.now) depth (exprs.negated (id_in names.now) closures)
+    ensures { Gives (read (known around.now) depth (exprs.negated (known around.now) closures)
         tokens.old) result tokens.new }
 {
     let (op, at) = prefix_op(tokens)?;
-    let operand = postfix(alloc, inner, names, tokens, depth, closures)?;
+    let operand = postfix(alloc, inner, around, tokens, depth, closures)?;
     Ok(Expr::Prefix {
         op,
         at,
@@ -185,39 +186,39 @@ pub fn negated<I: Inner>(
 pub fn unary<I: Inner>(
     alloc: Global,
     inner: &I,
-    names: &Names,
+    around: &Around<'_>,
     tokens: &mut Cursor<'_>,
     depth: u32,
     closures: bool,
 ) -> Result<Expr, Stop>
     requires { Below I.reads inner.now depth }
-    ensures { Gives (read (id_in names.now) depth (exprs.unary (id_in names.now) closures)
+    ensures { Gives (read (known around.now) depth (exprs.unary (known around.now) closures)
         tokens.old) result tokens.new }
 {
     if sees_prefix(tokens) {
-        return negated(alloc, inner, names, tokens, depth, closures);
+        return negated(alloc, inner, around, tokens, depth, closures);
     }
-    postfix(alloc, inner, names, tokens, depth, closures)
+    postfix(alloc, inner, around, tokens, depth, closures)
 }
 
 /// A primary that begins with no word that names a value.
 fn no_word<I: Inner>(
     alloc: Global,
     inner: &I,
-    names: &Names,
+    around: &Around<'_>,
     tokens: &mut Cursor<'_>,
     depth: u32,
     closures: bool,
 ) -> Result<Expr, Stop>
     requires { Below I.reads inner.now depth }
-    ensures { Gives (read (id_in names.now) depth (no_word (id_in names.now) closures) tokens.old)
+    ensures { Gives (read (known around.now) depth (no_word (known around.now) closures) tokens.old)
         result tokens.new }
 {
     if tokens.sees("Task") {
         let at = tokens.expect("Task")?;
-        return after_task(alloc, inner, names, tokens, depth, closures, at);
+        return after_task(alloc, inner, around, tokens, depth, closures, at);
     }
-    other_primary(alloc, inner, names, tokens, depth, closures)
+    other_primary(alloc, inner, around, tokens, depth, closures)
 }
 
 /// A closure as an expression.
@@ -225,22 +226,22 @@ fn no_word<I: Inner>(
 fn closure_expr<I: Inner>(
     alloc: Global,
     inner: &I,
-    names: &Names,
+    around: &Around<'_>,
     tokens: &mut Cursor<'_>,
     depth: u32,
 ) -> Result<Expr, Stop>
     requires { Below I.reads inner.now depth }
-    ensures { Gives (read (id_in names.now) depth (exprs.closure (id_in names.now)) tokens.old)
+    ensures { Gives (read (known around.now) depth (exprs.closure (known around.now)) tokens.old)
         result tokens.new }
 {
-    let closure = closure(alloc, inner, names, tokens, depth)?;
+    let closure = closure(alloc, inner, around, tokens, depth)?;
     Ok(Expr::Fun(Boxed::new(alloc, closure)?))
 }
 
 /// `self`.
 #[tactic(auto, unfolding(sw_grammar::specs::Exprs::me))]
-fn me(names: &Names, tokens: &mut Cursor<'_>, depth: u32) -> Result<Expr, Stop>
-    ensures { Gives (read (id_in names.now) depth (exprs.me (id_in names.now)) tokens.old) result
+fn me(around: &Around<'_>, tokens: &mut Cursor<'_>, depth: u32) -> Result<Expr, Stop>
+    ensures { Gives (read (known around.now) depth (exprs.me (known around.now)) tokens.old) result
         tokens.new }
 {
     Ok(Expr::Me {

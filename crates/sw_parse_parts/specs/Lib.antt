@@ -1,3 +1,4 @@
 pub mod Taking
+pub mod Around
 pub mod Begin
 pub mod Nested

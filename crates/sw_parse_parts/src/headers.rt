@@ -9,43 +9,44 @@ ghost use Rattle.sw_grammar.specs.Closures.{captured, captured_words, captures, 
 ghost use Rattle.sw_grammar.specs.Closures.{closure_param, closure_params, result_if, signature};
 ghost use Rattle.sw_grammar.specs.Closures.{signature_if, task_signature, task_signature_if};
 ghost use Rattle.sw_grammar_forms.specs.Outcome.{Gives};
-ghost use Rattle.sw_tree.specs.Names.{id_in};
 ghost use Rattle.sw_grammar.specs.Reading.{read};
+ghost use Rattle.sw_parse_parts.specs.Around.{known};
 
+use super::around::Around;
 use super::types::type_tree;
 use super::words::word;
 use std::alloc::Global;
 use sw_grammar_forms::{Cursor, Stop};
 use sw_list::ListOf;
-use sw_tree::{ClosureParam, ClosureParamList, Name, NameList, Names, TypeTree};
+use sw_tree::{ClosureParam, ClosureParamList, Name, NameList, TypeTree};
 
 /// The words of a capture list, in `[` and `]`.
 #[tactic(auto, unfolding(sw_grammar::specs::Closures::captures))]
 pub fn captures(
     alloc: Global,
-    names: &Names,
+    around: &Around<'_>,
     tokens: &mut Cursor<'_>,
     depth: u32,
 ) -> Result<NameList, Stop>
-    ensures { Gives (read (id_in names.now) depth (captures (id_in names.now)) tokens.old) result
+    ensures { Gives (read (known around.now) depth (captures (known around.now)) tokens.old) result
         tokens.new }
 {
-    let (_, words) = captured_list(alloc, names, tokens, depth)?;
+    let (_, words) = captured_list(alloc, around, tokens, depth)?;
     Ok(words)
 }
 
 /// The words of a capture list, and where its `[` stands.
 fn captured_list(
     alloc: Global,
-    names: &Names,
+    around: &Around<'_>,
     tokens: &mut Cursor<'_>,
     depth: u32,
 ) -> Result<(u32, NameList), Stop>
-    ensures { Gives (read (id_in names.now) depth (nest (quote (codes "[")) in_captures)
+    ensures { Gives (read (known around.now) depth (nest (quote (codes "[")) in_captures)
         tokens.old) result tokens.new }
 {
     let at = tokens.open("[", depth)?;
-    let inside = captured_words(alloc, names, tokens, depth - 1)?;
+    let inside = captured_words(alloc, around, tokens, depth - 1)?;
     Ok((at, inside))
 }
 
@@ -53,43 +54,43 @@ fn captured_list(
 #[tactic(auto, unfolding(sw_grammar::specs::Closures::captured_words))]
 fn captured_words(
     alloc: Global,
-    names: &Names,
+    around: &Around<'_>,
     tokens: &mut Cursor<'_>,
     depth: u32,
 ) -> Result<NameList, Stop>
-    ensures { Gives (read (id_in names.now) depth (captured_words (id_in names.now)) tokens.old)
+    ensures { Gives (read (known around.now) depth (captured_words (known around.now)) tokens.old)
         result tokens.new }
 {
-    let first = captured(names, tokens, depth)?;
-    let words = more_captured(alloc, names, tokens, depth, first)?;
+    let first = captured(around, tokens, depth)?;
+    let words = more_captured(alloc, around, tokens, depth, first)?;
     tokens.expect("]")?;
     Ok(words)
 }
 
 /// A word of a capture list.
 #[tactic(auto, unfolding(sw_grammar::specs::Closures::captured))]
-fn captured(names: &Names, tokens: &mut Cursor<'_>, depth: u32) -> Result<Name, Stop>
-    ensures { Gives (read (id_in names.now) depth (captured (id_in names.now)) tokens.old) result
+fn captured(around: &Around<'_>, tokens: &mut Cursor<'_>, depth: u32) -> Result<Name, Stop>
+    ensures { Gives (read (known around.now) depth (captured (known around.now)) tokens.old) result
         tokens.new }
 {
-    word(names, tokens)
+    word(around, tokens)
 }
 
 /// The words of a capture list after the first, each with a `,` before it.
 fn more_captured(
     alloc: Global,
-    names: &Names,
+    around: &Around<'_>,
     tokens: &mut Cursor<'_>,
     depth: u32,
     first: Name,
 ) -> Result<NameList, Stop>
-    ensures { Gives (read (id_in names.now) depth (more_of (id_in names.now) (first ∷ [])
-        (captured (id_in names.now))) tokens.old) result tokens.new }
+    ensures { Gives (read (known around.now) depth (more_of (known around.now) (first ∷ [])
+        (captured (known around.now))) tokens.old) result tokens.new }
 {
     let mut words = Vec::new(alloc);
     words.push(first)?;
     while tokens.skip(",") {
-        words.push(captured(names, tokens, depth)?)?;
+        words.push(captured(around, tokens, depth)?)?;
     }
     Ok(ListOf::from_vec(words))
 }
@@ -98,48 +99,48 @@ fn more_captured(
 #[tactic(auto, unfolding(sw_grammar::specs::Closures::captures_if))]
 pub fn captures_if(
     alloc: Global,
-    names: &Names,
+    around: &Around<'_>,
     tokens: &mut Cursor<'_>,
     depth: u32,
 ) -> Result<NameList, Stop>
-    ensures { Gives (read (id_in names.now) depth (captures_if (id_in names.now)) tokens.old)
+    ensures { Gives (read (known around.now) depth (captures_if (known around.now)) tokens.old)
         result tokens.new }
 {
     if !tokens.sees("[") {
         return Ok(ListOf::new(alloc));
     }
-    captures(alloc, names, tokens, depth)
+    captures(alloc, around, tokens, depth)
 }
 
 /// A parameter of a closure.
 #[tactic(auto, unfolding(sw_grammar::specs::Closures::closure_param))]
 fn closure_param(
     alloc: Global,
-    names: &Names,
+    around: &Around<'_>,
     tokens: &mut Cursor<'_>,
     depth: u32,
 ) -> Result<ClosureParam, Stop>
-    ensures { Gives (read (id_in names.now) depth (closure_param (id_in names.now)) tokens.old)
+    ensures { Gives (read (known around.now) depth (closure_param (known around.now)) tokens.old)
         result tokens.new }
 {
-    let name = word(names, tokens)?;
+    let name = word(around, tokens)?;
     tokens.expect(":")?;
-    let ty = type_tree(alloc, names, tokens, depth)?;
+    let ty = type_tree(alloc, around, tokens, depth)?;
     Ok(ClosureParam { name, ty })
 }
 
 /// The parameters of a closure, and where their `(` stands.
 fn closure_params(
     alloc: Global,
-    names: &Names,
+    around: &Around<'_>,
     tokens: &mut Cursor<'_>,
     depth: u32,
 ) -> Result<(u32, ClosureParamList), Stop>
-    ensures { Gives (read (id_in names.now) depth (nest (quote (codes "(")) in_closure_params)
+    ensures { Gives (read (known around.now) depth (nest (quote (codes "(")) in_closure_params)
         tokens.old) result tokens.new }
 {
     let at = tokens.open("(", depth)?;
-    let inside = params_inside(alloc, names, tokens, depth - 1)?;
+    let inside = params_inside(alloc, around, tokens, depth - 1)?;
     Ok((at, inside))
 }
 
@@ -147,32 +148,32 @@ fn closure_params(
 #[tactic(auto, unfolding(sw_grammar::specs::Closures::closure_params))]
 fn params_inside(
     alloc: Global,
-    names: &Names,
+    around: &Around<'_>,
     tokens: &mut Cursor<'_>,
     depth: u32,
 ) -> Result<ClosureParamList, Stop>
-    ensures { Gives (read (id_in names.now) depth (closure_params (id_in names.now)) tokens.old)
+    ensures { Gives (read (known around.now) depth (closure_params (known around.now)) tokens.old)
         result tokens.new }
 {
     if tokens.sees(")") {
         tokens.expect(")")?;
         return Ok(ListOf::new(alloc));
     }
-    some_params(alloc, names, tokens, depth)
+    some_params(alloc, around, tokens, depth)
 }
 
 /// One parameter at least, up to a `)`.
 fn some_params(
     alloc: Global,
-    names: &Names,
+    around: &Around<'_>,
     tokens: &mut Cursor<'_>,
     depth: u32,
 ) -> Result<ClosureParamList, Stop>
-    ensures { Gives (read (id_in names.now) depth (some_of (id_in names.now) (codes ")")
-        (closure_param (id_in names.now))) tokens.old) result tokens.new }
+    ensures { Gives (read (known around.now) depth (some_of (known around.now) (codes ")")
+        (closure_param (known around.now))) tokens.old) result tokens.new }
 {
-    let first = closure_param(alloc, names, tokens, depth)?;
-    let params = more_params(alloc, names, tokens, depth, first)?;
+    let first = closure_param(alloc, around, tokens, depth)?;
+    let params = more_params(alloc, around, tokens, depth, first)?;
     tokens.expect(")")?;
     Ok(params)
 }
@@ -180,18 +181,18 @@ fn some_params(
 /// The parameters after the first, each with a `,` before it.
 fn more_params(
     alloc: Global,
-    names: &Names,
+    around: &Around<'_>,
     tokens: &mut Cursor<'_>,
     depth: u32,
     first: ClosureParam,
 ) -> Result<ClosureParamList, Stop>
-    ensures { Gives (read (id_in names.now) depth (more_of (id_in names.now) (first ∷ [])
-        (closure_param (id_in names.now))) tokens.old) result tokens.new }
+    ensures { Gives (read (known around.now) depth (more_of (known around.now) (first ∷ [])
+        (closure_param (known around.now))) tokens.old) result tokens.new }
 {
     let mut params = Vec::new(alloc);
     params.push(first)?;
     while tokens.skip(",") {
-        params.push(closure_param(alloc, names, tokens, depth)?)?;
+        params.push(closure_param(alloc, around, tokens, depth)?)?;
     }
     Ok(ListOf::from_vec(params))
 }
@@ -200,33 +201,33 @@ fn more_params(
 #[tactic(auto, unfolding(sw_grammar::specs::Closures::result_if))]
 fn result_if(
     alloc: Global,
-    names: &Names,
+    around: &Around<'_>,
     tokens: &mut Cursor<'_>,
     depth: u32,
 ) -> Result<Option<TypeTree>, Stop>
-    ensures { Gives (read (id_in names.now) depth (result_if (id_in names.now)) tokens.old) result
+    ensures { Gives (read (known around.now) depth (result_if (known around.now)) tokens.old) result
         tokens.new }
 {
     if !tokens.sees("->") {
         return Ok(None);
     }
     tokens.expect("->")?;
-    Ok(Some(type_tree(alloc, names, tokens, depth)?))
+    Ok(Some(type_tree(alloc, around, tokens, depth)?))
 }
 
 /// The parameters of a closure, in `(` and `)`, and its result type, where it comes.
 #[tactic(auto, unfolding(sw_grammar::specs::Closures::signature))]
 pub fn signature(
     alloc: Global,
-    names: &Names,
+    around: &Around<'_>,
     tokens: &mut Cursor<'_>,
     depth: u32,
 ) -> Result<(ClosureParamList, Option<TypeTree>), Stop>
-    ensures { Gives (read (id_in names.now) depth (signature (id_in names.now)) tokens.old) result
+    ensures { Gives (read (known around.now) depth (signature (known around.now)) tokens.old) result
         tokens.new }
 {
-    let (_, params) = closure_params(alloc, names, tokens, depth)?;
-    let result = result_if(alloc, names, tokens, depth)?;
+    let (_, params) = closure_params(alloc, around, tokens, depth)?;
+    let result = result_if(alloc, around, tokens, depth)?;
     Ok((params, result))
 }
 
@@ -234,17 +235,17 @@ pub fn signature(
 #[tactic(auto, unfolding(sw_grammar::specs::Closures::signature_if))]
 pub fn signature_if(
     alloc: Global,
-    names: &Names,
+    around: &Around<'_>,
     tokens: &mut Cursor<'_>,
     depth: u32,
 ) -> Result<(ClosureParamList, Option<TypeTree>), Stop>
-    ensures { Gives (read (id_in names.now) depth (signature_if (id_in names.now)) tokens.old)
+    ensures { Gives (read (known around.now) depth (signature_if (known around.now)) tokens.old)
         result tokens.new }
 {
     if !tokens.sees("(") {
         return Ok((ListOf::new(alloc), None));
     }
-    signature(alloc, names, tokens, depth)
+    signature(alloc, around, tokens, depth)
 }
 
 /// The `()` of a task's closure, `async` where it comes, and its result type where it comes. A task
@@ -252,16 +253,16 @@ pub fn signature_if(
 #[tactic(auto, unfolding(sw_grammar::specs::Closures::task_signature))]
 pub fn task_signature(
     alloc: Global,
-    names: &Names,
+    around: &Around<'_>,
     tokens: &mut Cursor<'_>,
     depth: u32,
 ) -> Result<(ClosureParamList, Option<TypeTree>), Stop>
-    ensures { Gives (read (id_in names.now) depth (task_signature (id_in names.now)) tokens.old)
+    ensures { Gives (read (known around.now) depth (task_signature (known around.now)) tokens.old)
         result tokens.new }
 {
-    empty(names, tokens, depth)?;
+    empty(around, tokens, depth)?;
     tokens.skip("async");
-    let result = result_if(alloc, names, tokens, depth)?;
+    let result = result_if(alloc, around, tokens, depth)?;
     Ok((ListOf::new(alloc), result))
 }
 
@@ -270,23 +271,23 @@ pub fn task_signature(
 #[tactic(auto, unfolding(sw_grammar::specs::Closures::task_signature_if))]
 pub fn task_signature_if(
     alloc: Global,
-    names: &Names,
+    around: &Around<'_>,
     tokens: &mut Cursor<'_>,
     depth: u32,
 ) -> Result<(ClosureParamList, Option<TypeTree>), Stop>
-    ensures { Gives (read (id_in names.now) depth (task_signature_if (id_in names.now))
+    ensures { Gives (read (known around.now) depth (task_signature_if (known around.now))
         tokens.old) result tokens.new }
 {
     if !tokens.sees("(") {
         return Ok((ListOf::new(alloc), None));
     }
-    task_signature(alloc, names, tokens, depth)
+    task_signature(alloc, around, tokens, depth)
 }
 
 /// `()`; gives where both brackets stand.
 #[tactic(auto, unfolding(sw_grammar::specs::Exprs::nothing))]
-pub fn empty(names: &Names, tokens: &mut Cursor<'_>, depth: u32) -> Result<(u32, u32), Stop>
-    ensures { Gives (read (id_in names.now) depth (nest (quote (codes "(")) in_empty) tokens.old)
+pub fn empty(around: &Around<'_>, tokens: &mut Cursor<'_>, depth: u32) -> Result<(u32, u32), Stop>
+    ensures { Gives (read (known around.now) depth (nest (quote (codes "(")) in_empty) tokens.old)
         result tokens.new }
 {
     let at = tokens.open("(", depth)?;

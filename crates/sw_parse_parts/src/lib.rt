@@ -3,18 +3,20 @@
 //! follows it, and nothing of statements, of declarations or of what trees mean.
 //!
 //! Each function answers as the grammar's reader of its rule: it takes the tokens of the rule from
-//! the front of `tokens`, or stops where the reader does. `names` gives a name its id, and `depth`
-//! is how many more nests may be opened. Out of memory is the one free answer, and after a stop
-//! nothing is said of the tokens that are left. If an optional part is missing, its function takes
-//! no token.
+//! the front of `tokens`, or stops where the reader does. `around` is what stands around them, and
+//! `depth` is how many more nests may be opened. Out of memory is the one free answer, and after a
+//! stop nothing is said of the tokens that are left. If an optional part is missing, its function
+//! takes no token.
 #![tactic(auto)]
 
+mod around;
 mod headers;
 mod operators;
 mod patterns;
 mod types;
 mod words;
 
+pub use around::Around;
 pub use headers::{
     captures, captures_if, empty, signature, signature_if, task_signature, task_signature_if,
 };

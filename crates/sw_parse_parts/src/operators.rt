@@ -11,14 +11,15 @@ ghost use Rattle.sw_grammar.specs.Tokens.{infix_of, assign_of, infix_in, a_prefi
 ghost use Rattle.sw_grammar.specs.Tokens.{an_assignment};
 ghost use Rattle.sw_grammar.specs.Exprs as exprs;
 ghost use Rattle.sw_grammar.specs.Reading.{read};
-ghost use Rattle.sw_tree.specs.Names.{id_in};
+ghost use Rattle.sw_parse_parts.specs.Around.{known};
 ghost use Rattle.sw_parse_parts.specs.Taking.{TakesAs, infix_value, prefix_value, assign_value};
 ghost use Rattle.sw_parse_parts.specs.Begin.{booleans, value_first, expr_words, stmt_words};
 
+use super::around::Around;
 use super::words::sees_value_word;
 use sw_grammar_forms::{Cursor, Stop};
 use sw_token::Fixity;
-use sw_tree::{AssignOp, Expr, InfixOp, Names, PrefixOp};
+use sw_tree::{AssignOp, Expr, InfixOp, PrefixOp};
 
 /// The operator with this text, between operands; any text that isn't an operator's gives `||`.
 fn infix_of(text: &str) -> InfixOp
@@ -224,8 +225,8 @@ fn sees_boolean(tokens: &Cursor<'_>) -> bool
 
 /// A literal: an integer, `true` or `false`.
 #[tactic(auto, unfolding(sw_grammar::specs::Exprs::a_literal, sw_grammar_forms::specs::Terminals::literal))]
-pub fn a_literal(names: &Names, tokens: &mut Cursor<'_>, depth: u32) -> Result<Expr, Stop>
-    ensures { Gives (read (id_in names.now) depth (exprs.a_literal (id_in names.now)) tokens.old)
+pub fn a_literal(around: &Around<'_>, tokens: &mut Cursor<'_>, depth: u32) -> Result<Expr, Stop>
+    ensures { Gives (read (known around.now) depth (exprs.a_literal (known around.now)) tokens.old)
         result tokens.new }
 {
     if tokens.sees_integer() {

@@ -4,41 +4,42 @@ ghost use Rattle.std.specs.Prelude.{[], ◌∷◌, codes};
 ghost use Rattle.sw_grammar_forms.specs.Form.Form.{nest};
 ghost use Rattle.sw_grammar_forms.specs.Outcome.{Gives};
 ghost use Rattle.sw_grammar_forms.specs.Quotes.{quote};
-ghost use Rattle.sw_tree.specs.Names.{id_in};
 ghost use Rattle.sw_grammar.specs.Nests.{in_types, in_result, in_task_type};
 ghost use Rattle.sw_grammar.specs.Types.{type, round_type, marked_type, task_type};
 ghost use Rattle.sw_grammar.specs.Types.{types, payload, more_of, task_inner};
 ghost use Rattle.sw_grammar.specs.Stmts.{type_if};
 ghost use Rattle.sw_grammar.specs.Reading.{read};
+ghost use Rattle.sw_parse_parts.specs.Around.{known};
 
+use super::around::Around;
 use super::words::{sendable, task_word, value_word};
 use std::alloc::Global;
 use sw_grammar_forms::{Cursor, Stop};
 use sw_list::{Boxed, ListOf};
-use sw_tree::{Names, TypeTree, TypeTreeList};
+use sw_tree::{TypeTree, TypeTreeList};
 
 /// A type: a word, `()`, a function type or that of a task.
 #[cycle(types)]
 pub fn type_tree(
     alloc: Global,
-    names: &Names,
+    around: &Around<'_>,
     tokens: &mut Cursor<'_>,
     depth: u32,
 ) -> Result<TypeTree, Stop>
-    ensures { Gives (read (id_in names.now) depth (type (id_in names.now)) tokens.old) result
+    ensures { Gives (read (known around.now) depth (type (known around.now)) tokens.old) result
         tokens.new }
 {
     if tokens.sees("@Sendable") {
-        return marked_type(alloc, names, tokens, depth);
+        return marked_type(alloc, around, tokens, depth);
     }
     if tokens.sees("(") {
-        return round_type(alloc, names, tokens, depth);
+        return round_type(alloc, around, tokens, depth);
     }
     if tokens.sees("Task") {
-        return task_type(alloc, names, tokens, depth);
+        return task_type(alloc, around, tokens, depth);
     }
     Ok(TypeTree::Named {
-        name: value_word(names, tokens)?,
+        name: value_word(around, tokens)?,
     })
 }
 
@@ -47,16 +48,16 @@ pub fn type_tree(
 #[tactic(auto, unfolding(sw_grammar::specs::Types::marked_type))]
 fn marked_type(
     alloc: Global,
-    names: &Names,
+    around: &Around<'_>,
     tokens: &mut Cursor<'_>,
     depth: u32,
 ) -> Result<TypeTree, Stop>
-    ensures { Gives (read (id_in names.now) depth (marked_type (id_in names.now)) tokens.old)
+    ensures { Gives (read (known around.now) depth (marked_type (known around.now)) tokens.old)
         result tokens.new }
 {
-    let mark = sendable(names, tokens)?;
-    let (at, params) = params(alloc, names, tokens, depth)?;
-    let (_, result) = result(alloc, names, tokens, depth)?;
+    let mark = sendable(around, tokens)?;
+    let (at, params) = params(alloc, around, tokens, depth)?;
+    let (_, result) = result(alloc, around, tokens, depth)?;
     Ok(TypeTree::Arrow {
         at,
         mark: Some(mark),
@@ -70,16 +71,16 @@ fn marked_type(
 #[tactic(auto, unfolding(sw_grammar::specs::Types::round_type))]
 fn round_type(
     alloc: Global,
-    names: &Names,
+    around: &Around<'_>,
     tokens: &mut Cursor<'_>,
     depth: u32,
 ) -> Result<TypeTree, Stop>
-    ensures { Gives (read (id_in names.now) depth (round_type (id_in names.now)) tokens.old)
+    ensures { Gives (read (known around.now) depth (round_type (known around.now)) tokens.old)
         result tokens.new }
 {
-    let (at, params) = params(alloc, names, tokens, depth)?;
+    let (at, params) = params(alloc, around, tokens, depth)?;
     if tokens.sees("->") {
-        let (_, result) = result(alloc, names, tokens, depth)?;
+        let (_, result) = result(alloc, around, tokens, depth)?;
         return Ok(TypeTree::Arrow {
             at,
             mark: None,
@@ -97,15 +98,15 @@ fn round_type(
 #[cycle(types)]
 fn params(
     alloc: Global,
-    names: &Names,
+    around: &Around<'_>,
     tokens: &mut Cursor<'_>,
     depth: u32,
 ) -> Result<(u32, TypeTreeList), Stop>
-    ensures { Gives (read (id_in names.now) depth (nest (quote (codes "(")) in_types) tokens.old)
+    ensures { Gives (read (known around.now) depth (nest (quote (codes "(")) in_types) tokens.old)
         result tokens.new }
 {
     let at = tokens.open("(", depth)?;
-    let inside = types(alloc, names, tokens, depth - 1)?;
+    let inside = types(alloc, around, tokens, depth - 1)?;
     Ok((at, inside))
 }
 
@@ -113,15 +114,15 @@ fn params(
 #[cycle(types)]
 fn result(
     alloc: Global,
-    names: &Names,
+    around: &Around<'_>,
     tokens: &mut Cursor<'_>,
     depth: u32,
 ) -> Result<(u32, TypeTree), Stop>
-    ensures { Gives (read (id_in names.now) depth (nest (quote (codes "->")) in_result)
+    ensures { Gives (read (known around.now) depth (nest (quote (codes "->")) in_result)
         tokens.old) result tokens.new }
 {
     let at = tokens.open("->", depth)?;
-    let inside = type_tree(alloc, names, tokens, depth - 1)?;
+    let inside = type_tree(alloc, around, tokens, depth - 1)?;
     Ok((at, inside))
 }
 
@@ -130,18 +131,18 @@ fn result(
 #[tactic(auto, unfolding(sw_grammar::specs::Types::task_type))]
 fn task_type(
     alloc: Global,
-    names: &Names,
+    around: &Around<'_>,
     tokens: &mut Cursor<'_>,
     depth: u32,
 ) -> Result<TypeTree, Stop>
-    ensures { Gives (read (id_in names.now) depth (task_type (id_in names.now)) tokens.old) result
+    ensures { Gives (read (known around.now) depth (task_type (known around.now)) tokens.old) result
         tokens.new }
 {
-    let name = task_word(names, tokens)?;
+    let name = task_word(around, tokens)?;
     if !tokens.sees("<") {
         return Ok(TypeTree::Named { name });
     }
-    let (_, inner) = task_result(alloc, names, tokens, depth)?;
+    let (_, inner) = task_result(alloc, around, tokens, depth)?;
     Ok(TypeTree::TaskOf {
         at: name.at,
         inner: Boxed::new(alloc, inner)?,
@@ -152,15 +153,15 @@ fn task_type(
 #[cycle(types)]
 fn task_result(
     alloc: Global,
-    names: &Names,
+    around: &Around<'_>,
     tokens: &mut Cursor<'_>,
     depth: u32,
 ) -> Result<(u32, TypeTree), Stop>
-    ensures { Gives (read (id_in names.now) depth (nest (quote (codes "<")) in_task_type)
+    ensures { Gives (read (known around.now) depth (nest (quote (codes "<")) in_task_type)
         tokens.old) result tokens.new }
 {
     let at = tokens.open("<", depth)?;
-    let inside = task_inner(alloc, names, tokens, depth - 1)?;
+    let inside = task_inner(alloc, around, tokens, depth - 1)?;
     Ok((at, inside))
 }
 
@@ -169,14 +170,14 @@ fn task_result(
 #[tactic(auto, unfolding(sw_grammar::specs::Types::task_inner))]
 fn task_inner(
     alloc: Global,
-    names: &Names,
+    around: &Around<'_>,
     tokens: &mut Cursor<'_>,
     depth: u32,
 ) -> Result<TypeTree, Stop>
-    ensures { Gives (read (id_in names.now) depth (task_inner (id_in names.now)) tokens.old)
+    ensures { Gives (read (known around.now) depth (task_inner (known around.now)) tokens.old)
         result tokens.new }
 {
-    let inner = type_tree(alloc, names, tokens, depth)?;
+    let inner = type_tree(alloc, around, tokens, depth)?;
     tokens.expect(",")?;
     tokens.expect("Never")?;
     tokens.expect(">")?;
@@ -188,18 +189,18 @@ fn task_inner(
 #[tactic(auto, unfolding(sw_grammar::specs::Types::types, sw_grammar::specs::Types::payload))]
 fn types(
     alloc: Global,
-    names: &Names,
+    around: &Around<'_>,
     tokens: &mut Cursor<'_>,
     depth: u32,
 ) -> Result<TypeTreeList, Stop>
-    ensures { Gives (read (id_in names.now) depth (types (id_in names.now)) tokens.old) result
+    ensures { Gives (read (known around.now) depth (types (known around.now)) tokens.old) result
         tokens.new }
 {
     if tokens.sees(")") {
         tokens.expect(")")?;
         return Ok(ListOf::new(alloc));
     }
-    some_types(alloc, names, tokens, depth)
+    some_types(alloc, around, tokens, depth)
 }
 
 /// One type at least, each after the first with a `,` before it, and the `)` after them.
@@ -207,15 +208,15 @@ fn types(
 #[tactic(auto, unfolding(sw_grammar::specs::Types::payload))]
 pub fn some_types(
     alloc: Global,
-    names: &Names,
+    around: &Around<'_>,
     tokens: &mut Cursor<'_>,
     depth: u32,
 ) -> Result<TypeTreeList, Stop>
-    ensures { Gives (read (id_in names.now) depth (payload (id_in names.now)) tokens.old) result
+    ensures { Gives (read (known around.now) depth (payload (known around.now)) tokens.old) result
         tokens.new }
 {
-    let first = type_tree(alloc, names, tokens, depth)?;
-    let types = more_types(alloc, names, tokens, depth, first)?;
+    let first = type_tree(alloc, around, tokens, depth)?;
+    let types = more_types(alloc, around, tokens, depth, first)?;
     tokens.expect(")")?;
     Ok(types)
 }
@@ -224,18 +225,18 @@ pub fn some_types(
 #[cycle(types)]
 fn more_types(
     alloc: Global,
-    names: &Names,
+    around: &Around<'_>,
     tokens: &mut Cursor<'_>,
     depth: u32,
     first: TypeTree,
 ) -> Result<TypeTreeList, Stop>
-    ensures { Gives (read (id_in names.now) depth (more_of (id_in names.now) (first ∷ []) (type
-        (id_in names.now))) tokens.old) result tokens.new }
+    ensures { Gives (read (known around.now) depth (more_of (known around.now) (first ∷ []) (type
+        (known around.now))) tokens.old) result tokens.new }
 {
     let mut types = Vec::new(alloc);
     types.push(first)?;
     while tokens.skip(",") {
-        types.push(type_tree(alloc, names, tokens, depth)?)?;
+        types.push(type_tree(alloc, around, tokens, depth)?)?;
     }
     Ok(ListOf::from_vec(types))
 }
@@ -244,16 +245,16 @@ fn more_types(
 #[tactic(auto, unfolding(sw_grammar::specs::Stmts::type_if))]
 pub fn type_if(
     alloc: Global,
-    names: &Names,
+    around: &Around<'_>,
     tokens: &mut Cursor<'_>,
     depth: u32,
 ) -> Result<Option<TypeTree>, Stop>
-    ensures { Gives (read (id_in names.now) depth (type_if (id_in names.now)) tokens.old) result
+    ensures { Gives (read (known around.now) depth (type_if (known around.now)) tokens.old) result
         tokens.new }
 {
     if !tokens.sees(":") {
         return Ok(None);
     }
     tokens.expect(":")?;
-    Ok(Some(type_tree(alloc, names, tokens, depth)?))
+    Ok(Some(type_tree(alloc, around, tokens, depth)?))
 }

@@ -7,8 +7,10 @@ ghost use Rattle.sw_grammar_forms.specs.Relations.{head};
 ghost use Rattle.sw_grammar_forms.specs.Sets.{starts, word, quoted, attribute};
 ghost use Rattle.sw_tree.specs.Names.{id_in};
 ghost use Rattle.sw_grammar.specs.Tokens.{value_word, at_word, name_of, at_name, name_in, at_in};
+ghost use Rattle.sw_parse_parts.specs.Around.{known};
 ghost use Rattle.sw_parse_parts.specs.Taking.{TakesAs};
 
+use super::around::Around;
 use sw_grammar_forms::{Cursor, Stop};
 use sw_tree::{Name, Names};
 
@@ -33,14 +35,14 @@ fn take_attribute(names: &Names, tokens: &mut Cursor<'_>) -> Name
 }
 
 /// Takes a word that names something.
-pub fn word(names: &Names, tokens: &mut Cursor<'_>) -> Result<Name, Stop>
-    ensures { Gives (next (name_in (id_in names.now) word (codes "print")) tokens.old) result
+pub fn word(around: &Around<'_>, tokens: &mut Cursor<'_>) -> Result<Name, Stop>
+    ensures { Gives (next (name_in (known around.now) word (codes "print")) tokens.old) result
         tokens.new }
 {
     if !tokens.sees_word() {
         return Err(tokens.stop());
     }
-    Ok(take_name(names, tokens))
+    Ok(take_name(around.names, tokens))
 }
 
 /// Whether the next token is a word that names a value: any that names something, but `Task`.
@@ -51,25 +53,25 @@ pub fn sees_value_word(tokens: &Cursor<'_>) -> bool
 }
 
 /// Takes a word that names a value.
-pub fn value_word(names: &Names, tokens: &mut Cursor<'_>) -> Result<Name, Stop>
-    ensures { Gives (next (name_in (id_in names.now) value_word (codes "print")) tokens.old) result
+pub fn value_word(around: &Around<'_>, tokens: &mut Cursor<'_>) -> Result<Name, Stop>
+    ensures { Gives (next (name_in (known around.now) value_word (codes "print")) tokens.old) result
         tokens.new }
 {
     if !sees_value_word(tokens) {
         return Err(tokens.stop());
     }
-    Ok(take_name(names, tokens))
+    Ok(take_name(around.names, tokens))
 }
 
 /// Takes the word `Task`.
-pub fn task_word(names: &Names, tokens: &mut Cursor<'_>) -> Result<Name, Stop>
-    ensures { Gives (next (name_in (id_in names.now) (quoted (codes "Task")) (codes "Task"))
+pub fn task_word(around: &Around<'_>, tokens: &mut Cursor<'_>) -> Result<Name, Stop>
+    ensures { Gives (next (name_in (known around.now) (quoted (codes "Task")) (codes "Task"))
         tokens.old) result tokens.new }
 {
     if !tokens.sees("Task") {
         return Err(tokens.stop());
     }
-    Ok(take_name(names, tokens))
+    Ok(take_name(around.names, tokens))
 }
 
 /// Whether the next token is an attribute other than `@concurrent`.
@@ -80,23 +82,23 @@ pub fn sees_attribute(tokens: &Cursor<'_>) -> bool
 }
 
 /// Takes an attribute other than `@concurrent`.
-pub fn attribute(names: &Names, tokens: &mut Cursor<'_>) -> Result<Name, Stop>
-    ensures { Gives (next (at_in (id_in names.now) at_word (codes "@Sendable")) tokens.old) result
+pub fn attribute(around: &Around<'_>, tokens: &mut Cursor<'_>) -> Result<Name, Stop>
+    ensures { Gives (next (at_in (known around.now) at_word (codes "@Sendable")) tokens.old) result
         tokens.new }
 {
     if !sees_attribute(tokens) {
         return Err(tokens.stop());
     }
-    Ok(take_attribute(names, tokens))
+    Ok(take_attribute(around.names, tokens))
 }
 
 /// Takes the attribute `@Sendable`.
-pub fn sendable(names: &Names, tokens: &mut Cursor<'_>) -> Result<Name, Stop>
-    ensures { Gives (next (at_in (id_in names.now) (quoted (codes "@Sendable"))
+pub fn sendable(around: &Around<'_>, tokens: &mut Cursor<'_>) -> Result<Name, Stop>
+    ensures { Gives (next (at_in (known around.now) (quoted (codes "@Sendable"))
         (codes "@Sendable")) tokens.old) result tokens.new }
 {
     if !tokens.sees("@Sendable") {
         return Err(tokens.stop());
     }
-    Ok(take_attribute(names, tokens))
+    Ok(take_attribute(around.names, tokens))
 }

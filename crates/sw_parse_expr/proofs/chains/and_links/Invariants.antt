@@ -1,20 +1,20 @@
 -- What is left of the operators gives the same answer as all of them.
 use Rattle.std.proofs.Common.{◌≡◌, [], codes, length}
-use Rattle.sw_tree.specs.Names.{id_in}
 use Rattle.sw_grammar.specs.Exprs.{comparison}
 use Rattle.sw_grammar.specs.Reading.{read}
 use Rattle.sw_grammar.specs.Tokens.{infix_op, infix_in}
+use Rattle.sw_parse_parts.specs.Around.{known}
 use Rattle.sw_parse_expr.specs.Parts.{links_after}
 use Rattle.sw_parse_expr.proofs.chains.and_links.Given as goal
 
 abbrev pub invariant-loop-alloc : goal.invariant-loop-alloc
 invariant-loop-alloc g l =
-    read (id_in l.fn.names) l.fn.depth (links_after l.links.items
+    read (known l.fn.around) l.fn.depth (links_after l.links.items
     (infix_in (infix_op (codes "&&")) (codes "&&"))
-    (comparison (id_in l.fn.names) l.fn.closures)) l.tokens
-    ≡ read (id_in l.fn.names) l.fn.depth (links_after []
+    (comparison (known l.fn.around) l.fn.closures)) l.tokens
+    ≡ read (known l.fn.around) l.fn.depth (links_after []
     (infix_in (infix_op (codes "&&")) (codes "&&"))
-    (comparison (id_in l.fn.names) l.fn.closures)) l.initial.tokens
+    (comparison (known l.fn.around) l.fn.closures)) l.initial.tokens
 
 abbrev pub decreases-loop-alloc : goal.decreases-loop-alloc
 decreases-loop-alloc g l = length l.tokens

@@ -1,23 +1,23 @@
 use Rattle.std.proofs.Common.{◌∙◌, ap, codes, refl}
 use Rattle.std.specs.Prelude.{Ok}
 use Rattle.sw_grammar_forms.proofs.ListLoops.{list_turn, list_shorter}
-use Rattle.sw_tree.specs.Names.{id_in}
 use Rattle.sw_grammar.specs.Grammar.{body, good}
 use Rattle.sw_grammar.specs.Nests.{El, shape_of}
 use Rattle.sw_grammar.specs.Closures.{closure_param}
+use Rattle.sw_parse_parts.specs.Around.{known}
 use Rattle.sw_parse_parts.proofs.headers.more_params.Goals as goal
 
 pub loop-alloc-smaller : goal.loop-alloc-smaller
 loop-alloc-smaller c =
-    list_shorter El shape_of (body (id_in c.args.names.now)) good c.args.depth (codes ",")
-    (closure_param (id_in c.args.names.now)) refl _ _ _ _
+    list_shorter El shape_of (body (known c.args.around.now)) good c.args.depth (codes ",")
+    (closure_param (known c.args.around.now)) refl _ _ _ _
     (c.skip.ensures ∙ ap (λ found. Ok (found, c.skip.new.self)) c.loop-alloc-test.true)
     c.in_ok-closure_param.ensures
 
 pub loop-alloc-preserved : goal.loop-alloc-preserved
 loop-alloc-preserved c = rw c.in_ok-push-2.ensures.items
-    (list_turn El shape_of (body (id_in c.args.names.now)) good c.args.depth (codes ",")
-    (closure_param (id_in c.args.names.now)) refl _ _ _ _ c.loop-alloc.params.items _
+    (list_turn El shape_of (body (known c.args.around.now)) good c.args.depth (codes ",")
+    (closure_param (known c.args.around.now)) refl _ _ _ _ c.loop-alloc.params.items _
     c.loop-alloc.invariant
     (c.skip.ensures ∙ ap (λ found. Ok (found, c.skip.new.self)) c.loop-alloc-test.true)
     c.in_ok-closure_param.ensures)

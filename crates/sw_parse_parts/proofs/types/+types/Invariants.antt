@@ -1,8 +1,8 @@
 -- How far the functions on types go down: nest by nest, and in a nest from rule to rule.
 use Rattle.std.proofs.Common.{◌≡◌, ◌+◌, ◌*◌, length}
-use Rattle.sw_tree.specs.Names.{id_in}
 use Rattle.sw_grammar.specs.Types.{type, more_of}
 use Rattle.sw_grammar.specs.Reading.{read}
+use Rattle.sw_parse_parts.specs.Around.{known}
 use Rattle.sw_parse_parts.proofs.types.+types.Given as goal
 
 abbrev pub decreases-marked_type : goal.decreases-marked_type
@@ -41,10 +41,10 @@ decreases-types l = 8 * l.depth + 5
 -- What is left of the list gives the same answer as the whole list.
 abbrev pub invariant-more_types-loop-alloc : goal.invariant-more_types-loop-alloc
 invariant-more_types-loop-alloc l =
-    read (id_in l.names) l.depth (more_of (id_in l.names) l.types.items (type (id_in l.names)))
+    read (known l.around) l.depth (more_of (known l.around) l.types.items (type (known l.around)))
     l.tokens
-    ≡ read (id_in l.names) l.depth
-    (more_of (id_in l.names) l.initial.types.items (type (id_in l.names))) l.initial.tokens
+    ≡ read (known l.around) l.depth
+    (more_of (known l.around) l.initial.types.items (type (known l.around))) l.initial.tokens
 
 abbrev pub decreases-more_types-loop-alloc : goal.decreases-more_types-loop-alloc
 decreases-more_types-loop-alloc l = length l.tokens
