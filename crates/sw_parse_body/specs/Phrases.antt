@@ -18,6 +18,7 @@ use Rattle.sw_tree.specs.declared.expr.Expr.{Expr}
 use Rattle.sw_tree.specs.declared.stmt.Block.{Block}
 use Rattle.sw_tree.specs.declared.type_tree.TypeTree.{TypeTree}
 use Rattle.sw_tree.specs.Names.{id_in, with_texts}
+use Rattle.sw_grammar.specs.Around.{outermost}
 use Rattle.sw_grammar.specs.Nests.{El, shape_of, Form}
 use Rattle.sw_grammar.specs.Grammar.{body}
 use Rattle.sw_grammar.specs.Reading.{read}
@@ -49,23 +50,23 @@ shape a_type = solid type_first type_ext 0
 
 -- the form of a phrase, where `id_of` gives the index of a name's text
 abbrev pub form : (phrase : Phrase) → (List ℕ → ℕ) → Form (shape phrase) (TreeOf phrase)
-form a_block id_of = stmts.block id_of
-form an_expr id_of = exprs.expr id_of true
-form a_type id_of = types.type id_of
+form a_block id_of = stmts.block (outermost id_of)
+form an_expr id_of = exprs.expr (outermost id_of) true
+form a_type id_of = types.type (outermost id_of)
 
 -- the trees that tokens spell, where `depth` nests are open before them
 abbrev pub SpellsPhrase : (phrase : Phrase) → (List ℕ → ℕ) → ℕ → Relation (TreeOf phrase)
 SpellsPhrase phrase id_of depth =
-    spells El shape_of (body id_of) (most_nests - depth) (form phrase id_of)
+    spells El shape_of (body (outermost id_of)) (most_nests - depth) (form phrase id_of)
 
 -- the same, however many nests are open
 abbrev pub SpellsAtAll : (phrase : Phrase) → (List ℕ → ℕ) → Relation (TreeOf phrase)
-SpellsAtAll phrase id_of = Wide El shape_of (body id_of) (form phrase id_of)
+SpellsAtAll phrase id_of = Wide El shape_of (body (outermost id_of)) (form phrase id_of)
 
 -- The last of the tokens opens a nest too many, where `depth` nests are open before the first.
 abbrev pub OpensTooMany : Phrase → (List ℕ → ℕ) → ℕ → List Spelled → Type 0
 OpensTooMany phrase id_of depth tokens =
-    opens El shape_of (body id_of) (most_nests - depth) (form phrase id_of) tokens
+    opens El shape_of (body (outermost id_of)) (most_nests - depth) (form phrase id_of) tokens
 
 -- The tokens from the index `from` up to, and without, the index `read.1` spell the tree `read.0`,
 -- and with the token after them no such spelling goes on.
@@ -139,7 +140,7 @@ KeepsNames phrase depth tokens from before after faults.Memory =
 -- reads a phrase where no such spelling goes on after it, from left to right
 abbrev pub read_phrase : (phrase : Phrase) → (List ℕ → ℕ) → ℕ → Reader (TreeOf phrase)
 read_phrase phrase id_of depth =
-    front (shape phrase).ext (read id_of depth (form phrase id_of))
+    front (shape phrase).ext (read (outermost id_of) depth (form phrase id_of))
 
 -- The fault of a reading that stops, among `count` tokens.
 abbrev pub fault_in : ℕ → Stop → ParseFault

@@ -5,8 +5,9 @@ use std::alloc::Global;
 use sw_grammar_forms::{Cursor, Stop};
 use sw_parse_decl::Bodies;
 use sw_parse_expr::Inner;
+use sw_parse_parts::Around;
 use sw_parse_stmt as stmts;
-use sw_tree::{Arg, Block, Expr, Names, Stmt};
+use sw_tree::{Arg, Block, Expr, StmtList};
 
 /// The parser of the values of variables and of the blocks of functions.
 pub struct Parser;
@@ -17,31 +18,31 @@ impl Inner for Parser {
     fn expr(
         &self,
         alloc: Global,
-        names: &Names,
+        around: &Around<'_>,
         tokens: &mut Cursor<'_>,
         depth: u32,
     ) -> Result<Expr, Stop> {
-        nests::expr(alloc, names, tokens, depth)
+        nests::expr(alloc, around, tokens, depth)
     }
 
     fn arg(
         &self,
         alloc: Global,
-        names: &Names,
+        around: &Around<'_>,
         tokens: &mut Cursor<'_>,
         depth: u32,
     ) -> Result<Arg, Stop> {
-        nests::arg(alloc, names, tokens, depth)
+        nests::arg(alloc, around, tokens, depth)
     }
 
     fn stmt(
         &self,
         alloc: Global,
-        names: &Names,
+        around: &Around<'_>,
         tokens: &mut Cursor<'_>,
         depth: u32,
-    ) -> Result<Stmt, Stop> {
-        nests::stmt(alloc, names, tokens, depth)
+    ) -> Result<StmtList, Stop> {
+        nests::stmt(alloc, around, tokens, depth)
     }
 }
 
@@ -49,20 +50,20 @@ impl Bodies for Parser {
     fn value(
         &self,
         alloc: Global,
-        names: &Names,
+        around: &Around<'_>,
         tokens: &mut Cursor<'_>,
         depth: u32,
     ) -> Result<Expr, Stop> {
-        stmts::value(alloc, self, names, tokens, depth)
+        stmts::value(alloc, self, around, tokens, depth)
     }
 
     fn block(
         &self,
         alloc: Global,
-        names: &Names,
+        around: &Around<'_>,
         tokens: &mut Cursor<'_>,
         depth: u32,
     ) -> Result<Block, Stop> {
-        stmts::block(alloc, self, names, tokens, depth)
+        stmts::block(alloc, self, around, tokens, depth)
     }
 }

@@ -14,6 +14,7 @@ ghost use Rattle.sw_parse_body.specs.Phrases.{read_phrase, a_block, an_expr, a_t
 use super::parser::Parser;
 use std::alloc::Global;
 use sw_grammar_forms::{Cursor, Stop};
+use sw_parse_parts::Around;
 use sw_token::Fixity;
 use sw_tree::{Block, Expr, Names, TypeTree};
 
@@ -26,7 +27,8 @@ pub fn block(
 ) -> Result<Block, Stop>
     ensures { Gives (read_phrase a_block (id_in names.now) depth tokens.old) result tokens.new }
 {
-    sw_parse_stmt::block(alloc, &Parser, names, tokens, depth)
+    let around = Around { names };
+    sw_parse_stmt::block(alloc, &Parser, &around, tokens, depth)
 }
 
 /// Whether the next token is an operator between operands, and none that assigns.
@@ -66,7 +68,8 @@ fn end_expr(tokens: &Cursor<'_>) -> Result<(), Stop>
 pub fn expr(alloc: Global, names: &Names, tokens: &mut Cursor<'_>, depth: u32) -> Result<Expr, Stop>
     ensures { Gives (read_phrase an_expr (id_in names.now) depth tokens.old) result tokens.new }
 {
-    let value = sw_parse_expr::expr(alloc, &Parser, names, tokens, depth, true)?;
+    let around = Around { names };
+    let value = sw_parse_expr::expr(alloc, &Parser, &around, tokens, depth, true)?;
     end_expr(tokens)?;
     Ok(value)
 }
@@ -98,7 +101,8 @@ pub fn type_tree(
 ) -> Result<TypeTree, Stop>
     ensures { Gives (read_phrase a_type (id_in names.now) depth tokens.old) result tokens.new }
 {
-    let tree = sw_parse_parts::type_tree(alloc, names, tokens, depth)?;
+    let around = Around { names };
+    let tree = sw_parse_parts::type_tree(alloc, &around, tokens, depth)?;
     end_type(tokens)?;
     Ok(tree)
 }

@@ -12,6 +12,7 @@ use Rattle.sw_grammar_forms.specs.Relations.{head}
 use Rattle.sw_grammar_forms.specs.Reader.{Reader, then_read, next}
 use Rattle.sw_grammar_forms.proofs.ReaderLaws.{bind_step}
 use Rattle.sw_grammar_forms.proofs.FormLaws.{loop_stops, loop_goes_on, turn_takes}
+use Rattle.sw_grammar.specs.Around.{Around}
 use Rattle.sw_grammar.specs.Nests.{El, shape_of, Form}
 use Rattle.sw_grammar.specs.Grammar.{body, good}
 use Rattle.sw_grammar.specs.Types.{more_of}
@@ -21,45 +22,45 @@ use Rattle.sw_grammar.specs.Reading.{read}
 abbrev pub part : Shape → Shape
 part s = seq (one (quote (codes ","))) (seq s empty)
 
-module _ (id_of : List ℕ → ℕ) (depth : ℕ) {s : Shape} {A : Type 0} (item : Form s A)
+module _ (around : Around) (depth : ℕ) {s : Shape} {A : Type 0} (item : Form s A)
     (ok : (star (part s)).ok ≡ true) where
   -- the answer of a list, of which some items are read
   abbrev pub More : List A → Reader (List A)
-  More xs = read id_of depth (more_of id_of xs item)
+  More xs = read around depth (more_of around xs item)
 
   abbrev comma_item : List A → Form (part s) (List A)
   comma_item xs = expect (codes ",") >>= λ _. (item >>= λ x. done (xs ++ x ∷ []))
 
   abbrev turn : List A → Reader (List A)
-  turn xs = read id_of depth (comma_item xs)
+  turn xs = read around depth (comma_item xs)
 
   abbrev goes : List Spelled → Type 0
   goes ts = starts (quoted (codes ",")) (head ts) ≡ true
 
   next_turn : (xs : List A) (ts : List Spelled) → goes ts → More xs ts ≡ then_read (turn xs) More ts
   next_turn xs ts some =
-      loop_goes_on El shape_of (body id_of) good depth (λ _. true) comma_item ok xs ts some
+      loop_goes_on El shape_of (body around) good depth (λ _. true) comma_item ok xs ts some
 
   turned : (xs : List A) (ts us vs : List Spelled) (at : ℕ) (x : A)
-      → next (quote (codes ",")) ts ≡ Ok (at, us) → read id_of depth item us ≡ Ok (x, vs)
+      → next (quote (codes ",")) ts ≡ Ok (at, us) → read around depth item us ≡ Ok (x, vs)
       → turn xs ts ≡ Ok (xs ++ x ∷ [], vs)
   turned xs ts us vs at x a b =
       bind_step (next (quote (codes ",")) ts) _ (at, us) _ a
-      (bind_step (read id_of depth item us) _ (x, vs) _ b refl)
+      (bind_step (read around depth item us) _ (x, vs) _ b refl)
 
   pub one_more : (init : List A) (start ts us vs : List Spelled) (xs : List A) (at : ℕ) (x : A)
       → goes ts → More xs ts ≡ More init start → next (quote (codes ",")) ts ≡ Ok (at, us)
-      → read id_of depth item us ≡ Ok (x, vs)
+      → read around depth item us ≡ Ok (x, vs)
       → More (xs ++ x ∷ []) vs ≡ More init start
   one_more init start ts us vs xs at x some same a b =
       sym (next_turn xs ts some
       ∙ bind_step (turn xs ts) _ (xs ++ x ∷ [], vs) _ (turned xs ts us vs at x a b) refl) ∙ same
 
   pub part_shrinks : (ts us vs : List Spelled) (xs : List A) (at : ℕ) (x : A)
-      → next (quote (codes ",")) ts ≡ Ok (at, us) → read id_of depth item us ≡ Ok (x, vs)
+      → next (quote (codes ",")) ts ≡ Ok (at, us) → read around depth item us ≡ Ok (x, vs)
       → length vs < length ts
   part_shrinks ts us vs xs at x a b =
-      turn_takes El shape_of (body id_of) good depth comma_item ok xs (xs ++ x ∷ []) ts vs
+      turn_takes El shape_of (body around) good depth comma_item ok xs (xs ++ x ∷ []) ts vs
       (turned xs ts us vs at x a b)
 
   pub all_parts : (init : List A) (start ts : List Spelled) (xs : List A)
@@ -67,4 +68,4 @@ module _ (id_of : List ℕ → ℕ) (depth : ℕ) {s : Shape} {A : Type 0} (item
       → More xs ts ≡ More init start → More init start ≡ Ok (xs, ts)
   all_parts init start ts xs ends same =
       sym same
-      ∙ loop_stops El shape_of (body id_of) good depth (λ _. true) comma_item ok xs ts ends
+      ∙ loop_stops El shape_of (body around) good depth (λ _. true) comma_item ok xs ts ends

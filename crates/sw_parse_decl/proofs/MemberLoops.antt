@@ -24,6 +24,7 @@ use Rattle.sw_grammar_forms.specs.Reader.{Answer, Fault, Reader, and_then, check
 use Rattle.sw_grammar_forms.proofs.ItemLoops as loops
 use Rattle.sw_grammar_forms.proofs.ItemLoops.{Refuses}
 use Rattle.sw_grammar_forms.proofs.ReaderLaws.{bind_step, bind_stop, ok_parts}
+use Rattle.sw_grammar.specs.Around.{Around}
 use Rattle.sw_grammar.specs.Nests.{El, shape_of, Member}
 use Rattle.sw_grammar.specs.Grammar.{body, good}
 use Rattle.sw_grammar.specs.Reading.{read}
@@ -40,15 +41,15 @@ good_kind kinds.Struct = refl
 good_kind kinds.Enum = refl
 good_kind kinds.Class = refl
 
-module _ (id_of : List ℕ → ℕ) (depth : ℕ) (kind : TypeKind) where
+module _ (around : Around) (depth : ℕ) (kind : TypeKind) where
   abbrev one_member : Reader Member
-  one_member = read id_of depth (member_of id_of kind)
+  one_member = read around depth (member_of around kind)
 
   -- these members are read, and what is left of the loop gives the same answer as the whole loop
   abbrev pub Progress : List Spelled → List Spelled → Members → Bool → Type 0
   Progress start ts all ended =
       (xs : List Member) × (all ≡ collected xs)
-      × (rest_of id_of depth kind (xs, ended) ts ≡ rest_of id_of depth kind ([], true) start)
+      × (rest_of around depth kind (xs, ended) ts ≡ rest_of around depth kind ([], true) start)
 
   abbrev goes : List Spelled → Type 0
   goes ts = starts (member_first kind) (head ts) ≡ true
@@ -69,27 +70,27 @@ module _ (id_of : List ℕ → ℕ) (depth : ℕ) (kind : TypeKind) where
   one_refused all (Err first) fault e =
       ap (λ r. elim r [ Ok x ↦ Err first | Err other ↦ Err other ]) e
 
-  all_refused : (start : List Spelled) (fault : Fault) → members_of id_of depth kind start ≡ Err
+  all_refused : (start : List Spelled) (fault : Fault) → members_of around depth kind start ≡ Err
       fault
-      → made collected (members_of id_of depth kind) start ≡ Err fault
-  all_refused start fault e = bind_stop (members_of id_of depth kind start) _ fault e
+      → made collected (members_of around depth kind) start ≡ Err fault
+  all_refused start fault e = bind_stop (members_of around depth kind start) _ fault e
 
   pub stops_at_start : (start ts : List Spelled) (all : Members) (ended : Bool) → goes ts
       → Progress start ts all ended
       → Refuses (check (may_start (not ended)) ts)
-      (made collected (members_of id_of depth kind) start)
+      (made collected (members_of around depth kind) start)
   stops_at_start start ts all ended some so_far fault e =
-      all_refused start fault (loops.stops_at_start El shape_of (body id_of) good depth
-      (member_of id_of kind) (good_kind kind) start ts so_far.0 ended some so_far.2 fault e)
+      all_refused start fault (loops.stops_at_start El shape_of (body around) good depth
+      (member_of around kind) (good_kind kind) start ts so_far.0 ended some so_far.2 fault e)
 
   pub stops_at_member : (start ts us : List Spelled) (all : Members) (ended : Bool)
       (value : Unit {0}) → goes ts → Progress start ts all ended
       → check (may_start (not ended)) ts ≡ Ok (value, us)
       → Refuses (and_member all one_member us)
-      (made collected (members_of id_of depth kind) start)
+      (made collected (members_of around depth kind) start)
   stops_at_member start ts us all ended value some so_far first fault e =
-      all_refused start fault (loops.stops_at_item El shape_of (body id_of) good depth
-      (member_of id_of kind) (good_kind kind) start ts us so_far.0 ended value some so_far.2 first
+      all_refused start fault (loops.stops_at_item El shape_of (body around) good depth
+      (member_of around kind) (good_kind kind) start ts us so_far.0 ended value some so_far.2 first
       fault (one_refused all (one_member us) fault e))
 
   pub one_turn : (start ts us vs ws : List Spelled) (all after : Members) (ended marked : Bool)
@@ -102,7 +103,7 @@ module _ (id_of : List ℕ → ℕ) (depth : ℕ) (kind : TypeKind) where
       let one = one_read all after (one_member us) vs b in (
         so_far.0 ++ one.0 ∷ [],
         one.2 ∙ (ap (λ m. with_member m one.0) so_far.1 ∙ with_collected so_far.0 one.0),
-        loops.one_turn El shape_of (body id_of) good depth (member_of id_of kind) (good_kind kind)
+        loops.one_turn El shape_of (body around) good depth (member_of around kind) (good_kind kind)
             start ts us vs ws so_far.0 ended marked one.0 value some so_far.2 a one.1 c,
       )
 
@@ -113,14 +114,14 @@ module _ (id_of : List ℕ → ℕ) (depth : ℕ) (kind : TypeKind) where
       → skipping (codes ";") vs ≡ Ok (marked, ws) → length ws < length ts
   shorter ts us vs ws all after ended marked value a b c =
       let one = one_read all after (one_member us) vs b in
-      loops.shorter El shape_of (body id_of) good depth (member_of id_of kind) (good_kind kind)
+      loops.shorter El shape_of (body around) good depth (member_of around kind) (good_kind kind)
       ts us vs ws [] ended marked one.0 value a one.1 c
 
   pub all_read : (start ts : List Spelled) (all : Members) (ended : Bool)
       → starts (member_first kind) (head ts) ≡ false → Progress start ts all ended
-      → made collected (members_of id_of depth kind) start ≡ Ok (all, ts)
+      → made collected (members_of around depth kind) start ≡ Ok (all, ts)
   all_read start ts all ended ends so_far =
-      bind_step (members_of id_of depth kind start) _ (so_far.0, ts) _
-      (loops.all_read El shape_of (body id_of) good depth (member_of id_of kind) (good_kind kind)
+      bind_step (members_of around depth kind start) _ (so_far.0, ts) _
+      (loops.all_read El shape_of (body around) good depth (member_of around kind) (good_kind kind)
       start ts so_far.0 ended ends so_far.2)
       (ap (λ m. Ok (m, ts)) (sym so_far.1))

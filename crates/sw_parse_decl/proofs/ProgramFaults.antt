@@ -19,6 +19,7 @@ use Rattle.sw_tree.proofs.NamesLemmas.{ids_of_interned}
 use Rattle.sw_tree.specs.Contents.{AreKeyed, AreNamed}
 use Rattle.sw_tree.specs.Names.{id_in, predeclared, with_texts}
 use Rattle.sw_tree.specs.declared.decl.Decl.{Decl}
+use Rattle.sw_grammar.specs.Around.{outermost}
 use Rattle.sw_grammar.specs.Nests.{El, shape_of}
 use Rattle.sw_grammar.specs.Grammar.{body, good}
 use Rattle.sw_grammar.specs.Decls.{program}
@@ -43,8 +44,9 @@ failed : (tokens : List Spelled) (fault : Fault) → Stops tokens fault
 failed tokens fault stops =
     let id_of = id_in (texts_of tokens) in
     whole_fails (SpellsWithin id_of most_nests) (SpellsDecls id_of) _
-    (read id_of most_nests (program id_of))
-    (law El shape_of (body id_of) good most_nests (program id_of) refl) tokens fault stops
+    (read (outermost id_of) most_nests (program (outermost id_of)))
+    (law El shape_of (body (outermost id_of)) good most_nests (program (outermost id_of)) refl)
+    tokens fault stops
 
 -- A fault is at a token or the end.
 pub fault_within : (tokens : List Spelled) (fault : Fault) → Stops tokens fault
@@ -61,7 +63,9 @@ read_program tokens is decls rest e =
     let id_of = id_in (texts_of tokens) in
     record {
       spelling = is;
-      form = read_is_spelled El shape_of (body id_of) good (program id_of) refl most_nests tokens
+      form =
+          read_is_spelled El shape_of (body (outermost id_of)) good (program (outermost id_of)) refl
+          most_nests tokens
           decls rest e;
     }
 
@@ -71,9 +75,13 @@ pub unexpected_at : (tokens : List Spelled) → IsSpelling tokens → (left : �
 unexpected_at tokens is left stops =
     let id_of = id_in (texts_of tokens) in
     record {
-      unexpected = fault_is_unexpected El shape_of (body id_of) good (program id_of) refl
+      unexpected =
+          fault_is_unexpected El shape_of (body (outermost id_of)) good (program (outermost id_of))
+          refl
           most_nests tokens is left stops;
-      shallow = read_is_shallow El shape_of (body id_of) good (program id_of) refl most_nests
+      shallow =
+          read_is_shallow El shape_of (body (outermost id_of)) good (program (outermost id_of)) refl
+          most_nests
           tokens (length tokens - left) (omega arith) (subst NotDeep (sym stops) tt);
     }
 
@@ -81,7 +89,8 @@ pub too_deep_at : (tokens : List Spelled) → IsSpelling tokens → (left : ℕ)
     → Stops tokens (too_deep left) → IsSyntaxFault tokens (faults.TooDeep (length tokens - left))
 too_deep_at tokens is left stops =
     let id_of = id_in (texts_of tokens) in
-    fault_is_too_deep El shape_of (body id_of) good (program id_of) refl most_nests tokens is left
+    fault_is_too_deep El shape_of (body (outermost id_of)) good (program (outermost id_of)) refl
+    most_nests tokens is left
     stops
 
 -- The tokens are a program or have a fault.
@@ -103,7 +112,8 @@ reads : (tokens : List Spelled) (decls : List Decl) → IsProgramOf decls tokens
     → whole_program (id_in (texts_of tokens)) tokens ≡ Ok (decls, [])
 reads tokens decls given =
     let id_of = id_in (texts_of tokens) in
-    spelled_is_read El shape_of (body id_of) good (program id_of) refl most_nests decls tokens
+    spelled_is_read El shape_of (body (outermost id_of)) good (program (outermost id_of)) refl
+    most_nests decls tokens
     given.form
 
 pub one_program : (tokens : List Spelled) (a b : List Decl) → IsProgramOf a tokens

@@ -5,6 +5,7 @@ use Rattle.sw_grammar_forms.specs.Form.Form.{either, more_items}
 use Rattle.sw_grammar_forms.specs.Reader.{Reader, then_read, pure}
 use Rattle.sw_grammar_forms.specs.Sets.{Set, quoted}
 use Rattle.sw_grammar_forms.specs.Terminals.{items}
+use Rattle.sw_grammar.specs.Around.{Around}
 use Rattle.sw_grammar.specs.Nests.{Form, Member, method_first}
 use Rattle.sw_grammar.specs.Tokens.{binding_first, type_ext, expr_ext, infix_op}
 use Rattle.sw_grammar.specs.Decls.{field, prop, init, enum_cases, method_member}
@@ -22,21 +23,21 @@ member_shape kinds.Class =
     alt (solid binding_first (type_ext ++ infix_op (codes "=") ++ expr_ext) 0)
     (alt (solid (quoted (codes "init")) [] 1) (solid method_first [] 1))
 
-abbrev pub member_of : (id_of : List ℕ → ℕ) (kind : TypeKind) → Form (member_shape kind) Member
-member_of id_of kinds.Struct = either (field id_of) (method_member id_of)
-member_of id_of kinds.Enum = either (enum_cases id_of) (method_member id_of)
-member_of id_of kinds.Class =
-    either (prop id_of) (either (init id_of) (method_member id_of))
+abbrev pub member_of : (around : Around) (kind : TypeKind) → Form (member_shape kind) Member
+member_of around kinds.Struct = either (field around) (method_member around)
+member_of around kinds.Enum = either (enum_cases around) (method_member around)
+member_of around kinds.Class =
+    either (prop around) (either (init around) (method_member around))
 
 -- what such members begin with
 abbrev pub member_first : TypeKind → Set
 member_first kind = (member_shape kind).first
 
 -- reads such members, up to a token that begins none
-abbrev pub members_of : (List ℕ → ℕ) → ℕ → TypeKind → Reader (List Member)
-members_of id_of depth kind =
-    then_read (read id_of depth (items (member_of id_of kind))) (λ state. pure state.0)
+abbrev pub members_of : Around → ℕ → TypeKind → Reader (List Member)
+members_of around depth kind =
+    then_read (read around depth (items (member_of around kind))) (λ state. pure state.0)
 
 -- the answer of all members, of which some are read
-abbrev pub rest_of : (List ℕ → ℕ) → ℕ → TypeKind → List Member × Bool → Reader (List Member × Bool)
-rest_of id_of depth kind state = read id_of depth (more_items state (member_of id_of kind))
+abbrev pub rest_of : Around → ℕ → TypeKind → List Member × Bool → Reader (List Member × Bool)
+rest_of around depth kind state = read around depth (more_items state (member_of around kind))

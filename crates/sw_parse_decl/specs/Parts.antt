@@ -9,6 +9,7 @@ use Rattle.sw_token.specs.Kinds.{kind_of}
 use Rattle.sw_token.specs.Spelling.{Spelled}
 use Rattle.sw_tree.specs.declared.decl.Decl.{Decl}
 use Rattle.sw_tree.specs.declared.decl.Written.TheVariants as written
+use Rattle.sw_grammar.specs.Around.{Around}
 use Rattle.sw_grammar.specs.Nests.{Form}
 use Rattle.sw_grammar.specs.Tokens.{at_in, expr_ext}
 use Rattle.sw_grammar.specs.Decls.{annotated_first, entry, global_actor, annotated, nonisolated}
@@ -20,42 +21,43 @@ abbrev pub annotated_shape : Shape
 annotated_shape = solid annotated_first expr_ext 0
 
 -- a declaration with the attribute `@main`
-abbrev pub after_main : (id_of : List ℕ → ℕ)
-    → Form (seq (one (at_in id_of (quoted (codes "@main")) (codes "@main")))
+abbrev pub after_main : (around : Around)
+    → Form (seq (one (at_in around (quoted (codes "@main")) (codes "@main")))
     (alt (solid (quoted (codes "struct")) [] 2) annotated_shape)) Decl
-after_main id_of = do
-  mark ← terminal (at_in id_of (quoted (codes "@main")) (codes "@main"))
-  either (entry id_of) (annotated id_of (written.At mark))
+after_main around = do
+  mark ← terminal (at_in around (quoted (codes "@main")) (codes "@main"))
+  either (entry around) (annotated around (written.At mark))
 
 -- a declaration with the attribute `@globalActor`
-abbrev pub after_global_actor : (id_of : List ℕ → ℕ)
-    → Form (seq (one (at_in id_of (quoted (codes "@globalActor")) (codes "@globalActor")))
+abbrev pub after_global_actor : (around : Around)
+    → Form (seq (one (at_in around (quoted (codes "@globalActor")) (codes "@globalActor")))
     (alt (solid (quoted (codes "actor")) [] 2) annotated_shape)) Decl
-after_global_actor id_of = do
-  mark ← terminal (at_in id_of (quoted (codes "@globalActor")) (codes "@globalActor"))
-  either (global_actor id_of) (annotated id_of (written.At mark))
+after_global_actor around = do
+  mark ← terminal (at_in around (quoted (codes "@globalActor")) (codes "@globalActor"))
+  either (global_actor around) (annotated around (written.At mark))
 
 abbrev func_shape : Shape
 func_shape = solid (quoted (codes "func")) [] 1
 
 -- a declaration without an attribute that names an actor
-abbrev pub other_decl : (id_of : List ℕ → ℕ)
+abbrev pub other_decl : (around : Around)
     → Form (alt (seq (solid (quoted (codes "nonisolated")) (quoted (codes "(")) 0) func_shape)
     (alt (seq (solid (quoted (codes "@concurrent")) (quoted (codes "nonisolated")) 0) func_shape)
     (alt (solid (quoted (codes "struct")) [] 1) (alt (solid (quoted (codes "enum")) [] 1)
     (alt (solid (quoted (codes "actor")) [] 1) annotated_shape))))) Decl
-other_decl id_of =
-    either (nonisolated id_of >>= func_decl id_of) (either (concurrent id_of >>= func_decl id_of)
-    (either (struct_decl id_of) (either (enum_decl id_of) (either (actor_decl id_of)
-    (annotated id_of written.Absent)))))
+other_decl around =
+    either (nonisolated around >>= func_decl around) (either (concurrent around >>= func_decl
+    around)
+    (either (struct_decl around) (either (enum_decl around) (either (actor_decl around)
+    (annotated around written.Absent)))))
 
 -- reads declarations, up to a token that begins none
-abbrev pub decls_of : (List ℕ → ℕ) → ℕ → Reader (List Decl)
-decls_of id_of depth = then_read (read id_of depth (items (decl id_of))) (λ state. pure state.0)
+abbrev pub decls_of : Around → ℕ → Reader (List Decl)
+decls_of around depth = then_read (read around depth (items (decl around))) (λ state. pure state.0)
 
 -- the answer of all declarations, of which some are read
-abbrev pub rest_of : (List ℕ → ℕ) → ℕ → List Decl × Bool → Reader (List Decl × Bool)
-rest_of id_of depth state = read id_of depth (more_items state (decl id_of))
+abbrev pub rest_of : Around → ℕ → List Decl × Bool → Reader (List Decl × Bool)
+rest_of around depth state = read around depth (more_items state (decl around))
 
 -- the texts of the names that the next token may give
 abbrev pub next_texts : List Spelled → List (List ℕ)

@@ -6,6 +6,7 @@ use Rattle.sw_grammar_forms.specs.Reader.{Reader, whole}
 use Rattle.sw_grammar_forms.specs.Whole.{IsSpelledAs}
 use Rattle.sw_tree.specs.Names.{id_in, predeclared, with_texts}
 use Rattle.sw_tree.specs.declared.decl.Decl.{Decl}
+use Rattle.sw_grammar.specs.Around.{outermost}
 use Rattle.sw_grammar.specs.Decls.{program}
 use Rattle.sw_grammar.specs.Program.{SpellsWithin, IsFirstUnexpected, IsTooDeep}
 use Rattle.sw_grammar.specs.Reading.{read}
@@ -29,7 +30,7 @@ IsProgramOf decls tokens =
 
 -- reads a program and no more, from left to right
 abbrev pub whole_program : (List ℕ → ℕ) → Reader (List Decl)
-whole_program id_of = whole (read id_of most_nests (program id_of))
+whole_program id_of = whole (read (outermost id_of) most_nests (program (outermost id_of)))
 
 -- The one syntax fault of the tokens: the first that can't be taken, or the first that opens a nest
 -- too many, whichever is earlier; at one token it is the former.

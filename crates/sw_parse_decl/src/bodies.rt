@@ -1,40 +1,41 @@
 //! What the parser of declarations asks of a parser of expressions and statements.
 
 ghost use Rattle.sw_grammar_forms.specs.Outcome.{Gives};
-ghost use Rattle.sw_tree.specs.Names.{id_in};
 ghost use Rattle.sw_grammar.specs.Stmts.{value, block};
 ghost use Rattle.sw_grammar.specs.Reading.{read};
+ghost use Rattle.sw_parse_parts.specs.Around.{known};
 
 use std::alloc::Global;
 use sw_grammar_forms::{Cursor, Stop};
-use sw_tree::{Block, Expr, Names};
+use sw_parse_parts::Around;
+use sw_tree::{Block, Expr};
 
 /// A parser of what stands in declarations: the values of variables and the blocks of functions.
 ///
-/// Each method answers as the grammar's reader of its rule, for any names, tokens and depth: it
-/// takes the tokens of the rule from the front of `tokens`, or stops where the reader does. A name
-/// is looked up in `names`, and at most `depth` more nests may be open inside one another. Out of
-/// memory is the one free answer, and after a stop nothing is said of the tokens that are left.
+/// Each method answers as the grammar's reader of its rule, whatever stands `around`, and for any
+/// tokens and depth: it takes the tokens of the rule from the front of `tokens`, or stops where the
+/// reader does. At most `depth` more nests may be open inside one another. Out of memory is the one
+/// free answer, and after a stop nothing is said of the tokens that are left.
 pub trait Bodies {
     /// `=` and an expression.
     fn value(
         &self,
         alloc: Global,
-        names: &Names,
+        around: &Around<'_>,
         tokens: &mut Cursor<'_>,
         depth: u32,
     ) -> Result<Expr, Stop>
-        ensures { Gives (read (id_in names.now) depth (value (id_in names.now)) tokens.old) result
+        ensures { Gives (read (known around.now) depth (value (known around.now)) tokens.old) result
             tokens.new };
 
     /// A block, from its `{` to its `}`.
     fn block(
         &self,
         alloc: Global,
-        names: &Names,
+        around: &Around<'_>,
         tokens: &mut Cursor<'_>,
         depth: u32,
     ) -> Result<Block, Stop>
-        ensures { Gives (read (id_in names.now) depth (block (id_in names.now)) tokens.old) result
+        ensures { Gives (read (known around.now) depth (block (known around.now)) tokens.old) result
             tokens.new };
 }

@@ -5,11 +5,11 @@ ghost use Rattle.sw_grammar_forms.specs.Outcome.{Gives};
 ghost use Rattle.sw_grammar_forms.specs.Reader.{next};
 ghost use Rattle.sw_grammar_forms.specs.Relations.{head};
 ghost use Rattle.sw_grammar_forms.specs.Sets.{starts, quoted};
-ghost use Rattle.sw_tree.specs.Names.{id_in};
 ghost use Rattle.sw_grammar.specs.Tokens.{plain_at_word, at_in};
 ghost use Rattle.sw_grammar.specs.Decls.{func_decl, global_value, global_after, annotated, decl};
 ghost use Rattle.sw_grammar.specs.Decls.{decl_first};
 ghost use Rattle.sw_grammar.specs.Reading.{read};
+ghost use Rattle.sw_parse_parts.specs.Around.{known};
 ghost use Rattle.sw_parse_decl.specs.Parts.{after_main, after_global_actor, other_decl, decls_of};
 
 use crate::bodies::Bodies;
@@ -20,23 +20,24 @@ use crate::types::{actor_decl, class_after, enum_decl, struct_decl};
 use std::alloc::Global;
 use sw_grammar_forms::{Cursor, Stop};
 use sw_list::ListOf;
-use sw_parse_parts::{attribute, sees_attribute, type_if};
-use sw_tree::{Decl, DeclList, Name, Names, PropTree, Written};
+use sw_parse_parts::{Around, attribute, sees_attribute, type_if};
+use sw_tree::{Decl, DeclList, Name, PropTree, Written};
 
 /// A function, after the isolation that is written.
 #[tactic(auto, unfolding(sw_grammar::specs::Decls::func_decl))]
 fn func_decl<B: Bodies>(
     alloc: Global,
     bodies: &B,
-    names: &Names,
+    around: &Around<'_>,
     tokens: &mut Cursor<'_>,
     depth: u32,
     written: Written,
 ) -> Result<Decl, Stop>
-    ensures { Gives (read (id_in names.now) depth (func_decl (id_in names.now) written) tokens.old)
+    ensures { Gives (read (known around.now) depth (func_decl (known around.now) written)
+        tokens.old)
         result tokens.new }
 {
-    Ok(Decl::Func(func_after(alloc, bodies, names, tokens, depth, written)?))
+    Ok(Decl::Func(func_after(alloc, bodies, around, tokens, depth, written)?))
 }
 
 /// A variable, after its `let` or `var`.
@@ -44,18 +45,18 @@ fn func_decl<B: Bodies>(
 fn global_value<B: Bodies>(
     alloc: Global,
     bodies: &B,
-    names: &Names,
+    around: &Around<'_>,
     tokens: &mut Cursor<'_>,
     depth: u32,
     written: Written,
     mutable: bool,
 ) -> Result<Decl, Stop>
-    ensures { Gives (read (id_in names.now) depth
-        (global_value (id_in names.now) written mutable) tokens.old) result tokens.new }
+    ensures { Gives (read (known around.now) depth
+        (global_value (known around.now) written mutable) tokens.old) result tokens.new }
 {
-    let word = declared(names, tokens, depth)?;
-    let ty = type_if(alloc, names, tokens, depth)?;
-    let value = bodies.value(alloc, names, tokens, depth)?;
+    let word = declared(around, tokens, depth)?;
+    let ty = type_if(alloc, around, tokens, depth)?;
+    let value = bodies.value(alloc, around, tokens, depth)?;
     Ok(Decl::Global(PropTree {
         written,
         mutable,
@@ -70,19 +71,19 @@ fn global_value<B: Bodies>(
 fn global_after<B: Bodies>(
     alloc: Global,
     bodies: &B,
-    names: &Names,
+    around: &Around<'_>,
     tokens: &mut Cursor<'_>,
     depth: u32,
     written: Written,
 ) -> Result<Decl, Stop>
-    ensures { Gives (read (id_in names.now) depth (global_after (id_in names.now) written)
+    ensures { Gives (read (known around.now) depth (global_after (known around.now) written)
         tokens.old) result tokens.new }
 {
     if tokens.skip("let") {
-        return global_value(alloc, bodies, names, tokens, depth, written, false);
+        return global_value(alloc, bodies, around, tokens, depth, written, false);
     }
     tokens.expect("var")?;
-    global_value(alloc, bodies, names, tokens, depth, written, true)
+    global_value(alloc, bodies, around, tokens, depth, written, true)
 }
 
 /// A class, a function or a variable, after the isolation that is written.
@@ -90,43 +91,44 @@ fn global_after<B: Bodies>(
 fn annotated<B: Bodies>(
     alloc: Global,
     bodies: &B,
-    names: &Names,
+    around: &Around<'_>,
     tokens: &mut Cursor<'_>,
     depth: u32,
     written: Written,
 ) -> Result<Decl, Stop>
-    ensures { Gives (read (id_in names.now) depth (annotated (id_in names.now) written) tokens.old)
+    ensures { Gives (read (known around.now) depth (annotated (known around.now) written)
+        tokens.old)
         result tokens.new }
 {
     if tokens.sees("final") {
-        return class_after(alloc, bodies, names, tokens, depth, written);
+        return class_after(alloc, bodies, around, tokens, depth, written);
     }
     if tokens.sees("func") {
-        return func_decl(alloc, bodies, names, tokens, depth, written);
+        return func_decl(alloc, bodies, around, tokens, depth, written);
     }
-    global_after(alloc, bodies, names, tokens, depth, written)
+    global_after(alloc, bodies, around, tokens, depth, written)
 }
 
 /// The attribute `@main`.
-fn main_mark(names: &Names, tokens: &mut Cursor<'_>) -> Result<Name, Stop>
-    ensures { Gives (next (at_in (id_in names.now) (quoted (codes "@main")) (codes "@main"))
+fn main_mark(around: &Around<'_>, tokens: &mut Cursor<'_>) -> Result<Name, Stop>
+    ensures { Gives (next (at_in (known around.now) (quoted (codes "@main")) (codes "@main"))
         tokens.old) result tokens.new }
 {
     if !tokens.sees("@main") {
         return Err(tokens.stop());
     }
-    attribute(names, tokens)
+    attribute(around, tokens)
 }
 
 /// The attribute `@globalActor`.
-fn global_actor_mark(names: &Names, tokens: &mut Cursor<'_>) -> Result<Name, Stop>
-    ensures { Gives (next (at_in (id_in names.now) (quoted (codes "@globalActor"))
+fn global_actor_mark(around: &Around<'_>, tokens: &mut Cursor<'_>) -> Result<Name, Stop>
+    ensures { Gives (next (at_in (known around.now) (quoted (codes "@globalActor"))
         (codes "@globalActor")) tokens.old) result tokens.new }
 {
     if !tokens.sees("@globalActor") {
         return Err(tokens.stop());
     }
-    attribute(names, tokens)
+    attribute(around, tokens)
 }
 
 /// Whether the next token is an attribute other than `@main`, `@globalActor` and `@concurrent`.
@@ -137,14 +139,14 @@ fn sees_plain_mark(tokens: &Cursor<'_>) -> bool
 }
 
 /// Takes an attribute other than these three.
-fn plain_mark(names: &Names, tokens: &mut Cursor<'_>) -> Result<Name, Stop>
-    ensures { Gives (next (at_in (id_in names.now) plain_at_word (codes "@Sendable")) tokens.old)
+fn plain_mark(around: &Around<'_>, tokens: &mut Cursor<'_>) -> Result<Name, Stop>
+    ensures { Gives (next (at_in (known around.now) plain_at_word (codes "@Sendable")) tokens.old)
         result tokens.new }
 {
     if !sees_plain_mark(tokens) {
         return Err(tokens.stop());
     }
-    attribute(names, tokens)
+    attribute(around, tokens)
 }
 
 /// A declaration at top level.
@@ -152,91 +154,94 @@ fn plain_mark(names: &Names, tokens: &mut Cursor<'_>) -> Result<Name, Stop>
 fn decl<B: Bodies>(
     alloc: Global,
     bodies: &B,
-    names: &Names,
+    around: &Around<'_>,
     tokens: &mut Cursor<'_>,
     depth: u32,
 ) -> Result<Decl, Stop>
-    ensures { Gives (read (id_in names.now) depth (decl (id_in names.now)) tokens.old) result
+    ensures { Gives (read (known around.now) depth (decl (known around.now)) tokens.old) result
         tokens.new }
 {
     if tokens.sees("@main") {
-        return after_main(alloc, bodies, names, tokens, depth);
+        return after_main(alloc, bodies, around, tokens, depth);
     }
     if tokens.sees("@globalActor") {
-        return after_global_actor(alloc, bodies, names, tokens, depth);
+        return after_global_actor(alloc, bodies, around, tokens, depth);
     }
     if sees_plain_mark(tokens) {
-        let mark = plain_mark(names, tokens)?;
-        return annotated(alloc, bodies, names, tokens, depth, Written::At(mark));
+        let mark = plain_mark(around, tokens)?;
+        return annotated(alloc, bodies, around, tokens, depth, Written::At(mark));
     }
-    other_decl(alloc, bodies, names, tokens, depth)
+    other_decl(alloc, bodies, around, tokens, depth)
 }
 
 /// A declaration with the attribute `@main`.
 fn after_main<B: Bodies>(
     alloc: Global,
     bodies: &B,
-    names: &Names,
+    around: &Around<'_>,
     tokens: &mut Cursor<'_>,
     depth: u32,
 ) -> Result<Decl, Stop>
-    ensures { Gives (read (id_in names.now) depth (after_main (id_in names.now)) tokens.old) result
+    ensures { Gives (read (known around.now) depth (after_main (known around.now)) tokens.old)
+        result
         tokens.new }
 {
-    let mark = main_mark(names, tokens)?;
+    let mark = main_mark(around, tokens)?;
     if tokens.sees("struct") {
-        return entry(alloc, bodies, names, tokens, depth);
+        return entry(alloc, bodies, around, tokens, depth);
     }
-    annotated(alloc, bodies, names, tokens, depth, Written::At(mark))
+    annotated(alloc, bodies, around, tokens, depth, Written::At(mark))
 }
 
 /// A declaration with the attribute `@globalActor`.
 fn after_global_actor<B: Bodies>(
     alloc: Global,
     bodies: &B,
-    names: &Names,
+    around: &Around<'_>,
     tokens: &mut Cursor<'_>,
     depth: u32,
 ) -> Result<Decl, Stop>
-    ensures { Gives (read (id_in names.now) depth (after_global_actor (id_in names.now)) tokens.old)
+    ensures { Gives (read (known around.now) depth (after_global_actor (known around.now))
+        tokens.old)
         result tokens.new }
 {
-    let mark = global_actor_mark(names, tokens)?;
+    let mark = global_actor_mark(around, tokens)?;
     if tokens.sees("actor") {
-        return global_actor(names, tokens, depth);
+        return global_actor(around, tokens, depth);
     }
-    annotated(alloc, bodies, names, tokens, depth, Written::At(mark))
+    annotated(alloc, bodies, around, tokens, depth, Written::At(mark))
 }
 
 /// A declaration without an attribute that names an actor.
 fn other_decl<B: Bodies>(
     alloc: Global,
     bodies: &B,
-    names: &Names,
+    around: &Around<'_>,
     tokens: &mut Cursor<'_>,
     depth: u32,
 ) -> Result<Decl, Stop>
-    ensures { Gives (read (id_in names.now) depth (other_decl (id_in names.now)) tokens.old) result
+    ensures { Gives (read (known around.now) depth (other_decl (known around.now)) tokens.old)
+        result
         tokens.new }
 {
     if tokens.sees("nonisolated") {
-        let written = nonisolated(names, tokens, depth)?;
-        return func_decl(alloc, bodies, names, tokens, depth, written);
+        let written = nonisolated(around, tokens, depth)?;
+        return func_decl(alloc, bodies, around, tokens, depth, written);
     }
     if tokens.sees("@concurrent") {
-        let written = concurrent(names, tokens, depth)?;
-        return func_decl(alloc, bodies, names, tokens, depth, written);
+        let written = concurrent(around, tokens, depth)?;
+        return func_decl(alloc, bodies, around, tokens, depth, written);
     }
     if tokens.sees("struct") {
-        return struct_decl(alloc, bodies, names, tokens, depth);
+        return struct_decl(alloc, bodies, around, tokens, depth);
     }
     if tokens.sees("enum") {
-        return enum_decl(alloc, bodies, names, tokens, depth);
+        return enum_decl(alloc, bodies, around, tokens, depth);
     }
     if tokens.sees("actor") {
-        return actor_decl(alloc, bodies, names, tokens, depth);
+        return actor_decl(alloc, bodies, around, tokens, depth);
     }
-    annotated(alloc, bodies, names, tokens, depth, Written::Absent)
+    annotated(alloc, bodies, around, tokens, depth, Written::Absent)
 }
 
 /// Whether a declaration begins with the next token.
@@ -261,17 +266,17 @@ fn sees_decl(tokens: &Cursor<'_>) -> bool
 pub fn decls<B: Bodies>(
     alloc: Global,
     bodies: &B,
-    names: &Names,
+    around: &Around<'_>,
     tokens: &mut Cursor<'_>,
     depth: u32,
 ) -> Result<DeclList, Stop>
-    ensures { Gives (decls_of (id_in names.now) depth tokens.old) result tokens.new }
+    ensures { Gives (decls_of (known around.now) depth tokens.old) result tokens.new }
 {
     let mut decls = Vec::new(alloc);
     let mut ended = true;
     while sees_decl(tokens) {
         tokens.start(!ended)?;
-        decls.push(decl(alloc, bodies, names, tokens, depth)?)?;
+        decls.push(decl(alloc, bodies, around, tokens, depth)?)?;
         ended = tokens.skip(";");
     }
     Ok(ListOf::from_vec(decls))

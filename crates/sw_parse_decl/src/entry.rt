@@ -2,11 +2,11 @@
 
 ghost use Rattle.std.specs.Prelude.{codes};
 ghost use Rattle.sw_grammar_forms.specs.Outcome.{Gives};
-ghost use Rattle.sw_tree.specs.Names.{id_in};
 ghost use Rattle.sw_grammar.specs.Decls.{entry_inside, global_actor_inside, entry, global_actor};
 ghost use Rattle.sw_grammar.specs.Nests.Nest.{in_entry, in_global_actor};
 ghost use Rattle.sw_grammar.specs.Reading.{read};
 ghost use Rattle.sw_grammar_forms.specs.Quotes.{quote};
+ghost use Rattle.sw_parse_parts.specs.Around.{known};
 ghost use Rattle.sw_parse_parts.specs.Nested.{made, nested};
 ghost use Rattle.sw_parse_decl.specs.Entries.{main_isolation, main_of};
 
@@ -14,8 +14,8 @@ use crate::bodies::Bodies;
 use crate::functions::declared;
 use std::alloc::Global;
 use sw_grammar_forms::{Cursor, Stop};
-use sw_parse_parts::{attribute, empty, equals, sees_attribute};
-use sw_tree::{Block, Decl, Name, Names, Written};
+use sw_parse_parts::{Around, attribute, empty, equals, sees_attribute};
+use sw_tree::{Block, Decl, Name, Written};
 
 /// What an entry has beside its word.
 #[derive(Drop)]
@@ -28,12 +28,12 @@ struct Main {
 }
 
 /// The isolation of `main`.
-fn main_isolation(names: &Names, tokens: &mut Cursor<'_>, depth: u32) -> Result<Written, Stop>
-    ensures { Gives (read (id_in names.now) depth (main_isolation (id_in names.now)) tokens.old)
+fn main_isolation(around: &Around<'_>, tokens: &mut Cursor<'_>, depth: u32) -> Result<Written, Stop>
+    ensures { Gives (read (known around.now) depth (main_isolation (known around.now)) tokens.old)
         result tokens.new }
 {
     if sees_attribute(tokens) {
-        return Ok(Written::At(attribute(names, tokens)?));
+        return Ok(Written::At(attribute(around, tokens)?));
     }
     if tokens.sees("nonisolated") {
         tokens.expect("nonisolated")?;
@@ -47,20 +47,20 @@ fn main_isolation(names: &Names, tokens: &mut Cursor<'_>, depth: u32) -> Result<
 fn entry_inside<B: Bodies>(
     alloc: Global,
     bodies: &B,
-    names: &Names,
+    around: &Around<'_>,
     tokens: &mut Cursor<'_>,
     depth: u32,
 ) -> Result<Main, Stop>
-    ensures { Gives (made main_of (read (id_in names.now) depth (entry_inside (id_in names.now)))
+    ensures { Gives (made main_of (read (known around.now) depth (entry_inside (known around.now)))
         tokens.old) result tokens.new }
 {
-    let written = main_isolation(names, tokens, depth)?;
+    let written = main_isolation(around, tokens, depth)?;
     tokens.expect("static")?;
     tokens.expect("func")?;
     let at = tokens.expect("main")?;
-    empty(names, tokens, depth)?;
+    empty(around, tokens, depth)?;
     let is_async = tokens.skip("async");
-    let body = bodies.block(alloc, names, tokens, depth)?;
+    let body = bodies.block(alloc, around, tokens, depth)?;
     tokens.skip(";");
     tokens.expect("}")?;
     Ok(Main {
@@ -73,16 +73,20 @@ fn entry_inside<B: Bodies>(
 
 /// `static let shared = made()` and the `}` of the global actor; gives the word `made`.
 #[tactic(auto, unfolding(sw_grammar::specs::Decls::global_actor_inside))]
-fn global_actor_inside(names: &Names, tokens: &mut Cursor<'_>, depth: u32) -> Result<Name, Stop>
-    ensures { Gives (read (id_in names.now) depth (global_actor_inside (id_in names.now))
+fn global_actor_inside(
+    around: &Around<'_>,
+    tokens: &mut Cursor<'_>,
+    depth: u32,
+) -> Result<Name, Stop>
+    ensures { Gives (read (known around.now) depth (global_actor_inside (known around.now))
         tokens.old) result tokens.new }
 {
     tokens.expect("static")?;
     tokens.expect("let")?;
     tokens.expect("shared")?;
     equals(tokens)?;
-    let made = declared(names, tokens, depth)?;
-    empty(names, tokens, depth)?;
+    let made = declared(around, tokens, depth)?;
+    empty(around, tokens, depth)?;
     tokens.skip(";");
     tokens.expect("}")?;
     Ok(made)
@@ -93,16 +97,16 @@ fn global_actor_inside(names: &Names, tokens: &mut Cursor<'_>, depth: u32) -> Re
 pub fn entry<B: Bodies>(
     alloc: Global,
     bodies: &B,
-    names: &Names,
+    around: &Around<'_>,
     tokens: &mut Cursor<'_>,
     depth: u32,
 ) -> Result<Decl, Stop>
-    ensures { Gives (read (id_in names.now) depth (entry (id_in names.now)) tokens.old) result
+    ensures { Gives (read (known around.now) depth (entry (known around.now)) tokens.old) result
         tokens.new }
 {
     tokens.expect("struct")?;
-    let word = declared(names, tokens, depth)?;
-    let main = entry_body(alloc, bodies, names, tokens, depth)?;
+    let word = declared(around, tokens, depth)?;
+    let main = entry_body(alloc, bodies, around, tokens, depth)?;
     Ok(Decl::Entry {
         word,
         written: main.written,
@@ -114,13 +118,13 @@ pub fn entry<B: Bodies>(
 
 /// A global actor, after its `@globalActor`.
 #[tactic(auto, unfolding(sw_grammar::specs::Decls::global_actor))]
-pub fn global_actor(names: &Names, tokens: &mut Cursor<'_>, depth: u32) -> Result<Decl, Stop>
-    ensures { Gives (read (id_in names.now) depth (global_actor (id_in names.now)) tokens.old)
+pub fn global_actor(around: &Around<'_>, tokens: &mut Cursor<'_>, depth: u32) -> Result<Decl, Stop>
+    ensures { Gives (read (known around.now) depth (global_actor (known around.now)) tokens.old)
         result tokens.new }
 {
     tokens.expect("actor")?;
-    let word = declared(names, tokens, depth)?;
-    let made = global_actor_body(names, tokens, depth)?;
+    let word = declared(around, tokens, depth)?;
+    let made = global_actor_body(around, tokens, depth)?;
     Ok(Decl::GlobalActor { word, made })
 }
 
@@ -128,22 +132,22 @@ pub fn global_actor(names: &Names, tokens: &mut Cursor<'_>, depth: u32) -> Resul
 fn entry_body<B: Bodies>(
     alloc: Global,
     bodies: &B,
-    names: &Names,
+    around: &Around<'_>,
     tokens: &mut Cursor<'_>,
     depth: u32,
 ) -> Result<Main, Stop>
-    ensures { Gives (made main_of (nested (id_in names.now) depth (quote (codes "{")) in_entry)
+    ensures { Gives (made main_of (nested (known around.now) depth (quote (codes "{")) in_entry)
         tokens.old) result tokens.new }
 {
     tokens.open("{", depth)?;
-    entry_inside(alloc, bodies, names, tokens, depth - 1)
+    entry_inside(alloc, bodies, around, tokens, depth - 1)
 }
 
 /// What stands in the `{` and `}` of a global actor.
-fn global_actor_body(names: &Names, tokens: &mut Cursor<'_>, depth: u32) -> Result<Name, Stop>
-    ensures { Gives (nested (id_in names.now) depth (quote (codes "{")) in_global_actor tokens.old)
+fn global_actor_body(around: &Around<'_>, tokens: &mut Cursor<'_>, depth: u32) -> Result<Name, Stop>
+    ensures { Gives (nested (known around.now) depth (quote (codes "{")) in_global_actor tokens.old)
         result tokens.new }
 {
     tokens.open("{", depth)?;
-    global_actor_inside(names, tokens, depth - 1)
+    global_actor_inside(around, tokens, depth - 1)
 }

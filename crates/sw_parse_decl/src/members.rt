@@ -2,7 +2,6 @@
 
 ghost use Rattle.std.specs.Prelude.{◌≡◌, [], ◌∷◌, codes};
 ghost use Rattle.sw_grammar_forms.specs.Outcome.{Gives};
-ghost use Rattle.sw_tree.specs.Names.{id_in};
 ghost use Rattle.sw_grammar.specs.Decls.{method_member, value_if, field_after, field, prop_after};
 ghost use Rattle.sw_grammar.specs.Decls.{prop};
 ghost use Rattle.sw_grammar.specs.Decls.{init, enum_case, enum_cases};
@@ -10,6 +9,7 @@ ghost use Rattle.sw_grammar.specs.Types.{more_of};
 ghost use Rattle.sw_grammar.specs.Nests.Nest.{in_payload};
 ghost use Rattle.sw_grammar.specs.Reading.{read};
 ghost use Rattle.sw_grammar_forms.specs.Quotes.{quote};
+ghost use Rattle.sw_parse_parts.specs.Around.{known};
 ghost use Rattle.sw_parse_parts.specs.Nested.{nested};
 ghost use Rattle.sw_parse_decl.specs.Members.{collected, and_member};
 
@@ -18,11 +18,11 @@ use crate::functions::{declared, method, params};
 use std::alloc::Global;
 use sw_grammar_forms::{Cursor, Stop};
 use sw_list::ListOf;
-use sw_parse_parts::{some_types, type_tree};
+use sw_parse_parts::{Around, some_types, type_tree};
 use sw_token::Fixity;
 use sw_tree::{
-    CaseList, CaseTree, Expr, FuncList, InitList, InitTree, Names, PropList, PropTree,
-    TypeTreeList, Written,
+    CaseList, CaseTree, Expr, FuncList, InitList, InitTree, PropList, PropTree, TypeTreeList,
+    Written,
 };
 
 /// The members of a type, by their kinds.
@@ -53,16 +53,16 @@ impl Members {
 pub fn method_member<B: Bodies>(
     alloc: Global,
     bodies: &B,
-    names: &Names,
+    around: &Around<'_>,
     tokens: &mut Cursor<'_>,
     depth: u32,
     members: Members,
 ) -> Result<Members, Stop>
-    ensures { Gives (and_member members (read (id_in names.now) depth (method_member (id_in
-        names.now)))
+    ensures { Gives (and_member members (read (known around.now) depth (method_member (known
+        around.now)))
         tokens.old) result tokens.new }
 {
-    let func = method(alloc, bodies, names, tokens, depth)?;
+    let func = method(alloc, bodies, around, tokens, depth)?;
     let mut members = members;
     members.funcs.push(func)?;
     Ok(members)
@@ -73,15 +73,15 @@ pub fn method_member<B: Bodies>(
 fn value_if<B: Bodies>(
     alloc: Global,
     bodies: &B,
-    names: &Names,
+    around: &Around<'_>,
     tokens: &mut Cursor<'_>,
     depth: u32,
 ) -> Result<Option<Expr>, Stop>
-    ensures { Gives (read (id_in names.now) depth (value_if (id_in names.now)) tokens.old) result
+    ensures { Gives (read (known around.now) depth (value_if (known around.now)) tokens.old) result
         tokens.new }
 {
     if tokens.sees_operator("=", Fixity::Infix) {
-        return Ok(Some(bodies.value(alloc, names, tokens, depth)?));
+        return Ok(Some(bodies.value(alloc, around, tokens, depth)?));
     }
     Ok(None)
 }
@@ -90,19 +90,19 @@ fn value_if<B: Bodies>(
 #[tactic(auto, unfolding(sw_grammar::specs::Decls::field_after))]
 fn field_after(
     alloc: Global,
-    names: &Names,
+    around: &Around<'_>,
     tokens: &mut Cursor<'_>,
     depth: u32,
     mutable: bool,
     members: Members,
 ) -> Result<Members, Stop>
     ensures { Gives (and_member members
-        (read (id_in names.now) depth (field_after (id_in names.now) mutable)) tokens.old) result
+        (read (known around.now) depth (field_after (known around.now) mutable)) tokens.old) result
         tokens.new }
 {
-    let word = declared(names, tokens, depth)?;
+    let word = declared(around, tokens, depth)?;
     tokens.expect(":")?;
-    let ty = type_tree(alloc, names, tokens, depth)?;
+    let ty = type_tree(alloc, around, tokens, depth)?;
     let mut members = members;
     members.props.push(PropTree {
         written: Written::Absent,
@@ -118,19 +118,19 @@ fn field_after(
 #[tactic(auto, unfolding(sw_grammar::specs::Decls::field))]
 pub fn field(
     alloc: Global,
-    names: &Names,
+    around: &Around<'_>,
     tokens: &mut Cursor<'_>,
     depth: u32,
     members: Members,
 ) -> Result<Members, Stop>
-    ensures { Gives (and_member members (read (id_in names.now) depth (field (id_in names.now)))
+    ensures { Gives (and_member members (read (known around.now) depth (field (known around.now)))
         tokens.old) result tokens.new }
 {
     if tokens.skip("let") {
-        return field_after(alloc, names, tokens, depth, false, members);
+        return field_after(alloc, around, tokens, depth, false, members);
     }
     tokens.expect("var")?;
-    field_after(alloc, names, tokens, depth, true, members)
+    field_after(alloc, around, tokens, depth, true, members)
 }
 
 /// A property after its `let` or `var`.
@@ -138,21 +138,21 @@ pub fn field(
 fn prop_after<B: Bodies>(
     alloc: Global,
     bodies: &B,
-    names: &Names,
+    around: &Around<'_>,
     tokens: &mut Cursor<'_>,
     depth: u32,
     mutable: bool,
     members: Members,
 ) -> Result<Members, Stop>
     ensures { Gives (and_member members
-        (read (id_in names.now) depth (prop_after (id_in names.now) mutable)) tokens.old) result
+        (read (known around.now) depth (prop_after (known around.now) mutable)) tokens.old) result
         tokens.new }
 {
-    let word = declared(names, tokens, depth)?;
+    let word = declared(around, tokens, depth)?;
     let mut members = members;
     if tokens.skip(":") {
-        let ty = type_tree(alloc, names, tokens, depth)?;
-        let value = value_if(alloc, bodies, names, tokens, depth)?;
+        let ty = type_tree(alloc, around, tokens, depth)?;
+        let value = value_if(alloc, bodies, around, tokens, depth)?;
         members.props.push(PropTree {
             written: Written::Absent,
             mutable,
@@ -162,7 +162,7 @@ fn prop_after<B: Bodies>(
         })?;
         return Ok(members);
     }
-    let value = bodies.value(alloc, names, tokens, depth)?;
+    let value = bodies.value(alloc, around, tokens, depth)?;
     members.props.push(PropTree {
         written: Written::Absent,
         mutable,
@@ -178,19 +178,19 @@ fn prop_after<B: Bodies>(
 pub fn prop<B: Bodies>(
     alloc: Global,
     bodies: &B,
-    names: &Names,
+    around: &Around<'_>,
     tokens: &mut Cursor<'_>,
     depth: u32,
     members: Members,
 ) -> Result<Members, Stop>
-    ensures { Gives (and_member members (read (id_in names.now) depth (prop (id_in names.now)))
+    ensures { Gives (and_member members (read (known around.now) depth (prop (known around.now)))
         tokens.old) result tokens.new }
 {
     if tokens.skip("let") {
-        return prop_after(alloc, bodies, names, tokens, depth, false, members);
+        return prop_after(alloc, bodies, around, tokens, depth, false, members);
     }
     tokens.expect("var")?;
-    prop_after(alloc, bodies, names, tokens, depth, true, members)
+    prop_after(alloc, bodies, around, tokens, depth, true, members)
 }
 
 /// An initialiser.
@@ -198,17 +198,17 @@ pub fn prop<B: Bodies>(
 pub fn init<B: Bodies>(
     alloc: Global,
     bodies: &B,
-    names: &Names,
+    around: &Around<'_>,
     tokens: &mut Cursor<'_>,
     depth: u32,
     members: Members,
 ) -> Result<Members, Stop>
-    ensures { Gives (and_member members (read (id_in names.now) depth (init (id_in names.now)))
+    ensures { Gives (and_member members (read (known around.now) depth (init (known around.now)))
         tokens.old) result tokens.new }
 {
     let at = tokens.expect("init")?;
-    let params = params(alloc, names, tokens, depth)?;
-    let body = bodies.block(alloc, names, tokens, depth)?;
+    let params = params(alloc, around, tokens, depth)?;
+    let body = bodies.block(alloc, around, tokens, depth)?;
     let mut members = members;
     members.inits.push(InitTree { at, params, body })?;
     Ok(members)
@@ -218,18 +218,18 @@ pub fn init<B: Bodies>(
 #[tactic(auto, unfolding(sw_grammar::specs::Decls::enum_cases))]
 pub fn enum_cases(
     alloc: Global,
-    names: &Names,
+    around: &Around<'_>,
     tokens: &mut Cursor<'_>,
     depth: u32,
     members: Members,
 ) -> Result<Members, Stop>
-    ensures { Gives (and_member members (read (id_in names.now) depth (enum_cases (id_in
-        names.now)))
+    ensures { Gives (and_member members (read (known around.now) depth (enum_cases (known
+        around.now)))
         tokens.old) result tokens.new }
 {
     tokens.expect("case")?;
-    let first = enum_case(alloc, names, tokens, depth)?;
-    let mut more = more_cases(alloc, names, tokens, depth, first)?.into_vec();
+    let first = enum_case(alloc, around, tokens, depth)?;
+    let mut more = more_cases(alloc, around, tokens, depth, first)?.into_vec();
     let Members {
         props,
         inits,
@@ -249,20 +249,20 @@ pub fn enum_cases(
 /// The cases after the first, each with a `,` before it.
 fn more_cases(
     alloc: Global,
-    names: &Names,
+    around: &Around<'_>,
     tokens: &mut Cursor<'_>,
     depth: u32,
     first: CaseTree,
 ) -> Result<CaseList, Stop>
-    ensures { Gives (read (id_in names.now) depth
-        (more_of (id_in names.now) (first ∷ []) (enum_case (id_in names.now))) tokens.old)
+    ensures { Gives (read (known around.now) depth
+        (more_of (known around.now) (first ∷ []) (enum_case (known around.now))) tokens.old)
         result tokens.new }
 {
     let mut cases = Vec::new(alloc);
     cases.push(first)?;
     while tokens.sees(",") {
         tokens.expect(",")?;
-        cases.push(enum_case(alloc, names, tokens, depth)?)?;
+        cases.push(enum_case(alloc, around, tokens, depth)?)?;
     }
     Ok(ListOf::from_vec(cases))
 }
@@ -271,16 +271,16 @@ fn more_cases(
 #[tactic(auto, unfolding(sw_grammar::specs::Decls::enum_case))]
 fn enum_case(
     alloc: Global,
-    names: &Names,
+    around: &Around<'_>,
     tokens: &mut Cursor<'_>,
     depth: u32,
 ) -> Result<CaseTree, Stop>
-    ensures { Gives (read (id_in names.now) depth (enum_case (id_in names.now)) tokens.old) result
+    ensures { Gives (read (known around.now) depth (enum_case (known around.now)) tokens.old) result
         tokens.new }
 {
-    let word = declared(names, tokens, depth)?;
+    let word = declared(around, tokens, depth)?;
     if tokens.sees("(") {
-        let types = payload(alloc, names, tokens, depth)?;
+        let types = payload(alloc, around, tokens, depth)?;
         return Ok(CaseTree { word, types });
     }
     Ok(CaseTree {
@@ -292,13 +292,13 @@ fn enum_case(
 /// The types of a case, in `(` and `)`.
 fn payload(
     alloc: Global,
-    names: &Names,
+    around: &Around<'_>,
     tokens: &mut Cursor<'_>,
     depth: u32,
 ) -> Result<TypeTreeList, Stop>
-    ensures { Gives (nested (id_in names.now) depth (quote (codes "(")) in_payload tokens.old)
+    ensures { Gives (nested (known around.now) depth (quote (codes "(")) in_payload tokens.old)
         result tokens.new }
 {
     tokens.open("(", depth)?;
-    some_types(alloc, names, tokens, depth - 1)
+    some_types(alloc, around, tokens, depth - 1)
 }

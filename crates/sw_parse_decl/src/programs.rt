@@ -15,6 +15,7 @@ use crate::decls::decls;
 use crate::fault::ParseFault;
 use std::alloc::{AllocError, Global};
 use sw_grammar_forms::{Cursor, Stop};
+use sw_parse_parts::Around;
 use sw_text::Source;
 use sw_token::Token;
 use sw_tree::{DeclList, Names, Program};
@@ -32,7 +33,8 @@ fn whole<B: Bodies>(
 ) -> Result<DeclList, Stop>
     ensures { Gives (whole_program (id_in names.now) tokens.old) result tokens.new }
 {
-    let decls = decls(alloc, bodies, names, tokens, MAX_NESTS)?;
+    let around = Around { names };
+    let decls = decls(alloc, bodies, &around, tokens, MAX_NESTS)?;
     tokens.finish()?;
     Ok(decls)
 }

@@ -1,13 +1,13 @@
 //! Declarations of types.
 
 ghost use Rattle.sw_grammar_forms.specs.Outcome.{Gives};
-ghost use Rattle.sw_tree.specs.Names.{id_in};
 ghost use Rattle.sw_grammar.specs.Decls.{conforms, struct_inside, enum_inside, class_inside};
 ghost use Rattle.sw_grammar.specs.Decls.{struct_decl, enum_decl, actor_decl, class_after};
 ghost use Rattle.std.specs.Prelude.{codes};
 ghost use Rattle.sw_grammar.specs.Nests.Nest.{in_struct, in_enum, in_class};
 ghost use Rattle.sw_grammar.specs.Reading.{read};
 ghost use Rattle.sw_grammar_forms.specs.Quotes.{quote};
+ghost use Rattle.sw_parse_parts.specs.Around.{known};
 ghost use Rattle.sw_parse_parts.specs.Nested.{made, nested};
 ghost use Rattle.sw_parse_decl.specs.declared.kinds.TypeKind.TheVariants as kinds;
 ghost use Rattle.sw_parse_decl.specs.Members.{and_member, collected};
@@ -19,27 +19,27 @@ use crate::kinds::{TypeKind, sees_member};
 use crate::members::{Members, enum_cases, field, init, method_member, prop};
 use std::alloc::Global;
 use sw_grammar_forms::{Cursor, Stop};
-use sw_parse_parts::sees_binding;
-use sw_tree::{Decl, Names, Written};
+use sw_parse_parts::{Around, sees_binding};
+use sw_tree::{Decl, Written};
 
 /// One more member of a type of this kind.
 fn member<B: Bodies>(
     alloc: Global,
     bodies: &B,
-    names: &Names,
+    around: &Around<'_>,
     tokens: &mut Cursor<'_>,
     depth: u32,
     kind: TypeKind,
     members: Members,
 ) -> Result<Members, Stop>
     ensures { Gives (and_member members
-        (read (id_in names.now) depth (member_of (id_in names.now) kind)) tokens.old) result
+        (read (known around.now) depth (member_of (known around.now) kind)) tokens.old) result
         tokens.new }
 {
     match kind {
-        TypeKind::Struct => struct_member(alloc, bodies, names, tokens, depth, members),
-        TypeKind::Enum => enum_member(alloc, bodies, names, tokens, depth, members),
-        TypeKind::Class => class_member(alloc, bodies, names, tokens, depth, members),
+        TypeKind::Struct => struct_member(alloc, bodies, around, tokens, depth, members),
+        TypeKind::Enum => enum_member(alloc, bodies, around, tokens, depth, members),
+        TypeKind::Class => class_member(alloc, bodies, around, tokens, depth, members),
     }
 }
 
@@ -47,79 +47,81 @@ fn member<B: Bodies>(
 fn struct_member<B: Bodies>(
     alloc: Global,
     bodies: &B,
-    names: &Names,
+    around: &Around<'_>,
     tokens: &mut Cursor<'_>,
     depth: u32,
     members: Members,
 ) -> Result<Members, Stop>
     ensures { Gives (and_member members
-        (read (id_in names.now) depth (member_of (id_in names.now) kinds.Struct)) tokens.old) result
+        (read (known around.now) depth (member_of (known around.now) kinds.Struct)) tokens.old)
+        result
         tokens.new }
 {
     if sees_binding(tokens) {
-        return field(alloc, names, tokens, depth, members);
+        return field(alloc, around, tokens, depth, members);
     }
-    method_member(alloc, bodies, names, tokens, depth, members)
+    method_member(alloc, bodies, around, tokens, depth, members)
 }
 
 /// One more member of an enum.
 fn enum_member<B: Bodies>(
     alloc: Global,
     bodies: &B,
-    names: &Names,
+    around: &Around<'_>,
     tokens: &mut Cursor<'_>,
     depth: u32,
     members: Members,
 ) -> Result<Members, Stop>
     ensures { Gives (and_member members
-        (read (id_in names.now) depth (member_of (id_in names.now) kinds.Enum)) tokens.old) result
+        (read (known around.now) depth (member_of (known around.now) kinds.Enum)) tokens.old) result
         tokens.new }
 {
     if tokens.sees("case") {
-        return enum_cases(alloc, names, tokens, depth, members);
+        return enum_cases(alloc, around, tokens, depth, members);
     }
-    method_member(alloc, bodies, names, tokens, depth, members)
+    method_member(alloc, bodies, around, tokens, depth, members)
 }
 
 /// One more member of a class or an actor.
 fn class_member<B: Bodies>(
     alloc: Global,
     bodies: &B,
-    names: &Names,
+    around: &Around<'_>,
     tokens: &mut Cursor<'_>,
     depth: u32,
     members: Members,
 ) -> Result<Members, Stop>
     ensures { Gives (and_member members
-        (read (id_in names.now) depth (member_of (id_in names.now) kinds.Class)) tokens.old) result
+        (read (known around.now) depth (member_of (known around.now) kinds.Class)) tokens.old)
+        result
         tokens.new }
 {
     if sees_binding(tokens) {
-        return prop(alloc, bodies, names, tokens, depth, members);
+        return prop(alloc, bodies, around, tokens, depth, members);
     }
     if tokens.sees("init") {
-        return init(alloc, bodies, names, tokens, depth, members);
+        return init(alloc, bodies, around, tokens, depth, members);
     }
-    method_member(alloc, bodies, names, tokens, depth, members)
+    method_member(alloc, bodies, around, tokens, depth, members)
 }
 
 /// The members of a type of this kind, up to a token that begins none.
 fn members<B: Bodies>(
     alloc: Global,
     bodies: &B,
-    names: &Names,
+    around: &Around<'_>,
     tokens: &mut Cursor<'_>,
     depth: u32,
     kind: TypeKind,
 ) -> Result<Members, Stop>
-    ensures { Gives (made collected (members_of (id_in names.now) depth kind) tokens.old) result
+    ensures { Gives (made collected (members_of (known around.now) depth kind) tokens.old) result
         tokens.new }
 {
     let mut members = Members::new(alloc);
     let mut ended = true;
     while sees_member(kind, tokens) {
         tokens.start(!ended)?;
-        members = member(alloc, bodies, names, tokens, depth, kind, members)?;
+        members = member(alloc, bodies, around, tokens, depth, kind, members)?;
         ended = tokens.skip(";");
     }
     Ok(members)
@@ -130,14 +132,15 @@ fn members<B: Bodies>(
 fn struct_inside<B: Bodies>(
     alloc: Global,
     bodies: &B,
-    names: &Names,
+    around: &Around<'_>,
     tokens: &mut Cursor<'_>,
     depth: u32,
 ) -> Result<Members, Stop>
-    ensures { Gives (made collected (read (id_in names.now) depth (struct_inside (id_in names.now)))
+    ensures { Gives (made collected (read (known around.now) depth (struct_inside (known
+        around.now)))
         tokens.old) result tokens.new }
 {
-    let members = members(alloc, bodies, names, tokens, depth, TypeKind::Struct)?;
+    let members = members(alloc, bodies, around, tokens, depth, TypeKind::Struct)?;
     tokens.expect("}")?;
     Ok(members)
 }
@@ -147,14 +150,14 @@ fn struct_inside<B: Bodies>(
 fn enum_inside<B: Bodies>(
     alloc: Global,
     bodies: &B,
-    names: &Names,
+    around: &Around<'_>,
     tokens: &mut Cursor<'_>,
     depth: u32,
 ) -> Result<Members, Stop>
-    ensures { Gives (made collected (read (id_in names.now) depth (enum_inside (id_in names.now)))
+    ensures { Gives (made collected (read (known around.now) depth (enum_inside (known around.now)))
         tokens.old) result tokens.new }
 {
-    let members = members(alloc, bodies, names, tokens, depth, TypeKind::Enum)?;
+    let members = members(alloc, bodies, around, tokens, depth, TypeKind::Enum)?;
     tokens.expect("}")?;
     Ok(members)
 }
@@ -164,22 +167,23 @@ fn enum_inside<B: Bodies>(
 fn class_inside<B: Bodies>(
     alloc: Global,
     bodies: &B,
-    names: &Names,
+    around: &Around<'_>,
     tokens: &mut Cursor<'_>,
     depth: u32,
 ) -> Result<Members, Stop>
-    ensures { Gives (made collected (read (id_in names.now) depth (class_inside (id_in names.now)))
+    ensures { Gives (made collected (read (known around.now) depth (class_inside (known
+        around.now)))
         tokens.old) result tokens.new }
 {
-    let members = members(alloc, bodies, names, tokens, depth, TypeKind::Class)?;
+    let members = members(alloc, bodies, around, tokens, depth, TypeKind::Class)?;
     tokens.expect("}")?;
     Ok(members)
 }
 
 /// `: Sendable`, or nothing.
 #[tactic(auto, unfolding(sw_grammar::specs::Decls::conforms))]
-fn conforms(names: &Names, tokens: &mut Cursor<'_>, depth: u32) -> Result<bool, Stop>
-    ensures { Gives (read (id_in names.now) depth (conforms (id_in names.now)) tokens.old) result
+fn conforms(around: &Around<'_>, tokens: &mut Cursor<'_>, depth: u32) -> Result<bool, Stop>
+    ensures { Gives (read (known around.now) depth (conforms (known around.now)) tokens.old) result
         tokens.new }
 {
     if tokens.sees(":") {
@@ -195,17 +199,18 @@ fn conforms(names: &Names, tokens: &mut Cursor<'_>, depth: u32) -> Result<bool, 
 pub fn struct_decl<B: Bodies>(
     alloc: Global,
     bodies: &B,
-    names: &Names,
+    around: &Around<'_>,
     tokens: &mut Cursor<'_>,
     depth: u32,
 ) -> Result<Decl, Stop>
-    ensures { Gives (read (id_in names.now) depth (struct_decl (id_in names.now)) tokens.old) result
+    ensures { Gives (read (known around.now) depth (struct_decl (known around.now)) tokens.old)
+        result
         tokens.new }
 {
     tokens.expect("struct")?;
-    let word = declared(names, tokens, depth)?;
-    let conforms = conforms(names, tokens, depth)?;
-    let members = struct_body(alloc, bodies, names, tokens, depth)?;
+    let word = declared(around, tokens, depth)?;
+    let conforms = conforms(around, tokens, depth)?;
+    let members = struct_body(alloc, bodies, around, tokens, depth)?;
     Ok(Decl::Struct {
         word,
         conforms,
@@ -219,17 +224,17 @@ pub fn struct_decl<B: Bodies>(
 pub fn enum_decl<B: Bodies>(
     alloc: Global,
     bodies: &B,
-    names: &Names,
+    around: &Around<'_>,
     tokens: &mut Cursor<'_>,
     depth: u32,
 ) -> Result<Decl, Stop>
-    ensures { Gives (read (id_in names.now) depth (enum_decl (id_in names.now)) tokens.old) result
+    ensures { Gives (read (known around.now) depth (enum_decl (known around.now)) tokens.old) result
         tokens.new }
 {
     tokens.expect("enum")?;
-    let word = declared(names, tokens, depth)?;
-    let conforms = conforms(names, tokens, depth)?;
-    let members = enum_body(alloc, bodies, names, tokens, depth)?;
+    let word = declared(around, tokens, depth)?;
+    let conforms = conforms(around, tokens, depth)?;
+    let members = enum_body(alloc, bodies, around, tokens, depth)?;
     Ok(Decl::Enum {
         word,
         conforms,
@@ -243,16 +248,17 @@ pub fn enum_decl<B: Bodies>(
 pub fn actor_decl<B: Bodies>(
     alloc: Global,
     bodies: &B,
-    names: &Names,
+    around: &Around<'_>,
     tokens: &mut Cursor<'_>,
     depth: u32,
 ) -> Result<Decl, Stop>
-    ensures { Gives (read (id_in names.now) depth (actor_decl (id_in names.now)) tokens.old) result
+    ensures { Gives (read (known around.now) depth (actor_decl (known around.now)) tokens.old)
+        result
         tokens.new }
 {
     tokens.expect("actor")?;
-    let word = declared(names, tokens, depth)?;
-    let members = class_body(alloc, bodies, names, tokens, depth)?;
+    let word = declared(around, tokens, depth)?;
+    let members = class_body(alloc, bodies, around, tokens, depth)?;
     Ok(Decl::Actor {
         word,
         props: members.props,
@@ -266,19 +272,19 @@ pub fn actor_decl<B: Bodies>(
 pub fn class_after<B: Bodies>(
     alloc: Global,
     bodies: &B,
-    names: &Names,
+    around: &Around<'_>,
     tokens: &mut Cursor<'_>,
     depth: u32,
     written: Written,
 ) -> Result<Decl, Stop>
-    ensures { Gives (read (id_in names.now) depth (class_after (id_in names.now) written)
+    ensures { Gives (read (known around.now) depth (class_after (known around.now) written)
         tokens.old) result tokens.new }
 {
     tokens.expect("final")?;
     tokens.expect("class")?;
-    let word = declared(names, tokens, depth)?;
-    let conforms = conforms(names, tokens, depth)?;
-    let members = class_body(alloc, bodies, names, tokens, depth)?;
+    let word = declared(around, tokens, depth)?;
+    let conforms = conforms(around, tokens, depth)?;
+    let members = class_body(alloc, bodies, around, tokens, depth)?;
     Ok(Decl::Class {
         written,
         word,
@@ -293,43 +299,43 @@ pub fn class_after<B: Bodies>(
 fn struct_body<B: Bodies>(
     alloc: Global,
     bodies: &B,
-    names: &Names,
+    around: &Around<'_>,
     tokens: &mut Cursor<'_>,
     depth: u32,
 ) -> Result<Members, Stop>
-    ensures { Gives (made collected (nested (id_in names.now) depth (quote (codes "{")) in_struct)
+    ensures { Gives (made collected (nested (known around.now) depth (quote (codes "{")) in_struct)
         tokens.old) result tokens.new }
 {
     tokens.open("{", depth)?;
-    struct_inside(alloc, bodies, names, tokens, depth - 1)
+    struct_inside(alloc, bodies, around, tokens, depth - 1)
 }
 
 /// What stands in the `{` and `}` of an enum.
 fn enum_body<B: Bodies>(
     alloc: Global,
     bodies: &B,
-    names: &Names,
+    around: &Around<'_>,
     tokens: &mut Cursor<'_>,
     depth: u32,
 ) -> Result<Members, Stop>
-    ensures { Gives (made collected (nested (id_in names.now) depth (quote (codes "{")) in_enum)
+    ensures { Gives (made collected (nested (known around.now) depth (quote (codes "{")) in_enum)
         tokens.old) result tokens.new }
 {
     tokens.open("{", depth)?;
-    enum_inside(alloc, bodies, names, tokens, depth - 1)
+    enum_inside(alloc, bodies, around, tokens, depth - 1)
 }
 
 /// What stands in the `{` and `}` of a class or an actor.
 fn class_body<B: Bodies>(
     alloc: Global,
     bodies: &B,
-    names: &Names,
+    around: &Around<'_>,
     tokens: &mut Cursor<'_>,
     depth: u32,
 ) -> Result<Members, Stop>
-    ensures { Gives (made collected (nested (id_in names.now) depth (quote (codes "{")) in_class)
+    ensures { Gives (made collected (nested (known around.now) depth (quote (codes "{")) in_class)
         tokens.old) result tokens.new }
 {
     tokens.open("{", depth)?;
-    class_inside(alloc, bodies, names, tokens, depth - 1)
+    class_inside(alloc, bodies, around, tokens, depth - 1)
 }

@@ -10,6 +10,7 @@ use Rattle.sw_grammar_forms.specs.Form.Form.{line_start}
 use Rattle.sw_grammar_forms.proofs.ReaderLaws.{bind_step}
 use Rattle.sw_grammar_forms.proofs.ItemLoops.{Refuses}
 use Rattle.sw_tree.specs.declared.stmt.CaseArm.{CaseArm}
+use Rattle.sw_grammar.specs.Around.{Around}
 use Rattle.sw_grammar.specs.Nests.{El, shape_of, Form}
 use Rattle.sw_grammar.specs.Grammar.{body, good}
 use Rattle.sw_grammar.specs.Stmts.{Cases, arm_ext, case_part}
@@ -17,20 +18,20 @@ use Rattle.sw_grammar.specs.Reading.{read}
 use Rattle.sw_parse_stmt.specs.Parts.{more_cases}
 use Rattle.sw_parse_stmt.proofs.TurnLoops as loops
 
-module _ (id_of : List ℕ → ℕ) (depth : ℕ) where
+module _ (around : Around) (depth : ℕ) where
   -- the answer of all arms from some on
   abbrev pub Rest : Cases → Reader Cases
-  Rest cases = read id_of depth (more_cases id_of cases)
+  Rest cases = read around depth (more_cases around cases)
 
   abbrev turn : Cases → Form (started (solid (quoted (codes "case")) arm_ext 0)) Cases
-  turn cases = line_start (not cases.1) (case_part id_of cases)
+  turn cases = line_start (not cases.1) (case_part around cases)
 
   abbrev one : List CaseArm → Reader Cases
-  one cases = read id_of depth (case_part id_of (cases, false))
+  one cases = read around depth (case_part around (cases, false))
 
   begun : (ts us vs : List Spelled) (cases : List CaseArm) (ended : Bool) (value : Unit {0})
       (next : Cases) → check (may_start (not ended)) ts ≡ Ok (value, us)
-      → one cases us ≡ Ok (next, vs) → read id_of depth (turn (cases, ended)) ts ≡ Ok (next, vs)
+      → one cases us ≡ Ok (next, vs) → read around depth (turn (cases, ended)) ts ≡ Ok (next, vs)
   unfolding case_part
   begun ts us vs cases ended value next a b =
       bind_step (check (may_start (not ended)) ts) _ (value, us) _ a b
@@ -41,7 +42,7 @@ module _ (id_of : List ℕ → ℕ) (depth : ℕ) where
       → check (may_start (not ended)) ts ≡ Ok (value, us) → one cases us ≡ Ok (next, vs)
       → Rest next vs ≡ start
   one_turn start ts us vs cases ended value next goes same a b =
-      loops.one_turn El shape_of (body id_of) good depth (λ _. true) turn refl start ts vs
+      loops.one_turn El shape_of (body around) good depth (λ _. true) turn refl start ts vs
       (cases, ended) next goes same (begun ts us vs cases ended value next a b)
 
   pub stops_at_case : (start : Answer Cases) (ts us : List Spelled) (cases : List CaseArm)
@@ -50,7 +51,7 @@ module _ (id_of : List ℕ → ℕ) (depth : ℕ) where
       → Refuses (one cases us) start
   unfolding case_part
   stops_at_case start ts us cases ended value goes same a fault e =
-      loops.stops_at_turn El shape_of (body id_of) good depth (λ _. true) turn refl start ts
+      loops.stops_at_turn El shape_of (body around) good depth (λ _. true) turn refl start ts
       (cases, ended) goes same fault
       (bind_step (check (may_start (not ended)) ts) _ (value, us) _ a e)
 
@@ -58,5 +59,5 @@ module _ (id_of : List ℕ → ℕ) (depth : ℕ) where
       (value : Unit {0}) (next : Cases) → check (may_start (not ended)) ts ≡ Ok (value, us)
       → one cases us ≡ Ok (next, vs) → length vs < length ts
   shorter ts us vs cases ended value next a b =
-      loops.shorter El shape_of (body id_of) good depth (λ _. true) turn refl ts vs
+      loops.shorter El shape_of (body around) good depth (λ _. true) turn refl ts vs
       (cases, ended) next (begun ts us vs cases ended value next a b)

@@ -13,6 +13,7 @@ use Rattle.sw_grammar_forms.proofs.ItemLoops.{Refuses}
 use Rattle.sw_grammar_forms.proofs.ReaderLaws.{bind_step, bind_stop}
 use Rattle.sw_tree.specs.declared.expr.Expr.{Expr}
 use Rattle.sw_tree.specs.declared.stmt.Stmt.TheVariants as variants
+use Rattle.sw_grammar.specs.Around.{Around}
 use Rattle.sw_grammar.specs.Tokens.{expr_first}
 use Rattle.sw_grammar.specs.Exprs.{expr}
 use Rattle.sw_grammar.specs.Stmts.{return_stmt}
@@ -66,20 +67,20 @@ module _ {A B : Type 0} (set : Set) (t : Terminal ℕ) (reader : Reader A) (with
         (chosen (not_first set) (given at) (pure (without at)) us goes
         ∙ bind_stop (checked stays reader us) _ fault (on_line set reader us goes ∙ e))
 
-module _ (id_of : List ℕ → ℕ) (depth : ℕ) (ts us : List Spelled) (at : ℕ)
+module _ (around : Around) (depth : ℕ) (ts us : List Spelled) (at : ℕ)
     (word : next (quote (codes "return")) ts ≡ Ok (at, us))
     (goes : starts (not_first expr_first) (head us) ≡ true) where
   abbrev value : Reader Expr
-  value = read id_of depth (expr id_of true)
+  value = read around depth (expr around true)
 
   pub return_read : (x : Expr) (vs : List Spelled) → value us ≡ Ok (x, vs)
-      → read id_of depth (return_stmt id_of) ts ≡ Ok (variants.Return at (Some x), vs)
+      → read around depth (return_stmt around) ts ≡ Ok (variants.Return at (Some x), vs)
   unfolding return_stmt
   return_read x vs e =
       line_read expr_first (quote (codes "return")) value (λ a y. variants.Return a (Some y))
       (λ a. variants.Return a None) ts us at word goes x vs e
 
-  pub return_stops : Refuses (value us) (read id_of depth (return_stmt id_of) ts)
+  pub return_stops : Refuses (value us) (read around depth (return_stmt around) ts)
   unfolding return_stmt
   return_stops fault e =
       line_stops expr_first (quote (codes "return")) value (λ a y. variants.Return a (Some y))

@@ -3,34 +3,34 @@
 ghost use Rattle.std.specs.Prelude.{codes};
 ghost use Rattle.sw_grammar_forms.specs.Outcome.{Gives};
 ghost use Rattle.sw_grammar_forms.specs.Quotes.{quote};
-ghost use Rattle.sw_tree.specs.Names.{id_in};
 ghost use Rattle.sw_grammar.specs.Stmts as stmts;
 ghost use Rattle.sw_grammar.specs.Nests.Nest.{in_block};
 ghost use Rattle.sw_grammar.specs.Reading.{read};
+ghost use Rattle.sw_parse_parts.specs.Around.{known};
 ghost use Rattle.sw_parse_parts.specs.Nested.{nested};
 ghost use Rattle.sw_parse_expr.specs.Below.{Below};
 
 use std::alloc::Global;
 use sw_grammar_forms::{Cursor, Stop};
 use sw_parse_expr::{Inner, expr, statements};
-use sw_parse_parts::equals;
-use sw_tree::{Block, Expr, Names, StmtList};
+use sw_parse_parts::{Around, equals};
+use sw_tree::{Block, Expr, StmtList};
 
 /// A block, from its `{` to its `}`.
 #[tactic(auto, unfolding(sw_grammar::specs::Stmts::block))]
 pub fn block<I: Inner>(
     alloc: Global,
     inner: &I,
-    names: &Names,
+    around: &Around<'_>,
     tokens: &mut Cursor<'_>,
     depth: u32,
 ) -> Result<Block, Stop>
     requires { Below I.reads inner.now depth }
-    ensures { Gives (read (id_in names.now) depth (stmts.block (id_in names.now)) tokens.old)
+    ensures { Gives (read (known around.now) depth (stmts.block (known around.now)) tokens.old)
         result tokens.new }
 {
     Ok(Block {
-        stmts: braced(alloc, inner, names, tokens, depth)?,
+        stmts: braced(alloc, inner, around, tokens, depth)?,
     })
 }
 
@@ -38,16 +38,16 @@ pub fn block<I: Inner>(
 fn braced<I: Inner>(
     alloc: Global,
     inner: &I,
-    names: &Names,
+    around: &Around<'_>,
     tokens: &mut Cursor<'_>,
     depth: u32,
 ) -> Result<StmtList, Stop>
     requires { Below I.reads inner.now depth }
-    ensures { Gives (nested (id_in names.now) depth (quote (codes "{")) in_block tokens.old)
+    ensures { Gives (nested (known around.now) depth (quote (codes "{")) in_block tokens.old)
         result tokens.new }
 {
     tokens.open("{", depth)?;
-    stmts_inside(alloc, inner, names, tokens, depth - 1)
+    stmts_inside(alloc, inner, around, tokens, depth - 1)
 }
 
 /// Statements up to their `}`.
@@ -55,15 +55,15 @@ fn braced<I: Inner>(
 fn stmts_inside<I: Inner>(
     alloc: Global,
     inner: &I,
-    names: &Names,
+    around: &Around<'_>,
     tokens: &mut Cursor<'_>,
     depth: u32,
 ) -> Result<StmtList, Stop>
     requires { I.reads inner.now depth }
-    ensures { Gives (read (id_in names.now) depth (stmts.statements (id_in names.now)) tokens.old)
+    ensures { Gives (read (known around.now) depth (stmts.statements (known around.now)) tokens.old)
         result tokens.new }
 {
-    let stmts = statements(alloc, inner, names, tokens, depth)?;
+    let stmts = statements(alloc, inner, around, tokens, depth)?;
     tokens.expect("}")?;
     Ok(stmts)
 }
@@ -73,14 +73,14 @@ fn stmts_inside<I: Inner>(
 pub fn value<I: Inner>(
     alloc: Global,
     inner: &I,
-    names: &Names,
+    around: &Around<'_>,
     tokens: &mut Cursor<'_>,
     depth: u32,
 ) -> Result<Expr, Stop>
     requires { Below I.reads inner.now depth }
-    ensures { Gives (read (id_in names.now) depth (stmts.value (id_in names.now)) tokens.old)
+    ensures { Gives (read (known around.now) depth (stmts.value (known around.now)) tokens.old)
         result tokens.new }
 {
     equals(tokens)?;
-    expr(alloc, inner, names, tokens, depth, true)
+    expr(alloc, inner, around, tokens, depth, true)
 }

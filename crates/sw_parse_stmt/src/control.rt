@@ -2,9 +2,9 @@
 
 ghost use Rattle.std.specs.Prelude.{[], ◌∷◌, None};
 ghost use Rattle.sw_grammar_forms.specs.Outcome.{Gives};
-ghost use Rattle.sw_tree.specs.Names.{id_in};
 ghost use Rattle.sw_grammar.specs.Stmts as stmts;
 ghost use Rattle.sw_grammar.specs.Reading.{read};
+ghost use Rattle.sw_parse_parts.specs.Around.{known};
 ghost use Rattle.sw_parse_expr.specs.Below.{Below};
 ghost use Rattle.sw_parse_stmt.specs.Parts.{more_arms};
 
@@ -13,24 +13,25 @@ use std::alloc::Global;
 use sw_grammar_forms::{Cursor, Stop};
 use sw_list::ListOf;
 use sw_parse_expr::{Inner, expr};
-use sw_tree::{Block, IfArm, IfArmList, Names, Stmt};
+use sw_parse_parts::Around;
+use sw_tree::{Block, IfArm, IfArmList, Stmt};
 
 /// `if`, its condition and its block.
 #[tactic(auto, unfolding(sw_grammar::specs::Stmts::arm))]
 fn arm<I: Inner>(
     alloc: Global,
     inner: &I,
-    names: &Names,
+    around: &Around<'_>,
     tokens: &mut Cursor<'_>,
     depth: u32,
 ) -> Result<IfArm, Stop>
     requires { Below I.reads inner.now depth }
-    ensures { Gives (read (id_in names.now) depth (stmts.arm (id_in names.now)) tokens.old)
+    ensures { Gives (read (known around.now) depth (stmts.arm (known around.now)) tokens.old)
         result tokens.new }
 {
     let at = tokens.expect("if")?;
-    let cond = expr(alloc, inner, names, tokens, depth, false)?;
-    let body = block(alloc, inner, names, tokens, depth)?;
+    let cond = expr(alloc, inner, around, tokens, depth, false)?;
+    let body = block(alloc, inner, around, tokens, depth)?;
     Ok(IfArm { at, cond, body })
 }
 
@@ -39,21 +40,21 @@ fn arm<I: Inner>(
 fn else_part<I: Inner>(
     alloc: Global,
     inner: &I,
-    names: &Names,
+    around: &Around<'_>,
     tokens: &mut Cursor<'_>,
     depth: u32,
     arms: IfArmList,
 ) -> Result<(IfArmList, Option<Block>), Stop>
     requires { Below I.reads inner.now depth }
-    ensures { Gives (read (id_in names.now) depth
-        (stmts.else_part (id_in names.now) (arms, None)) tokens.old) result tokens.new }
+    ensures { Gives (read (known around.now) depth
+        (stmts.else_part (known around.now) (arms, None)) tokens.old) result tokens.new }
 {
     tokens.expect("else")?;
     if !tokens.sees("if") {
-        let last = block(alloc, inner, names, tokens, depth)?;
+        let last = block(alloc, inner, around, tokens, depth)?;
         return Ok((arms, Some(last)));
     }
-    let next = arm(alloc, inner, names, tokens, depth)?;
+    let next = arm(alloc, inner, around, tokens, depth)?;
     let mut arms = arms;
     arms.push(next)?;
     Ok((arms, None))
@@ -63,19 +64,19 @@ fn else_part<I: Inner>(
 fn more_arms<I: Inner>(
     alloc: Global,
     inner: &I,
-    names: &Names,
+    around: &Around<'_>,
     tokens: &mut Cursor<'_>,
     depth: u32,
     first: IfArm,
 ) -> Result<(IfArmList, Option<Block>), Stop>
     requires { Below I.reads inner.now depth }
-    ensures { Gives (read (id_in names.now) depth
-        (more_arms (id_in names.now) (first ∷ [], None)) tokens.old) result tokens.new }
+    ensures { Gives (read (known around.now) depth
+        (more_arms (known around.now) (first ∷ [], None)) tokens.old) result tokens.new }
 {
     let mut arms = ListOf::one(alloc, first)?;
     let mut last = None;
     while last.is_none() && tokens.sees("else") {
-        (arms, last) = else_part(alloc, inner, names, tokens, depth, arms)?;
+        (arms, last) = else_part(alloc, inner, around, tokens, depth, arms)?;
     }
     Ok((arms, last))
 }
@@ -85,16 +86,16 @@ fn more_arms<I: Inner>(
 pub fn if_stmt<I: Inner>(
     alloc: Global,
     inner: &I,
-    names: &Names,
+    around: &Around<'_>,
     tokens: &mut Cursor<'_>,
     depth: u32,
 ) -> Result<Stmt, Stop>
     requires { Below I.reads inner.now depth }
-    ensures { Gives (read (id_in names.now) depth (stmts.if_stmt (id_in names.now)) tokens.old)
+    ensures { Gives (read (known around.now) depth (stmts.if_stmt (known around.now)) tokens.old)
         result tokens.new }
 {
-    let first = arm(alloc, inner, names, tokens, depth)?;
-    let (arms, otherwise) = more_arms(alloc, inner, names, tokens, depth, first)?;
+    let first = arm(alloc, inner, around, tokens, depth)?;
+    let (arms, otherwise) = more_arms(alloc, inner, around, tokens, depth, first)?;
     Ok(Stmt::If { arms, otherwise })
 }
 
@@ -103,16 +104,16 @@ pub fn if_stmt<I: Inner>(
 pub fn while_stmt<I: Inner>(
     alloc: Global,
     inner: &I,
-    names: &Names,
+    around: &Around<'_>,
     tokens: &mut Cursor<'_>,
     depth: u32,
 ) -> Result<Stmt, Stop>
     requires { Below I.reads inner.now depth }
-    ensures { Gives (read (id_in names.now) depth (stmts.while_stmt (id_in names.now)) tokens.old)
+    ensures { Gives (read (known around.now) depth (stmts.while_stmt (known around.now)) tokens.old)
         result tokens.new }
 {
     let at = tokens.expect("while")?;
-    let cond = expr(alloc, inner, names, tokens, depth, false)?;
-    let body = block(alloc, inner, names, tokens, depth)?;
+    let cond = expr(alloc, inner, around, tokens, depth, false)?;
+    let body = block(alloc, inner, around, tokens, depth)?;
     Ok(Stmt::While { at, cond, body })
 }

@@ -5,8 +5,8 @@
 //!
 //! Each function answers as the grammar's reader of its rule, if its `Inner` reads at each lesser
 //! depth: it takes the tokens of the rule from the front of `tokens`, or stops where the reader
-//! does. `names` gives a name its id, and `depth` is how many more nests may be opened. Out of
-//! memory is the one free answer, and after a stop nothing is said of the tokens that are left.
+//! does. `around` is what stands around them, and `depth` is how many more nests may be opened. Out
+//! of memory is the one free answer, and after a stop nothing is said of the tokens that are left.
 #![tactic(auto)]
 
 mod blocks;

@@ -1,46 +1,49 @@
 //! Statements but those with blocks: variables, assignments, returns and expressions.
 
 ghost use Rattle.sw_grammar_forms.specs.Outcome.{Gives};
-ghost use Rattle.sw_tree.specs.Names.{id_in};
 ghost use Rattle.sw_grammar.specs.Stmts as stmts;
 ghost use Rattle.sw_grammar.specs.Reading.{read};
+ghost use Rattle.sw_parse_parts.specs.Around.{known};
 ghost use Rattle.sw_parse_expr.specs.Below.{Below};
 ghost use Rattle.sw_parse_stmt.specs.Parts.{plain_operand};
 
 use super::blocks::value;
 use std::alloc::Global;
 use sw_grammar_forms::{Cursor, Stop};
+use sw_list::ListOf;
 use sw_parse_expr::{
     Inner, after_operand, after_task, after_word, awaited, expr, more_operands, negated,
 };
 use sw_parse_parts::{
-    a_literal, assign_op, sees_assign, sees_expr_on_line, sees_prefix, type_if, value_word, word,
+    Around, a_literal, assign_op, sees_assign, sees_expr_on_line, sees_prefix, type_if, value_word,
+    word,
 };
-use sw_tree::{Expr, Names, Stmt};
+use sw_tree::{Expr, Stmt, StmtList};
 
-/// A variable after its `let` or `var`.
+/// A variable after its `let` or `var`, as the statements that it stands for.
 #[tactic(auto, unfolding(sw_grammar::specs::Stmts::binding))]
 fn binding<I: Inner>(
     alloc: Global,
     inner: &I,
-    names: &Names,
+    around: &Around<'_>,
     tokens: &mut Cursor<'_>,
     depth: u32,
     mutable: bool,
-) -> Result<Stmt, Stop>
+) -> Result<StmtList, Stop>
     requires { Below I.reads inner.now depth }
-    ensures { Gives (read (id_in names.now) depth
-        (stmts.binding (id_in names.now) mutable) tokens.old) result tokens.new }
+    ensures { Gives (read (known around.now) depth
+        (stmts.binding (known around.now) mutable) tokens.old) result tokens.new }
 {
-    let name = word(names, tokens)?;
-    let ty = type_if(alloc, names, tokens, depth)?;
-    let value = value(alloc, inner, names, tokens, depth)?;
-    Ok(Stmt::Bind {
+    let name = word(around, tokens)?;
+    let ty = type_if(alloc, around, tokens, depth)?;
+    let value = value(alloc, inner, around, tokens, depth)?;
+    let bind = Stmt::Bind {
         mutable,
         name,
         ty,
         value,
-    })
+    };
+    Ok(ListOf::one(alloc, bind)?)
 }
 
 /// A variable.
@@ -48,19 +51,19 @@ fn binding<I: Inner>(
 pub fn bind<I: Inner>(
     alloc: Global,
     inner: &I,
-    names: &Names,
+    around: &Around<'_>,
     tokens: &mut Cursor<'_>,
     depth: u32,
-) -> Result<Stmt, Stop>
+) -> Result<StmtList, Stop>
     requires { Below I.reads inner.now depth }
-    ensures { Gives (read (id_in names.now) depth (stmts.bind (id_in names.now)) tokens.old)
+    ensures { Gives (read (known around.now) depth (stmts.bind (known around.now)) tokens.old)
         result tokens.new }
 {
     if tokens.skip("let") {
-        return binding(alloc, inner, names, tokens, depth, false);
+        return binding(alloc, inner, around, tokens, depth, false);
     }
     tokens.expect("var")?;
-    binding(alloc, inner, names, tokens, depth, true)
+    binding(alloc, inner, around, tokens, depth, true)
 }
 
 /// A value that is dropped: `_ = value`.
@@ -68,16 +71,16 @@ pub fn bind<I: Inner>(
 pub fn discard<I: Inner>(
     alloc: Global,
     inner: &I,
-    names: &Names,
+    around: &Around<'_>,
     tokens: &mut Cursor<'_>,
     depth: u32,
 ) -> Result<Stmt, Stop>
     requires { Below I.reads inner.now depth }
-    ensures { Gives (read (id_in names.now) depth (stmts.discard (id_in names.now)) tokens.old)
+    ensures { Gives (read (known around.now) depth (stmts.discard (known around.now)) tokens.old)
         result tokens.new }
 {
     let at = tokens.expect("_")?;
-    let value = value(alloc, inner, names, tokens, depth)?;
+    let value = value(alloc, inner, around, tokens, depth)?;
     Ok(Stmt::Discard { at, value })
 }
 
@@ -86,18 +89,18 @@ pub fn discard<I: Inner>(
 fn after_place<I: Inner>(
     alloc: Global,
     inner: &I,
-    names: &Names,
+    around: &Around<'_>,
     tokens: &mut Cursor<'_>,
     depth: u32,
     first: Expr,
 ) -> Result<Stmt, Stop>
     requires { Below I.reads inner.now depth }
-    ensures { Gives (read (id_in names.now) depth
-        (stmts.after_place (id_in names.now) first) tokens.old) result tokens.new }
+    ensures { Gives (read (known around.now) depth
+        (stmts.after_place (known around.now) first) tokens.old) result tokens.new }
 {
     if first.is_place() && sees_assign(tokens) {
         let (op, at) = assign_op(tokens)?;
-        let value = expr(alloc, inner, names, tokens, depth, true)?;
+        let value = expr(alloc, inner, around, tokens, depth, true)?;
         return Ok(Stmt::Assign {
             at,
             op,
@@ -105,7 +108,7 @@ fn after_place<I: Inner>(
             value,
         });
     }
-    let whole = more_operands(alloc, inner, names, tokens, depth, true, first)?;
+    let whole = more_operands(alloc, inner, around, tokens, depth, true, first)?;
     Ok(Stmt::Plain(whole))
 }
 
@@ -114,17 +117,17 @@ fn after_place<I: Inner>(
 pub fn word_stmt<I: Inner>(
     alloc: Global,
     inner: &I,
-    names: &Names,
+    around: &Around<'_>,
     tokens: &mut Cursor<'_>,
     depth: u32,
 ) -> Result<Stmt, Stop>
     requires { Below I.reads inner.now depth }
-    ensures { Gives (read (id_in names.now) depth (stmts.word_stmt (id_in names.now)) tokens.old)
+    ensures { Gives (read (known around.now) depth (stmts.word_stmt (known around.now)) tokens.old)
         result tokens.new }
 {
-    let name = value_word(names, tokens)?;
-    let first = after_word(alloc, inner, names, tokens, depth, name)?;
-    after_place(alloc, inner, names, tokens, depth, first)
+    let name = value_word(around, tokens)?;
+    let first = after_word(alloc, inner, around, tokens, depth, name)?;
+    after_place(alloc, inner, around, tokens, depth, first)
 }
 
 /// A statement that begins with `self`.
@@ -132,17 +135,17 @@ pub fn word_stmt<I: Inner>(
 pub fn self_stmt<I: Inner>(
     alloc: Global,
     inner: &I,
-    names: &Names,
+    around: &Around<'_>,
     tokens: &mut Cursor<'_>,
     depth: u32,
 ) -> Result<Stmt, Stop>
     requires { Below I.reads inner.now depth }
-    ensures { Gives (read (id_in names.now) depth (stmts.self_stmt (id_in names.now)) tokens.old)
+    ensures { Gives (read (known around.now) depth (stmts.self_stmt (known around.now)) tokens.old)
         result tokens.new }
 {
     let at = tokens.expect("self")?;
-    let first = after_operand(alloc, inner, names, tokens, depth, Expr::Me { at })?;
-    after_place(alloc, inner, names, tokens, depth, first)
+    let first = after_operand(alloc, inner, around, tokens, depth, Expr::Me { at })?;
+    after_place(alloc, inner, around, tokens, depth, first)
 }
 
 /// A statement that begins with `Task`.
@@ -150,18 +153,18 @@ pub fn self_stmt<I: Inner>(
 pub fn task_stmt<I: Inner>(
     alloc: Global,
     inner: &I,
-    names: &Names,
+    around: &Around<'_>,
     tokens: &mut Cursor<'_>,
     depth: u32,
 ) -> Result<Stmt, Stop>
     requires { Below I.reads inner.now depth }
-    ensures { Gives (read (id_in names.now) depth (stmts.task_stmt (id_in names.now)) tokens.old)
+    ensures { Gives (read (known around.now) depth (stmts.task_stmt (known around.now)) tokens.old)
         result tokens.new }
 {
     let at = tokens.expect("Task")?;
-    let base = after_task(alloc, inner, names, tokens, depth, true, at)?;
-    let first = after_operand(alloc, inner, names, tokens, depth, base)?;
-    let whole = more_operands(alloc, inner, names, tokens, depth, true, first)?;
+    let base = after_task(alloc, inner, around, tokens, depth, true, at)?;
+    let first = after_operand(alloc, inner, around, tokens, depth, base)?;
+    let whole = more_operands(alloc, inner, around, tokens, depth, true, first)?;
     Ok(Stmt::Plain(whole))
 }
 
@@ -170,19 +173,19 @@ pub fn task_stmt<I: Inner>(
 pub fn plain_stmt<I: Inner>(
     alloc: Global,
     inner: &I,
-    names: &Names,
+    around: &Around<'_>,
     tokens: &mut Cursor<'_>,
     depth: u32,
 ) -> Result<Stmt, Stop>
     requires { Below I.reads inner.now depth }
-    ensures { Gives (read (id_in names.now) depth (stmts.plain_stmt (id_in names.now)) tokens.old)
+    ensures { Gives (read (known around.now) depth (stmts.plain_stmt (known around.now)) tokens.old)
         result tokens.new }
 {
     if tokens.sees("await") {
-        return Ok(Stmt::Plain(awaited(alloc, inner, names, tokens, depth, true)?));
+        return Ok(Stmt::Plain(awaited(alloc, inner, around, tokens, depth, true)?));
     }
-    let first = plain_operand(alloc, inner, names, tokens, depth)?;
-    let whole = more_operands(alloc, inner, names, tokens, depth, true, first)?;
+    let first = plain_operand(alloc, inner, around, tokens, depth)?;
+    let whole = more_operands(alloc, inner, around, tokens, depth, true, first)?;
     Ok(Stmt::Plain(whole))
 }
 
@@ -190,19 +193,19 @@ pub fn plain_stmt<I: Inner>(
 fn plain_operand<I: Inner>(
     alloc: Global,
     inner: &I,
-    names: &Names,
+    around: &Around<'_>,
     tokens: &mut Cursor<'_>,
     depth: u32,
 ) -> Result<Expr, Stop>
     requires { Below I.reads inner.now depth }
-    ensures { Gives (read (id_in names.now) depth (plain_operand (id_in names.now)) tokens.old)
+    ensures { Gives (read (known around.now) depth (plain_operand (known around.now)) tokens.old)
         result tokens.new }
 {
     if sees_prefix(tokens) {
-        return negated(alloc, inner, names, tokens, depth, true);
+        return negated(alloc, inner, around, tokens, depth, true);
     }
-    let literal = a_literal(names, tokens, depth)?;
-    after_operand(alloc, inner, names, tokens, depth, literal)
+    let literal = a_literal(around, tokens, depth)?;
+    after_operand(alloc, inner, around, tokens, depth, literal)
 }
 
 /// A `return`.
@@ -210,17 +213,18 @@ fn plain_operand<I: Inner>(
 pub fn return_stmt<I: Inner>(
     alloc: Global,
     inner: &I,
-    names: &Names,
+    around: &Around<'_>,
     tokens: &mut Cursor<'_>,
     depth: u32,
 ) -> Result<Stmt, Stop>
     requires { Below I.reads inner.now depth }
-    ensures { Gives (read (id_in names.now) depth (stmts.return_stmt (id_in names.now)) tokens.old)
+    ensures { Gives (read (known around.now) depth (stmts.return_stmt (known around.now))
+        tokens.old)
         result tokens.new }
 {
     let at = tokens.expect("return")?;
     if sees_expr_on_line(tokens) {
-        let value = expr(alloc, inner, names, tokens, depth, true)?;
+        let value = expr(alloc, inner, around, tokens, depth, true)?;
         return Ok(Stmt::Return {
             at,
             value: Some(value),
@@ -231,8 +235,8 @@ pub fn return_stmt<I: Inner>(
 
 /// A `break`.
 #[tactic(auto, unfolding(sw_grammar::specs::Stmts::break_stmt))]
-pub fn break_stmt(names: &Names, tokens: &mut Cursor<'_>, depth: u32) -> Result<Stmt, Stop>
-    ensures { Gives (read (id_in names.now) depth (stmts.break_stmt (id_in names.now)) tokens.old)
+pub fn break_stmt(around: &Around<'_>, tokens: &mut Cursor<'_>, depth: u32) -> Result<Stmt, Stop>
+    ensures { Gives (read (known around.now) depth (stmts.break_stmt (known around.now)) tokens.old)
         result tokens.new }
 {
     let at = tokens.expect("break")?;
@@ -241,9 +245,9 @@ pub fn break_stmt(names: &Names, tokens: &mut Cursor<'_>, depth: u32) -> Result<
 
 /// A `continue`.
 #[tactic(auto, unfolding(sw_grammar::specs::Stmts::continue_stmt))]
-pub fn continue_stmt(names: &Names, tokens: &mut Cursor<'_>, depth: u32) -> Result<Stmt, Stop>
-    ensures { Gives (read (id_in names.now) depth
-        (stmts.continue_stmt (id_in names.now)) tokens.old) result tokens.new }
+pub fn continue_stmt(around: &Around<'_>, tokens: &mut Cursor<'_>, depth: u32) -> Result<Stmt, Stop>
+    ensures { Gives (read (known around.now) depth
+        (stmts.continue_stmt (known around.now)) tokens.old) result tokens.new }
 {
     let at = tokens.expect("continue")?;
     Ok(Stmt::Continue { at })

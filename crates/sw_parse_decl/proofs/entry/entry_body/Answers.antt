@@ -1,12 +1,12 @@
 use Rattle.std.proofs.Common.{codes}
 use Rattle.sw_grammar_forms.specs.Quotes.{quote}
-use Rattle.sw_tree.specs.Names.{id_in}
 use Rattle.sw_grammar.specs.Nests.Nest.{in_entry}
+use Rattle.sw_parse_parts.specs.Around.{known}
 use Rattle.sw_parse_decl.specs.Entries.{main_of}
 use Rattle.sw_parse_parts.proofs.NestSteps.{in_nest}
 use Rattle.sw_parse_decl.proofs.entry.entry_body.Goals as goal
 
 pub returns : goal.returns
 returns g c =
-    in_nest (id_in c.args.names.now) in_entry main_of c.args.depth (quote (codes "{")) _ _ _ _ _
+    in_nest (known c.args.around.now) in_entry main_of c.args.depth (quote (codes "{")) _ _ _ _ _
     c.in_ok-open.ensures.opened c.in_ok-open.ensures.room c.entry_inside.ensures

@@ -1,12 +1,12 @@
 use Rattle.std.proofs.Common.{codes}
 use Rattle.sw_grammar_forms.specs.Quotes.{quote}
-use Rattle.sw_tree.specs.Names.{id_in}
 use Rattle.sw_grammar.specs.Nests.Nest.{in_global_actor}
+use Rattle.sw_parse_parts.specs.Around.{known}
 use Rattle.sw_parse_parts.proofs.NestSteps.{in_nest_itself}
 use Rattle.sw_parse_decl.proofs.entry.global_actor_body.Goals as goal
 
 pub returns : goal.returns
 returns c =
-    in_nest_itself (id_in c.args.names.now) in_global_actor c.args.depth (quote (codes "{")) _ _ _
+    in_nest_itself (known c.args.around.now) in_global_actor c.args.depth (quote (codes "{")) _ _ _
     _ _
     c.in_ok-open.ensures.opened c.in_ok-open.ensures.room c.global_actor_inside.ensures

@@ -1,17 +1,17 @@
 -- What is left of the list gives the same answer as the whole list.
 use Rattle.std.proofs.Common.{◌≡◌, length, [], ◌∷◌}
-use Rattle.sw_tree.specs.Names.{id_in}
 use Rattle.sw_grammar.specs.Decls.{param}
 use Rattle.sw_grammar.specs.Types.{more_of}
 use Rattle.sw_grammar.specs.Reading.{read}
+use Rattle.sw_parse_parts.specs.Around.{known}
 use Rattle.sw_parse_decl.proofs.functions.more_params.Given as goal
 
 abbrev pub invariant-loop-alloc : goal.invariant-loop-alloc
 invariant-loop-alloc l =
-    read (id_in l.fn.names) l.fn.depth (more_of (id_in l.fn.names) l.params.items (param (id_in
-    l.fn.names))) l.tokens
-    ≡ read (id_in l.fn.names) l.fn.depth (more_of (id_in l.fn.names) (l.fn.first ∷ []) (param
-    (id_in l.fn.names))) l.initial.tokens
+    read (known l.fn.around) l.fn.depth (more_of (known l.fn.around) l.params.items (param (known
+    l.fn.around))) l.tokens
+    ≡ read (known l.fn.around) l.fn.depth (more_of (known l.fn.around) (l.fn.first ∷ []) (param
+    (known l.fn.around))) l.initial.tokens
 
 abbrev pub decreases-loop-alloc : goal.decreases-loop-alloc
 decreases-loop-alloc l = length l.tokens

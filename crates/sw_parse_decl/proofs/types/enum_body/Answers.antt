@@ -1,12 +1,12 @@
 use Rattle.std.proofs.Common.{codes}
 use Rattle.sw_grammar_forms.specs.Quotes.{quote}
-use Rattle.sw_tree.specs.Names.{id_in}
 use Rattle.sw_grammar.specs.Nests.Nest.{in_enum}
+use Rattle.sw_parse_parts.specs.Around.{known}
 use Rattle.sw_parse_decl.specs.Members.{collected}
 use Rattle.sw_parse_parts.proofs.NestSteps.{in_nest}
 use Rattle.sw_parse_decl.proofs.types.enum_body.Goals as goal
 
 pub returns : goal.returns
 returns g c =
-    in_nest (id_in c.args.names.now) in_enum collected c.args.depth (quote (codes "{")) _ _ _ _ _
+    in_nest (known c.args.around.now) in_enum collected c.args.depth (quote (codes "{")) _ _ _ _ _
     c.in_ok-open.ensures.opened c.in_ok-open.ensures.room c.enum_inside.ensures

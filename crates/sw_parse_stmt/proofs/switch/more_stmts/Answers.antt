@@ -1,17 +1,27 @@
-use Rattle.std.proofs.Common.{sym, ◌∙◌}
+use Rattle.std.proofs.Common.{Bool, List, [], ◌∷◌, sym, ◌∙◌, ap, append-nil}
 use Rattle.std.proofs.lemmas.Result.{err_from_is_err_and}
-use Rattle.sw_tree.specs.Names.{id_in}
+use Rattle.std.specs.Prelude.{Ok}
+use Rattle.sw_tree.specs.declared.stmt.Stmt.{Stmt}
 use Rattle.sw_grammar_forms.proofs.ItemLoops.{refuses}
-use Rattle.sw_parse_stmt.proofs.StmtTurns.{stops_at_start, stops_at_stmt, one_turn, shorter}
-use Rattle.sw_parse_stmt.proofs.StmtTurns.{all_read}
+use Rattle.sw_parse_parts.specs.Around.{known}
+use Rattle.sw_parse_expr.proofs.StmtTurns.{begun, stops_at_start, stops_at_stmt, one_turn, shorter}
+use Rattle.sw_parse_expr.proofs.StmtTurns.{all_read}
 use Rattle.sw_parse_stmt.proofs.switch.more_stmts.Goals as goal
+
+-- the statements, and whether a `;` ends the last
+abbrev all : List Stmt → Bool → List Stmt × Bool
+all stmts ended = (stmts, ended)
+
+pub loop-alloc-init : goal.loop-alloc-init
+loop-alloc-init g c =
+    begun (known c.args.around.now) c.args.depth (c.args.first ∷ []) _ _ _
+    (append-nil c.args.first ∙ sym c.into_vec-stmts.ensures)
 
 pub returns-in_err-start : goal.returns-in_err-start
 returns-in_err-start g c =
-    let stop = err_from_is_err_and c.from_residual-in_err-start.result
-    c.from_residual-in_err-start.ensures.1 in
+    let stop = err_from_is_err_and c.from_residual.result c.from_residual.ensures.1 in
     rw (stop.1, stop.2) (refuses _ _ _ _ _
-    (stops_at_start (id_in c.args.names.now) c.args.depth _ _ _ _ c.loop-alloc.invariant
+    (stops_at_start (known c.args.around.now) c.args.depth _ _ _ _ c.loop-alloc.invariant all
     (sym c.sees_stmt.ensures ∙ c.loop-alloc-test.true)) c.in_err-start.ensures)
 
 pub returns-in_err-stmt : goal.returns-in_err-stmt
@@ -19,22 +29,23 @@ returns-in_err-stmt g c =
     let stop = err_from_is_err_and c.from_residual-in_err-stmt.result
     c.from_residual-in_err-stmt.ensures.1 in
     rw (stop.1, stop.2) (refuses _ _ _ _ _
-    (stops_at_stmt (id_in c.args.names.now) c.args.depth _ _ _ _ c.loop-alloc.invariant _ _
+    (stops_at_stmt (known c.args.around.now) c.args.depth _ _ _ _ c.loop-alloc.invariant all _ _
     (sym c.sees_stmt.ensures ∙ c.loop-alloc-test.true) c.in_ok-start.ensures)
     c.in_err-stmt.ensures)
 
 pub loop-alloc-smaller : goal.loop-alloc-smaller
 loop-alloc-smaller g c =
-    shorter (id_in c.args.names.now) c.args.depth _ _ _ _ c.loop-alloc.stmts c.loop-alloc.ended
-    _ _ _ c.in_ok-start.ensures c.in_ok-stmt.ensures c.skip-ended.ensures
+    shorter (known c.args.around.now) c.args.depth _ _ _ _ _ _ _ _
+    c.in_ok-start.ensures c.in_ok-stmt.ensures c.skip-ended.ensures
 
 pub loop-alloc-preserved : goal.loop-alloc-preserved
-loop-alloc-preserved g c = rw (c.in_ok-push.ensures.ok)
-    (one_turn (id_in c.args.names.now) c.args.depth _ _ c.loop-alloc.stmts c.loop-alloc.ended
-    c.loop-alloc.invariant _ _ _ _ _ _ (sym c.sees_stmt.ensures ∙ c.loop-alloc-test.true)
+loop-alloc-preserved g c = rw (c.in_ok-append.ensures.items, c.into_vec-more.ensures)
+    (one_turn (known c.args.around.now) c.args.depth _ _ _ _ c.loop-alloc.invariant _ _ _ _ _ _
+    (sym c.sees_stmt.ensures ∙ c.loop-alloc-test.true)
     c.in_ok-start.ensures c.in_ok-stmt.ensures c.skip-ended.ensures)
 
 pub returns : goal.returns
 returns g c =
-    all_read (id_in c.args.names.now) c.args.depth _ _ _ _ c.loop-alloc.invariant
+    all_read (known c.args.around.now) c.args.depth _ _ _ _ c.loop-alloc.invariant all
     (sym c.sees_stmt.ensures ∙ c.loop-alloc-test.false)
+    ∙ ap (λ xs. Ok ((xs, c.loop-alloc.ended), c.loop-alloc.tokens)) (sym c.from_vec.ensures)
