@@ -1,5 +1,5 @@
 use Rattle.std.proofs.Common.{arith}
-use Rattle.sw_lsp.proofs.laws.lines_are_those_of_messages.Goals as goal
+use Rattle.sw_lsp_places.proofs.laws.lines_are_those_of_messages.Goals as goal
 
 pub returns : goal.returns
 returns c = λ text at. omega arith

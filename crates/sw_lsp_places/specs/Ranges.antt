@@ -9,7 +9,7 @@ use Rattle.sw_lsp_text.specs.declared.place.Range.{Range}
 use Rattle.sw_token.specs.declared.Token.{Token}
 use Rattle.sw_token.specs.declared.LexFault.{LexFault}
 use Rattle.sw_token.specs.Tokens.{IsTokens, IsLexicalFault}
-use Rattle.sw_lsp.specs.Places.{place_in}
+use Rattle.sw_lsp_places.specs.Places.{place_in}
 
 -- a text with its tokens
 pub record Tokenized : Type 0 where

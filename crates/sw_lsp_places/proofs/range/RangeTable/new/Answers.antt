@@ -1,8 +1,8 @@
-use Rattle.sw_lsp.proofs.Orders.{ends_rise}
-use Rattle.sw_lsp.proofs.range.RangeTable.new.Goals as goal
+use Rattle.sw_lsp_places.proofs.Orders.{ends_rise}
+use Rattle.sw_lsp_places.proofs.range.RangeTable.new.Goals as goal
 
 pub invariant_of-result : goal.invariant_of-result
 invariant_of-result c = (
-  c.requires,
+  c.in_ok-places.ensures,
   ends_rise c.args.bytes.now c.in_ok-tokens.tokens.items c.in_ok-tokens.ensures,
 )

@@ -1,5 +1,5 @@
 -- The tokens of a text end one after the other.
-use Rattle.std.proofs.Common.{◌≡◌, ◌≤◌, ◌<◌, ◌+◌, ℕ, zero, suc, List, [], ◌∷◌, length, get_or, arith, false, inl, inr, subst, sym}
+use Rattle.std.proofs.Common.{◌≤◌, ◌<◌, ◌+◌, ℕ, zero, suc, List, [], ◌∷◌, length, get_or, arith, false, inl, inr, subst, sym}
 use Rattle.std.proofs.lemmas.List.Sorted.{IsNonDecreasingBy-from_all_adjacent}
 use Rattle.std.specs.List.Sorted.{IsNonDecreasingBy}
 use Rattle.sw_token.specs.declared.Fixity.TheVariants.{None as NoFixity}
@@ -7,7 +7,7 @@ use Rattle.sw_token.specs.declared.Kind.TheVariants.{Underscore}
 use Rattle.sw_token.specs.declared.Token.{Token}
 use Rattle.sw_token.specs.Tokens.{StandInOrder}
 use Rattle.sw_token.proofs.TokenLaws.{IsTokens-each, IsTokens-order}
-use Rattle.sw_lsp.specs.Ranges.{AreTokensIn}
+use Rattle.sw_lsp_places.specs.Ranges.{AreTokensIn}
 
 -- a token that stands in no list
 pub no_token : Token

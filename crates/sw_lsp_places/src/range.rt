@@ -2,20 +2,24 @@
 ghost use Rattle.std.specs.Prelude.{◌≡◌, ◌≤◌, length, IfOk};
 ghost use Rattle.std.specs.List.{prefix_len};
 ghost use Rattle.std.specs.List.Sorted.{IsNonDecreasingBy};
-ghost use Rattle.sw_lsp.specs.Ranges.{AreTokensIn, character_end, ended, end_of, goes_on};
-ghost use Rattle.sw_lsp.specs.Ranges.{range_of, token_end};
+ghost use Rattle.sw_lsp_places.specs.Places.{place_in};
+ghost use Rattle.sw_lsp_places.specs.Ranges.{AreTokensIn, character_end, ended, end_of, goes_on};
+ghost use Rattle.sw_lsp_places.specs.Ranges.{range_of, token_end};
 
-use crate::place::place_of;
+use crate::place::places_of;
 use std::alloc::{AllocError, Global};
 use std::marker::Model;
-use sw_lsp_text::Range;
+use sw_lsp_text::{Place, Range};
 use sw_text::{MAX_LENGTH, Source, TextFault};
 use sw_token::{LexFault, Token, tokens};
 
-/// A text with its tokens. Contracts see both.
+/// A text with its tokens and the places of its positions. Places are found in one walk over the
+/// text, and then each is at hand; the token over a position is found by a binary search. Contracts
+/// see the text and the tokens.
 #[derive(Drop)]
 pub struct RangeTable<'a> {
     bytes: &'a [u8],
+    places: Vec<Place>,
     tokens: Vec<Token>,
 }
 
@@ -23,25 +27,39 @@ impl<'a> Model for RangeTable<'a> {
     ghost use Rattle.std.specs.Prelude.{ℕ, ◌≤◌, List, length};
     ghost use Rattle.std.specs.List.Sorted.{IsNonDecreasingBy};
     ghost use Rattle.sw_token.specs.declared.Token.{Token};
-    ghost use Rattle.sw_lsp.specs.Ranges.{Tokenized};
+    ghost use Rattle.sw_lsp_places.specs.Places.{ArePlaces};
+    ghost use Rattle.sw_lsp_places.specs.Ranges.{Tokenized};
 
     ghost Value = { Tokenized };
 
     ghost view = { λ table. record { text = table.bytes.now; tokens = table.tokens.items } };
 
-    ghost invariant = { λ table. (length table.bytes.now ≤ 262144)
+    ghost invariant = { λ table. ArePlaces table.bytes.now table.places.items
         × IsNonDecreasingBy (λ (token : Token). token.span.end) table.tokens.items };
 }
 
 impl<'a> RangeTable<'a> {
-    /// Finds the tokens of a text.
+    /// Finds the tokens of a text, and the places of its positions.
     pub fn new(alloc: Global, bytes: &'a [u8]) -> Result<RangeTable<'a>, AllocError>
         requires { length bytes.now ≤ MAX_LENGTH }
         ensures text { IfOk result (λ table. table.text ≡ bytes.now) }
         ensures tokens { IfOk result (λ table. AreTokensIn bytes.now table.tokens) }
     {
+        let places = places_of(alloc, bytes)?;
         let tokens = tokens_in(alloc, bytes)?;
-        Ok(RangeTable { bytes, tokens })
+        Ok(RangeTable {
+            bytes,
+            places,
+            tokens,
+        })
+    }
+
+    /// The place of the position `at`, a byte offset. A position after the end has the place of the
+    /// end.
+    fn place_of(&self, at: usize) -> Place
+        ensures { result ≡ place_in self.now.text at }
+    {
+        self.places[at.min(self.bytes.len())]
     }
 
     /// The position at which the range of a position ends.
@@ -60,8 +78,8 @@ impl<'a> RangeTable<'a> {
     {
         let at = at as usize;
         Range {
-            start: place_of(self.bytes, at),
-            end: place_of(self.bytes, self.end_of(at)),
+            start: self.place_of(at),
+            end: self.place_of(self.end_of(at)),
         }
     }
 }

@@ -1,5 +1,5 @@
 use Rattle.std.proofs.Common.{refl}
-use Rattle.sw_lsp.proofs.laws.characters_have_their_units.Goals as goal
+use Rattle.sw_lsp_places.proofs.laws.characters_have_their_units.Goals as goal
 
 pub returns : goal.returns
 returns c = record {

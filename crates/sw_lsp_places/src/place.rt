@@ -1,7 +1,8 @@
 //! Places of a text: its lines, and in each line the units of UTF-16.
-ghost use Rattle.std.specs.Prelude.{◌≡◌, ◌≤◌, length};
-ghost use Rattle.sw_lsp.specs.Places.{place_in, units};
+ghost use Rattle.std.specs.Prelude.{◌≡◌, ◌≤◌, length, IfOk};
+ghost use Rattle.sw_lsp_places.specs.Places.{ArePlaces, units};
 
+use std::alloc::{AllocError, Global};
 use sw_lsp_text::Place;
 use sw_text::MAX_LENGTH;
 
@@ -21,16 +22,17 @@ fn units_of(byte: u8) -> u32
     }
 }
 
-/// The place of the position `at`, a byte offset. A position after the end has the place of the
-/// end, and one inside a character that of the character's end.
-pub fn place_of(bytes: &[u8], at: usize) -> Place
+/// The places of a text's positions, from its first byte to its end. A position inside a character
+/// has the place of the character's end.
+pub fn places_of(alloc: Global, bytes: &[u8]) -> Result<Vec<Place>, AllocError>
     requires { length bytes.now ≤ MAX_LENGTH }
-    ensures { result ≡ place_in bytes.now at }
+    ensures { IfOk result (λ places. ArePlaces bytes.now places.items) }
 {
-    let before = &bytes[..at.min(bytes.len())];
+    let mut places = Vec::with_capacity(alloc, bytes.len() + 1)?;
     let mut line = 0;
     let mut character = 0;
-    for byte in before {
+    for byte in bytes {
+        places.push(Place { line, character })?;
         if *byte == b'\n' {
             line += 1;
             character = 0;
@@ -38,5 +40,6 @@ pub fn place_of(bytes: &[u8], at: usize) -> Place
             character += units_of(*byte);
         }
     }
-    Place { line, character }
+    places.push(Place { line, character })?;
+    Ok(places)
 }

@@ -1,5 +1,5 @@
 use Rattle.std.proofs.Common.{inr, rules}
-use Rattle.sw_lsp.proofs.range.tokens_in.Goals as goal
+use Rattle.sw_lsp_places.proofs.range.tokens_in.Goals as goal
 
 pub returns-in-Err-NotUtf8 : goal.returns-in-Err-NotUtf8
 returns-in-Err-NotUtf8 c =

@@ -1,9 +1,9 @@
-use Rattle.std.proofs.Common.{leb, leb-true, leb-false, arith, rules, sym}
+use Rattle.std.proofs.Common.{arith, rules, sym}
 use Rattle.std.proofs.lemmas.List.Sums.{prefix_len_is}
 use Rattle.std.proofs.lemmas.List.Sorted.{IsPartitionPoint-from_clause, IsPartitionedBy-leb}
-use Rattle.sw_lsp.specs.Ranges.{has_ended}
-use Rattle.sw_lsp.proofs.Orders.{no_token}
-use Rattle.sw_lsp.proofs.range.ended.Goals as goal
+use Rattle.sw_lsp_places.specs.Ranges.{has_ended}
+use Rattle.sw_lsp_places.proofs.Orders.{no_token}
+use Rattle.sw_lsp_places.proofs.range.ended.Goals as goal
 
 pub returns : goal.returns
 returns c =

@@ -9,5 +9,4 @@ mod place;
 mod range;
 
 pub use laws::{characters_have_their_units, lines_are_those_of_messages};
-pub use place::place_of;
 pub use range::RangeTable;

@@ -1,5 +1,5 @@
 ghost use Rattle.std.specs.Prelude.{◌≡◌, ◌+◌, ℕ, List, [], ◌∷◌};
-ghost use Rattle.sw_lsp.specs.Places.{line_in, character_in};
+ghost use Rattle.sw_lsp_places.specs.Places.{line_in, character_in};
 ghost use Rattle.sw_text.specs.Text.{line_of};
 
 /// The line of a place is the one that messages show, counted from 0.

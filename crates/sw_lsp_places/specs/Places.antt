@@ -1,6 +1,7 @@
 -- Places of a text, which is a list of bytes, as the Language Server Protocol counts them. A line
 -- ends after a line feed, and so after a carriage return and a line feed too.
-use Rattle.std.specs.Prelude.{ℕ, nat_lt, if◌then◌else◌, List, map, sum, take, count_by}
+use Rattle.std.specs.Prelude.{◌≡◌, ◌≤◌, ℕ, ◌+◌, nat_lt, if◌then◌else◌, List, length, map, sum, take}
+use Rattle.std.specs.Prelude.{count_by, slice_index_or}
 use Rattle.std.specs.List.{after_last}
 use Rattle.sw_lsp_text.specs.declared.place.Place.{Place}
 use Rattle.sw_text.specs.Text.{is_line_feed}
@@ -24,3 +25,12 @@ character_in text at = sum (map units (after_last is_line_feed (take at text)))
 -- the place of the position `at`, a byte offset
 abbrev pub place_in : List ℕ → ℕ → Place
 place_in text at = record { line = line_in text at; character = character_in text at }
+
+-- the first place of each text
+abbrev pub origin : Place
+origin = record { line = 0; character = 0 }
+
+-- the places of a text's positions, from its first byte to its end
+pub record ArePlaces (text : List ℕ) (places : List Place) : Type 0 where
+  pub all : length places ≡ length text + 1
+  pub each : (at : ℕ) → at ≤ length text → slice_index_or places at origin ≡ place_in text at
