@@ -1,0 +1,2 @@
+pub mod HappeningLemmas
+pub mod WatchLemmas
