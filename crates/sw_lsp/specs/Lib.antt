@@ -1,0 +1,5 @@
+pub mod Documents
+pub mod Law
+pub mod Served
+pub mod Session
+pub mod Steps

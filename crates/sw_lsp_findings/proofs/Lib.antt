@@ -1,0 +1,4 @@
+pub mod Results
+pub mod Rows
+pub mod Tables
+pub mod Titles

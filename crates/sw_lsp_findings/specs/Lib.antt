@@ -1,0 +1,4 @@
+pub mod Findings
+pub mod Hovers
+pub mod Sections
+pub mod Settings
