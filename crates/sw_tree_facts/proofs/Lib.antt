@@ -4,3 +4,4 @@ pub mod PartsWritten
 pub mod LackingParts
 pub mod WrittenTrees
 pub mod WrittenDecls
+pub mod PlaceSizes

@@ -1,3 +1,4 @@
 pub mod Unwritten
 pub mod Values
 pub mod Parts
+pub mod Sizes

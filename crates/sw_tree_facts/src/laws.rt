@@ -1,5 +1,6 @@
 //! Laws, without code: of which trees the definitions hold.
-ghost use Rattle.std.specs.Prelude.{◌≡◌, ◌≢◌, ◌↔◌, IsSome, List, [], ◌∷◌, ◌++◌};
+ghost use Rattle.std.specs.Prelude.{◌≡◌, ◌≢◌, ◌↔◌, ◌+◌, IsSome, IsTrue, List, [], ◌∷◌, ◌++◌};
+ghost use Rattle.sw_tree.specs.Place.{is_place};
 ghost use Rattle.sw_tree.specs.declared.decl.Decl.{Decl};
 ghost use Rattle.sw_tree.specs.declared.decl.Decl.TheVariants.{Global};
 ghost use Rattle.sw_tree.specs.declared.decl.PropTree.{PropTree};
@@ -7,6 +8,7 @@ ghost use Rattle.sw_tree.specs.declared.expr.Expr.{Expr};
 ghost use Rattle.sw_tree.specs.declared.stmt.Block.{Block};
 ghost use Rattle.sw_tree_facts.specs.Parts.{ChainsHaveOperators, TasksTakeNothing};
 ghost use Rattle.sw_tree_facts.specs.Parts.{of_expr, of_block, of_decls};
+ghost use Rattle.sw_tree_facts.specs.Sizes.{expr_size, read_alone, size_of};
 ghost use Rattle.sw_tree_facts.specs.Unwritten.{AreWritten, block_unwritten, expr_unwritten};
 ghost use Rattle.sw_tree_facts.specs.Values.{AreValued};
 
@@ -37,4 +39,13 @@ pub fn globals_need_values()
     ensures appended { (before after : List Decl)
         → AreValued (before ++ after) ↔ (AreValued before × AreValued after) }
     ensures none { AreValued [] }
+{}
+
+/// A place adds nothing to the size of a program, whether it is read or assigned to. Lists of
+/// declarations can be taken apart.
+pub fn sizes_add_up()
+    ensures places { (expr : Expr) → IsTrue (is_place expr) → expr_size expr ≡ read_alone 0 }
+    ensures appended { (before after : List Decl)
+        → size_of (before ++ after) ≡ size_of before + size_of after }
+    ensures none { size_of [] ≡ 0 }
 {}
