@@ -67,7 +67,7 @@ module _ (id_of : List ℕ → ℕ) where
     case = λ given. none;
     decl = counts.in_decl;
     of_place = hits_start;
-    of_span = spread_span;
+    of_span = λ token _ k. spread_span token k;
     of_entry = hits_start;
     of_word = λ token _ k. omega (arith, hits_start token k);
     of_mark = λ token _ k. omega arith;
@@ -99,7 +99,7 @@ module _ (id_of : List ℕ → ℕ) where
     block-roll = λ body k. omega (arith, counts.in_block-roll body k);
     stmt-Bind = λ mutable name ty value k.
         omega (arith, counts.in_stmt-Bind mutable name ty value k);
-    stmt-Assign = λ at op first value k. omega (arith, counts.in_stmt-Assign at op first value k);
+    stmt-Assign = λ at op first value _ k. omega (arith, counts.in_stmt-Assign at op first value k);
     stmt-Discard = λ at value k. omega (arith, counts.in_stmt-Discard at value k);
     stmt-If = λ arms otherwise k. omega (arith, counts.in_stmt-If arms otherwise k);
     stmt-While = λ at cond body k. omega (arith, counts.in_stmt-While at cond body k);

@@ -8,6 +8,7 @@ pub mod StmtRules
 pub mod DeclRules
 pub mod DeclWeights
 pub mod DeclsFew
+pub mod Sizes
 pub mod ProgramRules
 pub mod KeysDiffer
 pub mod CaseWords

@@ -77,7 +77,7 @@ module _ (id_of : List ℕ → ℕ) where
     case = counts.unknown_case;
     decl = counts.unknown_decl;
     of_place = λ token k. omega arith;
-    of_span = λ token k. omega (arith, spread_none (length token.text) token.at k);
+    of_span = λ token _ k. omega (arith, spread_none (length token.text) token.at k);
     of_entry = λ token k. omega arith;
     of_word = word_weighs;
     of_mark = mark_weighs;
@@ -110,7 +110,7 @@ module _ (id_of : List ℕ → ℕ) where
     block-roll = λ body k. omega (arith, counts.unknown_block-roll body k);
     stmt-Bind = λ mutable name ty value k.
         omega (arith, counts.unknown_stmt-Bind mutable name ty value k);
-    stmt-Assign = λ at op first value k.
+    stmt-Assign = λ at op first value _ k.
         omega (arith, counts.unknown_stmt-Assign at op first value k);
     stmt-Discard = λ at value k. omega (arith, counts.unknown_stmt-Discard at value k);
     stmt-If = λ arms otherwise k. omega (arith, counts.unknown_stmt-If arms otherwise k);

@@ -75,9 +75,9 @@ module _ {around : Around} (w : Weighing around.id_of) (table : (n : Nest) → R
   own_after_place : (first : Expr) → Keeps w table (after_place around first) (w.expr first) w.stmt
   unfolding after_place
   own_after_place first =
-      own_when _ (is_place first) (λ _. own_then _ _ own_assignment (λ op.
+      own_when _ (is_place first) (λ is. own_then _ _ own_assignment (λ op.
       own_then _ _ (own_expr w table nests true) (λ given. own_done _ (λ k.
-      omega (arith, w.stmt-Assign op.1 op.0 first given k)))))
+      omega (arith, w.stmt-Assign op.1 op.0 first given is k)))))
       (own_from _ none w.expr (λ k. omega arith) (own_more_operands w table nests true first)
       (λ whole. own_done _ (λ k. omega (arith, w.stmt-Plain whole k))))
 

@@ -86,7 +86,7 @@ module _ (id_of : List ℕ → ℕ) where
     case = λ given. none;
     decl = in_decl;
     of_place = λ token k. omega arith;
-    of_span = λ token k. omega (arith, spread_none (length token.text) token.at k);
+    of_span = λ token _ k. omega (arith, spread_none (length token.text) token.at k);
     of_entry = λ token k. omega arith;
     of_word = λ token _ k. omega arith;
     of_mark = λ token _ k. omega arith;
@@ -158,7 +158,7 @@ module _ (id_of : List ℕ → ℕ) where
         );
     stmt-Bind = λ mutable name ty value k.
         omega (arith, same (unwritten.stmt_unwritten-Bind mutable name ty value) k);
-    stmt-Assign = λ at op first value k.
+    stmt-Assign = λ at op first value _ k.
         omega (
           arith,
           same (unwritten.stmt_unwritten-Assign at op first value) k,

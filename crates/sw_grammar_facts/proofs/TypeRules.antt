@@ -1,8 +1,13 @@
 -- What types weigh, and lists that commas part.
-use Rattle.std.proofs.Common.{◌≡◌, ℕ, ◌+◌, ◌≤◌, true, List, [], ◌∷◌, length, codes}
-use Rattle.std.proofs.Common.{None, Some, refl, sym, ◌∙◌, subst, arith}
+use Rattle.std.proofs.Common.{◌≡◌, ℕ, ◌+◌, ◌≤◌, Bool, true, nat_le, nat_lt, All, List, [], ◌∷◌, length, get_or}
+use Rattle.std.proofs.Common.{bytes_eq, codes, None, Some, refl, sym, ◌∙◌, subst, arith}
+use Rattle.std.proofs.lemmas.Bool.{ltb-true}
+use Rattle.std.proofs.lemmas.List.Elements.{All-get_or}
+use Rattle.std.proofs.lemmas.List.Sums.{AllPass-from_list_all, passes_at_first}
 use Rattle.std.proofs.lemmas.Slice.Eq.{bytes_eq-Decides}
-use Rattle.sw_grammar_forms.specs.Sets.{Set, word, attribute, within, quoted, is_quoted}
+use Rattle.std.specs.List.{list_all, position_or_len}
+use Rattle.sw_grammar_forms.specs.Sets.{Set, word, attribute, within, quoted, quoted_texts}
+use Rattle.sw_grammar_forms.specs.Sets.{is_quoted}
 use Rattle.sw_grammar_forms.specs.Form.{Shape}
 use Rattle.sw_grammar_forms.specs.Form.Form.{nest}
 use Rattle.sw_grammar_forms.specs.Relations.{Relation, One, spelled}
@@ -21,6 +26,28 @@ use Rattle.sw_grammar.specs.Types.{some_of, list_of, types, payload, task_inner}
 use Rattle.sw_grammar_facts.proofs.Spread.{spread}
 use Rattle.sw_grammar_facts.proofs.Weighing.{Weighing}
 use Rattle.sw_grammar_facts.proofs.NestWeights.{weight}
+
+-- A text among short ones is short, and so each quoted text is.
+abbrev is_short : List ℕ → Bool
+is_short text = nat_le (length text) 16
+
+short_among : (texts : List (List ℕ)) (text : List ℕ) → list_all is_short texts ≡ true
+    → nat_lt (position_or_len (λ other. bytes_eq other text) texts) (length texts) ≡ true
+    → length text ≤ 16
+short_among texts text short is =
+    let place = position_or_len (λ other. bytes_eq other text) texts in
+    let below = ltb-true place (length texts) is in
+    let first : bytes_eq (get_or texts place []) text ≡ true
+    = passes_at_first (λ other. bytes_eq other text) texts [] below in
+    let all : All (λ other. is_short other ≡ true) texts = AllPass-from_list_all is_short texts short in
+    let here : is_short text ≡ true
+    = subst (λ other. is_short other ≡ true)
+    ((bytes_eq-Decides (get_or texts place []) text).0 first)
+    (All-get_or (λ other. is_short other ≡ true) texts place [] below all) in
+    grind (arith, here)
+
+quoted_short : (text : List ℕ) → is_quoted text ≡ true → length text ≤ 16
+quoted_short text is = short_among quoted_texts text refl is
 
 module _ {around : Around} (w : Weighing around.id_of) (table : (n : Nest) → Relation (El n)) where
   -- a form's values weigh no more than what is left over and its tokens
@@ -57,9 +84,9 @@ module _ {around : Around} (w : Weighing around.id_of) (table : (n : Nest) → R
       → Owns w.of_token none (One (quote text)) (spread w.place (length text))
   own_whole text is =
       own_token _ (quote text) (λ token member k.
-      subst (λ chars. spread w.place (length chars) token.at k ≤ w.of_token token k)
-      ((bytes_eq-Decides token.text text).0 (sym (has-quoted text token is) ∙ member))
-      (w.of_span token k))
+      let same = (bytes_eq-Decides token.text text).0 (sym (has-quoted text token is) ∙ member) in
+      subst (λ chars. spread w.place (length chars) token.at k ≤ w.of_token token k) same
+      (w.of_span token (subst (λ chars. length chars ≤ 16) (sym same) (quoted_short text is)) k))
 
   pub own_name : (set : Set) (text : List ℕ) → within set word ≡ true
       → Owns w.of_token none (One (name_in around set text))

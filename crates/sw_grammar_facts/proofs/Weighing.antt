@@ -3,6 +3,7 @@
 use Rattle.std.proofs.Common.{ℕ, ℤ, ◌+◌, ◌≤◌, Bool, IsSome, IsTrue, List, ◌∷◌, Option, length}
 use Rattle.sw_token.specs.Spelling.{Spelled}
 use Rattle.sw_grammar_forms.specs.Sets.{has, word, attribute}
+use Rattle.sw_tree.specs.Place.{is_place}
 use Rattle.sw_tree.proofs.Counting.{Weight, in_all, in_option}
 use Rattle.sw_tree.specs.declared.name.Name.{Name}
 use Rattle.sw_tree.specs.declared.operator.AssignOp.{AssignOp}
@@ -67,7 +68,7 @@ pub record Weighing (id_of : List ℕ → ℕ) : Type 0 where
   pub decl : Decl → Weight
   -- tokens
   pub of_place : (token : Spelled) (k : ℕ) → place token.at k ≤ of_token token k
-  pub of_span : (token : Spelled) (k : ℕ)
+  pub of_span : (token : Spelled) → length token.text ≤ 16 → (k : ℕ)
       → spread place (length token.text) token.at k ≤ of_token token k
   pub of_entry : (token : Spelled) (k : ℕ) → entry token.at k ≤ of_token token k
   pub of_word : (token : Spelled) → IsTrue (has word token) → (k : ℕ)
@@ -133,7 +134,9 @@ pub record Weighing (id_of : List ℕ → ℕ) : Type 0 where
   pub stmt-Bind : (mutable : Bool) (name : Name) (ty : Option TypeTree) (value : Expr) (k : ℕ)
       → stmt (stmts.Bind mutable name ty value) k
       ≤ node name k + in_option type ty k + expr value k
-  pub stmt-Assign : (at : ℕ) (op : AssignOp) (first value : Expr) (k : ℕ)
+  -- what is assigned to is a place
+  pub stmt-Assign : (at : ℕ) (op : AssignOp) (first value : Expr) → IsTrue (is_place first)
+      → (k : ℕ)
       → stmt (stmts.Assign at op first value) k ≤ place at k + expr first k + expr value k
   pub stmt-Discard : (at : ℕ) (value : Expr) (k : ℕ)
       → stmt (stmts.Discard at value) k ≤ place at k + expr value k
@@ -150,7 +153,7 @@ pub record Weighing (id_of : List ℕ → ℕ) : Type 0 where
   pub stmt-Break : (at k : ℕ) → stmt (stmts.Break at) k ≤ place at k
   pub stmt-Continue : (at k : ℕ) → stmt (stmts.Continue at) k ≤ place at k
   pub stmt-Plain : (value : Expr) (k : ℕ) → stmt (stmts.Plain value) k ≤ expr value k
-  pub pattern-Skip : (at k : ℕ) → pattern (patterns.Skip at) k ≤ 0
+  pub pattern-Skip : (at k : ℕ) → pattern (patterns.Skip at) k ≤ place at k
   pub pattern-Let : (name : Name) (k : ℕ) → pattern (patterns.Let name) k ≤ node name k
   pub case_arm-roll : (name : Name) (given : List Pattern) (body : Block) (k : ℕ)
       → case_arm (roll-CaseArm (record { name = name; patterns = given; body = body })) k

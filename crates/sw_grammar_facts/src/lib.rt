@@ -1,17 +1,19 @@
 //! Laws and lemmas, without code: the declarations of a spelling make a program. Their nodes have
 //! keys of their own, which tell scopes, the words of cases differ, global variables have values,
 //! texts can write the trees (no task's body has a parameter, each chain has an operator), names
-//! have texts, and there are no more declarations than tokens. The crate knows the grammar's forms
-//! and what a tree holds. It knows no parser.
+//! have texts, there are no more declarations than tokens, and the size of the program is bounded by
+//! the number of tokens. The crate knows the grammar's forms and what a tree holds. It knows no
+//! parser.
 #![tactic(auto)]
 
-ghost use Rattle.std.specs.Prelude.{ℕ, ◌≤◌, List, length};
+ghost use Rattle.std.specs.Prelude.{ℕ, ◌*◌, ◌≤◌, List, length};
 ghost use Rattle.sw_token.specs.Spelling.{Spelled};
 ghost use Rattle.sw_tree.specs.CasePlaces.{CasesApart};
 ghost use Rattle.sw_tree.specs.Contents.{AreKeyed, AreNamed};
 ghost use Rattle.sw_tree.specs.Names.{id_in};
 ghost use Rattle.sw_tree.specs.Scopes.{AreScoped};
 ghost use Rattle.sw_tree.specs.declared.decl.Decl.{Decl};
+ghost use Rattle.sw_tree_facts.specs.Sizes.{size_of};
 ghost use Rattle.sw_tree_facts.specs.Unwritten.{AreWritten};
 ghost use Rattle.sw_tree_facts.specs.Values.{AreValued};
 ghost use Rattle.sw_grammar.specs.Program.{Spells};
@@ -41,4 +43,10 @@ pub fn spelled_declarations_are_programs()
 pub fn spelled_declarations_are_few()
     ensures { (id_of : List ℕ → ℕ) (decls : List Decl) (tokens : List Spelled)
         → Spells id_of decls tokens → length decls ≤ length tokens }
+{}
+
+/// The size of the declarations of a spelling is no more than sixteen for each token.
+pub fn spelled_declarations_are_small()
+    ensures { (id_of : List ℕ → ℕ) (decls : List Decl) (tokens : List Spelled)
+        → Spells id_of decls tokens → size_of decls ≤ 16 * length tokens }
 {}
