@@ -22,9 +22,9 @@ use Rattle.sw_lower_plans.specs.Run.{AreInFirstBlocks, Making, Makes, Meets, at_
 use Rattle.sw_lower_plans.specs.Run.{last_at}
 use Rattle.sw_lower_plans.specs.Run.{points}
 use Rattle.sw_lower_code.specs.Whole.{Body, code_of, ended_by, function_of, lower_body}
-use Rattle.sw_lower_code.specs.Whole.{IsWhole, piece_of, sending_of}
+use Rattle.sw_lower_code.specs.Whole.{HasManyBlocks, IsWhole, piece_of, sending_of}
 use Rattle.sw_lower_plans.specs.declared.fault.CodeFault.{CodeFault}
-use Rattle.sw_lower_plans.specs.declared.fault.CodeFault.TheVariants.{Registers, Missing, Memory}
+use Rattle.sw_lower_plans.specs.declared.fault.CodeFault.TheVariants.{Registers, Blocks, Missing, Memory}
 use Rattle.sw_lower_code.specs.declared.fault.BodyFault.TheVariants as faults
 
 -- blocks are determined by their instructions and last instructions
@@ -251,11 +251,42 @@ too_many_points function few many = by (nat_lt MAX_REGISTERS (length function.re
   by true is = absurd (grind (arith, is, few))
   by false is = then_points (nat_lt MAX_POINTS (points_in function)) refl
 
+-- Each block is a point.
+has_blocks : {A : Type 0} (piece : Piece A) (from count : ℕ) → count ≤ points_by piece from count
+has_blocks piece from zero = omega arith
+has_blocks piece from (suc count) =
+    omega (arith, points_next piece from count, has_blocks piece (from + 1) count)
+
 more_than : (limit count : ℕ) → nat_lt limit count ≡ true → limit < count
 more_than limit count is = grind (arith, is)
 
 at_most : (limit count : ℕ) → nat_lt limit count ≡ false → count ≤ limit
 at_most limit count is = grind (arith, is)
+
+pub fits_points : (function : Function) → excess_of function ≡ None → points_in function ≤ MAX_POINTS
+fits_points function fits =
+    by (nat_lt MAX_REGISTERS (length function.regs)) (nat_lt MAX_POINTS (points_in function)) refl
+    fits
+  where
+    by : (many long : Bool) → nat_lt MAX_POINTS (points_in function) ≡ long
+        → (if many then Some excess.Registers else if long then Some excess.Points else None)
+        ≡ None → points_in function ≤ MAX_POINTS
+    by true long is none = cc
+    by false true is none = cc
+    by false false is none = at_most MAX_POINTS (points_in function) is
+
+-- A function that hasn't too many points has a number for each block.
+pub blocks_fit : (number : Numbers) (body : Body)
+    → length (points_of (function_of number body).blocks) ≤ MAX_POINTS
+    → HasManyBlocks number body → ⊥
+unfolding function_of
+blocks_fit number body few many =
+    omega (
+      arith,
+      many,
+      few,
+      has_blocks (piece_of number body) 0 (1 + length (piece_of number body).made),
+    )
 
 -- the function that is made within the limits, or the limit that its whole lists pass
 pub meets_whole : (number : Numbers) (body : Body) (result : Result (Unit {0} × Making) CodeFault)
@@ -271,6 +302,7 @@ meets_whole number body (Err Registers) is meets = (
       (let many : MAX_REGISTERS < length (piece_of number body).regs = omega (arith, meets) in
       many),
 )
+meets_whole number body (Err Blocks) is meets = omega (arith, meets)
 meets_whole number body (Ok at) is meets = by at.1.over refl where
   made : Makes (piece_of number body) (begun number body) at.1
   made = meets.1
@@ -348,5 +380,6 @@ wants_no_memory number body = by ((code_of body).run (begun number body))
           finished_well (at.1.over || nat_lt MAX_POINTS (points at.1))
           (finished at.1.made (length body.takes) (sending_of body) body.sends body.result) is
       by (Err Registers) meets is = cc
+      by (Err Blocks) meets is = cc
       by (Err Missing) meets is = cc
       by (Err Memory) meets is = meets

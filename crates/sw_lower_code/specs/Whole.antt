@@ -1,6 +1,6 @@
 -- Whole bodies of functions: what one takes and its code, the function that its plan says, and the
 -- function that its run makes.
-use Rattle.std.specs.Prelude.{◌≡◌, ℕ, ◌+◌, Bool, ◌||◌, nat_lt, List, [], ◌∷◌, map}
+use Rattle.std.specs.Prelude.{◌≡◌, ℕ, ◌+◌, ◌<◌, Bool, ◌||◌, nat_lt, List, [], ◌∷◌, map}
 use Rattle.std.specs.Prelude.{length, Some, None, Result, Ok, Err, if◌then◌else◌}
 use Rattle.sw_types.specs.declared.isolation.Iso.{Iso}
 use Rattle.sw_types.specs.declared.ty.Ty.{Ty}
@@ -10,11 +10,12 @@ use Rattle.sw_graph.specs.declared.function.Function.{Function}
 use Rattle.sw_graph.specs.declared.function.RegKind.{RegKind}
 use Rattle.sw_graph.specs.declared.function.TheConstants.{MAX_POINTS}
 use Rattle.sw_lower_builder.specs.Unfinished.{finished}
+use Rattle.sw_lower_builder.specs.declared.builder.TheConstants.{MOST_BLOCKS}
 use Rattle.sw_lower_code.specs.Code.{Code, all, bind, reg, ◌>>=◌, ◌>>◌}
 use Rattle.sw_lower_plans.specs.Plan.{Numbers, Piece, Place, block_by, counted_from}
 use Rattle.sw_lower_plans.specs.Run.{Making, at_start, points}
 use Rattle.sw_lower_plans.specs.declared.fault.CodeFault.{CodeFault}
-use Rattle.sw_lower_plans.specs.declared.fault.CodeFault.TheVariants.{Registers, Missing, Memory}
+use Rattle.sw_lower_plans.specs.declared.fault.CodeFault.TheVariants.{Registers, Blocks, Missing, Memory}
 use Rattle.sw_lower_code.specs.declared.fault.BodyFault.{BodyFault}
 use Rattle.sw_lower_code.specs.declared.fault.BodyFault.TheVariants as faults
 use Rattle.sw_lower_code.specs.declared.taken.Taken.{Taken}
@@ -73,6 +74,7 @@ finish body making =
 abbrev pub ended_by : Body → Result (Unit {0} × Making) CodeFault → Result Function BodyFault
 ended_by body (Ok at) = finish body at.1
 ended_by body (Err Registers) = Err (faults.TooManyRegisters body.key)
+ended_by body (Err Blocks) = Err faults.TooManyBlocks
 ended_by body (Err Missing) = Err faults.Missing
 ended_by body (Err Memory) = Err faults.Memory
 
@@ -81,9 +83,14 @@ unfoldable pub lower_body : Numbers → Body → Result Function BodyFault
 lower_body number body =
     ended_by body ((code_of body).run (at_start number body.key body.iso body.is_async))
 
+-- The function of a body would have more blocks than there are numbers of 32 bits. No program of a
+-- text has such a body.
+abbrev pub HasManyBlocks : Numbers → Body → Type 0
+HasManyBlocks number body = MOST_BLOCKS < 1 + length (piece_of number body).made
+
 -- What is made of a body is the function of its whole lists, which is within the limits; or else
--- its whole lists have too many registers, or only too many points, or its code asks for what isn't
--- known. Nothing is said of memory.
+-- its whole lists have too many registers, or only too many points, or more blocks than numbers, or
+-- its code asks for what isn't known. Nothing is said of memory.
 abbrev pub IsWhole : Numbers → Body → Result Function BodyFault → Type 0
 IsWhole number body (Ok function) =
     (function ≡ function_of number body) × (excess_of (function_of number body) ≡ None)
@@ -91,5 +98,6 @@ IsWhole number body (Err (faults.TooManyRegisters key)) =
     (key ≡ body.key) × (excess_of (function_of number body) ≡ Some excess.Registers)
 IsWhole number body (Err (faults.TooManyPoints key)) =
     (key ≡ body.key) × (excess_of (function_of number body) ≡ Some excess.Points)
+IsWhole number body (Err faults.TooManyBlocks) = HasManyBlocks number body
 IsWhole number body (Err faults.Missing) = lower_body number body ≡ Err faults.Missing
 IsWhole number body (Err faults.Memory) = Unit {0}

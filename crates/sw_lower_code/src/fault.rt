@@ -10,6 +10,10 @@ pub enum BodyFault {
     /// The function with this key has more points than a function of a graph.
     #[error("too many points in the function at {function}")]
     TooManyPoints { function: u32 },
+    /// The function has more blocks than there are numbers of 32 bits. No program of a text has so
+    /// many.
+    #[error("too many blocks")]
+    TooManyBlocks,
     /// The code asks for what isn't known. No program that was judged lacks it.
     #[error("what the code asks for isn't known")]
     Missing,

@@ -29,7 +29,7 @@ module _ (kept : Kept) (emits : (instr : Instr) → kept.Has (emit instr)) where
       kept.after _ _ (emits (instr r)) (λ value. kept.done (operand r at)))
 
   module _ (tables : Tables) (owner : Option ℕ) where
-    getter : (at : ℕ) (kind : CallKind) (ty : Ty) (key : ℕ) (operands : List Operand)
+    pub getter : (at : ℕ) (kind : CallKind) (ty : Ty) (key : ℕ) (operands : List Operand)
         → Has (call_getter tables at kind ty key operands)
     unfolding call_getter
     getter at kind ty key operands =
@@ -41,7 +41,7 @@ module _ (kept : Kept) (emits : (instr : Instr) → kept.Has (emit instr)) where
         kept.after _ _ (kept.number (plain func.key.at)) (λ f.
         kept.after _ _ (kept.known _ _) (λ kind. given at func.result _))
 
-    func : (at number : ℕ) (operands : List Operand) → Has (call_func tables at number operands)
+    pub func : (at number : ℕ) (operands : List Operand) → Has (call_func tables at number operands)
     unfolding call_func
     func at number operands = kept.after _ _ (kept.known _ _) (signature at operands)
 
@@ -54,13 +54,13 @@ module _ (kept : Kept) (emits : (instr : Instr) → kept.Has (emit instr)) where
     maker_by shapes.Actor at shape operands =
         kept.after _ _ (kept.known _ _) (signature at operands)
 
-    maker : (at shape : ℕ) (operands : List Operand) → Has (make tables at shape operands)
+    pub maker : (at shape : ℕ) (operands : List Operand) → Has (make tables at shape operands)
     unfolding make
     maker at shape operands =
         kept.after _ _ (has_shape_at kept tables shape) (λ s.
         maker_by s.kind at shape operands)
 
-    task : (at : ℕ) (closure : ClosureCode) → Has (spawn_read tables owner at closure)
+    pub task : (at : ℕ) (closure : ClosureCode) → Has (spawn_read tables owner at closure)
     task at closure =
         kept.after _ _
         (has_each_of kept _ (tables.isolation.captures_of closure.at) (has_capture kept tables at))

@@ -130,7 +130,7 @@ module _ (kept : Kept) where
 
     -- words
     own_has : (at : ℕ) → ExprHas kept (own_base tables owner at)
-    own_has at = value_has at _ [] (has_read_self kept tables owner forms at)
+    own_has at = value_has at _ [] (has_read_self kept tables owner forms.getter at)
 
     has_word_write : (at : ℕ) (meaning : Option Meaning) (given : Operand)
         → Has (word_write tables owner at meaning given)
@@ -151,13 +151,13 @@ module _ (kept : Kept) where
 
     pub word_has : (at : ℕ) → ExprHas kept (word_code tables owner at)
     word_has at = record {
-      read = has_read_word kept tables owner forms at;
+      read = has_read_word kept tables owner forms.getter at;
       write = has_word_write at (tables.answers.meaning_at at);
     }
 
     pub self_has : (at : ℕ) → ExprHas kept (self_code tables owner at)
     self_has at = record {
-      read = has_read_self kept tables owner forms at;
+      read = has_read_self kept tables owner forms.getter at;
       write = λ given. kept.known _ _;
     }
 
@@ -167,7 +167,7 @@ module _ (kept : Kept) where
     has_of_base at base number has =
         kept.after base.read _ has.read (λ from.
         kept.after _ _ (has_shape_of kept tables base.key) (λ shape.
-        has_read_part kept tables owner forms at shape number from))
+        has_read_part kept tables owner forms.getter at shape number from))
 
     has_member_read : (at : ℕ) (base : ExprCode) (meaning : Option Meaning) → ExprHas kept base
         → Has (member_read tables owner at base meaning)
@@ -223,13 +223,13 @@ module _ (kept : Kept) where
     has_call at args (Some (means.Local variable)) is all =
         has_called at _ args (has_read_var kept tables at variable) all
     has_call at args (Some (means.OwnPart number)) is all =
-        has_called at _ args (has_read_own kept tables owner forms at number) all
+        has_called at _ args (has_read_own kept tables owner forms.getter at number) all
     has_call at args (Some (means.OwnFunc number)) is all =
-        kept.after _ _ (has_read_self kept tables owner forms at) (λ me.
+        kept.after _ _ (has_read_self kept tables owner forms.getter at) (λ me.
         kept.after _ _ (has_args args all) (λ operands.
         forms.func at number (me ∷ operands) (inr is)))
     has_call at args (Some (means.GlobalOf number)) is all =
-        has_called at _ args (has_read_global kept tables owner forms at number) all
+        has_called at _ args (has_read_global kept tables owner forms.getter at number) all
     has_call at args (Some (means.FuncOf number)) is all =
         kept.after _ _ (has_args args all) (λ operands.
         forms.func at number operands (inl is))

@@ -17,12 +17,13 @@ use Rattle.sw_isolation_rules.specs.declared.note.Capture.{Capture}
 use Rattle.sw_lower_plans.specs.declared.bound.Bound.{Bound}
 use Rattle.sw_lower_code.specs.Code.{Code, each}
 use Rattle.sw_lower_rules.specs.Tables.{Tables}
-use Rattle.sw_lower_rules.specs.Uses.{call_closure, capture, capture_bound, from_box, give, global_by}
+use Rattle.sw_lower_rules.specs.Uses.{call_closure, call_getter, capture, capture_bound, from_box}
+use Rattle.sw_lower_rules.specs.Uses.{give, global_by}
 use Rattle.sw_lower_rules.specs.Uses.{listed_value, make_value, operand, part_at, part_by, part_in}
 use Rattle.sw_lower_rules.specs.Uses.{read_bound, read_global, read_own, read_part, read_self}
 use Rattle.sw_lower_rules.specs.Uses.{read_var, read_word, shape_at, shape_of, typed, unknown}
 use Rattle.sw_lower_rules.specs.Uses.{word_by, write_bound, write_var}
-use Rattle.sw_lower_code_facts.specs.Kept.{CallsNothing, Kept, KeptByForms}
+use Rattle.sw_lower_code_facts.specs.Kept.{CallsNothing, Kept}
 
 module _ (kept : Kept) where
   abbrev Has : {A : Type 0} → Code A → Type 0
@@ -126,13 +127,15 @@ module _ (kept : Kept) where
     unfolding capture
     has_capture at one = kept.after _ _ (kept.var one.variable) (has_capture_bound at one)
 
-    module _ (owner : Option ℕ) (forms : KeptByForms kept tables owner) where
+    module _ (owner : Option ℕ)
+        (getter : (at : ℕ) (kind : CallKind) (ty : Ty) (key : ℕ) (operands : List Operand)
+        → Has (call_getter tables at kind ty key operands)) where
       -- properties
       has_part_by : (kind : Option CallKind) (at shape number : ℕ) (ty : Ty) (cell : Operand)
           → Has (part_by tables kind at shape number ty cell)
       has_part_by None at shape number ty cell = has_give at ty _ (λ r. tt)
       has_part_by (Some kind) at shape number ty cell =
-          kept.after _ _ (kept.known _ _) (λ key. forms.getter at kind ty key (cell ∷ []))
+          kept.after _ _ (kept.known _ _) (λ key. getter at kind ty key (cell ∷ []))
 
       has_part_in : (kind : ShapeKind) (at shape number : ℕ) (ty : Ty) (base : Operand)
           → Has (part_in tables kind at shape number ty base)
@@ -160,7 +163,7 @@ module _ (kept : Kept) where
           → Has (global_by tables kind at number global)
       has_global_by None at number global = has_give at global.ty _ (λ r. tt)
       has_global_by (Some kind) at number global =
-          forms.getter at kind global.ty global.key.at []
+          getter at kind global.ty global.key.at []
 
       pub has_read_global : (at number : ℕ) → Has (read_global tables at number)
       unfolding read_global

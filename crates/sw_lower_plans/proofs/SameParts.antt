@@ -12,7 +12,8 @@ use Rattle.sw_graph.specs.declared.function.TheConstants.{MAX_POINTS, MAX_REGIST
 use Rattle.sw_graph.specs.declared.instr.Instr.{Instr}
 use Rattle.sw_graph.specs.declared.instr.Last.{Last}
 use Rattle.sw_lower_builder.specs.Blocks.{new_block, with_instr, with_last}
-use Rattle.sw_lower_builder.specs.Unfinished.{in_block, with_register}
+use Rattle.sw_lower_builder.specs.Unfinished.{in_block, with_block, with_register}
+use Rattle.sw_lower_builder.specs.declared.builder.TheConstants.{MOST_BLOCKS}
 use Rattle.sw_lower_builder.proofs.BlockLemmas.{length_changed, points_new_block, points_with_instr}
 use Rattle.sw_lower_builder.proofs.BlockLemmas.{points_with_last}
 use Rattle.sw_lower_plans.specs.Plan.{Entry, nothing, plan_bind, plan_block, plan_emit, plan_close}
@@ -22,7 +23,7 @@ use Rattle.sw_lower_plans.specs.Run.{run_bind, run_block, run_emit, run_close, r
 use Rattle.sw_lower_plans.specs.Run.{run_number, run_reg, run_resume, run_var}
 use Rattle.sw_lower_plans.specs.declared.bound.Bound.{Bound}
 use Rattle.sw_lower_plans.specs.declared.name.FunctionName.{FunctionName}
-use Rattle.sw_lower_plans.specs.declared.fault.CodeFault.TheVariants.{Registers, Missing}
+use Rattle.sw_lower_plans.specs.declared.fault.CodeFault.TheVariants.{Registers, Blocks, Missing}
 use Rattle.sw_lower_plans.proofs.BlockFacts.{instrs_emitted, instrs_ended, instrs_new, last_emitted}
 use Rattle.sw_lower_plans.proofs.BlockFacts.{last_ended, last_new}
 
@@ -124,30 +125,36 @@ same_reg kind s going = by (nat_le MAX_REGISTERS (length s.made.regs)) refl wher
 
 pub same_block : (entry : Entry) (s : Making) → IsGoing s
     → Meets s (run_block s) (plan_block entry (place_of s))
-same_block entry s going =
-    let more = points_new_block s.made.blocks in
-    let longer = length-append s.made.blocks (new_block ∷ []) in (
-      refl,
-      record {
-        key = refl;
-        iso = refl;
-        is_async = refl;
-        number = refl;
-        regs = sym (append-nil _);
-        few = λ few. few;
-        blocks = longer;
-        here = refl;
-        there = omega (arith, longer);
-        vars = sym (append-nil _);
-        lasts = λ number. last_new number s.made.blocks;
-        inside = tt;
-        most = omega (arith, more);
-        beyond = λ over. inl over;
-        before = λ fits. fits;
-        exact = λ fits. omega (arith, more);
-        instrs = λ fits number. instrs_new number s.made.blocks ∙ sym (append-nil _);
-      },
-    )
+same_block entry s going = by (nat_le MOST_BLOCKS (length s.made.blocks)) refl where
+  by : (full : Bool) → nat_le MOST_BLOCKS (length s.made.blocks) ≡ full
+      → Meets s (if full then Err Blocks
+      else Ok (length s.made.blocks, record s { made = with_block s.made }))
+      (plan_block entry (place_of s))
+  by true is = grind (arith, is)
+  by false is =
+      let more = points_new_block s.made.blocks in
+      let longer = length-append s.made.blocks (new_block ∷ []) in (
+        refl,
+        record {
+          key = refl;
+          iso = refl;
+          is_async = refl;
+          number = refl;
+          regs = sym (append-nil _);
+          few = λ few. few;
+          blocks = longer;
+          here = refl;
+          there = omega (arith, longer);
+          vars = sym (append-nil _);
+          lasts = λ number. last_new number s.made.blocks;
+          inside = tt;
+          most = omega (arith, more);
+          beyond = λ over. inl over;
+          before = λ fits. fits;
+          exact = λ fits. omega (arith, more);
+          instrs = λ fits number. instrs_new number s.made.blocks ∙ sym (append-nil _);
+        },
+      )
 
 pub same_emit : (instr : Instr) (s : Making) → IsGoing s
     → Meets s (run_emit instr s) (plan_emit instr (place_of s))

@@ -12,7 +12,7 @@ use Rattle.sw_lower_plans.specs.Run.{IsGoing, Making, Makes, Meets, Run, instrs_
 use Rattle.sw_lower_plans.specs.Run.{points, run_after, run_scope, with_vars}
 use Rattle.sw_lower_plans.specs.declared.bound.Bound.{Bound}
 use Rattle.sw_lower_plans.specs.declared.fault.CodeFault.{CodeFault}
-use Rattle.sw_lower_plans.specs.declared.fault.CodeFault.TheVariants.{Registers, Missing, Memory}
+use Rattle.sw_lower_plans.specs.declared.fault.CodeFault.TheVariants.{Registers, Blocks, Missing, Memory}
 use Rattle.sw_lower_plans.proofs.BlockFacts.{ended_both, inside_both, inside_more, written_both}
 
 abbrev place : Numbers → ℕ → ℕ → ℕ → List Bound → Place
@@ -121,6 +121,8 @@ second_meets first second s t (Err Registers) made meets =
       length-append s.made.regs first.regs,
       length-append first.regs second.regs,
     )
+second_meets first second s t (Err Blocks) made meets =
+    omega (arith, meets, made.blocks, length-append first.made second.made)
 second_meets first second s t (Err Missing) made meets = tt
 second_meets first second s t (Err Memory) made meets = absurd meets
 
@@ -141,6 +143,13 @@ same_then {A = A} {B = B} run plan runs plans same sames s going =
             meets,
             length-append (plan (place_of s)).regs
                 (plans (plan (place_of s)).value (after (place_of s) (plan (place_of s)))).regs,
+          )
+      by (Err Blocks) meets =
+          omega (
+            arith,
+            meets,
+            length-append (plan (place_of s)).made
+                (plans (plan (place_of s)).value (after (place_of s) (plan (place_of s)))).made,
           )
       by (Err Missing) meets = tt
       by (Err Memory) meets = absurd meets
@@ -166,6 +175,7 @@ same_scope {A = A} run plan same s going = by (run s) (same s going) where
   by : (result : Result (A × Making) CodeFault) → Meets s result (plan (place_of s))
       → Meets s (with_vars (length s.vars) result) (plan_scope plan (place_of s))
   by (Err Registers) meets = meets
+  by (Err Blocks) meets = meets
   by (Err Missing) meets = tt
   by (Err Memory) meets = absurd meets
   by (Ok at) meets =

@@ -14,13 +14,14 @@ use Rattle.sw_graph.specs.declared.instr.Instr.{Instr}
 use Rattle.sw_graph.specs.declared.instr.Last.{Last}
 use Rattle.sw_graph.specs.declared.instr.Last.TheVariants.{Return}
 use Rattle.sw_lower_builder.specs.Blocks.{with_instr, with_last}
+use Rattle.sw_lower_builder.specs.declared.builder.TheConstants.{MOST_BLOCKS}
 use Rattle.sw_lower_builder.specs.Unfinished.{Unfinished, begun, in_block, with_block, with_register}
 use Rattle.sw_lower_plans.specs.Plan.{Numbers, Piece, Place, Written, ended_in, size, var_in}
 use Rattle.sw_lower_plans.specs.Plan.{written_in}
 use Rattle.sw_lower_plans.specs.declared.bound.Bound.{Bound}
 use Rattle.sw_lower_plans.specs.declared.name.FunctionName.{FunctionName}
 use Rattle.sw_lower_plans.specs.declared.fault.CodeFault.{CodeFault}
-use Rattle.sw_lower_plans.specs.declared.fault.CodeFault.TheVariants.{Registers, Missing, Memory}
+use Rattle.sw_lower_plans.specs.declared.fault.CodeFault.TheVariants.{Registers, Blocks, Missing, Memory}
 
 -- A function while code for it is made: what is made, the block that goes on, the variables that
 -- are seen, the numbers of functions, and whether an instruction was dropped because the function
@@ -55,7 +56,8 @@ run_reg kind making =
 
 abbrev pub run_block : Run ℕ
 run_block making =
-    Ok (length making.made.blocks, record making { made = with_block making.made })
+    if nat_le MOST_BLOCKS (length making.made.blocks) then Err Blocks
+    else Ok (length making.made.blocks, record making { made = with_block making.made })
 
 -- A function with all its points takes no instruction. That this makes it too large is seen at its
 -- end, so that too many registers count first.
@@ -168,11 +170,12 @@ pub record Makes {A : Type 0} (piece : Piece A) (s t : Making) : Type 0 where
   pub instrs : t.over ≡ false → (number : ℕ) → instrs_at number t.made.blocks
       ≡ instrs_at number s.made.blocks ++ written_in number piece.writes
 
--- A run does what a plan says. It ends early where the plan has too many registers, or where it
--- asks for what isn't known. It never wants memory.
+-- A run does what a plan says. It ends early where the plan has too many registers or too many
+-- blocks, or where it asks for what isn't known. It never wants memory.
 abbrev pub Meets : {A : Type 0} → Making → Result (A × Making) CodeFault → Piece A → Type 0
 Meets s (Ok at) piece = (at.0 ≡ piece.value) × Makes piece s at.1
 Meets s (Err Registers) piece = MAX_REGISTERS < length s.made.regs + length piece.regs
+Meets s (Err Blocks) piece = MOST_BLOCKS < length s.made.blocks + length piece.made
 Meets s (Err Missing) piece = Unit {0}
 Meets s (Err Memory) piece = ⊥
 

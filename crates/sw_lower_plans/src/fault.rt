@@ -7,6 +7,10 @@ pub enum CodeFault {
     /// The function would have more registers than a function of a graph.
     #[error("too many registers")]
     Registers,
+    /// The function would have more blocks than there are numbers of 32 bits. No program of a text
+    /// has so many.
+    #[error("too many blocks")]
+    Blocks,
     /// The code asks for what isn't known. No program that was judged lacks it.
     #[error("what the code asks for isn't known")]
     Missing,

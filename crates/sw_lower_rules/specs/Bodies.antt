@@ -1,6 +1,7 @@
 -- The bodies of a program and its graph.
-use Rattle.std.specs.Prelude.{◌≡◌, ℕ, ◌+◌, ◌*◌, ◌==◌, ◌&&◌, true, false, List, [], ◌∷◌, ◌++◌}
-use Rattle.std.specs.Prelude.{map, flat_map, Option, Some, None, slice_get, if◌then◌else◌}
+use Rattle.std.specs.Prelude.{◌≡◌, ◌≤◌, ℕ, ◌+◌, ◌*◌, ◌^◌, ◌==◌, ◌&&◌, true, false, List, [], ◌∷◌}
+use Rattle.std.specs.Prelude.{◌++◌, length, map, flat_map, Option, Some, None, slice_get}
+use Rattle.std.specs.Prelude.{if◌then◌else◌}
 use Rattle.std.specs.Prelude.{All, Contains, Err, IsOk, IsPermutation}
 use Rattle.std.specs.List.Sorted.{IsNonDecreasingBy}
 use Rattle.sw_tree.specs.declared.decl.Decl.{Decl}
@@ -42,7 +43,7 @@ use Rattle.sw_isolation_rules.specs.Kinds.{is_isolated, shape_iso}
 use Rattle.sw_isolation_rules.specs.Programs.{func_at}
 use Rattle.sw_lower_plans.specs.Plan.{Numbers}
 use Rattle.sw_lower_code.specs.Code.{Code, close, done, each, emit, known, ◌>>=◌, ◌>>◌}
-use Rattle.sw_lower_code.specs.Whole.{Body, function_of, lower_body}
+use Rattle.sw_lower_code.specs.Whole.{Body, HasManyBlocks, function_of, lower_body}
 use Rattle.sw_lower_code.specs.declared.fault.BodyFault.TheVariants.{Missing}
 use Rattle.sw_lower_code.specs.declared.taken.Taken.{Taken}
 use Rattle.sw_lower_rules.specs.Carriers.{ExprCode, Given}
@@ -350,12 +351,15 @@ abbrev pub AreStarts : World → List Body → List ℕ → Type 0
 AreStarts world ordered starts = map Some starts ≡ starts_in (numbers_of ordered) world.globals
 
 -- Something is missing in a program with these bodies in order: a body's own name, something that
--- the code of a body asks for, the number of the entry, or those of the functions that give global
--- variables their first values.
+-- the code of a body asks for, a number of 32 bits for a block or for a function, the number of the
+-- entry, or those of the functions that give global variables their first values.
 pub data LacksIn (world : World) (decls : List Decl) (ordered : List Body) : Type 0 where
   lacks_names : ¬ (AreNumbered ordered) → LacksIn world decls ordered
   lacks_asked : (body : Body) → Contains ordered body
       → lower_body (numbers_of ordered) body ≡ Err Missing → LacksIn world decls ordered
+  lacks_blocks : (body : Body) → Contains ordered body
+      → HasManyBlocks (numbers_of ordered) body → LacksIn world decls ordered
+  lacks_numbers : 2 ^ 32 ≤ length ordered → LacksIn world decls ordered
   lacks_entry : ¬ ((entry : ℕ) × IsEntryNumber decls ordered entry) → LacksIn world decls ordered
   lacks_starts : ¬ ((starts : List ℕ) × AreStarts world ordered starts)
       → LacksIn world decls ordered
