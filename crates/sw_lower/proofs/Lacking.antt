@@ -1,5 +1,5 @@
 -- What a program lacks whose functions aren't made.
-use Rattle.std.proofs.Common.{◌≡◌, ◌<◌, ◌+◌, ℕ, List, [], ◌∷◌, ◌++◌, Option, Some, None, map}
+use Rattle.std.proofs.Common.{◌≡◌, ◌<◌, ◌≤◌, ◌+◌, ◌^◌, inl, inr, ℕ, List, [], ◌∷◌, ◌++◌, Option, Some, None, map}
 use Rattle.std.proofs.Common.{option_map, slice_get, get_or, drop, length, ap, arith, refl, sym}
 use Rattle.std.proofs.Common.{◌∙◌, subst}
 use Rattle.std.proofs.lemmas.List.{get_or-map, length-map}
@@ -15,15 +15,15 @@ use Rattle.sw_lower_plans.specs.Plan.{Numbers}
 use Rattle.sw_lower_plans.specs.declared.name.FunctionName.{FunctionName}
 use Rattle.sw_lower_bodies.specs.Trees.{bodies_by, body_by}
 use Rattle.sw_lower_bodies.specs.declared.body_tree.BodyTree.{BodyTree}
-use Rattle.sw_lower_code.specs.Whole.{Body, lower_body}
+use Rattle.sw_lower_code.specs.Whole.{Body, HasManyBlocks, lower_body}
 use Rattle.sw_lower_code.specs.declared.fault.BodyFault.TheVariants as body_faults
 use Rattle.sw_lower_known.specs.Knowledge.{tables_by}
 use Rattle.sw_lower_known.specs.declared.known.Known.{Known}
 use Rattle.sw_lower_rules.specs.Bodies.{AreNumbered, AreOrdered, AreStarts, IsEntryNumber, Lacks}
-use Rattle.sw_lower_rules.specs.Bodies.{entry_key, lacks_asked, lacks_entry, lacks_names}
-use Rattle.sw_lower_rules.specs.Bodies.{lacks_starts, numbers_of, program_bodies, starts_in}
+use Rattle.sw_lower_rules.specs.Bodies.{LacksIn, entry_key, lacks_asked, lacks_blocks, lacks_entry}
+use Rattle.sw_lower_rules.specs.Bodies.{lacks_names, lacks_numbers, lacks_starts, numbers_of, program_bodies, starts_in}
 use Rattle.sw_lower_rules.specs.Tables.{Tables, name_of, number_in, plain}
-use Rattle.sw_lower.specs.Lowered.{FailsFor, IsFaultOf, SomeAsks}
+use Rattle.sw_lower.specs.Lowered.{AsksInVain, FailsFor, IsFaultOf, SomeAsks}
 use Rattle.sw_lower.specs.Ordered.{AreFound, tree_name, tree_order}
 use Rattle.sw_lower.specs.declared.fault.LowerFault.{LowerFault}
 use Rattle.sw_lower.specs.declared.fault.LowerFault.TheVariants as faults
@@ -85,6 +85,17 @@ names_lack tables decls trees are unfound = (
       unfound (names_found tables trees numbered)),
 )
 
+-- There are more bodies than numbers.
+pub many_lack : (tables : Tables) (decls : List Decl) (trees : List BodyTree)
+    → AreOrdered tables decls (bodies_by tables trees) → 2 ^ 32 ≤ length trees
+    → Lacks tables decls
+unfolding bodies_by
+many_lack tables decls trees are many = (
+  bodies_by tables trees,
+  are,
+  lacks_numbers (omega (arith, many, length-map trees (body_by tables))),
+)
+
 -- an element, and what is made of it
 contains_made : {X Y : Type 0} (f : X → Y) (xs : List X) (x : X) → Contains xs x
     → Contains (map f xs) (f x)
@@ -125,17 +136,23 @@ module _ (known : Known) (numbers : NumberTable) (decls : List Decl) (trees : Li
   unfolding bodies_by
   numbered = same_numbers known numbers trees named
 
-  -- The code of a body asks for what isn't known.
+  -- The code of a body asks for what isn't known, or makes too many blocks.
   pub asked_lacks : SomeAsks known numbers trees → Lacks (tables_by known) decls
   unfolding bodies_by
-  asked_lacks (tree, among, asks) = (
-    bodies,
-    are,
-    lacks_asked (body_by (tables_by known) tree)
-        (contains_made (body_by (tables_by known)) trees tree among)
-        (subst (λ (by : Numbers). lower_body by (body_by (tables_by known) tree)
-        ≡ Err body_faults.Missing) numbered asks),
-  )
+  asked_lacks (tree, among, asks) = (bodies, are, by asks) where
+    body : Body
+    body = body_by (tables_by known) tree
+
+    is_there : Contains bodies body
+    is_there = contains_made (body_by (tables_by known)) trees tree among
+
+    by : AsksInVain known numbers tree → LacksIn (tables_by known).world decls bodies
+    by (inl asks) =
+        lacks_asked body is_there
+        (subst (λ (by : Numbers). lower_body by body ≡ Err body_faults.Missing) numbered asks)
+    by (inr many) =
+        lacks_blocks body is_there
+        (subst (λ (by : Numbers). HasManyBlocks by body) numbered many)
 
   -- The entry has no number.
   pub entry_lacks : and_then (entry_key decls) (λ key. number_by numbers (plain key)) ≡ None

@@ -1,5 +1,5 @@
 -- The functions that are made of a program's bodies, and the fault of a program that has none.
-use Rattle.std.specs.Prelude.{◌≡◌, ℕ, Bool, ◌||◌, nat_lt, List, [], Some, Result, Ok, Err}
+use Rattle.std.specs.Prelude.{◌≡◌, ◌⊎◌, ℕ, Bool, ◌||◌, nat_lt, List, [], Some, Result, Ok, Err}
 use Rattle.std.specs.Prelude.{Contains, IsOk, if◌then◌else◌}
 use Rattle.sw_types.specs.declared.ty.Ty.{Ty}
 use Rattle.sw_graph.specs.declared.function.TheConstants.{MAX_POINTS}
@@ -18,7 +18,7 @@ use Rattle.sw_lower.specs.declared.lowering.Made.{Made}
 use Rattle.sw_lower.specs.declared.lowering.MadeProgram.{MadeProgram}
 use Rattle.sw_lower_bodies.specs.Trees.{body_by}
 use Rattle.sw_lower_bodies.specs.declared.body_tree.BodyTree.{BodyTree}
-use Rattle.sw_lower_code.specs.Whole.{Body, function_of, lower_body}
+use Rattle.sw_lower_code.specs.Whole.{Body, HasManyBlocks, function_of, lower_body}
 use Rattle.sw_lower_known.specs.Knowledge.{tables_by}
 use Rattle.sw_lower_known.specs.declared.known.Known.{Known}
 use Rattle.sw_lower_rules.specs.Bodies.{AreMade, AreNumbered, AreOrdered, AreStarts, IsEntryNumber}
@@ -42,10 +42,12 @@ abbrev pub EndsWell : Known → NumberTable → BodyTree → Type 0
 EndsWell known numbers tree =
     IsOk (lower_body (number_by numbers) (body_by (tables_by known) tree))
 
--- It ends for want of something that the code asks for.
+-- It ends for want of something that the code asks for, or of a number for a block.
 abbrev pub AsksInVain : Known → NumberTable → BodyTree → Type 0
 AsksInVain known numbers tree =
-    lower_body (number_by numbers) (body_by (tables_by known) tree) ≡ Err body_faults.Missing
+    let body = body_by (tables_by known) tree in
+    (lower_body (number_by numbers) body ≡ Err body_faults.Missing)
+    ⊎ HasManyBlocks (number_by numbers) body
 
 -- So it does for one of these bodies.
 abbrev pub SomeAsks : Known → NumberTable → List BodyTree → Type 0

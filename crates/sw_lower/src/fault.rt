@@ -7,7 +7,8 @@ pub enum LowerFault {
     /// The first function that is too large, by its key.
     #[error("E{code} at {at}")]
     Breach { code: u16, at: u32 },
-    /// What lowering asks for isn't known. No program that was judged lacks it.
+    /// What lowering asks for isn't known, or there is no number of 32 bits for a block or for a
+    /// function. No program that was judged lacks it.
     #[error("what lowering asks for isn't known")]
     Missing,
     #[error("out of memory")]

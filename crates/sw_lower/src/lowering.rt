@@ -91,6 +91,7 @@ fn add(
                 code: TOO_MANY_POINTS,
             })?,
         ),
+        Err(BodyFault::TooManyBlocks) => Err(LowerFault::Missing),
         Err(BodyFault::Missing) => Err(LowerFault::Missing),
         Err(BodyFault::Memory) => Err(LowerFault::Memory),
     }
@@ -130,7 +131,7 @@ fn make_program<'a>(
 {
     let bodies = in_order(bodies_of(alloc, known, decls)?);
     if bodies.len() > MOST_FUNCTIONS {
-        return Err(LowerFault::Memory);
+        return Err(LowerFault::Missing);
     }
     let numbers = numbers_of(alloc, bodies.as_slice())?;
     let made = make_all(alloc, known, &numbers, bodies.as_slice())?;

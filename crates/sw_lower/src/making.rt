@@ -1,5 +1,5 @@
 //! The function of a body.
-ghost use Rattle.std.specs.Prelude.{◌≡◌, ◌≢◌, Err, length, IfOk, OnOk};
+ghost use Rattle.std.specs.Prelude.{◌≡◌, ◌≢◌, Err, IfOk, OnOk};
 ghost use Rattle.std.specs.Option.{option_copied};
 ghost use Rattle.sw_lower_draft.specs.Drafts.{GivesAsRun, making_of, number_by};
 ghost use Rattle.sw_lower.specs.Lowered.{EndsWell, finished_by};
@@ -73,16 +73,6 @@ fn sends(form: BodyForm<'_>) -> bool
     }
 }
 
-/// How many variables a function takes. More than a number of 32 bits counts as want of memory.
-fn count_of(takes: &[Taken]) -> Result<u32, AllocError>
-    ensures { IfOk result (λ count. count ≡ length takes.now) }
-{
-    match u32::try_from(takes.len()) {
-        Ok(count) => Ok(count),
-        Err(_) => Err(AllocError),
-    }
-}
-
 /// Makes what a body takes and its code.
 #[tactic(auto, unfolding(sw_lower_code::specs::Code::andthen, sw_lower_code::specs::Whole::code_of,))]
 fn make(
@@ -134,13 +124,16 @@ fn made(
 {
     let takes = takes_of(alloc, known, tree.form)?;
     let list = takes.as_slice();
-    let count = count_of(list)?;
     let sending = sending_of(alloc, list)?;
     let gives = result_of(alloc, known, tree.form)?;
     let mut draft = Draft::new(alloc, numbers, tree.key, tree.iso, tree.is_async)?;
     match make(alloc, known, tree, list, &gives, &mut draft) {
-        Ok(()) => finish(draft, tree.key, count, sending, sends(tree.form), gives),
+        Ok(()) => {
+            let count = list.len() as u32;
+            finish(draft, tree.key, count, sending, sends(tree.form), gives)
+        }
         Err(CodeFault::Registers) => Err(BodyFault::TooManyRegisters { function: tree.key }),
+        Err(CodeFault::Blocks) => Err(BodyFault::TooManyBlocks),
         Err(CodeFault::Missing) => Err(BodyFault::Missing),
         Err(CodeFault::Memory) => Err(BodyFault::Memory),
     }

@@ -57,7 +57,7 @@ impl<'a> Draft<'a> {
         ensures { GivesAsRun (run_block (making_of self.old)) result self.new }
     {
         if self.builder.block_count() >= MOST_BLOCKS {
-            return Err(CodeFault::Memory);
+            return Err(CodeFault::Blocks);
         }
         Ok(self.builder.block()?)
     }

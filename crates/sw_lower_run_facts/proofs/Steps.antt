@@ -13,10 +13,11 @@ use Rattle.sw_graph.specs.declared.instr.Last.{Last}
 use Rattle.sw_graph.specs.declared.instr.Operand.{Operand}
 use Rattle.sw_lower_builder.specs.Blocks.{new_block, with_last}
 use Rattle.sw_lower_builder.specs.Unfinished.{in_block, with_block, with_register}
+use Rattle.sw_lower_builder.specs.declared.builder.TheConstants.{MOST_BLOCKS}
 use Rattle.sw_lower_builder.proofs.BlockLemmas.{length_changed}
 use Rattle.sw_lower_plans.specs.Plan.{Entry, written_in}
 use Rattle.sw_lower_plans.specs.Run.{IsGoing, Making, instrs_at, last_at}
-use Rattle.sw_lower_plans.specs.declared.fault.CodeFault.TheVariants.{Missing, Registers}
+use Rattle.sw_lower_plans.specs.declared.fault.CodeFault.TheVariants.{Blocks, Missing, Registers}
 use Rattle.sw_lower_plans.proofs.BlockFacts.{instrs_ended, instrs_new, last_ended, last_new}
 use Rattle.sw_lower_code.specs.Code.{block_for, close, done, emit, front, reg, resume, ◌>>◌}
 use Rattle.sw_lower_rules.specs.Uses.{give, operand}
@@ -137,20 +138,30 @@ pub block_ran : (entry : Entry) (s t : Making) (made : ℕ)
     → (block_for entry).run s ≡ Ok (made, t) → MadeBlock s made t
 unfolding block_for
 block_ran entry s t made ran =
-    let after : Making = record s { made = with_block s.made } in
-    let same = gave_same (length s.made.blocks) made after t ran in
-    subst (MadeBlock s made) same.1
-    (subst (λ n. MadeBlock s n after) same.0 (record {
-      number = refl;
-      count = (let more = length-append s.made.blocks (new_block ∷ []) in omega (arith, more));
-      here = refl;
-      vars = refl;
-      over = refl;
-      regs = refl;
-      instrs = λ b. instrs_new b s.made.blocks;
-      lasts = λ b. last_new b s.made.blocks;
-      empty = instrs_new (length s.made.blocks) s.made.blocks ∙ past_empty s.made.blocks;
-    }))
+    by (nat_le MOST_BLOCKS (length s.made.blocks)) ran where
+      after : Making
+      after = record s { made = with_block s.made }
+
+      by : (full : Bool)
+          → (if full then Err Blocks else ended (length s.made.blocks) after) ≡ ended made t
+          → MadeBlock s made t
+      by true ran = cc
+      by false ran =
+          let same = gave_same (length s.made.blocks) made after t ran in
+          subst (MadeBlock s made) same.1
+          (subst (λ n. MadeBlock s n after) same.0 (record {
+            number = refl;
+            count = (
+                let more = length-append s.made.blocks (new_block ∷ []) in omega (arith, more));
+            here = refl;
+            vars = refl;
+            over = refl;
+            regs = refl;
+            instrs = λ b. instrs_new b s.made.blocks;
+            lasts = λ b. last_new b s.made.blocks;
+            empty = instrs_new (length s.made.blocks) s.made.blocks
+                ∙ past_empty s.made.blocks;
+          }))
 
 -- the block that goes on ends
 pub close_ran : (last : Last) (s t : Making) (one : Unit {0}) → IsGoing s

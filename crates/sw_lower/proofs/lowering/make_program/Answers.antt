@@ -1,4 +1,4 @@
-use Rattle.std.proofs.Common.{◌≡◌, List, Some, All, ap, map, subst, ◌∙◌}
+use Rattle.std.proofs.Common.{◌≡◌, List, Some, All, ap, arith, map, subst, ◌∙◌}
 use Rattle.std.proofs.lemmas.Result.{err_from_is_err_and}
 use Rattle.sw_decls.specs.declared.signature.GlobalVar.{GlobalVar}
 use Rattle.sw_lower_draft.specs.Drafts.{number_by}
@@ -14,7 +14,7 @@ use Rattle.sw_lower_rules.specs.Bodies.{starts_in}
 use Rattle.sw_lower.specs.Lowered.{EndsWell, HasMade, SomeAsks, function_by}
 use Rattle.sw_lower.proofs.Numbered.{bodies_found}
 use Rattle.sw_lower.proofs.Lacking.{asked_lacks, entry_lacks, names_lack, starts_lack, still_fails}
-use Rattle.sw_lower.proofs.Lacking.{trees_ordered}
+use Rattle.sw_lower.proofs.Lacking.{many_lack, trees_ordered}
 use Rattle.sw_lower.proofs.Programs.{bodies_end, functions_are, same_numbers}
 use Rattle.sw_lower.proofs.lowering.make_program.Goals as goal
 
@@ -121,3 +121,13 @@ returns-in_err-starts-clause-fault c =
     rw (p.1, p.2)
     (still_fails (starts_lack known numbers c.args.decls.now trees named are
     _ c.as_slice-3.ensures) _ c.in_err-starts.ensures.fault)
+
+pub returns-then-len-gt-MOST_FUNCTIONS-clause-fault :
+    goal.returns-then-len-gt-MOST_FUNCTIONS-clause-fault
+returns-then-len-gt-MOST_FUNCTIONS-clause-fault c =
+    let tables = tables_by c.args.known.now in
+    let trees = c.in_order-bodies.result in
+    let are = trees_ordered tables c.args.decls.now c.in_ok-bodies_of.field-0 trees
+    c.in_ok-bodies_of.ensures c.in_order-bodies.ensures.same c.in_order-bodies.ensures.ordered in
+    many_lack tables c.args.decls.now trees are
+    (omega (arith, c.if-len-gt-MOST_FUNCTIONS.true, c.len.ensures))
