@@ -1,9 +1,12 @@
 -- Each program that keeps the rules on declarations and on types can be lowered.
-use Rattle.std.proofs.Common.{◌≡◌, ℕ, List, [], ◌∷◌, ◌++◌, Option, Some, None, map, refl}
+use Rattle.std.proofs.Common.{◌≡◌, ◌<◌, ◌≤◌, ◌*◌, ◌^◌, ℕ, List, [], ◌∷◌, ◌++◌, length, Option}
+use Rattle.std.proofs.Common.{Some, None, map, refl, arith}
 use Rattle.std.proofs.lemmas.List.Elements.{All-cons, All-contains, All-head, All-nil, All-tail}
-use Rattle.std.proofs.lemmas.List.Sorted.{All-permutation}
+use Rattle.std.proofs.lemmas.List.Elements.{All-weaker}
+use Rattle.std.proofs.lemmas.List.Sorted.{All-permutation, length_permutation}
 use Rattle.std.specs.Prelude.{All, Err, IsOk, Ok, Result}
 use Rattle.sw_tree.specs.declared.decl.Decl.{Decl}
+use Rattle.sw_tree_facts.specs.Sizes.{size_of}
 use Rattle.sw_graph.specs.Limits.{excess_of}
 use Rattle.sw_graph.specs.declared.function.Excess.{Excess}
 use Rattle.sw_graph.specs.declared.function.Function.{Function}
@@ -13,15 +16,17 @@ use Rattle.sw_typing_rules.specs.Programs.{said}
 use Rattle.sw_typing_rules.specs.Worlds.{World}
 use Rattle.sw_isolation_rules.specs.Answers.{answers_in}
 use Rattle.sw_lower_plans.specs.Plan.{Numbers}
-use Rattle.sw_lower_code.specs.Whole.{Body, IsWhole, function_of, lower_body}
+use Rattle.sw_lower_code.specs.Whole.{Body, HasManyBlocks, IsWhole, function_of, lower_body}
+use Rattle.sw_lower_code.specs.Whole.{piece_of}
 use Rattle.sw_lower_code.specs.declared.fault.BodyFault.{BodyFault}
 use Rattle.sw_lower_code.specs.declared.fault.BodyFault.TheVariants as faults
-use Rattle.sw_lower_code.proofs.WholeFacts.{lowers_whole, wants_no_memory}
+use Rattle.sw_lower_code.proofs.WholeFacts.{blocks_fit, fits_points, lowers_whole, wants_no_memory}
 use Rattle.sw_lower_rules.specs.Bodies.{AreMade, AreNumbered, AreOrdered, functions_of, numbers_of}
-use Rattle.sw_lower_rules.specs.Bodies.{Lacks, LacksIn, lacks_asked, lacks_entry, lacks_names}
-use Rattle.sw_lower_rules.specs.Bodies.{lacks_starts, placed_excess, program_bodies, too_large_in}
-use Rattle.sw_lower_rules.specs.Tables.{isolation_in}
+use Rattle.sw_lower_rules.specs.Bodies.{Lacks, LacksIn, lacks_asked, lacks_blocks, lacks_entry}
+use Rattle.sw_lower_rules.specs.Bodies.{lacks_names, lacks_numbers, lacks_starts, placed_excess, program_bodies, too_large_in}
+use Rattle.sw_lower_rules.specs.Tables.{Tables, isolation_in}
 use Rattle.sw_lower_rules.specs.Bodies.{AreStarts, IsEntryNumber}
+use Rattle.sw_lower_size_facts.proofs.Bodies.{bodies_are_short, program_short}
 use Rattle.sw_typing_facts.proofs.Programs.WordKinds.{word_kinds}
 use Rattle.sw_lower_total_facts.specs.Known.{TablesAgree}
 use Rattle.sw_lower_total_facts.specs.Proceeding.{BodyProceeds}
@@ -46,6 +51,8 @@ made_of number body (Err (faults.TooManyRegisters key)) (same, large) known want
     cc (large, fits)
 made_of number body (Err (faults.TooManyPoints key)) (same, large) known wants fits =
     cc (large, fits)
+made_of number body (Err faults.TooManyBlocks) large known wants fits =
+    absurd (blocks_fit number body (fits_points (function_of number body) fits) large)
 made_of number body (Err faults.Missing) whole known wants fits = absurd (known refl)
 made_of number body (Err faults.Memory) whole known wants fits = absurd (wants refl)
 
@@ -135,6 +142,29 @@ module _ (decls : List Decl) (rule : AsyncDefault) (world : World)
       starts_are world (answers_in (said world decls)) (isolation_in (notes_of world decls)) decls
       rule is.declared ordered are is.valued
 
+-- In a small program no body has more blocks than there are numbers, and no more bodies are in it.
+few_blocks : (decls : List Decl) (tables : Tables) (ordered : List Body)
+    → size_of decls < 2 ^ 30 → AreOrdered tables decls ordered
+    → All (λ (body : Body). HasManyBlocks (numbers_of ordered) body → ⊥) ordered
+few_blocks decls tables ordered small are =
+    let Short = λ (body : Body). length (piece_of (numbers_of ordered) body).made
+    ≤ 3 * size_of decls in
+    All-weaker Short (λ (body : Body). HasManyBlocks (numbers_of ordered) body → ⊥)
+    (λ body short many. omega (arith, small, short, many)) ordered
+    (All-permutation Short (program_bodies tables decls) ordered are.bodies
+    (bodies_are_short tables decls (numbers_of ordered)))
+
+few_bodies : (decls : List Decl) (tables : Tables) (ordered : List Body)
+    → size_of decls < 2 ^ 30 → AreOrdered tables decls ordered → 2 ^ 32 ≤ length ordered → ⊥
+few_bodies decls tables ordered small are many =
+    omega (
+      arith,
+      small,
+      many,
+      (program_short tables decls).few,
+      length_permutation (program_bodies tables decls) ordered are.bodies,
+    )
+
 -- Nothing is missing in such a program.
 pub lacks_nothing : (decls : List Decl) (rule : AsyncDefault) (world : World)
     → IsWelltyped decls rule world → Lacks (noted_tables world decls) decls → ⊥
@@ -144,5 +174,9 @@ lacks_nothing decls rule world is (ordered, are, lacks) = by lacks where
   by (lacks_asked body among missing) =
       All-contains (BodyProceeds (numbers_of ordered)) ordered body
       (bodies_proceed decls rule world is ordered are) among missing
+  by (lacks_blocks body among many) =
+      All-contains (λ (body : Body). HasManyBlocks (numbers_of ordered) body → ⊥) ordered body
+      (few_blocks decls (noted_tables world decls) ordered is.small are) among many
+  by (lacks_numbers many) = few_bodies decls (noted_tables world decls) ordered is.small are many
   by (lacks_entry none) = none (has_entry_number decls rule world is ordered are)
   by (lacks_starts none) = none (has_starts decls rule world is ordered are)

@@ -42,8 +42,8 @@ kept rule text declarations types size =
       decls = size.decls;
       world = size.world;
       has_world = size.has_world;
-      welltyped = program_welltyped (spelling_of text program.tokens) size.decls rule size.world
-          program.is_program
+      welltyped = program_welltyped text program.tokens size.decls rule size.world
+          program.are_tokens program.is_program
           (subst (λ (list : List Decl). IsFirstBreach list None)
           (same_decls text declarations.program program) (none_first declarations.finds))
           size.has_world.is_world

@@ -1,13 +1,19 @@
 -- What the program of a text has, beside what its tokens say: it can be lowered where it keeps the
 -- rules on declarations and on types.
-use Rattle.std.proofs.Common.{List, None}
-use Rattle.sw_token.specs.Spelling.{Spelled}
+use Rattle.std.proofs.Common.{◌<◌, ◌^◌, ℕ, List, None, arith}
+use Rattle.std.proofs.lemmas.List.{length-map}
+use Rattle.sw_token.proofs.TokenLaws.{IsTokens-most}
+use Rattle.sw_token.specs.Spelling.{Spelled, spelled, spelling_of}
+use Rattle.sw_token.specs.Tokens.{IsTokens}
+use Rattle.sw_token.specs.declared.Token.{Token}
 use Rattle.sw_tree.specs.CasePlaces.{CasesApart}
 use Rattle.sw_tree.specs.Names.{id_in}
 use Rattle.sw_tree.specs.declared.decl.Decl.{Decl}
+use Rattle.sw_tree_facts.specs.Sizes.{size_of}
 use Rattle.sw_grammar.specs.Program.{Spells}
 use Rattle.sw_grammar_facts.proofs.CaseWords.{cases_are_apart}
 use Rattle.sw_grammar_facts.proofs.Order.ScopedPrograms.{spelled_are_scoped}
+use Rattle.sw_grammar_facts.proofs.Sizes.{spelled_are_small}
 use Rattle.sw_grammar_facts.proofs.TextForms.{are_written, globals_are_valued}
 use Rattle.sw_parse_decl.proofs.ProgramFaults.{keyed_program}
 use Rattle.sw_parse_decl.specs.Programs.{IsProgramOf, most_nests, texts_of}
@@ -28,15 +34,30 @@ pub program_apart : (tokens : List Spelled) (decls : List Decl) → IsProgramOf 
 program_apart tokens decls given =
     cases_are_apart (id_in (texts_of tokens)) decls tokens (spells tokens decls given)
 
-pub program_welltyped : (tokens : List Spelled) (decls : List Decl) (rule : AsyncDefault)
-    (world : World) → IsProgramOf decls tokens → IsFirstBreach decls None
+-- No text has so many tokens that a number of 32 bits isn't enough for what is made of them.
+small_program : (text : List ℕ) (tokens : List Token) (decls : List Decl) → IsTokens text tokens
+    → IsProgramOf decls (spelling_of text tokens) → size_of decls < 2 ^ 30
+small_program text tokens decls are given =
+    omega (
+      arith,
+      IsTokens-most text tokens are,
+      length-map tokens (spelled text),
+      spelled_are_small (id_in (texts_of (spelling_of text tokens))) decls
+          (spelling_of text tokens) (spells (spelling_of text tokens) decls given),
+    )
+
+pub program_welltyped : (text : List ℕ) (tokens : List Token) (decls : List Decl)
+    (rule : AsyncDefault) (world : World) → IsTokens text tokens
+    → IsProgramOf decls (spelling_of text tokens) → IsFirstBreach decls None
     → IsWorldOf decls rule world → IsFirstIll world decls None → IsWelltyped decls rule world
-program_welltyped tokens decls rule world given sound declared well = record {
-  keyed = keyed_program tokens decls given;
-  scoped = spelled_are_scoped (id_in (texts_of tokens)) decls tokens (spells tokens decls given);
-  valued = globals_are_valued (id_in (texts_of tokens)) decls tokens (spells tokens decls given);
-  written = are_written (id_in (texts_of tokens)) decls tokens (spells tokens decls given);
-  sound = sound;
-  declared = declared;
-  well = well;
-}
+program_welltyped text are_tokens decls rule world are given sound declared well =
+    let tokens = spelling_of text are_tokens in record {
+      keyed = keyed_program tokens decls given;
+      scoped = spelled_are_scoped (id_in (texts_of tokens)) decls tokens (spells tokens decls given);
+      valued = globals_are_valued (id_in (texts_of tokens)) decls tokens (spells tokens decls given);
+      written = are_written (id_in (texts_of tokens)) decls tokens (spells tokens decls given);
+      small = small_program text are_tokens decls are given;
+      sound = sound;
+      declared = declared;
+      well = well;
+    }

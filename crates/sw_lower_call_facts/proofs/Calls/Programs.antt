@@ -29,7 +29,7 @@ use Rattle.sw_decl_values.specs.Profile.{no_params}
 use Rattle.sw_lower_plans.specs.Plan.{Numbers}
 use Rattle.sw_lower_plans.specs.Run.{Making, at_start, points}
 use Rattle.sw_lower_plans.specs.declared.fault.CodeFault.{CodeFault}
-use Rattle.sw_lower_plans.specs.declared.fault.CodeFault.TheVariants.{Registers, Missing, Memory}
+use Rattle.sw_lower_plans.specs.declared.fault.CodeFault.TheVariants.{Registers, Blocks, Missing, Memory}
 use Rattle.sw_lower_code.specs.Code.{Code, all}
 use Rattle.sw_lower_code.specs.Whole.{Body, IsWhole, code_of, ended_by, enter, function_of}
 use Rattle.sw_lower_code.specs.Whole.{lower_body, sending_of}
@@ -124,6 +124,7 @@ module _ (P : Instr → Type 0) (numbers : Numbers) where
             done at.1 (at.1.over || nat_lt MAX_POINTS (points at.1))
             ((body_writes body so).keeps start at.1 at.0 begun ran).written is
         by (Err Registers) ran is = cc
+        by (Err Blocks) ran is = cc
         by (Err Missing) ran is = cc
         by (Err Memory) ran is = cc
 

@@ -12,7 +12,7 @@ use Rattle.sw_graph.specs.Supplied.{TakesActor}
 use Rattle.sw_lower_plans.specs.Plan.{Numbers}
 use Rattle.sw_lower_code.specs.Whole.{Body, function_of, piece_of}
 use Rattle.sw_lower_code.specs.declared.taken.Taken.{Taken}
-use Rattle.sw_lower_formed_facts.proofs.Functions.Takes.{begins_with_takes}
+use Rattle.sw_lower_code.proofs.Takes.{begins_with_takes}
 use Rattle.sw_lower_call_facts.specs.Taking.{IsActorAt, TakesFirst}
 
 -- a register of the type of an actor

@@ -12,10 +12,11 @@ use Rattle.sw_graph.specs.declared.instr.Instr.{Instr}
 use Rattle.sw_graph.specs.declared.instr.Last.{Last}
 use Rattle.sw_lower_builder.specs.Blocks.{changed_at, new_block, with_instr, with_last}
 use Rattle.sw_lower_builder.specs.Unfinished.{in_block, with_block, with_register}
+use Rattle.sw_lower_builder.specs.declared.builder.TheConstants.{MOST_BLOCKS}
 use Rattle.sw_lower_plans.specs.Plan.{Entry, Numbers, var_in}
 use Rattle.sw_lower_plans.specs.Run.{Making, payloads_alone, run_emit, run_known}
 use Rattle.sw_lower_plans.specs.declared.bound.Bound.{Bound}
-use Rattle.sw_lower_plans.specs.declared.fault.CodeFault.TheVariants.{Registers, Missing}
+use Rattle.sw_lower_plans.specs.declared.fault.CodeFault.TheVariants.{Registers, Blocks, Missing}
 use Rattle.sw_lower_plans.specs.declared.name.FunctionName.{FunctionName}
 use Rattle.sw_lower_code.specs.Code.{Code, andthen, bind, block_for, close, emit, front, known}
 use Rattle.sw_lower_code.specs.Code.{number, reg, resume, var}
@@ -192,17 +193,28 @@ module _ {P : Instr → Type 0} {numbers : Numbers} where
   pub writes_block : (entry : Entry) → WritesOnly P numbers (block_for entry)
   unfolding block_for
   writes_block entry = record {
-    keeps = λ s t value holds ran.
-        let after : Making = record s { made = with_block s.made } in
-        subst (HoldsOnly P numbers) (ended (length s.made.blocks) after value t ran).1
-        (record {
-          written = All-append (λ (b : Block). All P b.instrs) s.made.blocks (new_block ∷ [])
-              holds.written
-              (All-cons (λ (b : Block). All P b.instrs) new_block [] (All-nil P)
-              (All-nil (λ (b : Block). All P b.instrs)));
-          number = holds.number;
-        });
-  }
+    keeps = λ s t value holds ran. by s t value holds (nat_le MOST_BLOCKS (length s.made.blocks))
+        ran;
+  } where
+    after : Making → Making
+    after s = record s { made = with_block s.made }
+
+    grown : (s : Making) → HoldsOnly P numbers s → HoldsOnly P numbers (after s)
+    grown s holds = record {
+      written = All-append (λ (b : Block). All P b.instrs) s.made.blocks (new_block ∷ [])
+          holds.written
+          (All-cons (λ (b : Block). All P b.instrs) new_block [] (All-nil P)
+          (All-nil (λ (b : Block). All P b.instrs)));
+      number = holds.number;
+    }
+
+    by : (s t : Making) (value : ℕ) → HoldsOnly P numbers s → (full : Bool)
+        → (if full then Err Blocks else gave (length s.made.blocks) (after s)) ≡ Ok (value, t)
+        → HoldsOnly P numbers t
+    by s t value holds true ran = cc
+    by s t value holds false ran =
+        subst (HoldsOnly P numbers) (ended (length s.made.blocks) (after s) value t ran).1
+        (grown s holds)
 
   pub writes_resume : (block : ℕ) → WritesOnly P numbers (resume block)
   unfolding resume

@@ -22,7 +22,7 @@ use Rattle.sw_lower_code.specs.Code.{all}
 use Rattle.sw_lower_code.specs.Whole.{Body, IsWhole, code_of, ended_by, enter, function_of}
 use Rattle.sw_lower_code.specs.Whole.{lower_body, piece_of}
 use Rattle.sw_lower_code.specs.declared.taken.Taken.{Taken}
-use Rattle.sw_lower_code.proofs.WholeFacts.{lowers_whole, wants_no_memory}
+use Rattle.sw_lower_code.proofs.WholeFacts.{blocks_fit, lowers_whole, wants_no_memory}
 use Rattle.sw_lower_rules.specs.Tables.{Tables}
 use Rattle.sw_lower_formed_facts.proofs.Functions.Points.{middle_at}
 use Rattle.sw_lower_total_facts.specs.Proceeding.{BodyProceeds}
@@ -108,6 +108,9 @@ body_runs numbers body proceeds within = by run refl where
   by (Err code_faults.Missing) is = absurd (proceeds (ap (ended_by body) is))
   by (Err code_faults.Memory) is =
       absurd (wants_no_memory numbers body (ap (ended_by body) is))
+  by (Err code_faults.Blocks) is =
+      absurd (blocks_fit numbers body within.points
+      (subst (IsWhole numbers body) (ap (ended_by body) is) (lowers_whole numbers body)))
   by (Err code_faults.Registers) is =
       absurd (no_excess (function_of numbers body) within
       (subst (IsWhole numbers body) (ap (ended_by body) is) (lowers_whole numbers body)).1)

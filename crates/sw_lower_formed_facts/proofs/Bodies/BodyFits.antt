@@ -14,7 +14,7 @@ use Rattle.sw_lower_plans.specs.Plan.{Numbers, Place}
 use Rattle.sw_lower_plans.specs.Run.{Makes, Making, at_start, instrs_at, place_of, points}
 use Rattle.sw_lower_plans.specs.declared.bound.Bound.{Bound}
 use Rattle.sw_lower_plans.specs.declared.fault.CodeFault.{CodeFault}
-use Rattle.sw_lower_plans.specs.declared.fault.CodeFault.TheVariants.{Memory, Missing, Registers}
+use Rattle.sw_lower_plans.specs.declared.fault.CodeFault.TheVariants.{Blocks, Memory, Missing, Registers}
 use Rattle.sw_lower_code.specs.Code.{Code, all, andthen, bind, reg}
 use Rattle.sw_lower_code.specs.Whole.{Body, code_of, ended_by, enter, function_of, lower_body}
 use Rattle.sw_lower_code.specs.Whole.{piece_of, sending_of}
@@ -146,6 +146,7 @@ body_ends : (body : Body) (result : Result (Unit {0} × Making) CodeFault)
     → IsOk (ended_by body result)
     → (t : Making) × ((result ≡ Ok (tt, t)) × (t.over ≡ false))
 body_ends body (Err Registers) ok = cc
+body_ends body (Err Blocks) ok = cc
 body_ends body (Err Missing) ok = cc
 body_ends body (Err Memory) ok = cc
 body_ends body (Ok at) ok = (at.1, (refl, by at.1.over refl ok)) where

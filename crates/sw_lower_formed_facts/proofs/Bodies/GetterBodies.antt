@@ -38,7 +38,7 @@ use Rattle.sw_lower_formed_facts.specs.Whole.{IsSet, Whole, taken}
 use Rattle.sw_lower_formed_facts.proofs.Bodies.BodyFits.{body_fits_at, is_of, whole_in}
 use Rattle.sw_lower_formed_facts.proofs.Bodies.FuncTakes.{self_ok}
 use Rattle.sw_lower_formed_facts.proofs.Bodies.Given.{Fits}
-use Rattle.sw_lower_formed_facts.proofs.Functions.Takes.{begins_with_takes}
+use Rattle.sw_lower_code.proofs.Takes.{begins_with_takes}
 use Rattle.sw_typing_facts.proofs.Lists.Joined.{Gives, both_give, none_gives}
 use Rattle.sw_lower_formed_facts.proofs.Positions.Then.{safe_then, safe_weaker}
 use Rattle.sw_lower_formed_facts.proofs.Positions.Using.{close_in, give_in}

@@ -27,7 +27,7 @@ use Rattle.sw_lower_formed_facts.proofs.Functions.Payloads.{payloads_fit}
 use Rattle.sw_lower_formed_facts.proofs.Functions.Ranges.{functions_below, globals_below, last_below}
 use Rattle.sw_lower_formed_facts.proofs.Functions.Ranges.{registers_below, shapes_below}
 use Rattle.sw_lower_formed_facts.proofs.Functions.SetFirst.{sets_first}
-use Rattle.sw_lower_formed_facts.proofs.Functions.Takes.{takes_registers}
+use Rattle.sw_lower_code.proofs.Takes.{takes_registers}
 
 -- each last instruction fits
 abbrev pub AllEnded : Whole → List Ended → Type 0

@@ -13,7 +13,7 @@ use Rattle.sw_lower_builder.specs.Unfinished.{finished}
 use Rattle.sw_lower_plans.specs.Plan.{Numbers}
 use Rattle.sw_lower_plans.specs.Run.{Making, at_start, points}
 use Rattle.sw_lower_plans.specs.declared.fault.CodeFault.{CodeFault}
-use Rattle.sw_lower_plans.specs.declared.fault.CodeFault.TheVariants.{Registers, Missing, Memory}
+use Rattle.sw_lower_plans.specs.declared.fault.CodeFault.TheVariants.{Registers, Blocks, Missing, Memory}
 use Rattle.sw_lower_code.specs.Code.{all}
 use Rattle.sw_lower_code.specs.Whole.{Body, IsWhole, code_of, ended_by, enter, finish}
 use Rattle.sw_lower_code.specs.Whole.{function_of, lower_body, sending_of}
@@ -91,6 +91,7 @@ whole_ran numbers body made =
           → IsWhole numbers body (ended_by body result) → IsOk (ended_by body result)
           → WholeRun numbers body
       by (Err Registers) is whole made = cc
+      by (Err Blocks) is whole made = cc
       by (Err Missing) is whole made = cc
       by (Err Memory) is whole made = cc
       by (Ok at) is whole made = ended at.1 is (finish body at.1) refl whole made

@@ -16,10 +16,11 @@ use Rattle.sw_graph.specs.declared.instr.Last.{Last}
 use Rattle.sw_list.proofs.ListLemmas.{at_seam}
 use Rattle.sw_lower_builder.specs.Blocks.{new_block, with_instr, with_last}
 use Rattle.sw_lower_builder.specs.Unfinished.{in_block, with_block, with_register}
+use Rattle.sw_lower_builder.specs.declared.builder.TheConstants.{MOST_BLOCKS}
 use Rattle.sw_lower_plans.specs.Plan.{Entry, Numbers, var_in}
 use Rattle.sw_lower_plans.specs.Run.{IsGoing, Making, payloads_alone, run_emit, run_known}
 use Rattle.sw_lower_plans.specs.declared.bound.Bound.{Bound}
-use Rattle.sw_lower_plans.specs.declared.fault.CodeFault.TheVariants.{Registers, Missing}
+use Rattle.sw_lower_plans.specs.declared.fault.CodeFault.TheVariants.{Registers, Blocks, Missing}
 use Rattle.sw_lower_plans.specs.declared.name.FunctionName.{FunctionName}
 use Rattle.sw_lower_code.specs.Code.{bind, block_for, close, emit, front, known, number}
 use Rattle.sw_lower_code.specs.Code.{reg, resume, var}
@@ -245,21 +246,33 @@ module _ {program : Program} {host : Host} where
       → PlacesAt program host s (block_for entry) (λ value t. IsStill s t)
   unfolding block_for
   places_block s entry stood value t ran fits =
-      let after : Making = record s { made = with_block s.made } in
-      let is = (ended (length s.made.blocks) after value t ran).1 in
-      let still : IsStill s after = record { regs = refl; vars = refl } in (
-        subst (Stood program host) is
-            (stood_still s after stood
-            (subst IsGoing (sym is)
-            (made_by_run (block_for entry) s t value stood.going ran).there)
-            refl still
-            (All-append (λ (b : Block). All (IsAllowed program host s.made.regs) b.instrs)
+      by (nat_le MOST_BLOCKS (length s.made.blocks)) ran where
+        after : Making
+        after = record s { made = with_block s.made }
+
+        still : IsStill s after
+        still = record { regs = refl; vars = refl }
+
+        written : AllAllowed program host s.made.regs after.made.blocks
+        written = All-append (λ (b : Block). All (IsAllowed program host s.made.regs) b.instrs)
             s.made.blocks (new_block ∷ []) stood.written
             (All-cons (λ (b : Block). All (IsAllowed program host s.made.regs) b.instrs) new_block
             [] (All-nil (IsAllowed program host s.made.regs))
-            (All-nil (λ (b : Block). All (IsAllowed program host s.made.regs) b.instrs))))),
-        subst (IsStill s) is still,
-      )
+            (All-nil (λ (b : Block). All (IsAllowed program host s.made.regs) b.instrs)))
+
+        by : (full : Bool)
+            → (if full then Err Blocks else gave (length s.made.blocks) after) ≡ Ok (value, t)
+            → Stood program host t × IsStill s t
+        by true given = cc
+        by false given =
+            let is = (ended (length s.made.blocks) after value t given).1 in (
+              subst (Stood program host) is
+                  (stood_still s after stood
+                  (subst IsGoing (sym is)
+                  (made_by_run (block_for entry) s t value stood.going ran).there)
+                  refl still written),
+              subst (IsStill s) is still,
+            )
 
   -- another block goes on
   pub places_resume : (s : Making) (block : ℕ)

@@ -10,7 +10,7 @@ use Rattle.sw_lower_plans.specs.Plan.{Numbers, Place, var_in}
 use Rattle.sw_lower_plans.specs.Run.{IsGoing, Making, at_start, place_of, points}
 use Rattle.sw_lower_plans.specs.declared.bound.Bound.{Bound}
 use Rattle.sw_lower_plans.specs.declared.fault.CodeFault.{CodeFault}
-use Rattle.sw_lower_plans.specs.declared.fault.CodeFault.TheVariants.{Registers, Missing, Memory}
+use Rattle.sw_lower_plans.specs.declared.fault.CodeFault.TheVariants.{Registers, Blocks, Missing, Memory}
 use Rattle.sw_lower_code.specs.Code.{Code, all, andthen, bind, done, reg}
 use Rattle.sw_lower_code.specs.Whole.{Body, code_of, ended_by, enter, finish, lower_body}
 use Rattle.sw_lower_code.specs.Whole.{sending_of}
@@ -146,5 +146,6 @@ body_proceeds number body rule faulty = by (code.run start) refl faulty where
       → ended_by body result ≡ Err faults.Missing → ⊥
   by (Ok at) ran is = finished at.1 is
   by (Err Registers) ran is = cc
+  by (Err Blocks) ran is = cc
   by (Err Missing) ran is = proceeds ran
   by (Err Memory) ran is = cc

@@ -13,10 +13,11 @@ use Rattle.sw_graph.specs.declared.instr.Instr.{Instr}
 use Rattle.sw_graph.specs.declared.instr.Last.{Last}
 use Rattle.sw_lower_builder.specs.Blocks.{changed_at, with_instr, with_last}
 use Rattle.sw_lower_builder.specs.Unfinished.{in_block, with_block, with_register}
+use Rattle.sw_lower_builder.specs.declared.builder.TheConstants.{MOST_BLOCKS}
 use Rattle.sw_lower_plans.specs.Plan.{Entry, var_in}
 use Rattle.sw_lower_plans.specs.Run.{IsGoing, Making, instrs_at, payloads_alone, run_emit, run_known}
 use Rattle.sw_lower_plans.specs.declared.bound.Bound.{Bound}
-use Rattle.sw_lower_plans.specs.declared.fault.CodeFault.TheVariants.{Registers, Missing}
+use Rattle.sw_lower_plans.specs.declared.fault.CodeFault.TheVariants.{Registers, Blocks, Missing}
 use Rattle.sw_lower_plans.specs.declared.name.FunctionName.{FunctionName}
 use Rattle.sw_lower_plans.proofs.BlockFacts.{instrs_emitted, instrs_ended, instrs_new}
 use Rattle.sw_lower_code.specs.Code.{Code, andthen, bind, block_for, close, emit, front, known}
@@ -149,16 +150,31 @@ stays_close last count own s t value going made apart ran =
 pub stays_block : (entry : Entry) → CodeStays (block_for entry)
 unfolding block_for
 stays_block entry count own s t value going made apart ran =
-    let after : Making = record s { made = with_block s.made } in
-    subst (Stays count own s) (ended (length s.made.blocks) after value t ran).1
-    (all_kept count own s after apart (λ at. instrs_new at s.made.blocks) refl)
+    by (nat_le MOST_BLOCKS (length s.made.blocks)) ran where
+      after : Making
+      after = record s { made = with_block s.made }
+
+      by : (full : Bool)
+          → (if full then Err Blocks else gave (length s.made.blocks) after) ≡ Ok (value, t)
+          → Stays count own s t
+      by true ran = cc
+      by false ran =
+          subst (Stays count own s) (ended (length s.made.blocks) after value t ran).1
+          (all_kept count own s after apart (λ at. instrs_new at s.made.blocks) refl)
 
 pub yields_block : (count : ℕ) (entry : Entry)
     → Yields count (λ block. count ≤ block) (block_for entry)
 unfolding block_for
 yields_block count entry s t value made going ran =
-    subst (λ block. count ≤ block)
-    (ended (length s.made.blocks) (record s { made = with_block s.made }) value t ran).0 made
+    by (nat_le MOST_BLOCKS (length s.made.blocks)) ran where
+      by : (full : Bool)
+          → (if full then Err Blocks
+          else gave (length s.made.blocks) (record s { made = with_block s.made })) ≡ Ok (value, t)
+          → count ≤ value
+      by true ran = cc
+      by false ran =
+          subst (λ block. count ≤ block)
+          (ended (length s.made.blocks) (record s { made = with_block s.made }) value t ran).0 made
 
 -- code after a block is made
 pub keeps_block : {B : Type 0} (count own : ℕ) (entry : Entry) (next : ℕ → Code B)

@@ -8,12 +8,13 @@ use Rattle.sw_graph.specs.declared.function.TheConstants.{MAX_POINTS, MAX_REGIST
 use Rattle.sw_graph.specs.declared.instr.Instr.{Instr}
 use Rattle.sw_graph.specs.declared.instr.Last.{Last}
 use Rattle.sw_lower_builder.specs.Blocks.{with_instr}
-use Rattle.sw_lower_builder.specs.Unfinished.{in_block, with_register}
+use Rattle.sw_lower_builder.specs.Unfinished.{in_block, with_block, with_register}
+use Rattle.sw_lower_builder.specs.declared.builder.TheConstants.{MOST_BLOCKS}
 use Rattle.sw_lower_plans.specs.Plan.{Entry, var_in}
 use Rattle.sw_lower_plans.specs.Run.{Making, payloads_alone, points, run_emit, run_known}
 use Rattle.sw_lower_plans.specs.declared.bound.Bound.{Bound}
 use Rattle.sw_lower_plans.specs.declared.fault.CodeFault.{CodeFault}
-use Rattle.sw_lower_plans.specs.declared.fault.CodeFault.TheVariants.{Registers, Missing}
+use Rattle.sw_lower_plans.specs.declared.fault.CodeFault.TheVariants.{Registers, Blocks, Missing}
 use Rattle.sw_lower_plans.specs.declared.name.FunctionName.{FunctionName}
 use Rattle.sw_lower_code.specs.Code.{bind, block_for, close, done, emit, front, known, number, reg}
 use Rattle.sw_lower_code.specs.Code.{resume, var}
@@ -44,6 +45,12 @@ full = Err Registers
 few : full {A = ℕ} ≢ Err Missing
 few is = cc
 
+abbrev unnumbered : {A : Type 0} → Result (A × Making) CodeFault
+unnumbered = Err Blocks
+
+fewer : unnumbered {A = ℕ} ≢ Err Missing
+fewer is = cc
+
 pub proceeds_reg : (kind : RegKind) (s : Making) → Proceeds s (reg kind)
 unfolding reg
 proceeds_reg kind s is =
@@ -53,7 +60,10 @@ proceeds_reg kind s is =
 
 pub proceeds_block : (entry : Entry) (s : Making) → Proceeds s (block_for entry)
 unfolding block_for
-proceeds_block entry s faulty = cc
+proceeds_block entry s is =
+    neither (nat_le MOST_BLOCKS (length s.made.blocks)) unnumbered
+    (made (length s.made.blocks) (record s { made = with_block s.made })) fewer
+    (there (length s.made.blocks) (record s { made = with_block s.made })) is
 
 emits : (instr : Instr) (s : Making) → run_emit instr s ≢ Err Missing
 emits instr s is =

@@ -3,7 +3,7 @@ use Rattle.std.proofs.Common.{◌≡◌, length, refl, subst}
 use Rattle.std.specs.Prelude.{Result, Ok, Err}
 use Rattle.sw_lower_plans.specs.Run.{IsGoing, Making, Meets, place_of, run_after, with_vars}
 use Rattle.sw_lower_plans.specs.declared.fault.CodeFault.{CodeFault}
-use Rattle.sw_lower_plans.specs.declared.fault.CodeFault.TheVariants.{Registers, Missing, Memory}
+use Rattle.sw_lower_plans.specs.declared.fault.CodeFault.TheVariants.{Registers, Blocks, Missing, Memory}
 use Rattle.sw_lower_code.specs.Code.{Code, andthen, scope}
 use Rattle.sw_lower_total_facts.specs.Proceeding.{Proceeds}
 
@@ -28,6 +28,7 @@ proceeds_then {A} {B} first next s going one two faulty = by (first.run s) refl 
       → run_after result (λ value. (next value).run) ≡ Err Missing → ⊥
   by (Ok at) ran is = two at.0 at.1 ran (ran_of first s going at.0 at.1 ran) is
   by (Err Registers) ran is = cc
+  by (Err Blocks) ran is = cc
   by (Err Missing) ran is = one ran
   by (Err Memory) ran is = cc
 
@@ -40,5 +41,6 @@ proceeds_scope {A} code s one faulty = by (code.run s) refl faulty where
       → with_vars (length s.vars) result ≡ Err Missing → ⊥
   by (Ok at) ran is = cc
   by (Err Registers) ran is = cc
+  by (Err Blocks) ran is = cc
   by (Err Missing) ran is = one ran
   by (Err Memory) ran is = cc

@@ -3,16 +3,17 @@ use Rattle.std.proofs.Common.{◌≡◌, ℕ, zero, suc, ◌+◌, ◌<◌, ◌�
 use Rattle.std.proofs.Common.{Option, Some, None, length, map, ap, sym, ◌∙◌, subst, refl, arith}
 use Rattle.std.proofs.Common.{length-append}
 use Rattle.std.proofs.lemmas.Option.{none-some, same_Some}
-use Rattle.std.specs.Prelude.{Err, Ok, nat_lt, if◌then◌else◌}
+use Rattle.std.specs.Prelude.{Err, Ok, nat_le, nat_lt, if◌then◌else◌}
 use Rattle.sw_types.specs.declared.shape.Shape.{Shape}
 use Rattle.sw_graph.specs.declared.instr.Block.{Block}
 use Rattle.sw_graph.specs.declared.instr.Last.{Last}
 use Rattle.sw_graph.specs.declared.instr.Operand.{Operand}
 use Rattle.sw_lower_builder.specs.Blocks.{with_last}
 use Rattle.sw_lower_builder.specs.Unfinished.{in_block, with_block}
+use Rattle.sw_lower_builder.specs.declared.builder.TheConstants.{MOST_BLOCKS}
 use Rattle.sw_lower_plans.specs.Plan.{Anywhere, Entry, OfCase, Place, after}
 use Rattle.sw_lower_plans.specs.Run.{Making, instrs_at, place_of}
-use Rattle.sw_lower_plans.specs.declared.fault.CodeFault.TheVariants.{Missing}
+use Rattle.sw_lower_plans.specs.declared.fault.CodeFault.TheVariants.{Blocks, Missing}
 use Rattle.sw_lower_plans.proofs.BlockFacts.{instrs_ended, instrs_new}
 use Rattle.sw_lower_code.specs.Code.{Code, andthen, block_for, close, done, each, known, resume}
 use Rattle.sw_lower_code.specs.Code.{◌>>=◌}
@@ -44,9 +45,18 @@ writes_known fallback found s t value ran number =
 pub writes_block : (entry : Entry) → WritesNothing (block_for entry)
 unfolding block_for
 writes_block entry s t block ran number =
-    ap (λ (m : Making). instrs_at number m.made.blocks) (sym (ended (length s.made.blocks)
-    (record s { made = with_block s.made }) block t ran).1)
-    ∙ instrs_new number s.made.blocks
+    by (nat_le MOST_BLOCKS (length s.made.blocks)) ran where
+      later : Making
+      later = record s { made = with_block s.made }
+
+      by : (full : Bool)
+          → (if full then Err Blocks else gave (length s.made.blocks) later) ≡ Ok (block, t)
+          → instrs_at number t.made.blocks ≡ instrs_at number s.made.blocks
+      by true is = cc
+      by false is =
+          ap (λ (m : Making). instrs_at number m.made.blocks)
+          (sym (ended (length s.made.blocks) later block t is).1)
+          ∙ instrs_new number s.made.blocks
 
 pub writes_close : (last : Last) → WritesNothing (close last)
 unfolding close

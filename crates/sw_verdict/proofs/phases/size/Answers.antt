@@ -5,7 +5,6 @@ use Rattle.sw_lower.specs.declared.fault.LowerFault.TheVariants.{Breach}
 use Rattle.sw_lower_known.specs.Knowledge.{isolation_of}
 use Rattle.sw_lower_rules.specs.Bodies.{IsFirstTooLarge, Lacks, tables_of}
 use Rattle.sw_lower_total_facts.proofs.Lowering.{lacks_nothing}
-use Rattle.sw_token.specs.Spelling.{spelling_of}
 use Rattle.sw_typing_rules.specs.Worlds.{world_of}
 use Rattle.sw_verdict.specs.Phases.{FirstTooLarge}
 use Rattle.sw_verdict.proofs.Finding.{found_in, none_in_world, world_of_text}
@@ -47,7 +46,7 @@ unreachable-requires c =
     let (rule, declared) = c.requires.declared in
     let has_world = world_of_text rule text decls c.args.declared.now declared program in
     lacks_nothing decls rule world
-    (program_welltyped (spelling_of text program.tokens) decls rule world program.is_program
+    (program_welltyped text program.tokens decls rule world program.are_tokens program.is_program
     c.requires.sound has_world.is_world c.requires.well)
     (subst (λ tables. Lacks tables decls)
     (tables_are_said world decls c.args.typed.now c.args.isolated.now c.requires.typed
