@@ -38,4 +38,5 @@ pub mod SomeVerified
 pub mod Splitting
 pub mod Stated
 pub mod Tabling
+pub mod Tailing
 pub mod Texts

@@ -1,5 +1,6 @@
 -- Lines that are read one after the other.
-use Rattle.std.proofs.Common.{◌≡◌, ℕ, ◌+◌, ◌<◌, ◌≤◌, inl, inr, List, [], ◌∷◌, ◌++◌, length, take}
+use Rattle.std.proofs.Common.{◌≡◌, ℕ, ◌+◌, ◌-◌, ◌<◌, ◌≤◌, inl, inr, Some, List, [], ◌∷◌, ◌++◌}
+use Rattle.std.proofs.Common.{length, take}
 use Rattle.std.proofs.Common.{drop, refl, sym, subst, ap, ◌∙◌, arith}
 use Rattle.std.proofs.Common.{length-append, append_assoc}
 use Rattle.std.proofs.Math.Seq.{drop-append-add, take-length}
@@ -8,15 +9,19 @@ use Rattle.std.proofs.lemmas.Grind.{flat_map-append}
 use Rattle.std.proofs.lemmas.List.{append-nil, get_or_push, get_or_append_left, length-drop}
 use Rattle.std.proofs.lemmas.List.{take-append-le}
 use Rattle.std.proofs.Math.ListN.{drop_of_length-le}
+use Rattle.std.specs.List.{slice_get}
 use Rattle.sw_dictation.proofs.Reading.{bad_past}
 use Rattle.sw_dictation.specs.Lines.{line_text, IsBadPlace}
+use Rattle.sw_list.proofs.ListLemmas.{at_seam, some_injective}
 use Rattle.sw_cert.proofs.Beginning.{none_dropped}
+use Rattle.sw_cert.proofs.Tailing.{tail_moved}
 use Rattle.sw_cert.proofs.Texts.{form_is_readable}
 use Rattle.sw_cert.specs.Begun.{IsRead}
 use Rattle.sw_cert.specs.Certificate.{start, behind, IsLineAt, AreLinesFrom, IsCertificate}
 use Rattle.sw_cert.specs.Certificate.{numbers_of}
 use Rattle.sw_cert.specs.Form.{certificate_form}
 use Rattle.sw_cert.specs.ReadLines.{text_of, AreLinesTo, AreStarts, AreLinesRead}
+use Rattle.sw_cert.specs.Tails.{IsTail}
 use Rattle.sw_cert.specs.declared.line.Extent.{Extent}
 use Rattle.sw_cert.specs.declared.line.Line.{Line}
 use Rattle.sw_cert.specs.declared.line.Spot.{Spot}
@@ -90,27 +95,40 @@ starts_push lines starts line at are at_is = record {
     first_lines k e = take-append-le k lines (line ∷ []) (omega (arith, e))
         ∙ ap (λ n. take n lines) e ∙ take-length lines
 
+-- the line that was added is the last one
+last_is : (lines : List Line) (line last : Line)
+    → slice_get (lines ++ line ∷ []) (length (lines ++ line ∷ []) - 1) ≡ Some last → line ≡ last
+last_is lines line last here =
+    let place : length (lines ++ line ∷ []) - 1 ≡ length lines =
+    omega (arith, length-append lines (line ∷ [])) in
+    some_injective (sym (at_seam lines line [])
+    ∙ ap (slice_get (lines ++ line ∷ [])) (sym place) ∙ here)
+
 module _ (extents : List Extent) (bytes : List ℕ) where
   pub none_read : AreLinesRead extents bytes
-      (record { lines = []; starts = []; spot = start; at = 0 })
+      (record { lines = []; starts = []; spot = start; tail = 0; at = 0 })
   none_read = record {
     are_lines = refl;
     starts = starts_none;
     within = omega arith;
     at_is = refl;
     splits = none_dropped bytes;
+    rises = omega arith;
+    tail = λ last here. cc;
   }
 
   -- one line more
-  one_more : (read : Lines) (line : Line) (len : ℕ) → AreLinesRead extents bytes read
+  one_more : (read : Lines) (line : Line) (tail len : ℕ) → AreLinesRead extents bytes read
       → IsRead extents read.spot (drop read.at bytes) line len
+      → IsTail (drop read.at bytes) line tail len
       → AreLinesRead extents bytes (record {
         lines = read.lines ++ line ∷ [];
         starts = read.starts ++ read.at ∷ [];
         spot = behind line;
+        tail = read.at + tail;
         at = read.at + len;
       })
-  one_more read line len are is = record {
+  one_more read line tail len are is is_tail = record {
     are_lines = lines_push extents start read.lines read.spot line are.are_lines is.is_at;
     starts = starts_push read.lines read.starts line read.at are.starts are.at_is;
     within = omega (arith, is.within, length-drop read.at bytes, are.within);
@@ -118,6 +136,10 @@ module _ (extents : List Extent) (bytes : List ℕ) where
         ∙ sym (length-append (text_of read.lines) (line_text (numbers_of line)))
         ∙ ap length (sym (text_push read.lines line));
     splits = whole ∙ ap (λ l. text_of (read.lines ++ line ∷ []) ++ l) (sym rest);
+    rises = omega (arith, is_tail.to_is);
+    tail = λ last here. subst (λ l. IsTail bytes l (read.at + tail) (read.at + len))
+        (last_is read.lines line last here)
+        (tail_moved bytes read.at line tail len are.within is_tail);
   }
     where
       whole : bytes ≡ text_of (read.lines ++ line ∷ []) ++ drop len (drop read.at bytes)
@@ -131,38 +153,52 @@ module _ (extents : List Extent) (bytes : List ℕ) where
           ∙ ap (λ n. drop (n + len) (text_of read.lines ++ drop read.at bytes)) are.at_is
           ∙ drop-append-add (text_of read.lines) (drop read.at bytes) len
 
-  pub line_more : (read new : Lines) (line : Line) (len : ℕ) → AreLinesRead extents bytes read
+  pub line_more : (read new : Lines) (line : Line) (tail len : ℕ)
+      → AreLinesRead extents bytes read
       → IsRead extents read.spot (drop read.at bytes) line len
+      → IsTail (drop read.at bytes) line tail len
       → new.lines ≡ read.lines ++ line ∷ [] → new.starts ≡ read.starts ++ read.at ∷ []
-      → new.spot ≡ behind line → new.at ≡ read.at + len → AreLinesRead extents bytes new
-  line_more read new line len are is lines starts spot at =
-      subst (AreLinesRead extents bytes) same (one_more read line len are is)
+      → new.spot ≡ behind line → new.tail ≡ read.at + tail → new.at ≡ read.at + len
+      → AreLinesRead extents bytes new
+  line_more read new line tail len are is is_tail lines starts spot tail_is at =
+      subst (AreLinesRead extents bytes) same (one_more read line tail len are is is_tail)
     where
       same : record {
         lines = read.lines ++ line ∷ [];
         starts = read.starts ++ read.at ∷ [];
         spot = behind line;
+        tail = read.at + tail;
         at = read.at + len;
       } ≡ new
       same = ap (λ (l : List Line). record {
         lines = l;
         starts = read.starts ++ read.at ∷ [];
         spot = behind line;
+        tail = read.at + tail;
         at = read.at + len;
       }) (sym lines) ∙ ap (λ (l : List ℕ). record {
         lines = new.lines;
         starts = l;
         spot = behind line;
+        tail = read.at + tail;
         at = read.at + len;
       }) (sym starts) ∙ ap (λ (s : Spot). record {
         lines = new.lines;
         starts = new.starts;
         spot = s;
+        tail = read.at + tail;
         at = read.at + len;
       }) (sym spot) ∙ ap (λ (n : ℕ). record {
         lines = new.lines;
         starts = new.starts;
         spot = new.spot;
+        tail = n;
+        at = read.at + len;
+      }) (sym tail_is) ∙ ap (λ (n : ℕ). record {
+        lines = new.lines;
+        starts = new.starts;
+        spot = new.spot;
+        tail = new.tail;
         at = n;
       }) (sym at)
 

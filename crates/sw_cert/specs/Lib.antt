@@ -8,7 +8,9 @@ pub mod ReadLines
 pub mod Reading
 pub mod Shown
 pub mod Slips
+pub mod Stated
 pub mod Stating
 pub mod Tables
+pub mod Tails
 pub mod Tests
 pub mod Verified

@@ -1,8 +1,9 @@
 -- The lines of a certificate while they are read.
-use Rattle.std.specs.Prelude.{◌≡◌, ℕ, ◌<◌, ◌≤◌, List, [], ◌∷◌, ◌++◌, length, take, drop}
-use Rattle.std.specs.Prelude.{slice_index, flat_map}
+use Rattle.std.specs.Prelude.{◌≡◌, ℕ, ◌-◌, ◌<◌, ◌≤◌, Some, List, [], ◌∷◌, ◌++◌, length, take, drop}
+use Rattle.std.specs.Prelude.{slice_get, slice_index, flat_map}
 use Rattle.sw_dictation.specs.Lines.{line_text}
 use Rattle.sw_cert.specs.Certificate.{start, behind, IsLineAt, numbers_of}
+use Rattle.sw_cert.specs.Tails.{IsTail}
 use Rattle.sw_cert.specs.declared.line.Extent.{Extent}
 use Rattle.sw_cert.specs.declared.line.Line.{Line}
 use Rattle.sw_cert.specs.declared.line.Spot.{Spot}
@@ -30,3 +31,6 @@ pub record AreLinesRead (extents : List Extent) (bytes : List ℕ) (read : Lines
   pub within : read.at ≤ length bytes
   pub at_is : read.at ≡ length (text_of read.lines)
   pub splits : bytes ≡ text_of read.lines ++ drop read.at bytes
+  pub rises : read.tail ≤ read.at
+  pub tail : (last : Line) → slice_get read.lines (length read.lines - 1) ≡ Some last
+      → IsTail bytes last read.tail read.at

@@ -45,8 +45,9 @@ pub(crate) fn flows_of<'a>(
     ensures flows { IfOk result (AreFlows graph.now) }
     ensures sized { IfOk result AreSized }
 {
-    let mut flows = ListOf::new(alloc);
-    for function in 0..graph.functions.len() {
+    let count = graph.functions.len();
+    let mut flows = ListOf::from_vec(Vec::with_capacity(alloc, count)?);
+    for function in 0..count {
         flows.push(flow_of(alloc, graph, function)?)?;
     }
     Ok(flows)
@@ -74,7 +75,7 @@ fn extents_of(alloc: Global, flows: &[FunctionFlow]) -> Result<ListOf<Extent>, A
     ensures value { IfOk result (λ extents. extents ≡ map extent_for flows.now) }
     ensures small { IfOk result (AllByRecursion IsSmall) }
 {
-    let mut extents = ListOf::new(alloc);
+    let mut extents = ListOf::from_vec(Vec::with_capacity(alloc, flows.len())?);
     for flow in flows {
         extents.push(extent_of(alloc, flow)?)?;
     }

@@ -14,6 +14,7 @@ mod line;
 mod pairs;
 mod printing;
 mod reading;
+mod shared;
 mod slip;
 mod states;
 mod tables;

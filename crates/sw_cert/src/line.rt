@@ -1,5 +1,9 @@
 //! The lines of a certificate, and what they depend on.
+ghost use Rattle.std.specs.Prelude.{◌≡◌, IfOk};
+ghost use Rattle.sw_cert.specs.Tails.{echo_of};
 
+use crate::shared::Shared;
+use std::alloc::{AllocError, Global};
 use sw_list::ListOf;
 
 /// What a certificate depends on of a function: how many blocks it has, how many elements its
@@ -19,12 +23,13 @@ pub struct Pair {
 }
 
 /// A line: a function and a block of it, and the state with which control comes to the block: for
-/// each element in order the least element of its class, and the pairs.
-#[derive(Debug, Drop)]
+/// each element in order the least element of its class, and the pairs. Lines may have the list of
+/// classes in common.
+#[derive(Drop)]
 pub struct Line {
     pub function: u64,
     pub block: u64,
-    pub classes: ListOf<u64>,
+    pub classes: Shared<ListOf<u64>>,
     pub pairs: ListOf<Pair>,
 }
 
@@ -33,4 +38,18 @@ pub struct Line {
 pub struct Spot {
     pub function: u64,
     pub block: u64,
+}
+
+/// The line of a block that shows what another line shows.
+pub(crate) fn echo(alloc: Global, head: Spot, line: &Line) -> Result<Line, AllocError>
+    ensures { IfOk result (λ echo. echo ≡ echo_of head line.now) }
+{
+    let classes = line.classes.share()?;
+    let pairs = ListOf::from_slice(alloc, line.pairs.as_slice())?;
+    Ok(Line {
+        function: head.function,
+        block: head.block,
+        classes,
+        pairs,
+    })
 }

@@ -6,6 +6,7 @@ ghost use Rattle.sw_cert.specs.Certificate.{numbers_of, pair_numbers};
 ghost use Rattle.sw_cert.specs.Shown.{AreClassesOf, ArePairsBelow, IsLineFor};
 
 use crate::line::{Line, Pair};
+use crate::shared::Shared;
 use itoa::Buffer;
 use std::alloc::{AllocError, Global};
 use sw_list::ListOf;
@@ -61,8 +62,8 @@ fn numbers_of(alloc: Global, line: &Line) -> Result<Vec<u64>, AllocError>
     let mut numbers = Vec::new(alloc);
     numbers.push(line.function)?;
     numbers.push(line.block)?;
-    numbers.push(line.classes.len() as u64)?;
-    add_classes(&mut numbers, line.classes.as_slice())?;
+    numbers.push(line.classes.get().len() as u64)?;
+    add_classes(&mut numbers, line.classes.get().as_slice())?;
     numbers.push(line.pairs.len() as u64)?;
     add_pairs(&mut numbers, line.pairs.as_slice())?;
     Ok(numbers)
@@ -118,11 +119,14 @@ pub fn line_of(
 ) -> Result<Vec<u8>, AllocError>
     ensures { IfOk result (λ text. IsLineFor function block state.now text.items) }
 {
+    let listed = classes_of(alloc, state)?;
+    let classes = Shared::new(alloc, listed)?;
+    let pairs = pairs_of(alloc, state)?;
     let line = Line {
         function: function as u64,
         block: block as u64,
-        classes: classes_of(alloc, state)?,
-        pairs: pairs_of(alloc, state)?,
+        classes,
+        pairs,
     };
     let numbers = numbers_of(alloc, &line)?;
     let text = text_of(alloc, &numbers)?;

@@ -38,6 +38,6 @@ pub(crate) fn state_of(
 {
     let mut state = Partition::new(alloc, elements, sites)?;
     give_all(&mut state, line.pairs.as_slice());
-    state.set_classes(line.classes.as_slice());
+    state.set_classes(line.classes.get().as_slice());
     Ok(state)
 }

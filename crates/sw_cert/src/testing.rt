@@ -27,7 +27,7 @@ use sw_solve::Lattice;
 fn state_at(table: &Table, block: usize) -> Option<&Partition>
     ensures { option_copied result ≡ value_at table.now block }
 {
-    table.as_slice().get(block)?.as_ref()
+    Some(table.as_slice().get(block)?.as_ref()?.get())
 }
 
 /// Whether a table has a state at a block that includes another state.

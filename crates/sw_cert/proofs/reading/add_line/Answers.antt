@@ -5,6 +5,7 @@ use Rattle.sw_cert.proofs.Slices.{rest_is}
 use Rattle.sw_cert.specs.Begun.{IsRead}
 use Rattle.sw_cert.specs.Form.{certificate_form}
 use Rattle.sw_cert.specs.Slips.{IfBad}
+use Rattle.sw_cert.specs.Tails.{IsTail}
 use Rattle.sw_cert.proofs.reading.add_line.Goals as goal
 
 pub overflow_add-spot : goal.overflow_add-spot
@@ -16,10 +17,12 @@ overflow_add-spot c =
 pub returns-in_ok-push-in-Ok-2-clause-read : goal.returns-in_ok-push-in-Ok-2-clause-read
 returns-in_ok-push-in-Ok-2-clause-read c =
     line_more c.args.form.now.extents c.args.bytes.now c.args.read.now _
-    c.in-Ok.line c.in-Ok.len c.requires.read
+    c.in-Ok.line c.in-Ok.tail c.in-Ok.len c.requires.read
     (subst (λ l. IsRead c.args.form.now.extents c.args.read.now.spot l c.in-Ok.line c.in-Ok.len)
     (rest_is c.args.bytes.now c.args.read.now.at) c.in-Ok.ensures.line)
-    c.in_ok-push-in-Ok-2.ensures.ok c.in_ok-push-in-Ok.ensures.ok refl refl
+    (subst (λ l. IsTail l c.in-Ok.line c.in-Ok.tail c.in-Ok.len)
+    (rest_is c.args.bytes.now c.args.read.now.at) c.in-Ok.ensures.tail)
+    c.in_ok-push-in-Ok-2.ensures.ok c.in_ok-push-in-Ok.ensures.ok refl refl refl
 
 pub returns-in-Err-Bad-clause-bad : goal.returns-in-Err-Bad-clause-bad
 returns-in-Err-Bad-clause-bad c =

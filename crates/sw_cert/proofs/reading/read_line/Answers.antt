@@ -1,42 +1,20 @@
-use Rattle.std.proofs.Common.{List, sym, subst}
-use Rattle.std.proofs.lemmas.Result.{err_from_is_err_and}
-use Rattle.sw_cert.proofs.Beginning.{bad_weaker}
-use Rattle.sw_cert.proofs.Pairing.{classes_with, count_said, count_not_said}
-use Rattle.sw_cert.specs.Begun.{IsNext, IsStuck}
-use Rattle.sw_cert.specs.Pending.{MayBeCount, ArePairsRead}
-use Rattle.sw_cert.specs.declared.line.Pair.{Pair}
+use Rattle.std.proofs.Common.{IfSome, drop, sym, subst}
+use Rattle.sw_cert.proofs.Tailing.{tail_of}
+use Rattle.sw_cert.specs.Begun.{IsRead}
 use Rattle.sw_cert.proofs.reading.read_line.Goals as goal
 
-pub pair_count-most-requires : goal.pair_count-most-requires
-pair_count-most-requires c =
-    c.requires.form.fit.each c.in_ok-head.head.function c.at.result.now c.at.ensures
+pub returns-in-Some-clause-tail : goal.returns-in-Some-clause-tail
+returns-in-Some-clause-tail c =
+    tail_of c.args.form.now.extents c.args.read.now.spot c.args.text.now c.in_ok-head.head
+    c.in_ok-head.tail c.in_ok-head.ensures.head c.in-Some.line c.in-Some.end
+    (subst (λ t. IsRead c.args.form.now.extents c.args.read.now.spot t c.in-Some.line
+    c.in-Some.end) (sym c.requires.text)
+    (subst (λ found. IfSome found (λ said. IsRead c.args.form.now.extents c.args.read.now.spot
+    (drop c.args.read.now.at c.args.bytes.now) said.0 said.1)) c.in-Some.is
+    c.in_ok-line.ensures))
 
-pub returns-in_err-left-clause-bad : goal.returns-in_err-left-clause-bad
-returns-in_err-left-clause-bad c =
-    let read = classes_with c.args.form.now c.requires.form c.args.spot c.args.text.now
-    c.in_ok-head.head c.in_ok-classes.classes c.in_ok-classes.count_at c.at.result.now c.at.ensures
-    c.in_ok-classes.ensures.classes in
-    let slip = err_from_is_err_and c.from_residual-in_err-left.result
-    c.from_residual-in_err-left.ensures.1 in
-    rw (slip.1, slip.2)
-    (bad_weaker _ _ _ (λ place stuck. count_not_said c.args.form.now c.requires.form c.args.spot
-    c.args.text.now c.in_ok-head.head c.in_ok-classes.classes c.in_ok-classes.count_at read place
-    (subst (λ m. IsStuck (MayBeCount m) c.args.text.now c.in_ok-classes.count_at place)
-    c.pair_count-most.ensures stuck)) c.in_err-left.ensures.bad)
-
-pub read_pairs-requires-clause-read : goal.read_pairs-requires-clause-read
-read_pairs-requires-clause-read c =
-    let read = classes_with c.args.form.now c.requires.form c.args.spot c.args.text.now
-    c.in_ok-head.head c.in_ok-classes.classes c.in_ok-classes.count_at c.at.result.now c.at.ensures
-    c.in_ok-classes.ensures.classes in
-    subst (λ (pairs : List Pair). ArePairsRead c.args.form.now.extents c.args.spot
-    c.args.text.now (record {
-      function = c.in_ok-head.head.function;
-      block = c.in_ok-head.head.block;
-      classes = c.in_ok-classes.classes;
-      pairs = pairs;
-    }) (record { at = c.in_ok-left.at; to = 0; left = c.in_ok-left.left })) (sym c.new.ensures)
-    (count_said c.args.form.now c.requires.form c.args.spot c.args.text.now c.in_ok-head.head
-    c.in_ok-classes.classes c.in_ok-classes.count_at read c.in_ok-left.left c.in_ok-left.at
-    (subst (λ m. IsNext (MayBeCount m) c.args.text.now c.in_ok-classes.count_at c.in_ok-left.left
-    c.in_ok-left.at) c.pair_count-most.ensures c.in_ok-left.ensures.count))
+pub returns-clause-tail : goal.returns-clause-tail
+returns-clause-tail c =
+    tail_of c.args.form.now.extents c.args.read.now.spot c.args.text.now c.in_ok-head.head
+    c.in_ok-head.tail c.in_ok-head.ensures.head c.in_ok-line-2.line c.in_ok-line-2.end
+    c.in_ok-line-2.ensures.line

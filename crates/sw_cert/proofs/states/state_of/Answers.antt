@@ -1,4 +1,4 @@
-use Rattle.std.proofs.Common.{List, ℕ, sym, subst}
+use Rattle.std.proofs.Common.{List, ℕ, sym, subst, ◌∙◌}
 use Rattle.sw_partition.specs.Effects.{IsClassed}
 use Rattle.sw_partition.specs.Tables.{AreLabels}
 use Rattle.sw_cert.proofs.Stated.{all_shown, are_labels, pairs_in_blank}
@@ -9,7 +9,8 @@ use Rattle.sw_cert.proofs.states.state_of.Goals as goal
 pub set_classes-requires-clause-classes : goal.set_classes-requires-clause-classes
 set_classes-requires-clause-classes c =
     subst AreLabels (sym c.as_slice-2.ensures)
-    (are_labels c.args.line.now.classes c.requires.line.1.classes)
+    (subst AreLabels (sym c.get.ensures)
+    (are_labels c.args.line.now.classes c.requires.line.1.classes))
 
 pub returns-clause-shows : goal.returns-clause-shows
 returns-clause-shows c =
@@ -21,4 +22,4 @@ returns-clause-shows c =
     (subst (λ (l : List Pair). IsGivenAll c.in_ok-state.state l c.give_all.new.state)
     c.as_slice.ensures c.give_all.ensures)
     (subst (λ (l : List ℕ). IsClassed l c.give_all.new.state c.set_classes.new.self)
-    c.as_slice-2.ensures c.set_classes.ensures)
+    (c.as_slice-2.ensures ∙ c.get.ensures) c.set_classes.ensures)
