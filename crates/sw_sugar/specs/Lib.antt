@@ -1,0 +1,4 @@
+pub mod AsyncLet
+pub mod Calls
+pub mod Optionals
+pub mod Rewritten
