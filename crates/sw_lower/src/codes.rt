@@ -41,14 +41,13 @@ fn get_part(
     ensures { GivesAsRun ((getter_code (part_read key index ty.now)).run (making_of draft.old))
         result draft.new }
 {
-    let part = u32::try_from(index).map_err(|_| CodeFault::Memory)?;
     let dst = draft.reg(RegKind::Plain(copy_of(alloc, ty)?))?;
     let cell = Operand { reg: 0, at: key };
     draft.emit(Instr::LoadProp {
         at: key,
         dst,
         cell,
-        part,
+        part: index,
     })?;
     draft.close(Last::Return {
         value: Some(Operand { reg: dst, at: key }),

@@ -16,7 +16,7 @@ use sw_graph::{Instr, Operand, RegKind};
 use sw_lower_draft::Draft;
 use sw_lower_known::Known;
 use sw_lower_plans::CodeFault;
-use sw_lower_uses::{number_of, read_self, shape_at, shape_of, write_var};
+use sw_lower_uses::{read_self, shape_at, shape_of, write_var};
 use sw_tree::Expr;
 use sw_types::{ShapeKind, Ty};
 use sw_typing_rules::Meaning;
@@ -70,7 +70,6 @@ fn write_word(
     match known.meaning_at(at).ok_or(CodeFault::Missing)? {
         Meaning::Local(variable) => write_var(at, variable, given, draft),
         Meaning::OwnPart(number) => {
-            let number = number_of(number)?;
             let shape = owner.ok_or(CodeFault::Missing)?;
             write_own(alloc, known, owner, at, shape, number, given, draft)
         }
@@ -97,7 +96,7 @@ fn write_own_field(
     owner: Option<u32>,
     at: u32,
     shape: u32,
-    number: u32,
+    number: usize,
     given: Operand,
     draft: &mut Draft<'_>,
 ) -> Result<(), CodeFault>
@@ -125,7 +124,7 @@ fn write_own(
     owner: Option<u32>,
     at: u32,
     shape: u32,
-    number: u32,
+    number: usize,
     given: Operand,
     draft: &mut Draft<'_>,
 ) -> Result<(), CodeFault>
@@ -166,7 +165,6 @@ fn write_member(
 {
     match known.meaning_at(at).ok_or(CodeFault::Missing)? {
         Meaning::PartOf(number) => {
-            let number = number_of(number)?;
             let shape = shape_of(known, key_of(base))?;
             write_part(alloc, known, owner, base, at, shape, number, given, draft)
         }
@@ -191,7 +189,7 @@ fn write_part(
     base: &Expr,
     at: u32,
     shape: u32,
-    number: u32,
+    number: usize,
     given: Operand,
     draft: &mut Draft<'_>,
 ) -> Result<(), CodeFault>
@@ -217,7 +215,7 @@ fn write_cell(
     owner: Option<u32>,
     base: &Expr,
     at: u32,
-    number: u32,
+    number: usize,
     given: Operand,
     draft: &mut Draft<'_>,
 ) -> Result<(), CodeFault>
@@ -244,7 +242,7 @@ fn write_field(
     base: &Expr,
     at: u32,
     shape: u32,
-    number: u32,
+    number: usize,
     given: Operand,
     draft: &mut Draft<'_>,
 ) -> Result<(), CodeFault>

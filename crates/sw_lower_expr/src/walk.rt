@@ -22,8 +22,8 @@ use sw_lower_draft::Draft;
 use sw_lower_known::Known;
 use sw_lower_plans::CodeFault;
 use sw_lower_uses::{
-    call_closure, call_func, make, make_value, number_of, read_global, read_own, read_part,
-    read_self, read_var, read_word, shape_of,
+    call_closure, call_func, make, make_value, read_global, read_own, read_part, read_self,
+    read_var, read_word, shape_of,
 };
 use sw_tree::{Arg, Expr, Link};
 use sw_types::Ty;
@@ -58,11 +58,9 @@ pub fn expr(
                     method_called(alloc, known, owner, at, number, args, receiver, draft)
                 }
                 Meaning::CaseOf(shape, number) => {
-                    let number = number_of(number)?;
                     case_made(alloc, known, owner, at, shape, number, args, draft)
                 }
                 Meaning::PartOf(number) => {
-                    let number = number_of(number)?;
                     let closure = part(alloc, known, owner, base.get(), at, number, draft)?;
                     held_called(alloc, known, owner, at, args, closure, draft)
                 }
@@ -282,10 +280,9 @@ fn member(
 {
     match known.meaning_at(at).ok_or(CodeFault::Missing)? {
         Meaning::CaseOf(shape, number) => {
-            let tag = number_of(number)?;
-            make_value(at, shape, Some(tag), ListOf::new(alloc), draft)
+            make_value(at, shape, Some(number), ListOf::new(alloc), draft)
         }
-        Meaning::PartOf(number) => part(alloc, known, owner, base, at, number_of(number)?, draft),
+        Meaning::PartOf(number) => part(alloc, known, owner, base, at, number, draft),
         Meaning::TaskValue => {
             let task = expr(alloc, known, owner, base, draft)?;
             waited(alloc, known, at, task, draft)
@@ -308,7 +305,7 @@ fn part(
     owner: Option<u32>,
     base: &Expr,
     at: u32,
-    number: u32,
+    number: usize,
     draft: &mut Draft<'_>,
 ) -> Result<Operand, CodeFault>
     ensures { GivesAsRun ((read_of_base (tables_by known.now) owner at
@@ -341,7 +338,7 @@ fn call(
             held_called(alloc, known, owner, at, args, closure, draft)
         }
         Meaning::OwnPart(number) => {
-            let closure = read_own(alloc, known, owner, at, number_of(number)?, draft)?;
+            let closure = read_own(alloc, known, owner, at, number, draft)?;
             held_called(alloc, known, owner, at, args, closure, draft)
         }
         Meaning::OwnFunc(number) => {
@@ -422,7 +419,7 @@ fn case_made(
     owner: Option<u32>,
     at: u32,
     shape: u32,
-    number: u32,
+    number: usize,
     args: &[Arg],
     draft: &mut Draft<'_>,
 ) -> Result<Operand, CodeFault>

@@ -11,7 +11,7 @@ use sw_graph::{Instr, Operand, RegKind};
 use sw_lower_draft::Draft;
 use sw_lower_known::Known;
 use sw_lower_plans::{Bound, CodeFault};
-use sw_lower_uses::{number_of, type_of};
+use sw_lower_uses::type_of;
 use sw_tree::Pattern;
 use sw_types::Ty;
 
@@ -83,14 +83,13 @@ fn pattern(
     match tree {
         Pattern::Skip { .. } => Ok(()),
         Pattern::Let { name } => {
-            let index = number_of(number)?;
             let ty = type_of(alloc, known, name.at)?;
             let dst = draft.reg(RegKind::Plain(ty))?;
             draft.front(Instr::Payload {
                 at: name.at,
                 dst,
                 src: subject,
-                index,
+                index: number,
             })?;
             draft.bind(Bound {
                 key: name.at,

@@ -120,7 +120,7 @@ pub fn call_closure(
 pub fn make_value(
     at: u32,
     shape: u32,
-    tag: Option<u32>,
+    tag: Option<usize>,
     operands: OperandList,
     draft: &mut Draft<'_>,
 ) -> Result<Operand, CodeFault>

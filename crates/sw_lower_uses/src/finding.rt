@@ -44,18 +44,10 @@ pub fn shape_of(known: &Known<'_>, key: u32) -> Result<u32, CodeFault>
 }
 
 /// The property of a type with this number.
-pub fn part_at(number: u32, shape: &Shape) -> Result<&Part, CodeFault>
+pub fn part_at(number: usize, shape: &Shape) -> Result<&Part, CodeFault>
     ensures found { IfOk result (λ part. slice_get shape.now.parts number ≡ Some part.now) }
     ensures missing { IfErr result (λ fault. fault ≡ Missing) }
     ensures none { OnErr result (slice_get shape.now.parts number ≡ None) }
 {
-    shape.parts.get(number as usize).ok_or(CodeFault::Missing)
-}
-
-/// A number as instructions have it. One of more than 32 bits counts as want of memory.
-pub fn number_of(number: usize) -> Result<u32, CodeFault>
-    ensures same { IfOk result (λ narrow. narrow ≡ number) }
-    ensures memory { IfErr result (λ fault. fault ≡ Memory) }
-{
-    u32::try_from(number).ok().ok_or(CodeFault::Memory)
+    shape.parts.get(number).ok_or(CodeFault::Missing)
 }

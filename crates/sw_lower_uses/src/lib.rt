@@ -13,7 +13,7 @@ mod words;
 
 pub use calls::{call_closure, call_func, make, make_value};
 pub use capturing::captures;
-pub use finding::{number_of, shape_at, shape_of, type_of};
+pub use finding::{shape_at, shape_of, type_of};
 pub use giving::emit_value;
 pub use globals::read_global;
 pub use parts::read_part;

@@ -21,7 +21,7 @@ use sw_typing_words::copy_of;
 /// Reads a property of a struct's value.
 fn field(
     at: u32,
-    number: u32,
+    number: usize,
     ty: Ty,
     base: Operand,
     draft: &mut Draft<'_>,
@@ -43,7 +43,7 @@ fn field(
 /// Reads a property of an object or an actor, where that crosses nothing.
 fn load_part(
     at: u32,
-    number: u32,
+    number: usize,
     ty: Ty,
     cell: Operand,
     draft: &mut Draft<'_>,
@@ -68,7 +68,7 @@ fn part_by(
     kind: Option<CallKind>,
     at: u32,
     shape: u32,
-    number: u32,
+    number: usize,
     ty: Ty,
     cell: Operand,
     draft: &mut Draft<'_>,
@@ -80,9 +80,7 @@ fn part_by(
     match kind {
         None => load_part(at, number, ty, cell, draft),
         Some(kind) => {
-            let key = known
-                .part_key(shape, number as usize)
-                .ok_or(CodeFault::Missing)?;
+            let key = known.part_key(shape, number).ok_or(CodeFault::Missing)?;
             call_getter(at, kind, ty, key, ListOf::one(alloc, cell)?, draft)
         }
     }
@@ -95,7 +93,7 @@ fn part_in(
     kind: ShapeKind,
     at: u32,
     shape: u32,
-    number: u32,
+    number: usize,
     ty: Ty,
     base: Operand,
     draft: &mut Draft<'_>,
@@ -120,7 +118,7 @@ pub fn read_part(
     known: &Known<'_>,
     at: u32,
     shape: u32,
-    number: u32,
+    number: usize,
     base: Operand,
     draft: &mut Draft<'_>,
 ) -> Result<Operand, CodeFault>

@@ -5,7 +5,6 @@ ghost use Rattle.sw_lower_draft.specs.Drafts.{GivesAsRun, making_of};
 ghost use Rattle.sw_lower_known.specs.Knowledge.{tables_by};
 ghost use Rattle.sw_lower_rules.specs.Uses.{read_own, read_self, read_word, word_by};
 
-use crate::finding::number_of;
 use crate::globals::read_global;
 use crate::parts::read_part;
 use crate::variables::read_var;
@@ -37,7 +36,7 @@ pub fn read_own(
     known: &Known<'_>,
     owner: Option<u32>,
     at: u32,
-    number: u32,
+    number: usize,
     draft: &mut Draft<'_>,
 ) -> Result<Operand, CodeFault>
     ensures { GivesAsRun ((read_own (tables_by known.now) owner at number).run
@@ -64,9 +63,7 @@ fn word_by(
 {
     match meaning {
         Some(Meaning::Local(key)) => read_var(alloc, known, at, key, draft),
-        Some(Meaning::OwnPart(number)) => {
-            read_own(alloc, known, owner, at, number_of(number)?, draft)
-        }
+        Some(Meaning::OwnPart(number)) => read_own(alloc, known, owner, at, number, draft),
         Some(Meaning::GlobalOf(number)) => read_global(alloc, known, at, number, draft),
         Some(
             Meaning::OwnFunc(_)

@@ -143,14 +143,14 @@ fn var_part_of(
     state: &State,
     frame: &Frame,
     operand: &Operand,
-    part: u32,
+    part: usize,
 ) -> Option<Place>
     ensures { result ≡ var_part_of graph.now state.now frame.now operand.now part }
 {
     part_at(graph, state, part, frame.reference_at(operand)?)
 }
 
-fn part_at(graph: &Graph, state: &State, part: u32, cell: u32) -> Option<Place>
+fn part_at(graph: &Graph, state: &State, part: usize, cell: u32) -> Option<Place>
     ensures { result ≡ part_at graph.now state.now part cell }
 {
     match state.cells.get(cell as usize)? {
@@ -160,10 +160,10 @@ fn part_at(graph: &Graph, state: &State, part: u32, cell: u32) -> Option<Place>
     }
 }
 
-fn var_part(graph: &Graph, cell: u32, part: u32, shape: u32, parts: &ValueList) -> Option<Place>
+fn var_part(graph: &Graph, cell: u32, part: usize, shape: u32, parts: &ValueList) -> Option<Place>
     ensures { result ≡ var_part graph.now cell part shape parts.now }
 {
-    let _value = parts.get(part as usize)?;
+    let _value = parts.get(part)?;
     if is_var_part(graph, shape, part) {
         Some(Place::Prop { cell, part })
     } else {
@@ -172,12 +172,12 @@ fn var_part(graph: &Graph, cell: u32, part: u32, shape: u32, parts: &ValueList) 
 }
 
 /// Whether a part of a shape is a `var`.
-fn is_var_part(graph: &Graph, shape: u32, part: u32) -> bool
+fn is_var_part(graph: &Graph, shape: u32, part: usize) -> bool
     ensures { result ≡ is_var_part graph.now.shapes shape part }
 {
     match graph.shapes.list().get(shape as usize) {
         None => false,
-        Some(shape) => match shape.parts.get(part as usize) {
+        Some(shape) => match shape.parts.get(part) {
             None => false,
             Some(part) => part.mutable,
         },

@@ -86,7 +86,7 @@ pub fn print_effect(
 pub fn make_effect(
     context: &Context<'_>,
     reg: u32,
-    tag: Option<u32>,
+    tag: Option<usize>,
     operands: &OperandList,
 ) -> Result<Effect, AllocError>
     ensures { IfOk result (λ effect. effect

@@ -202,7 +202,7 @@ fn switch_effect(graph: &Graph, frame: &Frame, subject: &Operand, to: &IdList) -
     let Some(tag) = tag_at(frame, subject) else {
         return Effect::Stuck;
     };
-    match to.get(tag as usize) {
+    match to.get(tag) {
         None => Effect::Stuck,
         Some(block) => goto_of(graph, frame, *block),
     }

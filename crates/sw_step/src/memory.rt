@@ -94,7 +94,7 @@ pub fn global_write(
 pub fn field_write(
     context: &Context<'_>,
     target: &Operand,
-    part: u32,
+    part: usize,
     source: &Operand,
 ) -> Result<Effect, AllocError>
     ensures { IfOk result (λ effect. effect

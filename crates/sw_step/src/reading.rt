@@ -17,14 +17,14 @@ pub fn truth_at(frame: &Frame, operand: &Operand) -> Option<bool>
 }
 
 /// The number of the case that an operand is.
-pub fn tag_at(frame: &Frame, operand: &Operand) -> Option<u32>
+pub fn tag_at(frame: &Frame, operand: &Operand) -> Option<usize>
     ensures { result ≡ option_and_then tag_of (operand_value frame.now.regs operand.now) }
 {
     frame.value_at(operand.reg)?.tag()
 }
 
 /// A part of the struct of an operand.
-pub fn field_at<'a>(frame: &'a Frame, operand: &Operand, part: u32) -> Option<&'a Value>
+pub fn field_at<'a>(frame: &'a Frame, operand: &Operand, part: usize) -> Option<&'a Value>
     ensures { option_copied result
         ≡ option_and_then (field_of part) (operand_value frame.now.regs operand.now) }
 {
@@ -32,7 +32,7 @@ pub fn field_at<'a>(frame: &'a Frame, operand: &Operand, part: u32) -> Option<&'
 }
 
 /// A value of the payload of the case of an operand.
-pub fn payload_at<'a>(frame: &'a Frame, operand: &Operand, index: u32) -> Option<&'a Value>
+pub fn payload_at<'a>(frame: &'a Frame, operand: &Operand, index: usize) -> Option<&'a Value>
     ensures { option_copied result
         ≡ option_and_then (payload_of index) (operand_value frame.now.regs operand.now) }
 {

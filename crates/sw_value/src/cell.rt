@@ -28,7 +28,7 @@ pub enum HeapCell {
 #[derive(Clone, Copy, Debug, PartialEq, Eq)]
 pub enum Slot {
     /// A part of an object or an actor, by its index.
-    Part(u32),
+    Part(usize),
     /// What a box holds.
     Content,
 }
@@ -40,7 +40,7 @@ impl HeapCell {
     {
         match self {
             HeapCell::Object { parts, .. } | HeapCell::Actor { parts, .. } => match slot {
-                Slot::Part(part) => parts.get(part as usize),
+                Slot::Part(part) => parts.get(part),
                 Slot::Content => None,
             },
             HeapCell::BoxOf { value } => match slot {
@@ -73,7 +73,7 @@ impl HeapCell {
         }
     }
 
-    fn set_part(&mut self, part: u32, value: Value)
+    fn set_part(&mut self, part: usize, value: Value)
         ensures { self.new ≡ with_slot (Part part) value self.old }
     {
         match self {

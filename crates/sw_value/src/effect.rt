@@ -16,7 +16,7 @@ pub enum Effect {
     /// The struct in register `reg` gets a value as its part `part`.
     SetField {
         reg: u32,
-        part: u32,
+        part: usize,
         value: Value,
         next: u32,
     },

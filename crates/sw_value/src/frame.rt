@@ -95,7 +95,7 @@ impl Frame {
 
     /// Gives the struct in a register another value as a part, and goes on at `next`.
     #[tactic(auto, using(crate::proofs::ListLemmas::changes), unfolding(crate::specs::Frame::set_field))]
-    pub fn set_field(&mut self, reg: u32, part: u32, value: Value, next: u32)
+    pub fn set_field(&mut self, reg: u32, part: usize, value: Value, next: u32)
         ensures { self.new ≡ set_field reg part value next self.old }
     {
         self.point = next;

@@ -104,7 +104,7 @@ impl Job {
     /// Gives the struct in a register of the top frame another value as a part; the frame goes on
     /// at `next`.
     #[tactic(auto, using(crate::proofs::ListLemmas::changes), unfolding(crate::specs::Job::in_top))]
-    pub fn set_field(&mut self, reg: u32, part: u32, value: Value, next: u32)
+    pub fn set_field(&mut self, reg: u32, part: usize, value: Value, next: u32)
         ensures { self.new ≡ in_top (set_field reg part value next) self.old }
     {
         let depth = self.frames.len();

@@ -2,7 +2,7 @@
 #[derive(Clone, Copy, Debug, PartialEq, Eq, Hash)]
 pub enum Place {
     /// A `var` part of an object or an actor, by the number of its cell and the part's index.
-    Prop { cell: u32, part: u32 },
+    Prop { cell: u32, part: usize },
     /// A global `var`, by number.
     Global(u32),
     /// A box, by the number of its cell.

@@ -105,7 +105,7 @@ impl State {
 
     /// Gives the struct in a register of a job's top frame another value as a part; the frame goes
     /// on at `next`.
-    pub fn set_field(&mut self, job: u32, reg: u32, part: u32, value: Value, next: u32)
+    pub fn set_field(&mut self, job: u32, reg: u32, part: usize, value: Value, next: u32)
         ensures { self.new ≡ in_job (in_top (set_field reg part value next)) job self.old }
     {
         if (job as usize) < self.jobs.len() {

@@ -28,7 +28,7 @@ pub enum Value {
     /// A struct, as its parts in order.
     Group(ValueList),
     /// A case of an enum, by the case's number.
-    Case { tag: u32, payload: ValueList },
+    Case { tag: usize, payload: ValueList },
 }
 
 /// The value of a slot, if it is there and has one.
@@ -43,11 +43,11 @@ pub fn value_in(slots: &ValueSlots, index: u32) -> Option<&Value>
 
 /// Puts a value at an index; past the end nothing changes.
 #[tactic(auto, using(std::proofs::lemmas::List::set_past))]
-pub fn set_at(values: &mut ValueList, index: u32, value: Value)
+pub fn set_at(values: &mut ValueList, index: usize, value: Value)
     ensures { values.new ≡ slice_set values.old index value }
 {
-    if (index as usize) < values.len() {
-        values.set(index as usize, value);
+    if index < values.len() {
+        values.set(index, value);
     }
 }
 
@@ -97,7 +97,7 @@ impl Value {
     }
 
     /// The number of the case that it is.
-    pub fn tag(&self) -> Option<u32>
+    pub fn tag(&self) -> Option<usize>
         ensures { result ≡ tag_of self.now }
     {
         match self {
@@ -107,18 +107,18 @@ impl Value {
     }
 
     /// A part of a struct.
-    pub fn field(&self, part: u32) -> Option<&Value>
+    pub fn field(&self, part: usize) -> Option<&Value>
         ensures { option_copied result ≡ field_of part self.now }
     {
         match self {
-            Value::Group(parts) => parts.get(part as usize),
+            Value::Group(parts) => parts.get(part),
             Value::Int(_) | Value::Bool(_) | Value::Unit | Value::Cell(_) | Value::Case { .. } =>
                 None,
         }
     }
 
     /// Gives a struct another value as a part; what is no struct stays as it is.
-    pub fn set_field(&mut self, part: u32, value: Value)
+    pub fn set_field(&mut self, part: usize, value: Value)
         ensures { self.new ≡ with_field part value self.old }
     {
         match self {
@@ -128,17 +128,17 @@ impl Value {
     }
 
     /// A value of the payload of a case.
-    pub fn payload(&self, index: u32) -> Option<&Value>
+    pub fn payload(&self, index: usize) -> Option<&Value>
         ensures { option_copied result ≡ payload_of index self.now }
     {
         match self {
-            Value::Case { payload, .. } => payload.get(index as usize),
+            Value::Case { payload, .. } => payload.get(index),
             Value::Int(_) | Value::Bool(_) | Value::Unit | Value::Cell(_) | Value::Group(_) => None,
         }
     }
 
     /// The struct of these parts, or the case with a number and this payload.
-    pub fn made(tag: Option<u32>, parts: ValueList) -> Value
+    pub fn made(tag: Option<usize>, parts: ValueList) -> Value
         ensures { result ≡ made tag parts }
     {
         match tag {
