@@ -8,26 +8,22 @@ ghost use Rattle.sw_color_rules.specs.Changes.{begin_heres};
 ghost use Rattle.sw_color_rules.specs.Plans.{last_of, global_number, next_color, number_on, top_here};
 ghost use Rattle.sw_color_rules.specs.Tints.{color_number, owned_number};
 
-use crate::names::{self, MAX_COLORS};
+use crate::names;
 use std::alloc::{AllocError, Global};
 use sw_color_rules::{ColorNumbers, Colors, Tint};
 use sw_list::ListOf;
 use sw_value::Executor;
 
-/// The number of the colour that is made next. Numbers have 32 bits.
-pub fn next_color(colors: &Colors) -> Result<u32, AllocError>
-    ensures { IfOk result (λ n. n ≡ next_color colors.now) }
+/// The number of the colour that is made next.
+pub fn next_color(colors: &Colors) -> usize
+    ensures { result ≡ next_color colors.now }
 {
-    let count = names::count(&colors.palette.names);
-    if count >= MAX_COLORS {
-        return Err(AllocError);
-    }
-    Ok(count as u32)
+    names::count(&colors.palette.names)
 }
 
 /// The colour of a coloured cell.
 #[tactic(auto, unfolding(sw_color_rules::specs::Tints::color_number))]
-pub fn color_number(colors: &Colors, cell: u32) -> Option<u32>
+pub fn color_number(colors: &Colors, cell: u32) -> Option<usize>
     ensures { result ≡ color_number colors.now.cells cell }
 {
     match colors.cells.get(cell as usize) {
@@ -38,7 +34,7 @@ pub fn color_number(colors: &Colors, cell: u32) -> Option<u32>
 
 /// The colour that an actor owns, by the number of its cell.
 #[tactic(auto, unfolding(sw_color_rules::specs::Tints::owned_number))]
-fn owned_number(colors: &Colors, cell: u32) -> Option<u32>
+fn owned_number(colors: &Colors, cell: u32) -> Option<usize>
     ensures { result ≡ owned_number colors.now.cells cell }
 {
     match colors.cells.get(cell as usize) {
@@ -48,18 +44,19 @@ fn owned_number(colors: &Colors, cell: u32) -> Option<u32>
 }
 
 /// The colour of a global actor.
-fn global_number(colors: &Colors, actor: u32) -> Option<u32>
+fn global_number(colors: &Colors, actor: u32) -> Option<usize>
     ensures { result ≡ global_number colors.now actor }
 {
-    if (actor as usize) < names::count(&colors.palette.names) {
-        Some(actor)
+    let number = actor as usize;
+    if number < names::count(&colors.palette.names) {
+        Some(number)
     } else {
         None
     }
 }
 
 /// The colour of the actor or global actor that an executor is.
-pub fn number_on(colors: &Colors, executor: Executor) -> Option<u32>
+pub fn number_on(colors: &Colors, executor: Executor) -> Option<usize>
     ensures { result ≡ number_on colors.now executor }
 {
     match executor {
@@ -70,7 +67,7 @@ pub fn number_on(colors: &Colors, executor: Executor) -> Option<u32>
 }
 
 /// The last of some numbers.
-fn last_of(numbers: &ColorNumbers) -> Option<u32>
+fn last_of(numbers: &ColorNumbers) -> Option<usize>
     ensures { result ≡ last_of numbers.now }
 {
     let count = numbers.len();
@@ -82,7 +79,7 @@ fn last_of(numbers: &ColorNumbers) -> Option<u32>
 
 /// The colour of the `Here` of a job's top frame, if it has one.
 #[tactic(auto, unfolding(sw_color_rules::specs::Plans::top_here))]
-pub fn top_here(colors: &Colors, job: u32) -> Option<u32>
+pub fn top_here(colors: &Colors, job: u32) -> Option<usize>
     ensures { option_to_list result ≡ top_here colors.now job }
 {
     last_of(colors.heres.get(job as usize)?)
@@ -108,7 +105,7 @@ pub fn unmark(colors: &mut Colors)
 
 /// Adds a number at the end.
 #[tactic(auto, unfolding(sw_color_rules::specs::Changes::with_last))]
-fn add_last(numbers: &mut ColorNumbers, number: u32) -> Result<(), AllocError>
+fn add_last(numbers: &mut ColorNumbers, number: usize) -> Result<(), AllocError>
     ensures ok { OnOk result (numbers.new ≡ with_last number numbers.old) }
     ensures err { OnErr result (numbers.new ≡ numbers.old) }
 {
@@ -128,7 +125,7 @@ fn drop_last(numbers: &mut ColorNumbers)
 
 /// Gives a job's new top frame its `Here`.
 #[tactic(auto, using(sw_value::proofs::ListLemmas::changes), unfolding(sw_color_rules::specs::Changes::push_here))]
-pub fn push_here(colors: &mut Colors, job: u32, number: u32) -> Result<(), AllocError>
+pub fn push_here(colors: &mut Colors, job: u32, number: usize) -> Result<(), AllocError>
     ensures ok { OnOk result (colors.new ≡ push_here job number colors.old) }
     ensures err { OnErr result (colors.new ≡ colors.old) }
 {
@@ -158,7 +155,7 @@ pub fn unpush_here(colors: &mut Colors, job: u32)
 
 /// Gives the one frame of a new job its `Here`.
 #[tactic(auto, unfolding(sw_color_rules::specs::Changes::begin_heres))]
-pub fn begin_heres(alloc: Global, colors: &mut Colors, number: u32) -> Result<(), AllocError>
+pub fn begin_heres(alloc: Global, colors: &mut Colors, number: usize) -> Result<(), AllocError>
     ensures ok { OnOk result (colors.new ≡ begin_heres number colors.old) }
     ensures err { OnErr result (colors.new ≡ colors.old) }
 {

@@ -8,17 +8,14 @@ use std::alloc::{AllocError, Global};
 use sw_color_rules::Names;
 use sw_list::ListOf;
 
-/// How many colours there may be. Their numbers have 32 bits.
-pub const MAX_COLORS: usize = 4_294_967_295;
-
 /// The lower number into which a number was merged.
 #[tactic(auto, unfolding(sw_color_rules::specs::Parents::parent_of))]
-fn parent(parents: &ListOf<u32>, number: u32) -> Option<u32>
+fn parent(parents: &ListOf<usize>, number: usize) -> Option<usize>
     ensures value { result ≡ parent_of parents.now number }
     ensures lower { IfSome result (λ parent. parent < number) }
     ensures within { IfSome result (λ parent. number < length parents.now) }
 {
-    match parents.get(number as usize) {
+    match parents.get(number) {
         None => None,
         Some(parent) => {
             if *parent < number {
@@ -32,7 +29,7 @@ fn parent(parents: &ListOf<u32>, number: u32) -> Option<u32>
 
 /// What is left of a number.
 #[tactic(auto, using(crate::proofs::RootLemmas::climbs))]
-fn root(parents: &ListOf<u32>, number: u32) -> u32
+fn root(parents: &ListOf<usize>, number: usize) -> usize
     ensures value { result ≡ name_in (roots parents.now) number }
     ensures root { parent_of parents.now result ≡ None }
     ensures lower { result ≤ number }
@@ -46,19 +43,19 @@ fn root(parents: &ListOf<u32>, number: u32) -> u32
 
 /// Keeps a number with its name, if that is lower.
 #[tactic(auto, using(crate::proofs::TurnLemmas::settling))]
-fn settle_one(parents: &mut ListOf<u32>, number: u32, name: u32)
+fn settle_one(parents: &mut ListOf<usize>, number: usize, name: usize)
     requires within { number < length parents.old }
     requires name { name ≡ name_in (roots parents.old) number }
     ensures { roots parents.new ≡ roots parents.old }
 {
     if name < number {
-        parents.set(number as usize, name);
+        parents.set(number, name);
     }
 }
 
 /// Keeps each number on the path from a number to its name with that name, so that the next look-up
 /// is short.
-fn settle(parents: &mut ListOf<u32>, number: u32, name: u32)
+fn settle(parents: &mut ListOf<usize>, number: usize, name: usize)
     requires { name ≡ name_in (roots parents.old) number }
     ensures { roots parents.new ≡ roots parents.old }
 {
@@ -80,7 +77,7 @@ pub fn no_names(alloc: Global) -> Names
 }
 
 /// What is left of a number.
-pub fn name(names: &Names, number: u32) -> u32
+pub fn name(names: &Names, number: usize) -> usize
     ensures value { result ≡ name_in names.now number }
     ensures left { name_in names.now result ≡ result }
 {
@@ -88,7 +85,7 @@ pub fn name(names: &Names, number: u32) -> u32
 }
 
 /// The same, and the next look-up is short.
-pub fn find(names: &mut Names, number: u32) -> u32
+pub fn find(names: &mut Names, number: usize) -> usize
     ensures same { names.new ≡ names.old }
     ensures value { result ≡ name_in names.old number }
     ensures left { name_in names.old result ≡ result }
@@ -109,11 +106,10 @@ pub fn count(names: &Names) -> usize
 /// Adds the next number, which is merged with none.
 #[tactic(auto, using(crate::proofs::TurnLemmas::adding))]
 pub fn add(names: &mut Names) -> Result<(), AllocError>
-    requires { length names.old < MAX_COLORS }
     ensures ok { OnOk result (names.new ≡ names.old ++ length names.old ∷ []) }
     ensures err { OnErr result (names.new ≡ names.old) }
 {
-    let next = names.parents.len() as u32;
+    let next = names.parents.len();
     names.parents.push(next)
 }
 
@@ -126,13 +122,13 @@ pub fn take_back(names: &mut Names)
 
 /// Merges a number that is left into a lower one that is left.
 #[tactic(auto, using(crate::proofs::TurnLemmas::turning))]
-pub fn turn(names: &mut Names, from: u32, to: u32)
+pub fn turn(names: &mut Names, from: usize, to: usize)
     requires lower { to < from }
     requires to { name_in names.old to ≡ to }
     requires from { name_in names.old from ≡ from }
     ensures { names.new ≡ map (turned from to) names.old }
 {
-    if (from as usize) < names.parents.len() {
-        names.parents.set(from as usize, to);
+    if from < names.parents.len() {
+        names.parents.set(from, to);
     }
 }

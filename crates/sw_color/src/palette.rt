@@ -7,7 +7,7 @@ ghost use Rattle.sw_color_rules.specs.Palette.{owner_in, united, united_with, ha
 ghost use Rattle.sw_color_rules.specs.Palette.{merge, hand_over};
 ghost use Rattle.sw_color.specs.Making.{joined_with, joined, handed};
 
-use crate::names::{self, MAX_COLORS};
+use crate::names;
 use std::alloc::{AllocError, Global};
 use sw_color_rules::{Owner, Palette};
 use sw_list::ListOf;
@@ -51,12 +51,12 @@ pub fn no_colors(alloc: Global) -> Palette
 }
 
 /// The owner of what is left of a colour.
-pub fn owner(palette: &Palette, number: u32) -> Option<Owner>
+pub fn owner(palette: &Palette, number: usize) -> Option<Owner>
     ensures { result ≡ owner_in palette.now number }
 {
     palette
         .owners
-        .get(names::name(&palette.names, number) as usize)
+        .get(names::name(&palette.names, number))
         .copied()
 }
 
@@ -66,9 +66,6 @@ pub fn make(palette: &mut Palette, owner: Owner) -> Result<(), AllocError>
     ensures ok { OnOk result (palette.new ≡ fresh owner palette.old) }
     ensures err { OnErr result (palette.new ≡ palette.old) }
 {
-    if names::count(&palette.names) >= MAX_COLORS {
-        return Err(AllocError);
-    }
     palette.owners.push(owner)?;
     match names::add(&mut palette.names) {
         Ok(()) => Ok(()),
@@ -91,23 +88,23 @@ pub fn take_back(palette: &mut Palette)
 
 /// Of two colours that are left the lower one is left.
 #[tactic(auto, using(sw_value::proofs::ListLemmas::changes), unfolding(sw_color_rules::specs::Palette::united_as))]
-fn unite(palette: &mut Palette, low: u32, high: u32)
+fn unite(palette: &mut Palette, low: usize, high: usize)
     requires lower { low < high }
     requires low { name_in palette.old.names low ≡ low }
     requires high { name_in palette.old.names high ≡ high }
     ensures { palette.new ≡ united_as low high palette.old }
 {
-    let other = palette.owners.get(high as usize).copied();
+    let other = palette.owners.get(high).copied();
     names::turn(&mut palette.names, high, low);
-    if (low as usize) < palette.owners.len() {
-        let owner = *palette.owners.at(low as usize);
-        palette.owners.set(low as usize, united_with(other, owner));
+    if low < palette.owners.len() {
+        let owner = *palette.owners.at(low);
+        palette.owners.set(low, united_with(other, owner));
     }
 }
 
 /// Merges two colours.
 #[tactic(auto, unfolding(sw_color_rules::specs::Palette::merge))]
-fn merge(palette: &mut Palette, one: u32, other: u32)
+fn merge(palette: &mut Palette, one: usize, other: usize)
     ensures { palette.new ≡ merge one other palette.old }
 {
     let one = names::find(&mut palette.names, one);
@@ -120,7 +117,7 @@ fn merge(palette: &mut Palette, one: u32, other: u32)
 }
 
 /// Merges colours with the first of them.
-fn join_with(palette: &mut Palette, first: u32, others: &[u32])
+fn join_with(palette: &mut Palette, first: usize, others: &[usize])
     ensures { palette.new ≡ joined_with first others.now palette.old }
 {
     for number in others {
@@ -129,7 +126,7 @@ fn join_with(palette: &mut Palette, first: u32, others: &[u32])
 }
 
 /// Makes these colours one. That takes as long as the list is, but for look-ups, which are short.
-pub fn join(palette: &mut Palette, numbers: &[u32])
+pub fn join(palette: &mut Palette, numbers: &[usize])
     ensures { palette.new ≡ joined numbers.now palette.old }
 {
     if let Some((first, others)) = numbers.split_first() {
@@ -139,10 +136,10 @@ pub fn join(palette: &mut Palette, numbers: &[u32])
 
 /// Gives a colour that a job owns to another job.
 #[tactic(auto, using(sw_value::proofs::ListLemmas::changes), unfolding(sw_color_rules::specs::Palette::hand_over))]
-fn hand_over(palette: &mut Palette, number: u32, job: u32)
+fn hand_over(palette: &mut Palette, number: usize, job: u32)
     ensures { palette.new ≡ hand_over number job palette.old }
 {
-    let left = names::name(&palette.names, number) as usize;
+    let left = names::name(&palette.names, number);
     if left < palette.owners.len() {
         let owner = *palette.owners.at(left);
         palette.owners.set(left, handed_to(job, owner));
@@ -150,7 +147,7 @@ fn hand_over(palette: &mut Palette, number: u32, job: u32)
 }
 
 /// Gives the first of these colours to another job, if there is one.
-pub fn hand(palette: &mut Palette, numbers: &[u32], heir: Option<u32>)
+pub fn hand(palette: &mut Palette, numbers: &[usize], heir: Option<u32>)
     ensures { palette.new ≡ handed numbers.now heir palette.old }
 {
     if let Some(job) = heir {

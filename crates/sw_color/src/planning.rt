@@ -62,7 +62,7 @@ fn tinted(tint: Tint, joined: ColorNumbers) -> Plan
 }
 
 /// What a cell with a new colour has to do with it.
-fn tint_for(owner: Owner, number: u32) -> Tint
+fn tint_for(owner: Owner, number: usize) -> Tint
     ensures { result ≡ tint_for owner number }
 {
     match owner {
@@ -140,7 +140,7 @@ fn is_plain(value: &Value) -> bool
 }
 
 /// The colour of the `Here` of a frame that begins: its actor's, or the next one.
-fn here_number(actor: Option<u32>, next: u32) -> u32
+fn here_number(actor: Option<usize>, next: usize) -> usize
     ensures { result ≡ here_number actor next }
 {
     match actor {
@@ -150,7 +150,7 @@ fn here_number(actor: Option<u32>, next: u32) -> u32
 }
 
 /// The owner of that colour if it is a new one.
-fn here_owner(actor: Option<u32>, owner: Owner) -> Option<Owner>
+fn here_owner(actor: Option<usize>, owner: Owner) -> Option<Owner>
     ensures { result ≡ here_owner actor owner }
 {
     match actor {
@@ -189,7 +189,7 @@ impl Setting<'_> {
             ((if near then top_here self.now.colors.now self.now.job else [])
             ++ colors_of self.now.colors.now.cells values.now)) }
     {
-        let number = next_color(self.colors)?;
+        let number = next_color(self.colors);
         let mut joined = ListOf::one(self.alloc, number)?;
         if near {
             add_option(top_here(self.colors, self.job), &mut joined)?;
@@ -254,7 +254,7 @@ impl Setting<'_> {
 /// Stores, calls and tasks.
 impl Setting<'_> {
     /// A value is stored in what has this colour, if it has one.
-    fn stored(&self, color: Option<u32>, value: &Value) -> Result<Plan, AllocError>
+    fn stored(&self, color: Option<usize>, value: &Value) -> Result<Plan, AllocError>
         ensures { IfOk result (λ plan. plan
             ≡ joining (store_color self.now.colors.now self.now.job color
             ++ colors_in self.now.colors.now.cells value.now)) }
@@ -268,7 +268,7 @@ impl Setting<'_> {
     }
 
     /// The colour of the actor that is called.
-    fn called_number(&self, point: Point<'_>, frame: &Frame) -> Option<u32>
+    fn called_number(&self, point: Point<'_>, frame: &Frame) -> Option<usize>
         ensures { result ≡ called_number self.now.colors.now (read_point point.entry) frame.now }
     {
         match point {
@@ -311,7 +311,7 @@ impl Setting<'_> {
             self.now.job top.now (read_point point.entry) frame.now) }
     {
         let actor = self.called_number(point, frame);
-        let number = here_number(actor, next_color(self.colors)?);
+        let number = here_number(actor, next_color(self.colors));
         let mut joined = ListOf::one(self.alloc, number)?;
         self.add_called(point, top, &mut joined)?;
         let sending = sending_of(self.graph, frame.function);
@@ -329,7 +329,7 @@ impl Setting<'_> {
         ensures { IfOk result (λ plan. plan ≡ spawned self.now.colors.now made frame.now) }
     {
         let actor = number_on(self.colors, frame.executor);
-        let number = here_number(actor, next_color(self.colors)?);
+        let number = here_number(actor, next_color(self.colors));
         let mut joined = ListOf::one(self.alloc, number)?;
         add_passed(self.tints(), &[], &frame.regs, &mut joined)?;
         Ok(Plan {

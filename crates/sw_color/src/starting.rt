@@ -47,7 +47,7 @@ fn start_frame(colors: &mut Colors, frame: &Frame) -> Result<(), AllocError>
     match number_on(colors, frame.executor) {
         Some(number) => push_here(colors, 0, number),
         None => {
-            let number = next_color(colors)?;
+            let number = next_color(colors);
             palette::make(&mut colors.palette, Owner::Job(0))?;
             push_here(colors, 0, number)
         }

@@ -12,7 +12,7 @@ use sw_color_rules::{ColorNumbers, Tint};
 use sw_list::ListOf;
 use sw_value::{Value, ValueSlots};
 
-fn add_numbers(more: &[u32], numbers: &mut ColorNumbers) -> Result<(), AllocError>
+fn add_numbers(more: &[usize], numbers: &mut ColorNumbers) -> Result<(), AllocError>
     ensures { OnOk result (numbers.new ≡ numbers.old ++ more.now) }
 {
     for number in more {
@@ -22,7 +22,7 @@ fn add_numbers(more: &[u32], numbers: &mut ColorNumbers) -> Result<(), AllocErro
 }
 
 /// Adds a colour, if there is one.
-pub fn add_option(number: Option<u32>, numbers: &mut ColorNumbers) -> Result<(), AllocError>
+pub fn add_option(number: Option<usize>, numbers: &mut ColorNumbers) -> Result<(), AllocError>
     ensures { OnOk result (numbers.new ≡ numbers.old ++ option_to_list number) }
 {
     match number {

@@ -13,7 +13,7 @@ pub enum Owner {
 }
 
 /// Numbers of colours in order.
-pub type ColorNumbers = ListOf<u32>;
+pub type ColorNumbers = ListOf<usize>;
 
 /// What a cell has to do with colours. A colour is given by the number with which it was made.
 #[derive(Debug, Drop)]
@@ -21,9 +21,9 @@ pub enum Tint {
     /// A cell that every job may hold: an object of a class that is Sendable, or a task.
     Bare,
     /// A coloured cell: an object of another class, a box or an isolated closure.
-    Colored { number: u32 },
+    Colored { number: usize },
     /// An actor, which owns this colour.
-    Owns { number: u32 },
+    Owns { number: usize },
     /// A closure that isn't isolated: the colours that its captures had when it was made. This list
     /// takes memory for each closure of its own.
     Holds { numbers: ColorNumbers },

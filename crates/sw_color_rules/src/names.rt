@@ -6,7 +6,7 @@ use sw_list::ListOf;
 /// with itself or a higher one if it is left.
 #[derive(Debug, Drop)]
 pub struct Names {
-    pub parents: ListOf<u32>,
+    pub parents: ListOf<usize>,
 }
 
 impl Model for Names {

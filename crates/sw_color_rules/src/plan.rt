@@ -5,9 +5,9 @@ use crate::colors::{ColorNumbers, Owner, Tint};
 pub enum FrameChange {
     Stays,
     /// A frame is put on top of the job's, and its `Here` is this colour.
-    Pushed { number: u32 },
+    Pushed { number: usize },
     /// A job is made with one frame, and its `Here` is this colour.
-    Begun { number: u32 },
+    Begun { number: usize },
     /// The job's top frame is taken off.
     Popped,
 }
