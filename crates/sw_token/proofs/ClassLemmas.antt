@@ -40,6 +40,10 @@ mark_plain byte is = record {
   no_operator = grind (arith, nat_tests);
 }
 
+pub question_plain : IsPlain 63
+unfolding is_mark
+question_plain = mark_plain 63 refl
+
 pub at_plain : IsPlain 64
 unfolding is_blank is_digit is_operator_byte
 at_plain = record {

@@ -17,7 +17,7 @@ use Rattle.sw_scan.specs.declared.Step.TheVariants.{End, Skip, Take}
 use Rattle.sw_token.specs.declared.literals.Literal.{Literal}
 use Rattle.sw_token.specs.declared.step.Refusal.{Refusal}
 use Rattle.sw_token.specs.declared.step.Refusal.TheVariants.{TooBig, Bad}
-use Rattle.sw_token.specs.Bytes.{is_operator_byte, is_mark}
+use Rattle.sw_token.specs.Bytes.{is_operator_byte, is_mark, begins_double, mark_len}
 use Rattle.sw_token.specs.Words.{begins_word, goes_on, word_len}
 use Rattle.sw_token.specs.Comments.{is_in_line, begins_line_comment, begins_block_comment, IsGap}
 use Rattle.sw_token.specs.Comments.{comment_len}
@@ -210,6 +210,19 @@ none_digit is_white b more none = elim (chosen (eqb b 45) _ _ _ none) [
   ]
 ]
 
+mark_holds : (is_white : Bool) (b : ℕ) (more : List ℕ) → is_mark b ≡ true
+    → FoundHolds is_white (b ∷ more) (Ok (Take (mark_len (b ∷ more))))
+mark_holds is_white b [] is = tokens.mark b [] is refl
+mark_holds is_white b (c ∷ more) is = by_double (begins_double (b ∷ c ∷ more)) refl where
+  by_double : (double : Bool) → begins_double (b ∷ c ∷ more) ≡ double
+      → FoundHolds is_white (b ∷ c ∷ more) (Ok (Take (mark_len (b ∷ c ∷ more))))
+  by_double true e =
+      let parts = and_parts (eqb b 63) (eqb c 63) e in
+      let first : b ≡ 63 = grind (arith, nat_tests) in
+      let second : c ≡ 63 = grind (arith, nat_tests) in
+      rw (first, second) (tokens.double_mark more)
+  by_double false e = rw e (tokens.mark b (c ∷ more) is e)
+
 -- a byte that begins neither a gap nor a literal
 plain_holds : (is_white : Bool) (b : ℕ) (more : List ℕ) → IsUtf8 (b ∷ more) → is_blank b ≡ false
     → begins_comment (b ∷ more) ≡ false → literal_of is_white (b ∷ more) ≡ None
@@ -234,9 +247,9 @@ plain_holds is_white b more utf8 blank comment none = by_operator (is_operator_b
 
   by_mark : is_operator_byte b ≡ false → (mark : Bool) → is_mark b ≡ mark
       → FoundHolds is_white (b ∷ more)
-      (cond (is_mark b) (Ok (Take 1))
+      (cond (is_mark b) (Ok (Take (mark_len (b ∷ more))))
       (cond (eqb b 64) (word_step 1 more) (word_step 0 (b ∷ more))))
-  by_mark operator true e = rw e (tokens.mark b more e)
+  by_mark operator true e = rw e (mark_holds is_white b more e)
   by_mark operator false e = rw e (by_at operator e (eqb b 64) refl)
 
   by_operator : (operator : Bool) → is_operator_byte b ≡ operator

@@ -13,7 +13,7 @@ use Rattle.sw_scan.specs.declared.Step.TheVariants.{Skip, Take}
 use Rattle.sw_token.specs.declared.literals.Literal.{Literal}
 use Rattle.sw_token.specs.declared.step.Refusal.{Refusal}
 use Rattle.sw_token.specs.declared.step.Refusal.TheVariants.{Unclosed, TooBig, Bad}
-use Rattle.sw_token.specs.Bytes.{is_operator_byte, is_mark}
+use Rattle.sw_token.specs.Bytes.{is_operator_byte, is_mark, begins_double}
 use Rattle.sw_token.specs.Words.{is_word_char, begins_word, goes_on, IsWord}
 use Rattle.sw_token.specs.Comments.{is_in_line, begins_line_comment, begins_block_comment}
 use Rattle.sw_token.specs.Comments.{IsGap, comment_len}
@@ -25,7 +25,8 @@ use Rattle.sw_token.specs.Tokens.{IsToken, IsRefused}
 use Rattle.sw_token.specs.Tokens as tokens
 use Rattle.sw_token.specs.Reading.{digits_step, begins_digit, literal_step, operator_step}
 use Rattle.sw_token.specs.Reading.{comment_step, word_step, plain_step, token_step, found}
-use Rattle.sw_token.proofs.ClassLemmas.{IsPlain, mark_plain, at_plain, word_plain, word_some}
+use Rattle.sw_token.proofs.ClassLemmas.{IsPlain, mark_plain, question_plain, at_plain, word_plain}
+use Rattle.sw_token.proofs.ClassLemmas.{word_some}
 use Rattle.sw_token.proofs.ClassLemmas.{no_comment, no_literal, literal_no_gap, literal_head}
 use Rattle.sw_token.proofs.CommentLemmas.{comment_len-IsComment, closes_nothing}
 use Rattle.sw_token.proofs.LiteralLemmas.{digit_or_line_ascii, digit_or_line_goes_on}
@@ -103,10 +104,16 @@ found_lone_at is_white after none =
 -- marks
 
 found_mark : (is_white : Bool) (byte : ℕ) (after : List ℕ) → is_mark byte ≡ true
-    → found is_white (byte ∷ after) ≡ Ok (Take 1)
-found_mark is_white byte after is =
+    → begins_double (byte ∷ after) ≡ false → found is_white (byte ∷ after) ≡ Ok (Take 1)
+found_mark is_white byte after is single =
     let plain = mark_plain byte is in
-    found_plain is_white (byte ∷ after) byte after refl plain ∙ rw (plain.no_operator, is) refl
+    found_plain is_white (byte ∷ after) byte after refl plain
+    ∙ rw (plain.no_operator, is, single) refl
+
+found_double : (is_white : Bool) (after : List ℕ) → found is_white (63 ∷ 63 ∷ after) ≡ Ok (Take 2)
+unfolding is_operator_byte is_mark
+found_double is_white after =
+    found_plain is_white (63 ∷ 63 ∷ after) 63 (63 ∷ after) refl question_plain
 
 -- operators
 
@@ -220,7 +227,9 @@ found-IsToken is_white _ _ (tokens.literal form digits after is are fits ends) =
     ∙ rw (room, ends) (ap (λ n. Ok (Take n)) (sym (length-append (head_of form) digits))))))
 found-IsToken is_white _ _ (tokens.operator byte more after none operator run is) =
     found_run is_white byte more after none operator run ∙ rw is refl
-found-IsToken is_white _ _ (tokens.mark byte after is) = found_mark is_white byte after is
+found-IsToken is_white _ _ (tokens.mark byte after is single) =
+    found_mark is_white byte after is single
+found-IsToken is_white _ _ (tokens.double_mark after) = found_double is_white after
 
 found_unclosed : (is_white : Bool) (rest : List ℕ) → comment_len 0 rest ≡ None
     → found is_white (47 ∷ 42 ∷ rest) ≡ Err Unclosed

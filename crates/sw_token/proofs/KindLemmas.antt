@@ -22,7 +22,8 @@ use Rattle.sw_token.specs.Kinds.{NumberFits}
 use Rattle.sw_token.specs.Tokens.{IsToken}
 use Rattle.sw_token.specs.Tokens as tokens
 use Rattle.sw_token.specs.Reading.{step}
-use Rattle.sw_token.proofs.ClassLemmas.{mark_plain, at_plain, word_plain, word_some, no_literal}
+use Rattle.sw_token.proofs.ClassLemmas.{mark_plain, question_plain, at_plain, word_plain}
+use Rattle.sw_token.proofs.ClassLemmas.{word_some, no_literal}
 use Rattle.sw_token.proofs.Steps.{found_taken}
 use Rattle.sw_token.proofs.WordLemmas.{begins_word-IsWord, goes_on-nil}
 
@@ -135,8 +136,10 @@ fits is_white _ _ (tokens.literal form digits after is are few ends) =
     ) few
 fits is_white _ _ (tokens.operator byte more after none operator run is) =
     none_fits (byte ∷ more) (run_no_literal byte more after run)
-fits is_white _ _ (tokens.mark byte after is) =
+fits is_white _ _ (tokens.mark byte after is single) =
     none_fits (byte ∷ []) (no_literal true byte [] (mark_plain byte is))
+fits is_white _ _ (tokens.double_mark after) =
+    none_fits (63 ∷ 63 ∷ []) (no_literal true 63 (63 ∷ []) question_plain)
 
 -- a token that was found fits the type of its kind
 pub found_fits : (at : ℕ) (before : Before) (bytes : List ℕ) (n : ℕ) → IsUtf8 bytes

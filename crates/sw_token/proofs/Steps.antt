@@ -141,7 +141,8 @@ some_token is_white _ _ (tokens.at_word text after is) = omega arith
 some_token is_white _ _ (tokens.literal form digits after is are fits ends) =
     omega (arith, length-append (head_of form) digits, some_digit form digits are)
 some_token is_white _ _ (tokens.operator byte more after none operator run is) = omega arith
-some_token is_white _ _ (tokens.mark byte after is) = omega arith
+some_token is_white _ _ (tokens.mark byte after is single) = omega arith
+some_token is_white _ _ (tokens.double_mark after) = omega arith
 
 blank_ascii : (byte : ℕ) → is_blank byte ≡ true → byte < 128
 unfolding is_blank
@@ -233,8 +234,11 @@ IsUtf8-IsToken is_white _ _ (tokens.literal form digits after is are fits ends) 
     (IsAscii-append (head_of form) digits (head_ascii form) (digits_ascii form digits are))
 IsUtf8-IsToken is_white _ _ (tokens.operator byte more after none operator run is) =
     IsUtf8-from_ascii (byte ∷ more) (run_ascii (byte ∷ more) after run)
-IsUtf8-IsToken is_white _ _ (tokens.mark byte after is) =
+IsUtf8-IsToken is_white _ _ (tokens.mark byte after is single) =
     IsUtf8-from_ascii (byte ∷ []) (IsAscii-cons byte [] (mark_ascii byte is) IsAscii-nil)
+IsUtf8-IsToken is_white _ _ (tokens.double_mark after) =
+    IsUtf8-from_ascii (63 ∷ 63 ∷ [])
+    (IsAscii-cons 63 (63 ∷ []) (omega arith) (IsAscii-cons 63 [] (omega arith) IsAscii-nil))
 
 pub agrees : Agrees lexis IsUtf8 step
 unfolding step found

@@ -52,7 +52,8 @@ IsTokenText-IsToken is_white _ _ (tokens.literal form digits after is are few en
 IsTokenText-IsToken is_white _ _ (tokens.operator byte more after none operator run is) =
     tokens.operator byte more [] (rw append-nil (run_no_literal byte more after run)) operator
     (run_alone (byte ∷ more) after run) is
-IsTokenText-IsToken is_white _ _ (tokens.mark byte after is) = tokens.mark byte [] is
+IsTokenText-IsToken is_white _ _ (tokens.mark byte after is single) = tokens.mark byte [] is refl
+IsTokenText-IsToken is_white _ _ (tokens.double_mark after) = tokens.double_mark []
 
 -- words of ASCII
 
@@ -146,12 +147,14 @@ whole_operator (byte ∷ more) is =
 
 abbrev pub is_mark_text : List ℕ → Bool
 is_mark_text (byte ∷ []) = is_mark byte
-is_mark_text _ = false
+is_mark_text text = bytes_eq text (codes "??")
 
 mark_text : (text : List ℕ) → is_mark_text text ≡ true → IsTokenText text
 mark_text [] is = absurd (cc)
-mark_text (byte ∷ []) is = tokens.mark byte [] is
-mark_text (byte ∷ other ∷ more) is = absurd (cc)
+mark_text (byte ∷ []) is = tokens.mark byte [] is refl
+mark_text (byte ∷ other ∷ more) is =
+    subst IsTokenText (sym ((bytes_eq-Decides (byte ∷ other ∷ more) (codes "??")).0 is))
+    (tokens.double_mark [])
 
 one_is_token : IsTokenText (codes "1")
 unfolding literal_of unsigned_of number_in is_digit

@@ -17,7 +17,7 @@ ruled_words =
     ∷ codes "nonisolated" ∷ codes "return" ∷ codes "self" ∷ codes "sending" ∷ codes "static"
     ∷ codes "struct" ∷ codes "switch" ∷ codes "true" ∷ codes "var" ∷ codes "while" ∷ []
 
--- the words that no rule uses, and that still name nothing
+-- the other words that name nothing; of these a rule uses `nil` alone
 unfoldable pub reserved_words : List (List ℕ)
 reserved_words =
     codes "Any" ∷ codes "as" ∷ codes "associatedtype" ∷ codes "catch" ∷ codes "defer"
@@ -44,8 +44,8 @@ word_kind text =
     else named_kind (position (λ word. bytes_eq word text) key_words)
 
 -- a mark's number
-unfoldable pub mark_number : ℕ → ℕ
-mark_number byte = unwrap_or (position (λ mark. mark == byte) marks) 0
+unfoldable pub mark_number : List ℕ → ℕ
+mark_number text = unwrap_or (position (λ mark. bytes_eq mark text) marks) 0
 
 -- the digits of the literal with this text
 abbrev pub digits_in : Literal → List ℕ → List ℕ
@@ -56,7 +56,7 @@ abbrev pub plain_kind : List ℕ → Kind
 plain_kind [] = kinds.Word
 plain_kind (byte ∷ more) =
     if is_operator_byte byte then kinds.Op (unwrap_or (operator_number (byte ∷ more)) 0)
-    else (if is_mark byte then kinds.Mark (mark_number byte)
+    else (if is_mark byte then kinds.Mark (mark_number (byte ∷ more))
     else (if byte == 64 then kinds.At else word_kind (byte ∷ more)))
 
 -- the same where it may be a literal

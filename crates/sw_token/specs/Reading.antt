@@ -16,7 +16,7 @@ use Rattle.sw_token.specs.declared.literals.Literal.{Literal}
 use Rattle.sw_token.specs.declared.step.Refusal.{Refusal}
 use Rattle.sw_token.specs.declared.step.Refusal.TheVariants.{Unclosed, TooBig, Bad}
 use Rattle.sw_scan.specs.Classes.{is_blank}
-use Rattle.sw_token.specs.Bytes.{is_operator_byte, is_mark}
+use Rattle.sw_token.specs.Bytes.{is_operator_byte, is_mark, mark_len}
 use Rattle.sw_token.specs.Words.{begins_word, goes_on, word_len}
 use Rattle.sw_token.specs.Comments.{is_in_line, begins_line_comment, begins_block_comment}
 use Rattle.sw_token.specs.Comments.{comment_len}
@@ -63,7 +63,7 @@ abbrev pub plain_step : List ℕ → Result Step Refusal
 plain_step [] = Ok End
 plain_step (byte ∷ more) =
     if is_operator_byte byte then operator_step (byte ∷ more) (run_len (byte ∷ more))
-    else (if is_mark byte then Ok (Take 1)
+    else (if is_mark byte then Ok (Take (mark_len (byte ∷ more)))
     else (if byte == 64 then word_step 1 more else word_step 0 (byte ∷ more)))
 
 -- the step for a token

@@ -1,7 +1,7 @@
 -- The tokens of a text: it is scanned as gaps and tokens in turn. Where it can't be scanned so to
 -- its end it has a lexical fault: the first position at which a gap or a token can't be taken.
 use Rattle.std.specs.Prelude.{◌≡◌, ◌≢◌, ◌⊎◌, ℕ, ◌+◌, ◌<◌, ◌≤◌, Bool, true, false, ◌||◌, IsTrue}
-use Rattle.std.specs.Prelude.{List, [], ◌∷◌, ◌++◌, length, slice_range, Some, None, Result}
+use Rattle.std.specs.Prelude.{List, [], ◌∷◌, ◌++◌, length, slice_range, Some, None, Result, codes}
 use Rattle.std.specs.Bool.{IsFalse}
 use Rattle.std.specs.Str.{IsUtf8}
 use Rattle.sw_token.specs.declared.Token.{Token}
@@ -19,7 +19,7 @@ use Rattle.sw_token.specs.declared.step.Refusal.TheVariants.{Unclosed, TooBig, B
 use Rattle.sw_scan.specs.Classes.{is_blank, is_digit}
 use Rattle.sw_scan.specs.Prefixes.{BeginsWithout}
 use Rattle.sw_scan.specs.Scan.{TextForm, Splits, Fails, Scans}
-use Rattle.sw_token.specs.Bytes.{is_operator_byte, is_mark, has_line_feed}
+use Rattle.sw_token.specs.Bytes.{is_operator_byte, is_mark, begins_double, has_line_feed}
 use Rattle.sw_token.specs.Words.{begins_word, goes_on, IsWord}
 use Rattle.sw_token.specs.Comments.{IsComment, IsGap}
 use Rattle.sw_token.specs.Literals.{head_of, most, is_digit_of, is_digit_or_line, AreDigits}
@@ -44,8 +44,11 @@ pub data IsToken (is_white : Bool) : List ℕ → List ℕ → Type 0 where
       → literal_of is_white (byte ∷ (more ++ after)) ≡ None → IsTrue (is_operator_byte byte)
       → IsRun (byte ∷ more) after → IsTrue (is_operator (byte ∷ more))
       → IsToken is_white (byte ∷ more) after
-  -- a mark, whatever follows it
-  mark : (byte : ℕ) (after : List ℕ) → IsTrue (is_mark byte) → IsToken is_white (byte ∷ []) after
+  -- a mark of one byte, whatever follows it, but not the first half of `??`
+  mark : (byte : ℕ) (after : List ℕ) → IsTrue (is_mark byte) → IsFalse (begins_double (byte ∷ after))
+      → IsToken is_white (byte ∷ []) after
+  -- `??`, whatever follows it
+  double_mark : (after : List ℕ) → IsToken is_white (codes "??") after
 
 -- `IsRefused is_white bytes refusal`: the bytes begin with neither a gap nor a token. `Bad n` says
 -- that the byte after the first n is the one that can't be taken.

@@ -1,9 +1,7 @@
 //! The classes of bytes that tokens are made of.
 ghost use Rattle.std.specs.Prelude.{◌≡◌};
-ghost use Rattle.sw_token.specs.Bytes.{is_operator_byte, is_mark, is_opening, is_closing};
-
-/// All marks, in the order of their numbers.
-pub const MARKS: &[u8; 10] = b"(){}[],:;.";
+ghost use Rattle.sw_token.specs.Bytes.{is_operator_byte, is_mark, begins_double, mark_len};
+ghost use Rattle.sw_token.specs.Bytes.{is_opening, is_closing};
 
 #[tactic(auto, unfolding(crate::specs::Bytes::is_operator_byte))]
 pub fn is_operator_byte(byte: u8) -> bool
@@ -16,7 +14,21 @@ pub fn is_operator_byte(byte: u8) -> bool
 pub fn is_mark(byte: u8) -> bool
     ensures { result ≡ is_mark byte }
 {
-    MARKS.contains(&byte)
+    b"(){}[],:;.?".contains(&byte)
+}
+
+/// Whether the bytes begin with `??`, the one mark of two bytes.
+fn begins_double(bytes: &[u8]) -> bool
+    ensures { result ≡ begins_double bytes.now }
+{
+    bytes.len() >= 2 && bytes[0] == b'?' && bytes[1] == b'?'
+}
+
+/// The length of the longest mark that the bytes begin with, where they begin with one.
+pub fn mark_len(bytes: &[u8]) -> usize
+    ensures { result ≡ mark_len bytes.now }
+{
+    if begins_double(bytes) { 2 } else { 1 }
 }
 
 /// Whether the byte is a mark after which an operator stands as after white space.

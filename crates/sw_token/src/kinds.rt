@@ -1,17 +1,17 @@
 //! The kind of a token, from its text.
-ghost use Rattle.std.specs.Prelude.{◌≡◌, ◌==◌, IfSome, ◌≤◌, ◌<◌, position, bytes_eq};
+ghost use Rattle.std.specs.Prelude.{◌≡◌, ◌≤◌, position, bytes_eq};
 ghost use Rattle.sw_token.specs.Bytes.{marks};
 ghost use Rattle.sw_token.specs.Literals.{most, signed};
 ghost use Rattle.sw_token.specs.Kinds.{kind_of, plain_kind, word_kind, key_words};
 ghost use Rattle.sw_token.specs.Kinds.{mark_number, NumberFits};
 
 use super::Kind;
-use super::bytes::{MARKS, is_mark, is_operator_byte};
+use super::bytes::{is_mark, is_operator_byte};
 use super::literals::{Literal, literal_of};
 use super::numbers::number_of;
 use super::operators::operator_number;
 
-/// The words with a rule, and then those that are reserved without one.
+/// The words with a rule, and then those that are reserved; of these `nil` alone has a rule.
 const KEY_WORDS: [&str; 59] = [
     "actor",
     "async",
@@ -74,6 +74,9 @@ const KEY_WORDS: [&str; 59] = [
     "where",
 ];
 
+/// All marks, in the order of their numbers.
+const MARKS: [&str; 12] = ["(", ")", "{", "}", "[", "]", ",", ":", ";", ".", "?", "??"];
+
 /// The kind of the token with this text.
 #[tactic(auto, unfolding(crate::specs::Kinds::kind_of))]
 pub fn kind_of(text: &[u8]) -> Kind
@@ -96,7 +99,7 @@ fn plain_kind(text: &[u8]) -> Kind
     if is_operator_byte(byte) {
         Kind::Op(operator_number(text).unwrap_or(0))
     } else if is_mark(byte) {
-        Kind::Mark(mark_number(byte))
+        Kind::Mark(mark_number(text))
     } else if byte == b'@' {
         Kind::At
     } else {
@@ -136,15 +139,15 @@ fn key_number(text: &[u8]) -> Option<u8>
 }
 
 #[tactic(auto, unfolding(crate::specs::Kinds::mark_number))]
-fn mark_number(byte: u8) -> u8
-    ensures { result ≡ mark_number byte }
+fn mark_number(text: &[u8]) -> u8
+    ensures { result ≡ mark_number text.now }
 {
-    mark_index(byte).unwrap_or(0) as u8
+    mark_index(text).unwrap_or(0)
 }
 
-fn mark_index(byte: u8) -> Option<usize>
-    ensures index { result ≡ position (λ mark. mark == byte) marks }
-    ensures within { IfSome result (λ index. index < 10) }
+fn mark_index(text: &[u8]) -> Option<u8>
+    ensures { result ≡ position (λ mark. bytes_eq mark text.now) marks }
 {
-    MARKS.iter().position(|mark| *mark == byte)
+    let marks: [&str; 12] = MARKS;
+    number_of(marks.as_slice(), text)
 }

@@ -58,7 +58,7 @@ pub enum Kind {
     Int(i64),
     /// An operator.
     Op(u8),
-    /// A bracket, a separator or a dot.
+    /// A bracket, a separator, a dot, `?` or `??`.
     Mark(u8),
 }
 

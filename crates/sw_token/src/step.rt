@@ -8,7 +8,7 @@ ghost use Rattle.sw_token.specs.Reading.{step, digits_step, literal_step, operat
 ghost use Rattle.sw_token.specs.Reading.{comment_step, word_step, plain_step, found, fault_of};
 ghost use Rattle.sw_token.specs.Reading.{taken_before};
 
-use super::bytes::{is_mark, is_operator_byte};
+use super::bytes::{is_mark, is_operator_byte, mark_len};
 use super::comments::{begins_block_comment, begins_line_comment, comment_len, line_len};
 use super::literals::{Literal, literal_of};
 use super::operators::{is_operator, run_len};
@@ -141,7 +141,7 @@ fn plain_step(text: &str) -> Result<Step, Refusal>
     if is_operator_byte(byte) {
         operator_step(bytes)
     } else if is_mark(byte) {
-        Ok(Step::Take(1))
+        Ok(Step::Take(mark_len(bytes)))
     } else if byte == b'@' {
         word_step(1, &text[1..])
     } else {
