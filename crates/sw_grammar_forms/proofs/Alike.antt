@@ -11,6 +11,7 @@ use Rattle.sw_grammar_forms.specs.Form as forms
 use Rattle.sw_grammar_forms.specs.Relations.{head, may_start, stays, is_none_of}
 use Rattle.sw_grammar_forms.specs.Reader.{Answer, Reader, refused, and_then, then_read}
 use Rattle.sw_grammar_forms.specs.Reader.{next, opening, check, checked, choose, repeat, set_if, only_if}
+use Rattle.sw_grammar_forms.specs.Reader.{loop}
 use Rattle.sw_grammar_forms.specs.Reader.{pure, skipping, read_item, read_items, reading}
 use Rattle.sw_grammar_forms.specs.Reader.Fault.{unexpected, too_deep}
 use Rattle.sw_grammar_forms.specs.Spells.{read_inside}
@@ -170,15 +171,23 @@ module _ {N : Type 0} {El : N → Type 0} {shape_of : N → Shape} {depth : ℕ}
         (h.answers ts) (k.answers ts);
   }
 
+  -- the same token, with other values of which something holds
+  pub same_token_that : {A : Type 0} (P : A → A → Type 0) (set : Set) (text : List ℕ)
+      (fixity : Fixity) (v w : Spelled → A) → ((token : Spelled) → P (v token) (w token))
+      → Same {shape_of = shape_of} depth F G P
+      (forms.terminal (record { set = set; value = v; text = text; fixity = fixity }))
+      (forms.terminal (record { set = set; value = w; text = text; fixity = fixity }))
+  same_token_that P set text fixity v w values = record {
+    answers = alike_next P (record { set = set; value = v; text = text; fixity = fixity })
+        (record { set = set; value = w; text = text; fixity = fixity }) refl values;
+  }
+
   -- the same token, with other values
   pub same_token_of : {A : Type 0} (set : Set) (text : List ℕ) (fixity : Fixity)
       (v w : Spelled → A) → Same {shape_of = shape_of} depth F G Any
       (forms.terminal (record { set = set; value = v; text = text; fixity = fixity }))
       (forms.terminal (record { set = set; value = w; text = text; fixity = fixity }))
-  same_token_of set text fixity v w = record {
-    answers = alike_next Any (record { set = set; value = v; text = text; fixity = fixity })
-        (record { set = set; value = w; text = text; fixity = fixity }) refl (λ _. tt);
-  }
+  same_token_of set text fixity v w = same_token_that Any set text fixity v w (λ _. tt)
 
   pub same_when : {A : Type 0} {s t : Shape} {P : A → A → Type 0} {b c : Bool}
       {p q : Form El shape_of s A} {u v : Form El shape_of t A} → b ≡ c
@@ -216,6 +225,26 @@ module _ {N : Type 0} {El : N → Type 0} {shape_of : N → Shape} {depth : ℕ}
         (λ y. reading El shape_of depth G (g y)) same (λ x y is. (k x y is).answers) (length ts) a b
         h ts;
   }
+
+  -- turns that have to go on from an open state
+  pub alike_until : {S : Type 0} {s t : Shape} (P : S → S → Type 0) {is_open : S → Bool} {a b : S}
+      {f g : S → Form El shape_of s S} {last end : S → Form El shape_of t S}
+      → ((x y : S) → P x y → is_open x ≡ is_open y) → P a b
+      → ((x y : S) → P x y → Same {shape_of = shape_of} depth F G P (f x) (g y))
+      → ((x y : S) → P x y → Same {shape_of = shape_of} depth F G P (last x) (end y))
+      → Alike P (reading El shape_of depth F (forms.until is_open a f last))
+      (reading El shape_of depth G (forms.until is_open b g end))
+  alike_until {s = s} P {is_open} {a} {b} {f} {g} {last} {end} same h k l =
+      alike_then P P (loop s.first is_open (λ x. reading El shape_of depth F (f x)) a)
+      (loop s.first is_open (λ y. reading El shape_of depth G (g y)) b)
+      (λ x. only_if (is_open x) (reading El shape_of depth F (last x)) (pure x))
+      (λ y. only_if (is_open y) (reading El shape_of depth G (end y)) (pure y))
+      (λ ts. alike_repeat P s.first is_open is_open (λ x. reading El shape_of depth F (f x))
+      (λ y. reading El shape_of depth G (g y)) same (λ x y is. (k x y is).answers) (length ts) a b
+      h ts)
+      (λ x y is ts. alike_cond P (is_open x) (is_open y) (reading El shape_of depth F (last x) ts)
+      (Ok (x, ts)) (reading El shape_of depth G (end y) ts) (Ok (y, ts)) (same x y is)
+      ((l x y is).answers ts) (is, refl))
 
   pub same_more_items : {A : Type 0} {s : Shape} {P : A → A → Type 0} {a b : List A × Bool}
       {p q : Form El shape_of s A} → EndAlike a b → Same {shape_of = shape_of} depth F G P p q

@@ -134,6 +134,13 @@ module _ {N : Type 0} (El : N → Type 0) (shape_of : N → Shape)
   calm_form d inner (forms.turns {s = s} is_open state f) =
       calm_loop d s.first is_open (λ now. reads El shape_of body d (f now))
       (λ now. calm_form d inner (f now)) state
+  calm_form d inner (forms.until {s = s} is_open state f last) =
+      calm_then d (loop s.first is_open (λ now. reads El shape_of body d (f now)) state)
+      (λ now. only_if (is_open now) (reads El shape_of body d (last now)) (pure now))
+      (calm_loop d s.first is_open (λ now. reads El shape_of body d (f now))
+      (λ now. calm_form d inner (f now)) state)
+      (λ now us fewer. calm_cond (length us) (is_open now) (reads El shape_of body d (last now) us)
+      (Ok (now, us)) (calm_form d inner (last now) us fewer) (calm_pure d now us fewer))
   calm_form d inner (forms.more_items {s = s} state p) =
       calm_loop d s.first (λ _. true) (read_item (reads El shape_of body d p))
       (calm_item d (reads El shape_of body d p) (calm_form d inner p)) state

@@ -12,7 +12,7 @@ use Rattle.sw_grammar_forms.specs.Form as forms
 use Rattle.sw_grammar_forms.specs.Relations.{head, may_start, stays, is_none_of}
 use Rattle.sw_grammar_forms.specs.Reader.{Answer, Reader, refused, pure, and_then, then_read, take_if}
 use Rattle.sw_grammar_forms.specs.Reader.{next, opening, check, choose, repeat, finish, whole, set_if}
-use Rattle.sw_grammar_forms.specs.Reader.{only_if, read_item, read_items, skipping, checked}
+use Rattle.sw_grammar_forms.specs.Reader.{only_if, loop, read_item, read_items, skipping, checked}
 use Rattle.sw_grammar_forms.specs.Reader.Fault.{unexpected, too_deep}
 use Rattle.sw_grammar_forms.specs.Spells.{Wide, read_inside, reads}
 use Rattle.sw_grammar_forms.proofs.ReaderLaws.{Without, Failed}
@@ -137,6 +137,17 @@ module _ {N : Type 0} (El : N → Type 0) (shape_of : N → Shape)
       repeat_agrees s.first is_open (λ now. reads El shape_of body d (f now))
       (λ now. reads El shape_of body (suc d) (f now)) (λ now. form_agrees d inner (f now))
       (length ts) state ts h
+  form_agrees d inner (forms.until {s = s} is_open state f last) ts h =
+      then_agrees (loop s.first is_open (λ now. reads El shape_of body d (f now)) state)
+      (loop s.first is_open (λ now. reads El shape_of body (suc d) (f now)) state)
+      (λ now. only_if (is_open now) (reads El shape_of body d (last now)) (pure now))
+      (λ now. only_if (is_open now) (reads El shape_of body (suc d) (last now)) (pure now))
+      (λ us. repeat_agrees s.first is_open (λ now. reads El shape_of body d (f now))
+      (λ now. reads El shape_of body (suc d) (f now)) (λ now. form_agrees d inner (f now))
+      (length us) state us)
+      (λ now us. cond_agrees (is_open now) (reads El shape_of body d (last now) us) (Ok (now, us))
+      (reads El shape_of body (suc d) (last now) us) (Ok (now, us))
+      (form_agrees d inner (last now) us) (λ _. refl)) ts h
   form_agrees d inner (forms.when {s = s} is_so p q) ts h =
       cond_agrees is_so (choose s.first (reads El shape_of body d p)
       (reads El shape_of body d q) ts) (reads El shape_of body d q ts)
@@ -306,6 +317,13 @@ module _ {N : Type 0} (El : N → Type 0) (shape_of : N → Shape)
       never_repeat s.first is_open (λ now. reads El shape_of body d (f now))
       (λ now. never d (f now))
       (length ts) state ts
+  never d (forms.until {s = s} is_open state f last) ts =
+      never_then (loop s.first is_open (λ now. reads El shape_of body d (f now)) state)
+      (λ now. only_if (is_open now) (reads El shape_of body d (last now)) (pure now))
+      (λ us. never_repeat s.first is_open (λ now. reads El shape_of body d (f now))
+      (λ now. never d (f now)) (length us) state us)
+      (λ now us. never_cond (is_open now) (reads El shape_of body d (last now) us) (Ok (now, us))
+      (never d (last now) us) tt) ts
   never d (forms.when {s = s} is_so p q) ts =
       never_cond is_so (choose s.first (reads El shape_of body d p) (reads El shape_of body d q) ts)
       (reads El shape_of body d q ts)

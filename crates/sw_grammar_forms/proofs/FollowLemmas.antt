@@ -1,13 +1,14 @@
 -- On sets and the tokens that follow.
 use Rattle.std.proofs.Common.{◌≡◌, ◌<◌, Bool, true, false, cond, ◌||◌}
 use Rattle.std.proofs.Common.{◌⊎◌, inl, inr, List, [], ◌∷◌, ◌++◌, length, refl, sym, ◌∙◌}
-use Rattle.std.proofs.Common.{arith}
+use Rattle.std.proofs.Common.{arith, ap}
 use Rattle.std.specs.Prelude.{Option, Some, None}
 use Rattle.sw_token.specs.Spelling.{Spelled}
 use Rattle.sw_grammar_forms.specs.Sets.{Set, has, starts, apart}
 use Rattle.sw_grammar_forms.specs.Form.{Shape, choice}
 use Rattle.sw_grammar_forms.specs.Relations.{head}
-use Rattle.sw_grammar_forms.proofs.ReaderLaws.{Outside}
+use Rattle.sw_grammar_forms.specs.Reader.{set_if}
+use Rattle.sw_grammar_forms.proofs.ReaderLaws.{Follow, Outside}
 use Rattle.sw_grammar_forms.proofs.SetLemmas.{has-append, has-apart}
 use Rattle.sw_grammar_forms.proofs.FormLemmas.{StartsWith}
 
@@ -35,6 +36,16 @@ pub outside_parts : (set other : Set) (token : Option Spelled) → Outside (set 
     → Outside set token × Outside other token
 outside_parts set other None h = (refl, refl)
 outside_parts set other (Some token) h = or_false _ _ (sym (has-append set other token) ∙ h)
+
+pub outside_both : (set other : Set) (token : Option Spelled) → Outside set token
+    → Outside other token → Outside (set ++ other) token
+outside_both set other None h k = refl
+outside_both set other (Some token) h k =
+    has-append set other token ∙ (ap (λ b. b || has other token) h ∙ k)
+
+-- what may not follow turns: a token of another turn only where the state is open
+abbrev pub AfterTurns : {S : Type 0} → Shape → (S → Bool) → Follow S
+AfterTurns s is_open now token = Outside (s.ext ++ set_if (is_open now) s.first) token
 
 pub outside_within : (set other : Set) (token : Option Spelled)
     → ((t : Spelled) → has set t ≡ true → has other t ≡ true) → Outside other token

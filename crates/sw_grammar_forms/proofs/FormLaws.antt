@@ -14,10 +14,10 @@ use Rattle.sw_grammar_forms.specs.Form.{is_item, a_word}
 use Rattle.sw_grammar_forms.specs.Form as forms
 use Rattle.sw_grammar_forms.specs.Relations.{Relation, head, NoToken, One, FollowedBy, Either, Turns}
 use Rattle.sw_grammar_forms.specs.Relations.{may_start, is_none_of}
-use Rattle.sw_grammar_forms.specs.Relations.{stays, Only, OneMore, Passing}
+use Rattle.sw_grammar_forms.specs.Relations.{stays, Only, OneMore, Passing, Chosen}
 use Rattle.sw_grammar_forms.specs.Relations.Turns.{stop, turn}
 use Rattle.sw_grammar_forms.specs.Reader.{Fault, Answer, Reader, refused, pure, and_then, then_read, next}
-use Rattle.sw_grammar_forms.specs.Reader.{opening, choose, set_if, read_item}
+use Rattle.sw_grammar_forms.specs.Reader.{opening, choose, set_if, read_item, only_if}
 use Rattle.sw_grammar_forms.specs.Reader.Fault.{too_deep}
 use Rattle.sw_grammar_forms.specs.Spells.{inside, spells, Wide, read_inside, reads}
 use Rattle.sw_grammar_forms.proofs.ReaderLaws.{Follow, Anything, Outside, Without, Filled, Failed, Reads}
@@ -25,13 +25,16 @@ use Rattle.sw_grammar_forms.proofs.ReaderLaws.{refused_at_once, narrow, widen, r
 use Rattle.sw_grammar_forms.proofs.ReaderLaws.{reads_then, reads_choose, reads_only, reads_never}
 use Rattle.sw_grammar_forms.proofs.ReaderLaws.{reads_checked, restate}
 use Rattle.sw_grammar_forms.proofs.LoopLaws.{IsTurn, Open, reads_loop, loop_ends, loop_turns, turn_shrinks}
+use Rattle.sw_grammar_forms.proofs.LoopLaws.{no_token}
 use Rattle.sw_grammar_forms.proofs.SetLemmas.{and_left, and_right, not_true}
 use Rattle.sw_grammar_forms.proofs.SetLemmas.{and_both}
 use Rattle.sw_grammar_forms.proofs.FormLemmas.{StartsWith, covers, good_choice, starts_form, spelled_more}
-use Rattle.sw_grammar_forms.proofs.FormLemmas.{GoodItem, good_item, OneMore-map, Turns-map}
+use Rattle.sw_grammar_forms.proofs.FormLemmas.{GoodItem, good_item, OneMore-map, Turns-map, Chosen-map}
+use Rattle.sw_grammar_forms.proofs.FormLemmas.{GoodEnding, good_ending}
 use Rattle.sw_grammar_forms.proofs.ShortSpellings.{fill_form}
 use Rattle.sw_grammar_forms.proofs.FollowLemmas.{both_not}
 use Rattle.sw_grammar_forms.proofs.FollowLemmas.{outside_parts, outside_within, seq_ext, choice_ext}
+use Rattle.sw_grammar_forms.proofs.FollowLemmas.{AfterTurns, outside_both}
 use Rattle.sw_grammar_forms.proofs.FollowLemmas.{some_first, some_head, some_length, fits_then}
 use Rattle.sw_grammar_forms.proofs.FollowLemmas.{not_first_of}
 
@@ -106,7 +109,7 @@ module _ {N : Type 0} (El : N → Type 0) (shape_of : N → Shape)
     },
   )
 
-  join_turns : {S : Type 0} {s : Shape} (is_open : S → Bool) (f : S → Form El shape_of s S)
+  pub join_turns : {S : Type 0} {s : Shape} (is_open : S → Bool) (f : S → Form El shape_of s S)
       (a b : S)
       (us : List Spelled) → Turns (Open is_open (λ now. Wide El shape_of body (f now))) a b us
       → (d : ℕ) × Turns (Open is_open (λ now. spells El shape_of body d (f now))) a b us
@@ -125,6 +128,38 @@ module _ {N : Type 0} (El : N → Type 0) (shape_of : N → Shape)
       grow d e less a b us (stop _) = stop a
       grow d e less a b us (turn _ mid _ vs ws h rest) =
           turn a mid b vs ws (h.0, deeper d e less (f a) mid vs h.1) (grow d e less mid b ws rest)
+
+  -- Turns and the last form of some depth are of one depth.
+  join_until : {S : Type 0} {s t : Shape} (is_open : S → Bool) (state : S)
+      (f : S → Form El shape_of s S) (last : S → Form El shape_of t S) (a b : S)
+      (us vs : List Spelled)
+      → Turns (Open is_open (λ now. Wide El shape_of body (f now))) state a us
+      → Chosen (is_open a) (Wide El shape_of body (last a)) (NoToken a) b vs
+      → Wide El shape_of body (forms.until is_open state f last) b (us ++ vs)
+  join_until is_open state f last a b us vs h k =
+      let turns = join_turns is_open f state a us h in
+      let end = of_depth (is_open a) k in
+      let most = max turns.0 end.0 in (
+        most,
+        record {
+          value = a;
+          left = us;
+          right = vs;
+          first = Turns-map (λ now next ws one. (
+            one.0,
+            deeper turns.0 most
+                (le-max_left turns.0 end.0) (f now) next ws one.1,
+          )) state a us turns.1;
+          second = Chosen-map (NoToken a) (is_open a) (deeper end.0 most (le-max_right turns.0 end.0) (last a))
+              b vs end.1;
+          whole = refl;
+        },
+      )
+    where
+      of_depth : (c : Bool) → Chosen c (Wide El shape_of body (last a)) (NoToken a) b vs
+          → (d : ℕ) × Chosen c (spells El shape_of body d (last a)) (NoToken a) b vs
+      of_depth true k = k
+      of_depth false k = (0, k)
 
   -- Items of some depth are items of one depth.
 
@@ -410,20 +445,36 @@ module _ {N : Type 0} (El : N → Type 0) (shape_of : N → Shape)
         (λ a prefix rest h g. absurd (let clash : false ≡ true = h.0 in cc))
         (λ a ts h. (h.0, inl h.1)) (λ a ts h. (h.0, inl h.1))
 
-    pub is_turn : {s : Shape} {S : Type 0} (f : S → Form El shape_of s S) → (star s).ok ≡ true
-        → IsTurn (λ now. spells El shape_of body d (f now)) (Without s.ext)
+    pub is_turn : {s : Shape} {S : Type 0} (is_open : S → Bool) (f : S → Form El shape_of s S)
+        → (star s).ok ≡ true → IsTurn is_open (λ now. spells El shape_of body d (f now)) (Without s.ext)
         (Without (star s).ext) s.first
-    is_turn {s} f ok =
+    is_turn {s} is_open f ok =
         let two = and_left _ _ ok in let some = not_true _ (and_right _ _ two) in let good_s =
         and_left _ _ two in
         record {
           takes = λ a b ts h. some_length s ts some (starts_at (f a) good_s b ts h);
           goes_on = λ a b ts rest h. some_first s ts rest some (starts_at (f a) good_s b ts h);
-          ends = λ a token g. (outside_parts s.ext s.first token g).1;
+          ends = λ a token _ g. (outside_parts s.ext s.first token g).1;
           stopped = λ a token g. (outside_parts s.ext s.first token g).0;
           followed = λ a b ts rest h. fits_then s s ts rest (and_right _ _ ok)
               (starts_at (f a) good_s b ts h) (λ k. absurd (both_not s.nullable k some));
         }
+
+    -- the same, where only an open state goes on
+    pub is_part : {s t : Shape} {S : Type 0} (is_open : S → Bool) (f : S → Form El shape_of s S)
+        (state : S) → GoodEnding (is_open state) s t
+        → IsTurn is_open (λ now. spells El shape_of body d (f now)) (Without s.ext)
+        (AfterTurns s is_open) s.first
+    is_part {s} is_open f state is = record {
+      takes = λ a b ts h. some_length s ts is.some (starts_at (f a) is.turn b ts h);
+      goes_on = λ a b ts rest h. some_first s ts rest is.some (starts_at (f a) is.turn b ts h);
+      ends = λ a token opened g.
+          subst (λ b. Outside (set_if b s.first) token) opened
+          (outside_parts s.ext (set_if (is_open a) s.first) token g).1;
+      stopped = λ a token g. (outside_parts s.ext (set_if (is_open a) s.first) token g).0;
+      followed = λ a b ts rest h. fits_then s s ts rest is.going
+          (starts_at (f a) is.turn b ts h) (λ k. absurd (both_not s.nullable k is.some));
+    }
 
     law_form : {s : Shape} {A : Type 0} (form : Form El shape_of s A) → s.ok ≡ true
         → Reads (spells El shape_of body d form) (Wide El shape_of body form) (Without s.ext)
@@ -455,8 +506,45 @@ module _ {N : Type 0} (El : N → Type 0) (shape_of : N → Shape)
         (λ a ts h. (h.0, inl h.1)) (λ a ts h. (h.0, inr h.1))
     law_form (forms.turns {s = s} is_open state f) ok =
         let good_s = and_left _ _ (and_left _ _ ok) in
-        widen (reads_loop s.first is_open (λ now. law_form (f now) good_s) (is_turn f ok) state)
+        widen (reads_loop s.first is_open (λ now. law_form (f now) good_s) (is_turn is_open f ok)
+        state)
         (λ a ts h. join_turns is_open f state a ts h)
+    law_form (forms.until {S = S} {s = s} {t = t} is_open state f last) ok =
+        let is = good_ending (is_open state) s t ok in
+        reads_then (Wide El shape_of body (forms.until is_open state f last))
+        (reads_loop s.first is_open (λ now. law_form (f now) is.turn)
+        (is_part {t = t} is_open f state is) state)
+        (λ now. reads_last is (is_open now) now (last now) (law_form (last now) is.last))
+        (λ a b us vs h k. join_until is_open state f last a b us vs h k)
+        (λ a b right rest h g. fits_end is (is_open a) a (last a) b right rest h g)
+      where
+        reads_last : GoodEnding (is_open state) s t → (b : Bool) (now : S)
+            (p : Form El shape_of t S)
+            → Reads (spells El shape_of body d p) (Wide El shape_of body p) (Without t.ext)
+            (reads El shape_of body d p)
+            → Reads (Chosen b (spells El shape_of body d p) (NoToken now))
+            (Chosen b (Wide El shape_of body p) (NoToken now)) (Without (s.ext ++ t.ext))
+            (only_if b (reads El shape_of body d p) (pure now))
+        reads_last is true now p law_p =
+            narrow law_p (λ x token g. (outside_parts s.ext t.ext token g).1)
+        reads_last is false now p law_p = narrow (reads_pure now) (λ x token g. tt)
+
+        fits_end : GoodEnding (is_open state) s t → (b : Bool) (now : S)
+            (p : Form El shape_of t S) (x : S) (right rest : List Spelled)
+            → Chosen b (spells El shape_of body d p) (NoToken now) x right
+            → Outside (s.ext ++ t.ext) (head rest)
+            → Outside (s.ext ++ set_if b s.first) (head (right ++ rest))
+        fits_end is true now p x right rest h g =
+            let starts = starts_at p is.last x right h in
+            outside_both s.ext s.first (head (right ++ rest))
+            (fits_then s t right rest is.ending starts
+            (λ k. absurd (both_not t.nullable k is.some_last)))
+            (not_first_of s.first t right rest is.apart starts
+            (λ k. absurd (both_not t.nullable k is.some_last)))
+        fits_end is false now p x right rest h g =
+            subst (λ us. Outside (s.ext ++ []) (head (us ++ rest))) (sym h.1)
+            (outside_both s.ext [] (head rest) (outside_parts s.ext t.ext (head rest) g).0
+            (no_token (head rest)))
     law_form (forms.unless {s = s} {t = t} is_so p q) ok =
         reads_second is_so p q ok (law_form p (good_choice s t s ok).left)
         (law_form q (good_choice s t s ok).right)
@@ -509,6 +597,19 @@ module _ {N : Type 0} (El : N → Type 0) (shape_of : N → Shape)
         let is = covers s claim ok in
         narrow (law_form p is.ok) (λ x token g. outside_within s.ext claim.ext token is.ext g)
 
+  -- turns before the last form
+  pub law_turns : (d : ℕ) → ((n : N) → Reads (inside El shape_of body d n) (Inside n)
+      (Without (shape_of n).ext) (read_inside El shape_of body d n))
+      → {s t : Shape} {S : Type 0} (is_open : S → Bool) (f : S → Form El shape_of s S) (state : S)
+      → GoodEnding (is_open state) s t
+      → Reads (spells El shape_of body d (forms.turns is_open state f))
+      (Wide El shape_of body (forms.turns is_open state f)) (AfterTurns s is_open)
+      (reads El shape_of body d (forms.turns is_open state f))
+  law_turns d inner {s} {t} is_open f state is =
+      widen (reads_loop s.first is_open (λ now. law_form d inner (f now) is.turn)
+      (is_part d inner {t = t} is_open f state is) state)
+      (λ a ts h. join_turns is_open f state a ts h)
+
   pub law_inside : (d : ℕ) (n : N) → Reads (inside El shape_of body d n) (Inside n)
       (Without (shape_of n).ext) (read_inside El shape_of body d n)
   law_inside zero n = record {
@@ -540,7 +641,7 @@ module _ {N : Type 0} (El : N → Type 0) (shape_of : N → Shape)
       → reads El shape_of body d (forms.turns is_open state f) ts ≡ Ok (state, ts)
   loop_stops d {s} is_open f ok state ts h =
       loop_ends s.first is_open (λ now. law d (f now) (and_left _ _ (and_left _ _ ok)))
-      (is_turn d (law_inside d) f ok) state ts h
+      (is_turn d (law_inside d) is_open f ok) state ts h
 
   pub loop_goes_on : (d : ℕ) {s : Shape} {S : Type 0} (is_open : S → Bool)
       (f : S → Form El shape_of s S) → (star s).ok ≡ true → (state : S) (ts : List Spelled)
@@ -550,14 +651,14 @@ module _ {N : Type 0} (El : N → Type 0) (shape_of : N → Shape)
       (λ next. reads El shape_of body d (forms.turns is_open next f)) ts
   loop_goes_on d {s} is_open f ok state ts h =
       loop_turns s.first is_open (λ now. law d (f now) (and_left _ _ (and_left _ _ ok)))
-      (is_turn d (law_inside d) f ok) state ts h
+      (is_turn d (law_inside d) is_open f ok) state ts h
 
   pub turn_takes : (d : ℕ) {s : Shape} {S : Type 0} (f : S → Form El shape_of s S)
       → (star s).ok ≡ true → (state next : S) (ts rest : List Spelled)
       → reads El shape_of body d (f state) ts ≡ Ok (next, rest) → length rest < length ts
   turn_takes d {s} f ok state next ts rest e =
       turn_shrinks s.first (λ _. true) (λ now. law d (f now) (and_left _ _ (and_left _ _ ok)))
-      (is_turn d (law_inside d) f ok) state next ts rest e
+      (is_turn d (law_inside d) (λ _. true) f ok) state next ts rest e
 
   -- The same for items.
 

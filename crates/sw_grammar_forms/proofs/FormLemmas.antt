@@ -1,16 +1,17 @@
 -- What a form's shape says of its spellings: with which tokens they begin, and that there is a
 -- short one.
 use Rattle.std.proofs.Common.{◌≡◌, ◌≤◌, Bool, true, false, cond, not, ◌||◌, inl, inr, List, [], ◌∷◌}
-use Rattle.std.proofs.Common.{◌++◌, refl, sym, ◌∙◌, ap, subst}
+use Rattle.std.proofs.Common.{◌++◌, refl, sym, ◌∙◌, ap, subst, append_assoc}
 use Rattle.std.proofs.lemmas.Bool.{leb-true}
 use Rattle.sw_token.specs.Spelling.{Spelled}
 use Rattle.sw_grammar_forms.specs.Sets.{Set, has}
 use Rattle.sw_grammar_forms.specs.Sets as sets
 use Rattle.sw_grammar_forms.specs.Form.{Shape, Claim, Form, one, seq, choice}
 use Rattle.sw_grammar_forms.specs.Form.{is_shorter, star, nested, started, inline, claimed, listed}
-use Rattle.sw_grammar_forms.specs.Form.{listed_some, a_word}
+use Rattle.sw_grammar_forms.specs.Form.{listed_some, a_word, ending, is_usable}
 use Rattle.sw_grammar_forms.specs.Form as forms
 use Rattle.sw_grammar_forms.specs.Relations.{Relation, head, Turns, stays, spelled, Only, OneMore}
+use Rattle.sw_grammar_forms.specs.Relations.{Chosen, NoToken}
 use Rattle.sw_grammar_forms.specs.Relations.Turns.{stop, turn}
 use Rattle.sw_grammar_forms.proofs.SetLemmas.{and_left, and_right, and_both, or_left, or_right, not_true}
 use Rattle.sw_grammar_forms.proofs.SetLemmas.{implied, has-append, has-within, has-not_first}
@@ -125,6 +126,47 @@ good_choice s t short h =
       apart = and_right _ _ four;
     }
 
+-- what good turns with a last form say
+pub record GoodEnding (is_open : Bool) (s t : Shape) : Type 0 where
+  pub goes_on : is_open ≡ true
+  pub turn : s.ok ≡ true
+  pub last : t.ok ≡ true
+  pub some : s.nullable ≡ false
+  pub some_last : t.nullable ≡ false
+  pub solid : t.bare ≡ false
+  pub going : sets.apart s.ext s.first ≡ true
+  pub ending : sets.apart s.ext t.first ≡ true
+  pub apart : sets.apart s.first t.first ≡ true
+  pub usable : is_usable t ≡ true
+
+pub good_ending : (is_open : Bool) (s t : Shape) → (ending is_open s t).ok ≡ true
+    → GoodEnding is_open s t
+good_ending is_open s t h =
+    let six = and_left _ _ h in let five = and_left _ _ six in let four = and_left _ _ five in
+    let three = and_left _ _ four in let two = and_left _ _ three in
+    record {
+      goes_on = and_left _ _ two;
+      turn = and_left _ _ (and_right _ _ two);
+      last = and_right _ _ (and_right _ _ two);
+      some = not_true _ (and_left _ _ (and_right _ _ three));
+      some_last = not_true _ (and_right _ _ (and_right _ _ three));
+      solid = not_true _ (and_right _ _ four);
+      going = and_left _ _ (and_right _ _ five);
+      ending = and_right _ _ (and_right _ _ five);
+      apart = and_right _ _ six;
+      usable = and_right _ _ h;
+    }
+
+pub starts_ending_turn : (is_open : Bool) (s t : Shape) (us vs : List Spelled)
+    → s.nullable ≡ false → StartsWith s us → StartsWith (ending is_open s t) (us ++ vs)
+starts_ending_turn is_open s t [] vs some h = absurd (clash _ h some)
+starts_ending_turn is_open s t (u ∷ us) vs some h = has-append s.first t.first u ∙ or_left _ _ h
+
+pub starts_ending_last : (is_open : Bool) (s t : Shape) (us : List Spelled)
+    → t.nullable ≡ false → StartsWith t us → StartsWith (ending is_open s t) us
+starts_ending_last is_open s t [] some h = absurd (clash _ h some)
+starts_ending_last is_open s t (u ∷ us) some h = has-append s.first t.first u ∙ or_right _ _ h
+
 -- what items that can be distinguished say
 pub record GoodItem (s : Shape) : Type 0 where
   pub ok : s.ok ≡ true
@@ -181,6 +223,12 @@ Turns-map {S} {One} {Two} each a b us (stop _) = stop a
 Turns-map {S} {One} {Two} each a b us (turn _ next _ vs ws h rest) =
     turn a next b vs ws (each a next vs h) (Turns-map each next b ws rest)
 
+pub Chosen-map : {A : Type 0} {P Q : Relation A} (R : Relation A) (b : Bool)
+    → ((a : A) (us : List Spelled) → P a us → Q a us) → (a : A) (us : List Spelled)
+    → Chosen b P R a us → Chosen b Q R a us
+Chosen-map R true more a us h = more a us h
+Chosen-map R false more a us h = h
+
 pub OneMore-map : {A : Type 0} {P Q : Relation A} → ((a : A) (us : List Spelled) → P a us → Q a us)
     → (state next : List A × Bool) (us : List Spelled) → OneMore P state next us
     → OneMore Q state next us
@@ -222,6 +270,29 @@ module _ {N : Type 0} (El : N → Type 0) (shape_of : N → Shape) where
       starts_turns s (λ now. Only (is_open now) (spelled El shape_of inside (f now)))
       (not_true _ (and_right _ _ two))
       (λ now next us k. starts_form inside (f now) (and_left _ _ two) next us k.1) state a ts h
+  starts_form inside (forms.until {S = S} {s = s} {t = t} is_open state f last) ok a ts h =
+      let is = good_ending (is_open state) s t ok in
+      subst (λ us. StartsWith (ending (is_open state) s t) us) (sym h.whole)
+      (by_turns is (λ now k. starts_form inside (last now) is.last a h.right k)
+      (λ next vs k. starts_form inside (f state) is.turn next vs k) h.value h.left h.first
+      (is_open h.value) refl h.second)
+    where
+      by_turns : GoodEnding (is_open state) s t
+          → ((now : S) → spelled El shape_of inside (last now) a h.right → StartsWith t h.right)
+          → ((next : S) (vs : List Spelled) → spelled El shape_of inside (f state) next vs
+          → StartsWith s vs) → (now : S) (us : List Spelled)
+          → Turns (λ now. Only (is_open now) (spelled El shape_of inside (f now))) state now us
+          → (b : Bool) → is_open now ≡ b
+          → Chosen b (spelled El shape_of inside (last now)) (NoToken now) a h.right
+          → StartsWith (ending (is_open state) s t) (us ++ h.right)
+      by_turns is end part now us (stop _) true same k =
+          starts_ending_last (is_open state) s t h.right is.some_last (end state k)
+      by_turns is end part now us (stop _) false same k = absurd (clash _ is.goes_on same)
+      by_turns is end part now us (turn _ next _ vs ws one others) b same k =
+          subst (λ xs. StartsWith (ending (is_open state) s t) xs)
+          (sym (append_assoc vs ws h.right))
+          (starts_ending_turn (is_open state) s t vs (ws ++ h.right) is.some
+          (part next vs one.1))
   starts_form inside (forms.unless {s = s} {t = t} is_so p q) ok a ts (inl h) =
       let three = and_left _ _ (and_left _ _ ok) in let two = and_left _ _ three in
       starts_left s t s ts (not_true _ (and_right _ _ three))
@@ -282,6 +353,16 @@ module _ {N : Type 0} (El : N → Type 0) (shape_of : N → Shape) where
   spelled_more inside more grows (forms.turns is_open state f) a ts h =
       Turns-map (λ now next us k. (k.0, spelled_more inside more grows (f now) next us k.1)) state a
       ts h
+  spelled_more inside more grows (forms.until is_open state f last) a ts h = record {
+    value = h.value;
+    left = h.left;
+    right = h.right;
+    first = Turns-map (λ now next us k. (k.0, spelled_more inside more grows (f now) next us k.1))
+        state h.value h.left h.first;
+    second = Chosen-map (NoToken h.value) (is_open h.value) (spelled_more inside more grows (last h.value)) a h.right
+        h.second;
+    whole = h.whole;
+  }
   spelled_more inside more grows (forms.unless is_so p q) a ts (inl h) =
       inl (spelled_more inside more grows p a ts h)
   spelled_more inside more grows (forms.unless is_so p q) a ts (inr h) =

@@ -194,11 +194,11 @@ module _ {A : Type 0} (s : Shape) (P V : Relation A) (p : Reader A) (is : GoodIt
           after_not_ended s is (head (ts ++ rest)) (item_first state next ts rest h)
           (ap is_first_on_line (item_head state next ts rest h) ∙ leads)
 
-  pub is_items_turn : IsTurn (OneMore P) (AfterItem s) (Without (items_ext s)) s.first
+  pub is_items_turn : IsTurn (λ _. true) (OneMore P) (AfterItem s) (Without (items_ext s)) s.first
   is_items_turn = record {
     takes = item_length;
     goes_on = item_first;
-    ends = λ state token g. (outside_parts (s.ext ++ semicolon) s.first token g).1;
+    ends = λ state token _ g. (outside_parts (s.ext ++ semicolon) s.first token g).1;
     stopped = λ state token g. stopped s state.1 token g;
     followed = λ state next ts rest h. by_state state next ts rest h;
   }

@@ -271,7 +271,7 @@ attribute_text text h = by_literal (literal_of true text) text h
         sym k ∙ word_is_none (byte ∷ more) in cc)
 
     by_mark : (byte : ℕ) (more : List ℕ) (b : Bool)
-        → is_at (cond b (kinds.Mark (mark_number byte))
+        → is_at (cond b (kinds.Mark (mark_number (byte ∷ more)))
         (cond (byte == 64) kinds.At (word_kind (byte ∷ more)))) ≡ true
         → (rest : List ℕ) × (byte ∷ more ≡ 64 ∷ rest)
     by_mark byte more true k = absurd (cc)
@@ -279,7 +279,7 @@ attribute_text text h = by_literal (literal_of true text) text h
 
     by_operator : (byte : ℕ) (more : List ℕ) (b : Bool)
         → is_at (cond b (kinds.Op (unwrap_or (operator_number (byte ∷ more)) 0))
-        (cond (is_mark byte) (kinds.Mark (mark_number byte))
+        (cond (is_mark byte) (kinds.Mark (mark_number (byte ∷ more)))
         (cond (byte == 64) kinds.At (word_kind (byte ∷ more))))) ≡ true
         → (rest : List ℕ) × (byte ∷ more ≡ 64 ∷ rest)
     by_operator byte more true k = absurd (cc)

@@ -21,11 +21,13 @@ data AtMost {S : Type 0} (One : S → Relation S) : ℕ → S → S → List Spe
 
 -- what makes a loop of a reader: its turns take tokens, begin with the tokens that the loop goes on
 -- with, and may follow each other and be followed by what follows the loop
-pub record IsTurn {S : Type 0} (One : S → Relation S) (F G : Follow S) (set : Set) : Type 0 where
+pub record IsTurn {S : Type 0} (is_open : S → Bool) (One : S → Relation S) (F G : Follow S)
+    (set : Set) : Type 0 where
   pub takes : (s t : S) (ts : List Spelled) → One s t ts → 0 < length ts
   pub goes_on : (s t : S) (ts rest : List Spelled) → One s t ts
       → starts set (head (ts ++ rest)) ≡ true
-  pub ends : (s : S) (token : Option Spelled) → G s token → starts set token ≡ false
+  pub ends : (s : S) (token : Option Spelled) → is_open s ≡ true → G s token
+      → starts set token ≡ false
   pub stopped : (s : S) (token : Option Spelled) → G s token → F s token
   pub followed : (s t : S) (ts rest : List Spelled) → One s t ts → F s (head (ts ++ rest))
 
@@ -48,9 +50,9 @@ unfolding has
 no_token None = refl
 no_token (Some token) = refl
 
-never_starts : (b : Bool) (set : Set) (token : Option Spelled) → starts set token ≡ false
-    → starts (set_if b set) token ≡ false
-never_starts true set token h = h
+never_starts : (b : Bool) (set : Set) (token : Option Spelled)
+    → (b ≡ true → starts set token ≡ false) → starts (set_if b set) token ≡ false
+never_starts true set token h = h refl
 never_starts false set token h = no_token token
 
 -- a turn from an open state
@@ -59,7 +61,7 @@ Open is_open P s = Only (is_open s) (P s)
 
 module _ {S : Type 0} (P V : S → Relation S) (F G : Follow S) (set : Set) (is_open : S → Bool)
     (turn_of : S → Reader S)
-    (reads : (s : S) → Reads (P s) (V s) F (turn_of s)) (is : IsTurn P F G set) where
+    (reads : (s : S) → Reads (P s) (V s) F (turn_of s)) (is : IsTurn is_open P F G set) where
   abbrev One : S → Relation S
   One = Open is_open P
 
@@ -70,7 +72,7 @@ module _ {S : Type 0} (P V : S → Relation S) (F G : Follow S) (set : Set) (is_
   set_of s = set_if (is_open s) set
 
   ends : (s : S) (token : Option Spelled) → G s token → starts (set_of s) token ≡ false
-  ends s token g = never_starts (is_open s) set token (is.ends s token g)
+  ends s token g = never_starts (is_open s) set token (λ open_now. is.ends s token open_now g)
 
   reads_one : (s : S) → is_open s ≡ true → Reads (One s) (W s) F (turn_of s)
   reads_one s open_now = restate (widen (reads s) (λ t ts h. (open_now, h)))
@@ -388,7 +390,7 @@ module _ {S : Type 0} (P V : S → Relation S) (F G : Follow S) (set : Set) (is_
 
 pub reads_loop : {S : Type 0} {P V : S → Relation S} {F G : Follow S} {turn_of : S → Reader S}
     (set : Set) (is_open : S → Bool)
-    → ((s : S) → Reads (P s) (V s) F (turn_of s)) → IsTurn P F G set → (s : S)
+    → ((s : S) → Reads (P s) (V s) F (turn_of s)) → IsTurn is_open P F G set → (s : S)
     → Reads (Turns (Open is_open P) s) (Turns (Open is_open V) s) G (loop set is_open turn_of s)
 reads_loop {S} {P} {V} {F} {G} {turn_of} set is_open reads is s =
     reads_turns P V F G set is_open turn_of reads is s
@@ -397,7 +399,7 @@ reads_loop {S} {P} {V} {F} {G} {turn_of} set is_open reads is s =
 
 pub loop_ends : {S : Type 0} {P V : S → Relation S} {F G : Follow S} {turn_of : S → Reader S}
     (set : Set) (is_open : S → Bool)
-    → ((s : S) → Reads (P s) (V s) F (turn_of s)) → IsTurn P F G set
+    → ((s : S) → Reads (P s) (V s) F (turn_of s)) → IsTurn is_open P F G set
     → (s : S) (ts : List Spelled)
     → starts (set_if (is_open s) set) (head ts) ≡ false → loop set is_open turn_of s ts ≡ Ok (s, ts)
 loop_ends {S} {P} {V} {F} {G} {turn_of} set is_open reads is s ts h =
@@ -405,7 +407,7 @@ loop_ends {S} {P} {V} {F} {G} {turn_of} set is_open reads is s ts h =
 
 pub loop_turns : {S : Type 0} {P V : S → Relation S} {F G : Follow S} {turn_of : S → Reader S}
     (set : Set) (is_open : S → Bool)
-    → ((s : S) → Reads (P s) (V s) F (turn_of s)) → IsTurn P F G set
+    → ((s : S) → Reads (P s) (V s) F (turn_of s)) → IsTurn is_open P F G set
     → (s : S) (ts : List Spelled)
     → starts (set_if (is_open s) set) (head ts) ≡ true
     → loop set is_open turn_of s ts ≡ then_read (turn_of s) (loop set is_open turn_of) ts
@@ -415,7 +417,7 @@ loop_turns {S} {P} {V} {F} {G} {turn_of} set is_open reads is s ts h =
 -- A turn takes a token.
 pub turn_shrinks : {S : Type 0} {P V : S → Relation S} {F G : Follow S} {turn_of : S → Reader S}
     (set : Set) (is_open : S → Bool)
-    → ((s : S) → Reads (P s) (V s) F (turn_of s)) → IsTurn P F G set
+    → ((s : S) → Reads (P s) (V s) F (turn_of s)) → IsTurn is_open P F G set
     → (s t : S) (ts rest : List Spelled)
     → turn_of s ts ≡ Ok (t, rest) → length rest < length ts
 turn_shrinks {S} {P} {V} {F} {G} {turn_of} set is_open reads is s t ts rest e =

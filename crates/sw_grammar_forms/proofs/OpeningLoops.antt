@@ -22,7 +22,7 @@ InTurns {S} is_open V O state = After (Turns (Open is_open V) state)
 module _ {S : Type 0} (P V : S → Relation S) (F G : Follow S) (O : S → Saying) (set : Set)
     (is_open : S → Bool) (turn_of : S → Reader S)
     (reads : (s : S) → Reads (P s) (V s) F (turn_of s))
-    (is : IsTurn P F G set) (is_wide : IsTurn V F G set)
+    (is : IsTurn is_open P F G set) (is_wide : IsTurn is_open V F G set)
     (passes : (s : S) → Passes (V s) F (turn_of s))
     (opens : (s : S) → Opening (O s) (turn_of s)) (begins : (s : S) → Begin set true (O s))
     (fits : (s : S) (us rest : List Spelled) → O s us → F s (head (us ++ rest))) where

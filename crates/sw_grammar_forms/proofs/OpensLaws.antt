@@ -9,25 +9,25 @@ use Rattle.sw_grammar_forms.specs.Form.{Shape, Terminal, Form, choice, is_shorte
 use Rattle.sw_grammar_forms.specs.Form.{a_word}
 use Rattle.sw_grammar_forms.specs.Form as forms
 use Rattle.sw_grammar_forms.specs.Relations.{Relation, head, Turns, OneMore, may_start, stays}
-use Rattle.sw_grammar_forms.specs.Relations.{is_first_on_line, is_none_of}
+use Rattle.sw_grammar_forms.specs.Relations.{is_first_on_line, is_none_of, Only}
 use Rattle.sw_grammar_forms.specs.Relations.Turns.{stop, turn}
 use Rattle.sw_grammar_forms.specs.Reader.{Answer, Reader, refused, pure, then_read, take_if, next}
 use Rattle.sw_grammar_forms.specs.Reader.{opening, choose, read_item, read_items, skipping, checked}
-use Rattle.sw_grammar_forms.specs.Reader.{only_if}
+use Rattle.sw_grammar_forms.specs.Reader.{only_if, set_if}
 use Rattle.sw_grammar_forms.specs.Reader.Fault.{unexpected, too_deep}
 use Rattle.sw_grammar_forms.specs.Spells.{spells, Wide, read_inside, reads}
 use Rattle.sw_grammar_forms.specs.Opens.{Saying, After, Opener, into, opens}
-use Rattle.sw_grammar_forms.proofs.ReaderLaws.{Follow, Without, Reads, bind_err, bind_stop}
+use Rattle.sw_grammar_forms.proofs.ReaderLaws.{Follow, Outside, Without, Reads, bind_err, bind_stop}
 use Rattle.sw_grammar_forms.proofs.ReaderLaws.{bind_step, cond_cases}
 use Rattle.sw_grammar_forms.proofs.LoopLaws.{IsTurn, Open}
 use Rattle.sw_grammar_forms.proofs.SetLemmas.{and_left, and_right, not_true}
 use Rattle.sw_grammar_forms.proofs.FormLemmas.{GoodItem, covers, good_choice, good_item}
-use Rattle.sw_grammar_forms.proofs.FormLemmas.{Turns-map}
-use Rattle.sw_grammar_forms.proofs.FollowLemmas.{some_first, apart_back}
+use Rattle.sw_grammar_forms.proofs.FormLemmas.{Turns-map, GoodEnding, good_ending}
+use Rattle.sw_grammar_forms.proofs.FollowLemmas.{AfterTurns, some_first, apart_back, outside_both}
 use Rattle.sw_grammar_forms.proofs.ItemLaws.{AfterItem, after_item, after_end, after_not_ended}
 use Rattle.sw_grammar_forms.proofs.ItemLaws.{reads_one_more, is_items_turn}
-use Rattle.sw_grammar_forms.proofs.FormLaws.{deeper, deeper_more, join_more, fill_led, starts_at}
-use Rattle.sw_grammar_forms.proofs.FormLaws.{law_inside, law, is_turn}
+use Rattle.sw_grammar_forms.proofs.FormLaws.{deeper, deeper_more, join_turns, join_more, fill_led, starts_at}
+use Rattle.sw_grammar_forms.proofs.FormLaws.{law_inside, law, law_turns, is_turn, is_part}
 use Rattle.sw_grammar_forms.proofs.DepthLaws.{NotDeep, reads_deeper, item_agrees, never_skip}
 use Rattle.sw_grammar_forms.proofs.DepthLaws.{never_then, never_next, never_word}
 use Rattle.sw_grammar_forms.proofs.Opening.{TooDeepBefore, Passes, passes, Opened, Opening}
@@ -50,9 +50,10 @@ opens_first p f O opens_p calm = record {
 }
 
 -- turns of some depth are turns of any
-wide_turn : {S : Type 0} (R : ℕ → S → Relation S) (V : S → Relation S) (F G : Follow S)
-    (set : List ℕ) → ((e : ℕ) → IsTurn (R e) F G set)
-    → ((s t : S) (ts : List Spelled) → V s t ts → (e : ℕ) × R e s t ts) → IsTurn V F G set
+wide_turn : {S : Type 0} {is_open : S → Bool} (R : ℕ → S → Relation S) (V : S → Relation S)
+    (F G : Follow S) (set : List ℕ) → ((e : ℕ) → IsTurn is_open (R e) F G set)
+    → ((s t : S) (ts : List Spelled) → V s t ts → (e : ℕ) × R e s t ts)
+    → IsTurn is_open V F G set
 wide_turn R V F G set each at = record {
   takes = λ s t ts h. let k = at s t ts h in (each k.0).takes s t ts k.1;
   goes_on = λ s t ts rest h. let k = at s t ts h in (each k.0).goes_on s t ts rest k.1;
@@ -254,14 +255,14 @@ module _ {N : Type 0} (El : N → Type 0) (shape_of : N → Shape)
       (fill_led El shape_of body good p is) state
 
   turn_item : (d : ℕ) {s : Shape} {A : Type 0} (p : Form El shape_of s A) → GoodItem s
-      → IsTurn (OneMore (R d p)) (AfterItem s) (Without (items_ext s)) s.first
+      → IsTurn (λ _. true) (OneMore (R d p)) (AfterItem s) (Without (items_ext s)) s.first
   turn_item d {s} p is =
       is_items_turn s (R d p) (W p) (reader d p) is (law_at d p is.ok)
       (starts_at El shape_of body good d (law_inside El shape_of body good d) p is.ok)
       (fill_led El shape_of body good p is)
 
   wide_item : {s : Shape} {A : Type 0} (p : Form El shape_of s A) → GoodItem s
-      → IsTurn (OneMore (W p)) (AfterItem s) (Without (items_ext s)) s.first
+      → IsTurn (λ _. true) (OneMore (W p)) (AfterItem s) (Without (items_ext s)) s.first
   wide_item {s} p is =
       wide_turn (λ e. OneMore (R e p)) (OneMore (W p)) (AfterItem s) (Without (items_ext s)) s.first
       (λ e. turn_item e p is) (λ a b us h. join_more El shape_of body good p a b us h)
@@ -428,14 +429,108 @@ module _ {N : Type 0} (El : N → Type 0) (shape_of : N → Shape)
       opens_turns (λ now. R d (f now)) (λ now. W (f now)) (Without s.ext) (Without (star s).ext)
       (λ now. O d (f now)) s.first is_open (λ now. reader d (f now))
       (λ now. law_at d (f now) good_s)
-      (is_turn El shape_of body good d (law_inside El shape_of body good d) f ok)
+      (is_turn El shape_of body good d (law_inside El shape_of body good d) is_open f ok)
       (wide_turn (λ e now. R e (f now)) (λ now. W (f now)) (Without s.ext) (Without (star s).ext)
-      s.first (λ e. is_turn El shape_of body good e (law_inside El shape_of body good e) f ok)
+      s.first (λ e. is_turn El shape_of body good e (law_inside El shape_of body good e) is_open f
+      ok)
       (λ a b us h. h))
       (λ now. passes_form d (f now) good_s) opens_f
       (λ now us rest h. some_first s us rest some (lead d (f now) good_s us h).1)
       (λ now us rest h. apart_lead s.ext s us rest (and_right _ _ ok) (lead d (f now) good_s us h))
       state
+
+  -- Turns that have to go on from an open state
+
+  law_turns_at : (d : ℕ) {S : Type 0} {s t : Shape} (is_open : S → Bool) (f : S → Form El shape_of s S)
+      (state : S) → GoodEnding (is_open state) s t
+      → Reads (R d (forms.turns is_open state f)) (W (forms.turns is_open state f))
+      (AfterTurns s is_open) (reader d (forms.turns is_open state f))
+  law_turns_at d {t = t} is_open f state is =
+      law_turns El shape_of body good d (law_inside El shape_of body good d) {t = t} is_open f state is
+
+  opens_parts : (d : ℕ) {S : Type 0} {s t : Shape} (is_open : S → Bool)
+      (f : S → Form El shape_of s S) (state : S) → GoodEnding (is_open state) s t
+      → ((now : S) → Opening (O d (f now)) (reader d (f now)))
+      → Opening (O d (forms.turns is_open state f)) (reader d (forms.turns is_open state f))
+  opens_parts d {S} {s} {t} is_open f state is opens_f =
+      opens_turns (λ now. R d (f now)) (λ now. W (f now)) (Without s.ext) (AfterTurns s is_open)
+      (λ now. O d (f now)) s.first is_open (λ now. reader d (f now))
+      (λ now. law_at d (f now) is.turn)
+      (is_part El shape_of body good d (law_inside El shape_of body good d) {t = t} is_open f state is)
+      (wide_turn (λ e now. R e (f now)) (λ now. W (f now)) (Without s.ext) (AfterTurns s is_open)
+      s.first (λ e. is_part El shape_of body good e (law_inside El shape_of body good e) {t = t}
+      is_open f state is) (λ a b us h. h))
+      (λ now. passes_form d (f now) is.turn) opens_f
+      (λ now us rest h. some_first s us rest is.some (lead d (f now) is.turn us h).1)
+      (λ now us rest h. apart_lead s.ext s us rest is.going (lead d (f now) is.turn us h))
+      state
+
+  passes_parts : (d : ℕ) {S : Type 0} {s t : Shape} (is_open : S → Bool)
+      (f : S → Form El shape_of s S) (state : S) → GoodEnding (is_open state) s t
+      → Passes (W (forms.turns is_open state f)) (AfterTurns s is_open)
+      (reader d (forms.turns is_open state f))
+  passes_parts d {s = s} {t = t} is_open f state is =
+      let form = forms.turns is_open state f in
+      passes (W form) (AfterTurns s is_open) (λ e. R e form) (λ e. reader e form)
+      (λ e. law_turns_at e {t = t} is_open f state is) (λ a us h. h)
+      (λ d e less a us h. deeper El shape_of body good d e less form a us h)
+      (λ d e less. reads_deeper El shape_of body d e less form) (λ a. refl) d
+
+  -- the last, where the state is open
+  opens_last : (d : ℕ) {S : Type 0} {t : Shape} (b : Bool) (now : S) (last : Form El shape_of t S)
+      → Opening (O d last) (reader d last)
+      → Opening (λ us. (b ≡ true) × O d last us) (only_if b (reader d last) (pure now))
+  opens_last d true now last opens = resaid opens (λ us h. (refl, h)) (λ us h. h.1)
+  opens_last d false now last opens = resaid (opens_never (pure now) (λ ts. tt)) (λ us h. absurd h)
+      (λ us h. let clash : false ≡ true = h.0 in absurd (cc))
+
+  -- tokens after turns of any depth are such after turns that are of one
+  abbrev After_turns : (d : ℕ) {S : Type 0} {s t : Shape} (is_open : S → Bool)
+      (f : S → Form El shape_of s S) (last : S → Form El shape_of t S) (state : S) → Saying
+  After_turns d is_open f last state =
+      After (Turns (λ now. Only (is_open now) (W (f now))) state)
+      (λ now us. (is_open now ≡ true) × O d (last now) us)
+
+  abbrev After_wide : (d : ℕ) {S : Type 0} {s t : Shape} (is_open : S → Bool)
+      (f : S → Form El shape_of s S) (last : S → Form El shape_of t S) (state : S) → Saying
+  After_wide d is_open f last state =
+      After (W (forms.turns is_open state f)) (λ now us. (is_open now ≡ true) × O d (last now) us)
+
+  after_there : (d : ℕ) {S : Type 0} {s t : Shape} (is_open : S → Bool)
+      (f : S → Form El shape_of s S) (last : S → Form El shape_of t S) (state : S)
+      (us : List Spelled) → After_wide d is_open f last state us
+      → After_turns d is_open f last state us
+  after_there d is_open f last state us h = record {
+    value = h.value;
+    left = h.left;
+    right = h.right;
+    first = Turns-map (λ now next ws one. (one.0, (h.first.0, one.1))) state h.value h.left
+        h.first.1;
+    last = h.last;
+    whole = h.whole;
+  }
+
+  after_back : (d : ℕ) {S : Type 0} {s t : Shape} (is_open : S → Bool)
+      (f : S → Form El shape_of s S) (last : S → Form El shape_of t S) (state : S)
+      (us : List Spelled) → After_turns d is_open f last state us
+      → After_wide d is_open f last state us
+  after_back d is_open f last state us h = record {
+    value = h.value;
+    left = h.left;
+    right = h.right;
+    first = join_turns El shape_of body good is_open f state h.value h.left h.first;
+    last = h.last;
+    whole = h.whole;
+  }
+
+  fits_last : (d : ℕ) {S : Type 0} {s t : Shape} (state : Bool) (b : Bool)
+      (last : Form El shape_of t S) → GoodEnding state s t → (us rest : List Spelled)
+      → (b ≡ true) × O d last us → Outside (s.ext ++ set_if b s.first) (head (us ++ rest))
+  fits_last d {s = s} {t = t} state b last is us rest h =
+      subst (λ c. Outside (s.ext ++ set_if c s.first) (head (us ++ rest))) (sym h.0)
+      (outside_both s.ext s.first (head (us ++ rest))
+      (apart_lead s.ext t us rest is.ending (lead d last is.last us h.1))
+      (apart_lead s.first t us rest is.apart (lead d last is.last us h.1)))
 
   -- Choices
 
@@ -482,6 +577,15 @@ module _ {N : Type 0} (El : N → Type 0) (shape_of : N → Shape)
   opens_form d inner (forms.turns {s = s} is_open state f) ok =
       opens_loop d is_open f ok
       (λ now. opens_form d inner (f now) (and_left _ _ (and_left _ _ ok))) state
+  opens_form d inner (forms.until {s = s} {t = t} is_open state f last) ok =
+      let is = good_ending (is_open state) s t ok in
+      resaid (opens_then (law_turns_at d {t = t} is_open f state is)
+      (passes_parts d {t = t} is_open f state is)
+      (opens_parts d {t = t} is_open f state is (λ now. opens_form d inner (f now) is.turn))
+      (λ now. opens_last d (is_open now) now (last now) (opens_form d inner (last now) is.last))
+      (λ now us rest h. fits_last d (is_open state) (is_open now) (last now) is us rest h))
+      (λ us h. elim h [ inl o ↦ inl o | inr q ↦ inr (after_there d is_open f last state us q) ])
+      (λ us h. elim h [ inl o ↦ inl o | inr q ↦ inr (after_back d is_open f last state us q) ])
   opens_form d inner (forms.more_items {s = s} state p) ok =
       let is = good_item s ok in opens_items d p is (opens_form d inner p is.ok) state
   opens_form d inner (forms.some_items {s = s} p) ok =

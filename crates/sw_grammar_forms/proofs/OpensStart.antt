@@ -1,20 +1,23 @@
 -- With which tokens those begin of which `opens` is said.
 use Rattle.std.proofs.Common.{◌≡◌, ◌<◌, true, false, cond, inl, inr, List, [], ◌∷◌, ◌++◌, length}
 use Rattle.std.proofs.Common.{refl, sym, subst, append_assoc, arith, length-append}
-use Rattle.std.proofs.Common.{Bool, not}
+use Rattle.std.proofs.Common.{Bool, not, ◌∙◌}
 use Rattle.std.proofs.lemmas.List.{append-nil}
 use Rattle.sw_token.specs.Spelling.{Spelled}
 use Rattle.sw_grammar_forms.specs.Sets.{has}
 use Rattle.sw_grammar_forms.specs.Form.{Shape, Form, seq, star, listed, nested, is_shorter, listed_some}
+use Rattle.sw_grammar_forms.specs.Form.{ending}
 use Rattle.sw_grammar_forms.specs.Form as forms
 use Rattle.sw_grammar_forms.specs.Relations.{Relation, head, Turns, Only, OneMore, may_start}
 use Rattle.sw_grammar_forms.specs.Relations.Turns.{stop, turn}
 use Rattle.sw_grammar_forms.specs.Spells.{inside, Wide}
 use Rattle.sw_grammar_forms.specs.Opens.{Saying, After, opens_in}
-use Rattle.sw_grammar_forms.proofs.SetLemmas.{and_left, and_right, not_true}
+use Rattle.sw_grammar_forms.proofs.SetLemmas.{and_left, and_right, not_true, has-append, or_left}
 use Rattle.sw_grammar_forms.proofs.FormLemmas.{StartsWith, in_either, starts_then, starts_left}
 use Rattle.sw_grammar_forms.proofs.FormLemmas.{starts_right, starts_inline, starts_started, starts_held}
 use Rattle.sw_grammar_forms.proofs.FormLemmas.{covers, good_item, good_choice, starts_form}
+use Rattle.sw_grammar_forms.proofs.FormLemmas.{GoodEnding, good_ending, starts_ending_turn}
+use Rattle.sw_grammar_forms.proofs.FormLemmas.{starts_ending_last}
 use Rattle.sw_grammar_forms.proofs.FollowLemmas.{some_length}
 
 -- some tokens, which begin as those of the shape
@@ -36,6 +39,12 @@ first_leads : (s t : Shape) (us vs : List Spelled) → s.first ≡ t.first → L
     → Leads t (us ++ vs)
 first_leads s t [] vs same h = absurd (let some = h.0 in omega arith)
 first_leads s t (u ∷ us) vs same h = (omega arith, subst (λ set. has set u ≡ true) same h.1)
+
+-- a turn before the last form
+ending_turn : (is_open : Bool) (s t : Shape) (us : List Spelled) → Leads s us
+    → Leads (ending is_open s t) us
+ending_turn is_open s t [] h = absurd (let some = h.0 in omega arith)
+ending_turn is_open s t (u ∷ us) h = (h.0, has-append s.first t.first u ∙ or_left _ _ h.1)
 
 module _ {N : Type 0} (El : N → Type 0) (shape_of : N → Shape)
     (body : (n : N) → Form El shape_of (shape_of n) (El n)) (into : (n : N) → Saying) where
@@ -100,6 +109,36 @@ module _ {N : Type 0} (El : N → Type 0) (shape_of : N → Shape)
       let starts = wide_starts (f a) (and_left _ _ two) b vs k.1 in
       (some_length s vs some starts, starts))
       (λ a vs k. leads (f a) (and_left _ _ two) vs k.1) state us h
+  leads (forms.until {s = s} {t = t} is_open state f last) ok us (inl h) =
+      let is = good_ending (is_open state) s t ok in
+      ending_turn (is_open state) s t us (turns_lead s s
+      (λ now. Only (is_open now) (W (f now)))
+      (λ now vs. (is_open now ≡ true) × opens_in El shape_of body into (f now) vs) refl
+      (λ a b vs k.
+      let starts = wide_starts (f a) is.turn b vs k.1 in
+      (some_length s vs is.some starts, starts))
+      (λ a vs k. leads (f a) is.turn vs k.1) state us h)
+  leads (forms.until {S = S} {s = s} {t = t} is_open state f last) ok us (inr h) =
+      let is = good_ending (is_open state) s t ok in
+      subst (Leads (ending (is_open state) s t)) (sym h.whole)
+      (by_turns is (λ now k. leads (last now) is.last h.right k) h.value h.left h.first h.last)
+    where
+      by_turns : GoodEnding (is_open state) s t
+          → ((now : S) → opens_in El shape_of body into (last now) h.right → Leads t h.right)
+          → (now : S) (ls : List Spelled)
+          → Turns (λ now. Only (is_open now) (W (f now))) state now ls
+          → (is_open now ≡ true) × opens_in El shape_of body into (last now) h.right
+          → Leads (ending (is_open state) s t) (ls ++ h.right)
+      by_turns is end now ls (stop _) k =
+          let one = end now k.1 in
+          (one.0, starts_ending_last (is_open state) s t h.right is.some_last one.1)
+      by_turns is end now ls (turn _ next _ vs ws one others) k =
+          let starts = wide_starts (f state) is.turn next vs one.1 in
+          let some = some_length s vs is.some starts in
+          subst (Leads (ending (is_open state) s t)) (sym (append_assoc vs ws h.right)) (
+            omega (arith, length-append vs (ws ++ h.right)),
+            starts_ending_turn (is_open state) s t vs (ws ++ h.right) is.some starts,
+          )
   leads (forms.more_items {s = s} state p) ok us h =
       let is = good_item s ok in
       turns_lead s (listed s) (OneMore (W p))

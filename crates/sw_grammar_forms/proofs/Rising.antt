@@ -21,13 +21,13 @@ StandApart-append from [] vs h k = k
 StandApart-append from (u ∷ us) vs h k =
     (h.0, StandApart-append (u.at + length u.text) us vs h.1 k)
 
-StandApart-prefix : (from : ℕ) (us vs : List Spelled) → StandApart from (us ++ vs)
+pub StandApart-prefix : (from : ℕ) (us vs : List Spelled) → StandApart from (us ++ vs)
     → StandApart from us
 StandApart-prefix from [] vs h = tt
 StandApart-prefix from (u ∷ us) vs h =
     (h.0, StandApart-prefix (u.at + length u.text) us vs h.1)
 
-StandApart-rest : (from : ℕ) (us vs : List Spelled) → StandApart from (us ++ vs)
+pub StandApart-rest : (from : ℕ) (us vs : List Spelled) → StandApart from (us ++ vs)
     → StandApart (end_of from us) vs
 StandApart-rest from [] vs h = h
 StandApart-rest from (u ∷ us) vs h = StandApart-rest (u.at + length u.text) us vs h.1
@@ -48,7 +48,7 @@ texts_append : (us vs : List Spelled) → AllByRecursion HasTokenText us
 texts_append [] vs h k = k
 texts_append (u ∷ us) vs h k = (h.0, texts_append us vs h.1 k)
 
-texts_prefix : (us vs : List Spelled) → AllByRecursion HasTokenText (us ++ vs)
+pub texts_prefix : (us vs : List Spelled) → AllByRecursion HasTokenText (us ++ vs)
     → AllByRecursion HasTokenText us
 texts_prefix [] vs h = tt
 texts_prefix (u ∷ us) vs h = (h.0, texts_prefix us vs h.1)
@@ -75,7 +75,7 @@ IsSpelling-completed before bad filler is fills = is_spelling 0 (before ++ fille
     (StandApart-append 0 before filler (StandApart-prefix 0 before bad is.apart)
     (StandApart-fills (end_of 0 before) filler fills))
 
-texts_rest : (us vs : List Spelled) → AllByRecursion HasTokenText (us ++ vs)
+pub texts_rest : (us vs : List Spelled) → AllByRecursion HasTokenText (us ++ vs)
     → AllByRecursion HasTokenText vs
 texts_rest [] vs h = h
 texts_rest (u ∷ us) vs h = texts_rest us vs h.1

@@ -1,23 +1,24 @@
 -- Short spellings: each form with a good shape has one, which opens no more nests than its height,
 -- and which begins a line, or doesn't, where the shape says that it may.
 use Rattle.std.proofs.Common.{◌≡◌, ℕ, suc, ◌+◌, ◌≤◌, Bool, true, false, cond, ◌&&◌, ◌||◌, inl, inr}
-use Rattle.std.proofs.Common.{List, [], ◌∷◌, ◌++◌, length, refl, sym, ◌∙◌, ap, arith, not}
+use Rattle.std.proofs.Common.{List, [], ◌∷◌, ◌++◌, length, refl, sym, ◌∙◌, ap, subst, arith, not}
 use Rattle.std.proofs.lemmas.List.{append-nil}
 use Rattle.std.proofs.Math.Nat.{le-max_left, le-max_right}
 use Rattle.sw_token.specs.declared.Fixity.TheVariants as fixities
 use Rattle.sw_token.specs.Spelling.{Spelled}
 use Rattle.sw_grammar_forms.specs.Sets.{has, word}
 use Rattle.sw_grammar_forms.specs.Form.{Shape, Terminal, Form, empty, one, is_usable, is_shorter}
-use Rattle.sw_grammar_forms.specs.Form.{claimed, listed_some}
+use Rattle.sw_grammar_forms.specs.Form.{claimed, listed_some, ending}
 use Rattle.sw_grammar_forms.specs.Form as forms
 use Rattle.sw_grammar_forms.specs.Relations.{Relation, head, is_first_on_line, FollowedBy, Either}
 use Rattle.sw_grammar_forms.specs.Relations.{may_start}
-use Rattle.sw_grammar_forms.specs.Relations.{stays, spelled, OneMore, Turns}
+use Rattle.sw_grammar_forms.specs.Relations.{stays, spelled, OneMore, Turns, Only, Chosen, NoToken}
 use Rattle.sw_grammar_forms.specs.Relations.Turns.{stop}
 use Rattle.sw_grammar_forms.proofs.Fresh.{fresh, fresh_in_word, fresh_is_token, fresh_is_other}
 use Rattle.sw_grammar_forms.proofs.ReaderLaws.{Fills, past, Fills-append, Filled}
 use Rattle.sw_grammar_forms.proofs.SetLemmas.{and_left, and_right, or_left, not_true, sample_is_token}
-use Rattle.sw_grammar_forms.proofs.FormLemmas.{Covers, covers, GoodItem, good_item}
+use Rattle.sw_grammar_forms.proofs.FormLemmas.{Covers, covers, GoodItem, good_item, GoodEnding}
+use Rattle.sw_grammar_forms.proofs.FormLemmas.{good_ending}
 
 -- some tokens, the first of which is the first on its line or isn't
 pub record Led (lead : Bool) (tokens : List Spelled) : Type 0 where
@@ -82,6 +83,7 @@ ways El shape_of (forms.word_but texts value) ok = refl
 ways El shape_of (forms.followed p f) ok = and_right _ _ ok
 ways El shape_of (forms.either p q) ok = and_right _ _ ok
 ways El shape_of (forms.turns is_open state f) ok = refl
+ways El shape_of (forms.until is_open state f last) ok = and_right _ _ ok
 ways El shape_of (forms.more_items state p) ok = refl
 ways El shape_of (forms.some_items {s = s} p) ok = or_left _ _ (good_item s ok).begins_line
 ways El shape_of (forms.when is_so p q) ok = and_right _ _ ok
@@ -267,6 +269,37 @@ module _ {N : Type 0} (El : N → Type 0) (shape_of : N → Shape) (depth : ℕ)
           fills = tt;
           empty = λ h. refl;
           led = λ h. absurd (not_both true h refl);
+        }
+    short_form (forms.until {s = s} {t = t} is_open state f last) ok low lead way from =
+        let is = good_ending (is_open state) s t ok in
+        by_last is (short_form (last state) is.last low lead (by_way lead way) from)
+      where
+        by_way : (lead : Bool) → may (ending (is_open state) s t) lead ≡ true
+            → may t lead ≡ true
+        by_way true way = way
+        by_way false way = way
+
+        by_last : GoodEnding (is_open state) s t
+            → (one : Short (spelled El shape_of inside (last state)) t.bare lead from)
+            → Short (FollowedBy
+            (Turns (λ now. Only (is_open now) (spelled El shape_of inside (f now))) state)
+            (λ now. Chosen (is_open now) (spelled El shape_of inside (last now)) (NoToken now)))
+            false lead from
+        by_last is one = record {
+          value = one.value;
+          filler = one.filler;
+          spelled = record {
+            value = state;
+            left = [];
+            right = one.filler;
+            first = stop state;
+            second = subst (λ b. Chosen b (spelled El shape_of inside (last state)) (NoToken state)
+                one.value one.filler) (sym is.goes_on) one.spelled;
+            whole = refl;
+          };
+          fills = one.fills;
+          empty = λ h. absurd (not_both false refl h);
+          led = λ h. one.led is.solid;
         }
     short_form (forms.more_items state p) ok low lead way from =
         record {

@@ -130,6 +130,21 @@ nested t s = record {
   stays_on_line = shows t.set t.text t.fixity false;
 }
 
+-- Turns as long as the state is open, one at least, the last of which may be of another form. So
+-- none may go on with what a turn begins with.
+abbrev pub ending : Bool → Shape → Shape → Shape
+ending is_open s t = record {
+  nullable = false;
+  first = s.first ++ t.first;
+  ext = s.ext ++ t.ext;
+  ok = is_open && (s.ok && t.ok) && (not s.nullable && not t.nullable) && not t.bare
+      && (apart s.ext s.first && apart s.ext t.first) && apart s.first t.first && is_usable t;
+  bare = false;
+  height = t.height;
+  begins_line = t.begins_line;
+  stays_on_line = t.stays_on_line;
+}
+
 abbrev pub semicolon : Set
 semicolon = quoted (codes ";")
 
@@ -250,6 +265,9 @@ module _ {N : Type 0} (El : N → Type 0) (shape_of : N → Shape) where
     either : {A : Type 0} {s t : Shape} → Form s A → Form t A → Form (alt s t) A
     -- turns from a state on, as long as the state is open and the next token begins one
     turns : {S : Type 0} {s : Shape} → (S → Bool) → S → (S → Form s S) → Form (star s) S
+    -- the same, where an open state has to go on: with a turn, or with the last of another form
+    until : {S : Type 0} {s t : Shape} (is_open : S → Bool) (state : S) → (S → Form s S)
+        → (S → Form t S) → Form (ending (is_open state) s t) S
     -- Items after those of a state, which says whether a `;` ended the last. Where none did, the
     -- next begins a line.
     more_items : {A : Type 0} {s : Shape} → List A × Bool → Form s A

@@ -47,6 +47,11 @@ module _ {N : Type 0} (El : N → Type 0) (shape_of : N → Shape)
   opens_in into (forms.turns is_open state f) tokens =
       After (Turns (λ s. Only (is_open s) (Wide El shape_of body (f s))) state)
       (λ s us. IsTrue (is_open s) × opens_in into (f s) us) tokens
+  opens_in into (forms.until is_open state f last) tokens =
+      After (Turns (λ s. Only (is_open s) (Wide El shape_of body (f s))) state)
+      (λ s us. IsTrue (is_open s) × opens_in into (f s) us) tokens
+      ⊎ After (Turns (λ s. Only (is_open s) (Wide El shape_of body (f s))) state)
+      (λ s us. IsTrue (is_open s) × opens_in into (last s) us) tokens
   opens_in into (forms.more_items state p) tokens =
       After (Turns (OneMore (Wide El shape_of body p)) state)
       (λ s us. opens_in into p us × IsTrue (may_start (not s.1) (head us))) tokens

@@ -123,6 +123,9 @@ reading El shape_of depth inside (forms.either {s = s} p q) =
     choose s.first (reading El shape_of depth inside p) (reading El shape_of depth inside q)
 reading El shape_of depth inside (forms.turns {s = s} is_open state f) =
     loop s.first is_open (λ now. reading El shape_of depth inside (f now)) state
+reading El shape_of depth inside (forms.until {s = s} is_open state f last) =
+    then_read (loop s.first is_open (λ now. reading El shape_of depth inside (f now)) state)
+    (λ now. only_if (is_open now) (reading El shape_of depth inside (last now)) (pure now))
 reading El shape_of depth inside (forms.more_items {s = s} state p) =
     read_items s.first (reading El shape_of depth inside p) state
 reading El shape_of depth inside (forms.some_items {s = s} p) =

@@ -44,6 +44,11 @@ Either P Q a tokens = P a tokens ⊎ Q a tokens
 abbrev pub Only : {A : Type 0} → Bool → Relation A → Relation A
 Only is_so P a tokens = IsTrue is_so × P a tokens
 
+-- the first, or the second, by a condition
+abbrev pub Chosen : {A : Type 0} → Bool → Relation A → Relation A → Relation A
+Chosen true P Q = P
+Chosen false P Q = Q
+
 -- turns from one state to another
 pub data Turns {S : Type 0} (One : S → Relation S) : S → S → List Spelled → Type 0 where
   stop : (s : S) → Turns One s s []
@@ -93,6 +98,9 @@ spelled El shape_of inside (forms.either p q) =
     Either (spelled El shape_of inside p) (spelled El shape_of inside q)
 spelled El shape_of inside (forms.turns is_open state f) =
     Turns (λ s. Only (is_open s) (spelled El shape_of inside (f s))) state
+spelled El shape_of inside (forms.until is_open state f last) =
+    FollowedBy (Turns (λ s. Only (is_open s) (spelled El shape_of inside (f s))) state)
+    (λ s. Chosen (is_open s) (spelled El shape_of inside (last s)) (NoToken s))
 spelled El shape_of inside (forms.more_items state p) =
     Turns (OneMore (spelled El shape_of inside p)) state
 spelled El shape_of inside (forms.some_items p) =

@@ -13,20 +13,20 @@ use Rattle.sw_token.specs.Kinds.{kind_of}
 use Rattle.sw_token.specs.Operators.{operators}
 use Rattle.sw_token.specs.Spelling.{Spelled}
 
--- The marks and words that the grammar of programs quotes, and `print`, which no rule quotes: it is
--- the example of a name. None begins with `aa`, so that there is a word that is none of any texts
--- (`fresh`, in the proofs).
+-- the marks and words that the grammar of programs quotes, and `print`, which no rule quotes: it is
+-- the example of a name
 abbrev pub other_texts : List (List ℕ)
 other_texts =
     codes "(" ∷ codes ")" ∷ codes "{" ∷ codes "}" ∷ codes "[" ∷ codes "]" ∷ codes "," ∷ codes ":"
-    ∷ codes ";" ∷ codes "." ∷ codes "_" ∷ codes "@main" ∷ codes "@globalActor" ∷ codes "@Sendable"
-    ∷ codes "@escaping" ∷ codes "@concurrent" ∷ codes "Never" ∷ codes "Sendable" ∷ codes "Task"
-    ∷ codes "actor" ∷ codes "async" ∷ codes "await" ∷ codes "break" ∷ codes "case" ∷ codes "class"
+    ∷ codes ";" ∷ codes "." ∷ codes "?" ∷ codes "??" ∷ codes "_" ∷ codes "@main"
+    ∷ codes "@globalActor" ∷ codes "@Sendable" ∷ codes "@escaping" ∷ codes "@concurrent"
+    ∷ codes "Never" ∷ codes "Optional" ∷ codes "Sendable" ∷ codes "Task" ∷ codes "actor"
+    ∷ codes "async" ∷ codes "await" ∷ codes "break" ∷ codes "case" ∷ codes "class"
     ∷ codes "continue" ∷ codes "default" ∷ codes "detached" ∷ codes "else" ∷ codes "enum"
     ∷ codes "false" ∷ codes "final" ∷ codes "func" ∷ codes "if" ∷ codes "in" ∷ codes "init"
-    ∷ codes "let" ∷ codes "main" ∷ codes "nonisolated" ∷ codes "nonsending" ∷ codes "print"
-    ∷ codes "return" ∷ codes "self" ∷ codes "sending" ∷ codes "shared" ∷ codes "static"
-    ∷ codes "struct" ∷ codes "switch" ∷ codes "true" ∷ codes "var" ∷ codes "while"
+    ∷ codes "let" ∷ codes "main" ∷ codes "nil" ∷ codes "nonisolated" ∷ codes "nonsending"
+    ∷ codes "print" ∷ codes "return" ∷ codes "self" ∷ codes "sending" ∷ codes "shared"
+    ∷ codes "static" ∷ codes "struct" ∷ codes "switch" ∷ codes "true" ∷ codes "var" ∷ codes "while"
     ∷ codes "yield" ∷ []
 
 -- the quoted texts: the operators and those. Of an operator a rule may ask for the fixity.
@@ -145,8 +145,8 @@ standing_of fixity (text ∷ texts) = standing fixity text ++ standing_of fixity
 -- the words among the quoted texts that may name something
 abbrev pub open_words : List (List ℕ)
 open_words =
-    codes "Never" ∷ codes "Sendable" ∷ codes "Task" ∷ codes "detached" ∷ codes "main"
-    ∷ codes "nonsending" ∷ codes "print" ∷ codes "shared" ∷ codes "yield" ∷ []
+    codes "Never" ∷ codes "Optional" ∷ codes "Sendable" ∷ codes "Task" ∷ codes "detached"
+    ∷ codes "main" ∷ codes "nonsending" ∷ codes "print" ∷ codes "shared" ∷ codes "yield" ∷ []
 
 -- the tokens with one of these texts
 abbrev pub one_of : List (List ℕ) → Set
