@@ -3,5 +3,6 @@ pub mod TokenSets
 pub mod TypesAlike
 pub mod ExprsAlike
 pub mod ClosuresAlike
+pub mod ValuesAlike
 pub mod StmtsAlike
 pub mod BodiesAlike

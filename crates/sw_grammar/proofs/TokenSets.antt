@@ -11,7 +11,8 @@ use Rattle.sw_grammar_forms.specs.Sets.{has, is_quoted_operator, is_name, is_at,
 use Rattle.sw_grammar_forms.specs.Sets.{attribute}
 use Rattle.sw_grammar_forms.proofs.SetLaws.{has-quoted, has-word}
 use Rattle.sw_grammar_forms.proofs.KindSets.{has-standing, has-attribute, has-one_of, starts-without}
-use Rattle.sw_grammar.specs.Tokens.{infix_op, prefix_op, value_word, at_word, plain_at_word}
+use Rattle.sw_grammar.specs.Tokens.{infix_op, prefix_op, value_word, plain_word, at_word}
+use Rattle.sw_grammar.specs.Tokens.{plain_at_word}
 
 pub has-infix_op : (text : List ℕ) (token : Spelled) → is_quoted_operator text ≡ true
     → has (infix_op text) token
@@ -29,6 +30,17 @@ has-value_word token =
     starts-without value_word word (quoted (codes "Task")) (Some token) refl refl refl
     ∙ (ap (λ b. b && not (has (quoted (codes "Task")) token)) (has-word token)
     ∙ ap (λ b. is_name (kind_of token.text) && not b) (has-quoted (codes "Task") token refl))
+
+abbrev other_starts : List (List ℕ)
+other_starts = codes "Task" ∷ codes "Optional" ∷ []
+
+pub has-plain_word : (token : Spelled) → has plain_word token
+    ≡ (is_name (kind_of token.text)
+    && not (list_any (λ text. bytes_eq token.text text) other_starts))
+has-plain_word token =
+    starts-without plain_word word (one_of other_starts) (Some token) refl refl refl
+    ∙ (ap (λ b. b && not (has (one_of other_starts) token)) (has-word token)
+    ∙ ap (λ b. is_name (kind_of token.text) && not b) (has-one_of other_starts token refl))
 
 pub has-at_word : (token : Spelled) → has at_word token
     ≡ (is_at (kind_of token.text) && not (bytes_eq token.text (codes "@concurrent")))

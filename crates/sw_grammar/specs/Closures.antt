@@ -6,14 +6,13 @@ use Rattle.sw_grammar_forms.specs.Form.Form.{done, terminal, either, nest, shape
 use Rattle.sw_grammar_forms.specs.Terminals.{◌>>=◌, expect, skip}
 use Rattle.sw_grammar_forms.specs.Quotes.{quote}
 use Rattle.sw_tree.specs.declared.name.Name.{Name}
-use Rattle.sw_tree.specs.declared.type_tree.TypeTree.{TypeTree}
 use Rattle.sw_tree.specs.declared.expr.ClosureParam.{ClosureParam}
 use Rattle.sw_tree.specs.declared.stmt.Stmt.{Stmt}
 use Rattle.sw_grammar.specs.Around.{Around}
 use Rattle.sw_grammar.specs.Tokens.{at_word, type_ext, name_in, at_in}
 use Rattle.sw_grammar.specs.Nests.{in_captures, in_closure_params, in_empty, shape_of, Form}
 use Rattle.sw_grammar.specs.Nests.{ClosureInside}
-use Rattle.sw_grammar.specs.Types.{type, some_of, list_of}
+use Rattle.sw_grammar.specs.Types.{Typed, tree_of, written_type, type, some_of, list_of}
 use Rattle.sw_grammar.specs.Exprs.{loose}
 
 -- what a closure has before its statements
@@ -21,14 +20,14 @@ pub record Header : Type 0 where
   pub mark : Option Name
   pub captures : List Name
   pub params : List ClosureParam
-  pub result : Option TypeTree
+  pub result : Option Typed
 
 abbrev pub no_header : Header
 no_header = record { mark = None; captures = []; params = []; result = None }
 
 -- parameters and a result
 abbrev pub Signature : Type 0
-Signature = List ClosureParam × Option TypeTree
+Signature = List ClosureParam × Option Typed
 
 abbrev pub header_of : Option Name → List Name → Signature → Header
 header_of mark captures signature =
@@ -39,7 +38,7 @@ inside_of header body = record {
   mark = header.mark;
   captures = header.captures;
   params = header.params;
-  result = header.result;
+  result = tree_of header.result;
   body = body;
 }
 
@@ -79,10 +78,10 @@ module _ (around : Around) where
 
   -- ["->" type]
   unfoldable pub result_if : Form (loose (quoted (codes "->")) (quoted (codes "->") ++ type_ext))
-      (Option TypeTree)
+      (Option Typed)
   result_if = shaped _ (either (do
     _ ← expect (codes "->")
-    written ← type around
+    written ← written_type around
     done (Some written)) (done None))
 
   -- "(" parameters ")" ["->" type]

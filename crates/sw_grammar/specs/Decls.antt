@@ -18,16 +18,17 @@ use Rattle.sw_tree.specs.declared.decl.FuncTree.{FuncTree}
 use Rattle.sw_tree.specs.declared.decl.CaseTree.{CaseTree}
 use Rattle.sw_tree.specs.declared.decl.Decl.{Decl}
 use Rattle.sw_tree.specs.declared.decl.Decl.TheVariants as decls
-use Rattle.sw_grammar.specs.Around.{Around}
-use Rattle.sw_grammar.specs.Tokens.{at_word, plain_at_word, type_ext, expr_ext, infix_op, an_equals}
+use Rattle.sw_grammar.specs.Around.{Around, returning}
+use Rattle.sw_grammar.specs.Tokens.{at_word, plain_at_word, type_ext, value_ext, infix_op, an_equals}
 use Rattle.sw_grammar.specs.Tokens.{binding_first, name_in, at_in}
 use Rattle.sw_grammar.specs.Nests.{in_payload, in_empty, in_params, in_isolation, in_entry}
 use Rattle.sw_grammar.specs.Nests.{in_global_actor, in_struct, in_enum, in_class, shape_of, Form}
 use Rattle.sw_grammar.specs.Nests.{Main, Member, method_first}
 use Rattle.sw_grammar.specs.Nests.Member.{property, initialiser, function, cases}
-use Rattle.sw_grammar.specs.Types.{type, list_of, more_of}
+use Rattle.sw_grammar.specs.Types.{Typed, tree_of, wanted_of, written_type, type, list_of, more_of}
 use Rattle.sw_grammar.specs.Exprs.{loose}
 use Rattle.sw_grammar.specs.Closures.{signature_ext}
+use Rattle.sw_grammar.specs.Values.{value_for}
 use Rattle.sw_grammar.specs.Stmts.{block, value, type_if}
 
 -- The members of a type by their kinds.
@@ -166,11 +167,11 @@ module _ (around : Around) where
 
   -- ["->" ["sending"] type]
   unfoldable pub sent_result : Form (loose (quoted (codes "->")) signature_ext)
-      (Bool × Option TypeTree)
+      (Bool × Option Typed)
   sent_result = shaped _ (either (do
     _ ← expect (codes "->")
     sends ← skip (codes "sending")
-    ty ← type around
+    ty ← written_type around
     done (sends, Some ty)) (done (false, None)))
 
   -- "func" Word params ["async"] ["->" ["sending"] type] block, after the isolation that is written
@@ -181,14 +182,14 @@ module _ (around : Around) where
     given ← params
     is_async ← async_if isolation
     result ← sent_result
-    body ← block around
+    body ← block (returning around (wanted_of result.1))
     done (record {
       written = isolation;
       word = name;
       params = given;
       is_async = is_async;
       sends = result.0;
-      result = result.1;
+      result = tree_of result.1;
       body = body;
     }))
 
@@ -204,12 +205,12 @@ module _ (around : Around) where
     tree ← method
     done (function tree))
 
-  -- "=" expr | nothing
-  unfoldable pub value_if : Form (loose (infix_op (codes "=")) (infix_op (codes "=") ++ expr_ext))
-      (Option Expr)
-  value_if = shaped _ (either (do
-    given ← value around
-    done (Some given)) (done None))
+  -- "=" value | nothing
+  unfoldable pub value_if : Option (List ℕ)
+      → Form (loose (infix_op (codes "=")) (infix_op (codes "=") ++ value_ext)) (Option Expr)
+  value_if wanted = shaped _ (either (do
+    given ← value_for around wanted
+    done (Some given.value)) (done None))
 
   -- Word ":" type
   unfoldable pub field_after : Bool → Form (solid word type_ext 0) Member
@@ -224,17 +225,17 @@ module _ (around : Around) where
       (expect (codes "var") >>= λ _. field_after true))
 
   abbrev property_ext : Set
-  property_ext = type_ext ++ infix_op (codes "=") ++ expr_ext
+  property_ext = type_ext ++ infix_op (codes "=") ++ value_ext
 
-  -- Word ( ":" type ["=" expr] | "=" expr )
+  -- Word ( ":" type ["=" value] | "=" expr )
   unfoldable pub prop_after : Bool → Form (solid word property_ext 0) Member
   prop_after mutable = shaped _ (do
     name ← declared
     either (do
       _ ← expect (codes ":")
-      ty ← type around
-      given ← value_if
-      done (property (property_of mutable name (Some ty) given))) (do
+      ty ← written_type around
+      given ← value_if ty.wanted
+      done (property (property_of mutable name (Some ty.tree) given))) (do
         given ← value around
         done (property (property_of mutable name None (Some given)))))
 
@@ -380,31 +381,31 @@ module _ (around : Around) where
     tree ← func_after isolation
     done (decls.Func tree))
 
-  -- Word [":" type] "=" expr
-  unfoldable pub global_value : Written → Bool → Form (solid word expr_ext 0) Decl
+  -- Word [":" type] "=" value
+  unfoldable pub global_value : Written → Bool → Form (solid word value_ext 0) Decl
   global_value isolation mutable = shaped _ (do
     name ← declared
     ty ← type_if around
-    given ← value around
+    given ← value_for around (wanted_of ty)
     done (decls.Global (record {
       written = isolation;
       mutable = mutable;
       word = name;
-      ty = ty;
-      value = Some given;
+      ty = tree_of ty;
+      value = Some given.value;
     })))
 
-  unfoldable pub global_after : Written → Form (solid binding_first expr_ext 0) Decl
+  unfoldable pub global_after : Written → Form (solid binding_first value_ext 0) Decl
   global_after isolation = shaped _
       (either (expect (codes "let") >>= λ _. global_value isolation false)
       (expect (codes "var") >>= λ _. global_value isolation true))
 
   -- a class, a function or a global, after its annotation
-  unfoldable pub annotated : Written → Form (solid annotated_first expr_ext 0) Decl
+  unfoldable pub annotated : Written → Form (solid annotated_first value_ext 0) Decl
   annotated isolation = shaped _ (either (class_after isolation) (either (func_decl isolation)
       (global_after isolation)))
 
-  unfoldable pub decl : Form (solid decl_first expr_ext 0) Decl
+  unfoldable pub decl : Form (solid decl_first value_ext 0) Decl
   decl = shaped _ (either (do
     mark ← terminal (at_in around (quoted (codes "@main")) (codes "@main"))
     either entry (annotated (written.At mark))) (either (do
@@ -416,7 +417,7 @@ module _ (around : Around) where
       (either struct_decl (either enum_decl (either actor_decl (annotated written.Absent)))))))))
 
   -- { decl }
-  unfoldable pub program : Form (loose decl_first (expr_ext ++ quoted (codes ";") ++ decl_first))
+  unfoldable pub program : Form (loose decl_first (value_ext ++ quoted (codes ";") ++ decl_first))
       (List Decl)
   program = shaped _ (do
     read ← items decl

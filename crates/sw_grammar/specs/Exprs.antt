@@ -91,18 +91,18 @@ module _ (around : Around) where
   -- "." Word [args] {"." Word [args]}
   unfoldable pub members : Form (loose (quoted (codes ".")) postfix_ext) (List Link)
   members = shaped _ (either (do
-    links ← nest (quote (codes ".")) in_member
+    links ← nest (quote (codes ".")) (in_member around.here)
     done links.1) (done []))
 
   -- args, where they come
   unfoldable pub call : Form
       (loose (not_first (quoted (codes "("))) (not_first (quoted (codes "(")))) (Option (List Arg))
   call = shaped _ (either (do
-    args ← nest (quote_on_line (codes "(")) in_args
+    args ← nest (quote_on_line (codes "(")) (in_args around.here)
     done (Some args.1)) (done None))
 
   -- Word [args] {"." Word [args]}, after the first "."
-  unfoldable pub member : Form (shape_of in_member) (List Link)
+  unfoldable pub member : Form (shape_of (in_member around.here)) (List Link)
   member = shaped _ (do
     name ← terminal (name_in around word (codes "print"))
     args ← call
@@ -140,7 +140,7 @@ module _ (around : Around) where
       → Form (solid (quoted (codes "detached") ++ quoted (codes "yield")) [] 1) Expr
   after_task_dot closures at = shaped _ (when closures (do
     _ ← expect (codes "detached")
-    body ← nest (quote (codes "{")) in_task
+    body ← nest (quote (codes "{")) (in_task around.here)
     done (exprs.Spawn at true (closure_at body.0 body.1))) (do
       _ ← expect (codes "yield")
       _ ← nest (quote (codes "(")) in_empty
@@ -150,7 +150,7 @@ module _ (around : Around) where
   unfoldable pub after_task : Bool → ℕ
       → Form (solid (quoted (codes "{") ++ quoted (codes ".")) [] 1) Expr
   after_task closures at = shaped _ (when closures (do
-    body ← nest (quote (codes "{")) in_task
+    body ← nest (quote (codes "{")) (in_task around.here)
     done (exprs.Spawn at false (closure_at body.0 body.1))) (do
       _ ← expect (codes ".")
       after_task_dot closures at))
@@ -158,7 +158,7 @@ module _ (around : Around) where
   -- "(" expr ")"
   unfoldable pub bracketed : Form (solid (quoted (codes "(")) [] 1) Expr
   bracketed = shaped _ (do
-    inner ← nest (quote (codes "(")) in_round
+    inner ← nest (quote (codes "(")) (in_round around.here)
     done inner.1)
 
   unfoldable pub me : Form (solid (quoted (codes "self")) [] 0) Expr
@@ -168,7 +168,7 @@ module _ (around : Around) where
 
   unfoldable pub closure : Form (solid (quoted (codes "{")) [] 1) Expr
   closure = shaped _ (do
-    inside ← nest (quote (codes "{")) in_closure
+    inside ← nest (quote (codes "{")) (in_closure around.here)
     done (exprs.Fun (closure_at inside.0 inside.1)))
 
   -- a primary that begins with neither a word nor "Task"
@@ -302,11 +302,11 @@ module _ (around : Around) where
             done (argument None value))))
 
   -- arg {"," arg} ")", or ")"
-  unfoldable pub args : Form (shape_of in_args) (List Arg)
+  unfoldable pub args : Form (shape_of (in_args around.here)) (List Arg)
   args = shaped _ (list_of around (codes ")") arg)
 
   -- expr ")"
-  unfoldable pub round : Form (shape_of in_round) Expr
+  unfoldable pub round : Form (shape_of (in_round around.here)) Expr
   round = shaped _ (do
     inner ← expr true
     _ ← expect (codes ")")

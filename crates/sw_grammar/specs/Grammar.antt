@@ -1,11 +1,11 @@
 -- The grammar: what stands in each nest.
-use Rattle.std.specs.Prelude.{◌≡◌, true, refl}
-use Rattle.sw_grammar.specs.Around.{Around}
+use Rattle.std.specs.Prelude.{◌≡◌, ℕ, List, true, refl}
+use Rattle.sw_grammar.specs.Around.{around_in, outermost}
 use Rattle.sw_grammar.specs.Nests.{Nest, El, shape_of, Form}
 use Rattle.sw_grammar.specs.Nests.Nest.{in_types, in_payload, in_result, in_task_type, in_round}
 use Rattle.sw_grammar.specs.Nests.Nest.{in_args, in_member, in_empty, in_captures}
 use Rattle.sw_grammar.specs.Nests.Nest.{in_closure_params, in_closure, in_task, in_block, in_switch}
-use Rattle.sw_grammar.specs.Nests.Nest.{in_patterns, in_params, in_isolation, in_entry}
+use Rattle.sw_grammar.specs.Nests.Nest.{in_if_let, in_patterns, in_params, in_isolation, in_entry}
 use Rattle.sw_grammar.specs.Nests.Nest.{in_global_actor, in_struct, in_enum, in_class}
 use Rattle.sw_grammar.specs.Types as types
 use Rattle.sw_grammar.specs.Exprs as exprs
@@ -14,29 +14,30 @@ use Rattle.sw_grammar.specs.Stmts as stmts
 use Rattle.sw_grammar.specs.Decls as decls
 
 -- what stands in each nest
-abbrev pub body : (around : Around) (n : Nest) → Form (shape_of n) (El n)
-body around in_types = types.types around
-body around in_payload = types.payload around
-body around in_result = types.type around
-body around in_task_type = types.task_inner around
-body around in_round = exprs.round around
-body around in_args = exprs.args around
-body around in_member = exprs.member around
-body around in_empty = exprs.nothing around
-body around in_captures = closures.captured_words around
-body around in_closure_params = closures.closure_params around
-body around in_closure = stmts.closure_inside around
-body around in_task = stmts.task_inside around
-body around in_block = stmts.statements around
-body around in_switch = stmts.switch_inside around
-body around in_patterns = stmts.patterns_inside around
-body around in_params = decls.params_inside around
-body around in_isolation = decls.isolation_inside around
-body around in_entry = decls.entry_inside around
-body around in_global_actor = decls.global_actor_inside around
-body around in_struct = decls.struct_inside around
-body around in_enum = decls.enum_inside around
-body around in_class = decls.class_inside around
+abbrev pub body : (id_of : List ℕ → ℕ) (n : Nest) → Form (shape_of n) (El n)
+body id_of in_types = types.types (outermost id_of)
+body id_of in_payload = types.payload (outermost id_of)
+body id_of in_result = types.type (outermost id_of)
+body id_of in_task_type = types.task_inner (outermost id_of)
+body id_of (in_round here) = exprs.round (around_in id_of here)
+body id_of (in_args here) = exprs.args (around_in id_of here)
+body id_of (in_member here) = exprs.member (around_in id_of here)
+body id_of in_empty = exprs.nothing (outermost id_of)
+body id_of in_captures = closures.captured_words (outermost id_of)
+body id_of in_closure_params = closures.closure_params (outermost id_of)
+body id_of (in_closure here) = stmts.closure_inside (around_in id_of here)
+body id_of (in_task here) = stmts.task_inside (around_in id_of here)
+body id_of (in_block here) = stmts.statements (around_in id_of here)
+body id_of (in_switch here) = stmts.switch_inside (around_in id_of here)
+body id_of (in_if_let here) = stmts.if_let_inside (around_in id_of here)
+body id_of in_patterns = stmts.patterns_inside (outermost id_of)
+body id_of in_params = decls.params_inside (outermost id_of)
+body id_of in_isolation = decls.isolation_inside (outermost id_of)
+body id_of in_entry = decls.entry_inside (outermost id_of)
+body id_of in_global_actor = decls.global_actor_inside (outermost id_of)
+body id_of in_struct = decls.struct_inside (outermost id_of)
+body id_of in_enum = decls.enum_inside (outermost id_of)
+body id_of in_class = decls.class_inside (outermost id_of)
 
 -- The shapes of the nests are good.
 pub good : (n : Nest) → (shape_of n).ok ≡ true
@@ -44,16 +45,17 @@ good in_types = refl
 good in_payload = refl
 good in_result = refl
 good in_task_type = refl
-good in_round = refl
-good in_args = refl
-good in_member = refl
+good (in_round here) = refl
+good (in_args here) = refl
+good (in_member here) = refl
 good in_empty = refl
 good in_captures = refl
 good in_closure_params = refl
-good in_closure = refl
-good in_task = refl
-good in_block = refl
-good in_switch = refl
+good (in_closure here) = refl
+good (in_task here) = refl
+good (in_block here) = refl
+good (in_switch here) = refl
+good (in_if_let here) = refl
 good in_patterns = refl
 good in_params = refl
 good in_isolation = refl

@@ -4,8 +4,10 @@ pub mod Nests
 pub mod Types
 pub mod Exprs
 pub mod Closures
+pub mod Values
 pub mod Stmts
 pub mod Decls
+pub mod Enums
 pub mod Grammar
 pub mod Program
 pub mod Reading

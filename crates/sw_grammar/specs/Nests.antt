@@ -18,6 +18,7 @@ use Rattle.sw_tree.specs.declared.decl.PropTree.{PropTree}
 use Rattle.sw_tree.specs.declared.decl.InitTree.{InitTree}
 use Rattle.sw_tree.specs.declared.decl.FuncTree.{FuncTree}
 use Rattle.sw_tree.specs.declared.decl.CaseTree.{CaseTree}
+use Rattle.sw_grammar.specs.Around.{Here}
 use Rattle.sw_grammar.specs.Tokens.{type_first, type_ext, expr_first, stmt_first, postfix_ext}
 use Rattle.sw_grammar.specs.Tokens.{at_word, binding_first}
 
@@ -31,11 +32,11 @@ pub data Nest : Type 0 where
   -- after the `<` of `Task`: a type, `, Never >`
   in_task_type : Nest
   -- after `(`: an expression and `)`
-  in_round : Nest
+  in_round : Here → Nest
   -- after `(` of a call: arguments and `)`
-  in_args : Nest
+  in_args : Here → Nest
   -- after the `.` of a member: its word, its arguments and the members after it
-  in_member : Nest
+  in_member : Here → Nest
   -- after `(`: `)`
   in_empty : Nest
   -- after `[`: the words of a capture list and `]`
@@ -43,12 +44,14 @@ pub data Nest : Type 0 where
   -- after `(` of a closure: its parameters and `)`
   in_closure_params : Nest
   -- after `{` of a closure, or of a task
-  in_closure : Nest
-  in_task : Nest
+  in_closure : Here → Nest
+  in_task : Here → Nest
   -- after `{`: statements and `}`
-  in_block : Nest
+  in_block : Here → Nest
   -- after the `{` of a `switch`
-  in_switch : Nest
+  in_switch : Here → Nest
+  -- after the `let` of an `if`: its word and value, its block, and all later arms of the `if`
+  in_if_let : Here → Nest
   -- after the `(` of a `case`: patterns and `)`
   in_patterns : Nest
   -- after `(` of a function: its parameters and `)`
@@ -74,6 +77,14 @@ pub record ClosureInside : Type 0 where
   pub result : Option TypeTree
   pub body : List Stmt
 
+-- what `if let` has beside its words: a variable, its value, and the blocks where there is one and
+-- where there is none
+pub record IfLet : Type 0 where
+  pub name : Name
+  pub subject : Expr
+  pub chosen : Block
+  pub otherwise : Block
+
 -- what an entry has beside its word
 pub record Main : Type 0 where
   pub written : Written
@@ -93,16 +104,17 @@ El in_types = List TypeTree
 El in_payload = List TypeTree
 El in_result = TypeTree
 El in_task_type = TypeTree
-El in_round = Expr
-El in_args = List Arg
-El in_member = List Link
+El (in_round here) = Expr
+El (in_args here) = List Arg
+El (in_member here) = List Link
 El in_empty = ℕ
 El in_captures = List Name
 El in_closure_params = List ClosureParam
-El in_closure = ClosureInside
-El in_task = ClosureInside
-El in_block = List Stmt
-El in_switch = List CaseArm × Option Block
+El (in_closure here) = ClosureInside
+El (in_task here) = ClosureInside
+El (in_block here) = List Stmt
+El (in_switch here) = List CaseArm × Option Block
+El (in_if_let here) = IfLet
 El in_patterns = List Pattern
 El in_params = List ParamTree
 El in_isolation = ℕ
@@ -125,18 +137,19 @@ shape_of in_types = closed_by (codes ")") type_first
 shape_of in_payload = solid type_first [] 0
 shape_of in_result = solid type_first type_ext 0
 shape_of in_task_type = solid type_first [] 0
-shape_of in_round = solid expr_first [] 0
-shape_of in_args = closed_by (codes ")") expr_first
-shape_of in_member = solid word postfix_ext 0
+shape_of (in_round here) = solid expr_first [] 0
+shape_of (in_args here) = closed_by (codes ")") expr_first
+shape_of (in_member here) = solid word postfix_ext 0
 shape_of in_empty = solid (quoted (codes ")")) [] 0
 shape_of in_captures = solid word [] 0
 shape_of in_closure_params = closed_by (codes ")") word
-shape_of in_closure =
+shape_of (in_closure here) =
     solid (one_of (codes "}" ∷ codes "@Sendable" ∷ codes "[" ∷ codes "(" ∷ []) ++ stmt_first) [] 0
-shape_of in_task =
+shape_of (in_task here) =
     solid (at_word ++ one_of (codes "}" ∷ codes "[" ∷ codes "(" ∷ []) ++ stmt_first) [] 0
-shape_of in_block = closed_by (codes "}") stmt_first
-shape_of in_switch = solid (one_of (codes "case" ∷ codes "default" ∷ codes "}" ∷ [])) [] 0
+shape_of (in_block here) = closed_by (codes "}") stmt_first
+shape_of (in_switch here) = solid (one_of (codes "case" ∷ codes "default" ∷ codes "}" ∷ [])) [] 0
+shape_of (in_if_let here) = solid word (quoted (codes "else")) 1
 shape_of in_patterns = solid (one_of (codes "_" ∷ codes "let" ∷ [])) [] 0
 shape_of in_params = closed_by (codes ")") (word ++ quoted (codes "_"))
 shape_of in_isolation = solid (quoted (codes "nonsending")) [] 0

@@ -9,25 +9,31 @@ use Rattle.sw_tree.specs.declared.decl.Decl.{Decl}
 use Rattle.sw_grammar.specs.Around.{outermost}
 use Rattle.sw_grammar.specs.Nests.{El, shape_of}
 use Rattle.sw_grammar.specs.Decls.{program}
+use Rattle.sw_grammar.specs.Enums.{WithEnums}
 use Rattle.sw_grammar.specs.Grammar.{body}
 
 -- The tokens have the form of these declarations.
 abbrev pub SpellsDecls : (List ℕ → ℕ) → List Decl → List Spelled → Type 0
 SpellsDecls id_of decls tokens =
-    Wide El shape_of (body (outermost id_of)) (program (outermost id_of)) decls tokens
+    Wide El shape_of (body id_of) (program (outermost id_of)) decls tokens
 
 -- the same, where at most `depth` constructs are open at a token
+abbrev pub SpellsDeclsWithin : (List ℕ → ℕ) → ℕ → List Decl → List Spelled → Type 0
+SpellsDeclsWithin id_of depth decls tokens =
+    spells El shape_of (body id_of) depth (program (outermost id_of)) decls tokens
+
+-- A program is the declarations that its tokens spell, and the enums of its optionals.
 abbrev pub SpellsWithin : (List ℕ → ℕ) → ℕ → List Decl → List Spelled → Type 0
 SpellsWithin id_of depth decls tokens =
-    spells El shape_of (body (outermost id_of)) depth (program (outermost id_of)) decls tokens
+    WithEnums id_of (SpellsDeclsWithin id_of depth) decls tokens
 
 -- The tokens are a spelling of the program that these declarations are.
 abbrev pub Spells : (List ℕ → ℕ) → List Decl → List Spelled → Type 0
-Spells id_of decls tokens = IsSpelledAs (SpellsDecls id_of) decls tokens
+Spells id_of decls tokens = IsSpelledAs (WithEnums id_of (SpellsDecls id_of)) decls tokens
 
 -- some program has these tokens as a spelling
 abbrev pub IsProgram : (List ℕ → ℕ) → List Spelled → Type 0
-IsProgram id_of tokens = IsSpelled (SpellsDecls id_of) tokens
+IsProgram id_of tokens = IsSpelled (WithEnums id_of (SpellsDecls id_of)) tokens
 
 -- The first `n` tokens begin a program's spelling. With the next they begin none; where there is no
 -- next, they are none themselves.
@@ -41,7 +47,7 @@ IsProgramWithin id_of depth tokens = IsSpelled (SpellsWithin id_of depth) tokens
 -- The last of the tokens opens a nest where `depth` nests are open before it.
 abbrev pub Opens : (List ℕ → ℕ) → ℕ → List Spelled → Type 0
 Opens id_of depth tokens =
-    opens El shape_of (body (outermost id_of)) depth (program (outermost id_of)) tokens
+    opens El shape_of (body id_of) depth (program (outermost id_of)) tokens
 
 -- The token after the first `n` is the first that opens a nest where `depth` are open, and a
 -- program's spelling begins with it and those before it.

@@ -10,4 +10,4 @@ use Rattle.sw_grammar.specs.Grammar.{body}
 -- what a form reads, where its rules know this of what stands around them, and `depth` more nests
 -- may be opened
 abbrev pub read : Around → ℕ → {s : Shape} {A : Type 0} → Form s A → Reader A
-read around depth form = reads El shape_of (body around) depth form
+read around depth form = reads El shape_of (body around.id_of) depth form

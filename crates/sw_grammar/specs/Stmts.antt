@@ -1,10 +1,11 @@
 -- Statements.
-use Rattle.std.specs.Prelude.{ℕ, Bool, true, false, not, Option, Some, None, is_none, List, [], ◌∷◌}
-use Rattle.std.specs.Prelude.{◌++◌, flat_map, codes}
+use Rattle.std.specs.Prelude.{ℕ, Bool, true, false, not, Option, Some, None, List, [], ◌∷◌, ◌++◌}
+use Rattle.std.specs.Prelude.{flat_map, codes}
+use Rattle.sw_token.specs.declared.Fixity.TheVariants as fixities
 use Rattle.sw_grammar_forms.specs.Sets.{Set, quoted, one_of, word, not_first}
-use Rattle.sw_grammar_forms.specs.Form.{solid}
-use Rattle.sw_grammar_forms.specs.Form.Form.{done, terminal, either, when, nest, turns, line_start}
-use Rattle.sw_grammar_forms.specs.Form.Form.{same_line, some_items, shaped}
+use Rattle.sw_grammar_forms.specs.Form.{Terminal, solid}
+use Rattle.sw_grammar_forms.specs.Form.Form.{done, terminal, either, when, nest, turns, until}
+use Rattle.sw_grammar_forms.specs.Form.Form.{line_start, same_line, some_items, shaped}
 use Rattle.sw_grammar_forms.specs.Terminals.{◌>>=◌, expect, items}
 use Rattle.sw_grammar_forms.specs.Quotes.{quote}
 use Rattle.sw_tree.specs.Place.{is_place}
@@ -19,15 +20,19 @@ use Rattle.sw_tree.specs.declared.stmt.IfArm.{IfArm, roll-IfArm}
 use Rattle.sw_tree.specs.declared.stmt.CaseArm.{CaseArm, roll-CaseArm}
 use Rattle.sw_tree.specs.declared.stmt.Pattern.{Pattern}
 use Rattle.sw_tree.specs.declared.stmt.Pattern.TheVariants as patterns
-use Rattle.sw_grammar.specs.Around.{Around}
+use Rattle.sw_sugar.specs.Calls.{or_literal_form}
+use Rattle.sw_sugar.specs.Optionals.{if_let_tree, or_literal_stmts}
+use Rattle.sw_grammar.specs.Around.{Around, returning, with_break, without_break}
 use Rattle.sw_grammar.specs.Tokens.{value_word, type_ext, plain_first, expr_first, expr_ext}
-use Rattle.sw_grammar.specs.Tokens.{stmt_first, stmt_ext, assign_ops, an_assignment, an_equals}
-use Rattle.sw_grammar.specs.Tokens.{infix_op, binding_first, name_in}
-use Rattle.sw_grammar.specs.Nests.{in_block, in_switch, in_patterns, in_closure, in_task, shape_of}
-use Rattle.sw_grammar.specs.Nests.{Form, ClosureInside}
-use Rattle.sw_grammar.specs.Types.{type, some_of}
+use Rattle.sw_grammar.specs.Tokens.{value_first, value_ext, bind_ext, stmt_first, stmt_ext}
+use Rattle.sw_grammar.specs.Tokens.{assign_ops, an_assignment, an_equals, infix_op, binding_first}
+use Rattle.sw_grammar.specs.Tokens.{name_in, name_of}
+use Rattle.sw_grammar.specs.Nests.{in_block, in_switch, in_if_let, in_patterns, in_closure, in_task}
+use Rattle.sw_grammar.specs.Nests.{shape_of, Form, ClosureInside, IfLet}
+use Rattle.sw_grammar.specs.Types.{Typed, wanted_of, written_type, some_of}
 use Rattle.sw_grammar.specs.Exprs.{loose, operators, after_word, after_operand, after_task}
 use Rattle.sw_grammar.specs.Exprs.{a_literal, negated, more_operands, awaited, expr}
+use Rattle.sw_grammar.specs.Values.{value_in}
 use Rattle.sw_grammar.specs.Closures.{header, task_header, inside_of}
 
 -- what several statements of the text stand for, in order
@@ -54,19 +59,94 @@ other_stmt_first =
 abbrev pub arm_ext : Set
 arm_ext = stmt_ext ++ quoted (codes ";") ++ stmt_first
 
--- the arms read so far, and the block after the last `else`
-abbrev pub Arms : Type 0
-Arms = List IfArm × Option Block
+-- what comes after the arms of an `if` that are read
+pub data Next : Type 0 where
+  -- another arm, after the `if` at this place
+  arm_at : ℕ → Next
+  no_more : Next
+  -- the block after the last `else`
+  other_block : Block → Next
+  -- an arm with `let`, and all after it
+  last_stmt : Stmt → Next
+
+-- the arms read so far
+pub record Arms : Type 0 where
+  pub arms : List IfArm
+  pub next : Next
+
+abbrev pub is_arm : Next → Bool
+is_arm (arm_at at) = true
+is_arm no_more = false
+is_arm (other_block body) = false
+is_arm (last_stmt rest) = false
+
+abbrev pub has_next : Arms → Bool
+has_next arms = is_arm arms.next
+
+abbrev pub place_of : Next → ℕ
+place_of (arm_at at) = at
+place_of no_more = 0
+place_of (other_block body) = 0
+place_of (last_stmt rest) = 0
+
+-- an `if` of these arms; one that begins with `let` is that statement
+abbrev pub if_with : List IfArm → Next → Stmt
+if_with [] (last_stmt rest) = rest
+if_with (arm ∷ arms) (last_stmt rest) = stmts.If (arm ∷ arms) (Some (block_of (rest ∷ [])))
+if_with arms (arm_at at) = stmts.If arms None
+if_with arms no_more = stmts.If arms None
+if_with arms (other_block body) = stmts.If arms (Some body)
+
+abbrev pub if_of : Arms → Stmt
+if_of arms = if_with arms.arms arms.next
+
+-- a word that is declared, and its text
+pub record DeclaredWord : Type 0 where
+  pub name : Name
+  pub text : List ℕ
+
+-- `let` or `var` and its word
+pub record Binding : Type 0 where
+  pub mutable : Bool
+  pub let_at : ℕ
+  pub word : DeclaredWord
+
+-- what comes in place of an optional that has no value
+pub record Or : Type 0 where
+  pub op_at : ℕ
+  pub other : Expr
 
 -- the arms read so far, and whether a `;` ends the last statement
 abbrev pub Cases : Type 0
 Cases = List CaseArm × Bool
 
 module _ (around : Around) where
+  abbrev pub word_in : Terminal DeclaredWord
+  word_in = record {
+    set = word;
+    value = λ token. record { name = name_of around.id_of token; text = token.text };
+    text = codes "print";
+    fixity = fixities.None;
+  }
+
+  -- the statements of a variable with a type
+  abbrev pub bound : Binding → ℕ → TypeTree → ℕ → Expr → Option Or → List Stmt
+  bound binding colon_at ty eq_at value None =
+      stmts.Bind binding.mutable binding.word.name (Some ty) value ∷ []
+  bound binding colon_at ty eq_at value (Some or) =
+      or_literal_stmts (or_literal_form around.id_of binding.word.text binding.mutable
+      binding.word.name binding.let_at colon_at eq_at or.op_at) ty value or.other
+
+  -- `if let` at these places of `if` and `let`
+  abbrev pub if_let_of : ℕ → ℕ → IfLet → Stmt
+  if_let_of at let_at inside =
+      if_let_tree (around.id_of (codes "some")) at let_at inside.name inside.subject inside.chosen
+      inside.otherwise
+
   -- "{" { stmt } "}"
   unfoldable pub block : Form (solid (quoted (codes "{")) [] 1) Block
   block = shaped _ (do
-    body ← nest (quote (codes "{")) in_block
+    body ← nest (quote (codes "{")) (in_block around.here)
     done (block_of body.1))
 
   -- "=" expr
@@ -78,23 +158,48 @@ module _ (around : Around) where
 
   -- [":" type]
   unfoldable pub type_if : Form (loose (quoted (codes ":")) (quoted (codes ":") ++ type_ext))
-      (Option TypeTree)
+      (Option Typed)
   type_if = shaped _ (either (do
     _ ← expect (codes ":")
-    written ← type around
+    written ← written_type around
     done (Some written)) (done None))
 
-  -- Word [":" type] "=" expr, after "let" or "var"
-  unfoldable pub binding : Bool → Form (solid word expr_ext 0) (List Stmt)
-  binding mutable = shaped _ (do
-    name ← terminal (name_in around word (codes "print"))
-    written ← type_if
-    given ← value
-    done (stmts.Bind mutable name written given ∷ []))
+  -- "??" and a literal, where they come after an expression
+  unfoldable pub literal_if : Bool
+      → Form (loose (quoted (codes "??")) (quoted (codes "??"))) (Option Or)
+  literal_if is_plain = shaped _ (when is_plain (do
+    op_at ← expect (codes "??")
+    other ← a_literal around
+    done (Some (record { op_at = op_at; other = other }))) (done None))
 
-  unfoldable pub bind : Form (solid binding_first expr_ext 0) (List Stmt)
-  bind = shaped _ (either (expect (codes "let") >>= λ _. binding false)
-      (expect (codes "var") >>= λ _. binding true))
+  -- "=" value ["??" literal], after "let" or "var", the word and its type
+  unfoldable pub typed_binding : Binding → ℕ → Typed
+      → Form (solid (infix_op (codes "=")) bind_ext 0) (List Stmt)
+  typed_binding binding colon_at written = shaped _ (do
+    eq_at ← terminal an_equals
+    given ← value_in around written.wanted
+    or ← literal_if given.is_plain
+    done (bound binding colon_at written.tree eq_at given.value or))
+
+  -- ":" type "=" value ["??" literal] | "=" expr, after "let" or "var" and the word
+  unfoldable pub after_binding : Binding
+      → Form (solid (quoted (codes ":") ++ infix_op (codes "=")) bind_ext 0) (List Stmt)
+  after_binding binding = shaped _ (either (do
+    colon_at ← expect (codes ":")
+    written ← written_type around
+    typed_binding binding colon_at written) (do
+      given ← value
+      done (stmts.Bind binding.mutable binding.word.name None given ∷ [])))
+
+  -- a word and what comes after it, after "let" or "var"
+  unfoldable pub binding : Bool → ℕ → Form (solid word bind_ext 0) (List Stmt)
+  binding mutable let_at = shaped _ (do
+    word ← terminal word_in
+    after_binding (record { mutable = mutable; let_at = let_at; word = word }))
+
+  unfoldable pub bind : Form (solid binding_first bind_ext 0) (List Stmt)
+  bind = shaped _ (either (expect (codes "let") >>= binding false)
+      (expect (codes "var") >>= binding true))
 
   -- "_" "=" expr
   unfoldable pub discard : Form (solid (quoted (codes "_")) expr_ext 0) Stmt
@@ -143,55 +248,71 @@ module _ (around : Around) where
       more_operands around true first)
     done (stmts.Plain whole))
 
-  -- "if" cond block
-  unfoldable pub arm : Form (solid (quoted (codes "if")) [] 1) IfArm
-  arm = shaped _ (do
-    at ← expect (codes "if")
-    cond ← expr around false
-    body ← block
-    done (if_arm at cond body))
+  -- "let" Word "=" cond block {..}, after "if"; all later arms are in the nest
+  unfoldable pub if_let : ℕ → Form (solid (quoted (codes "let")) (quoted (codes "else")) 2) Stmt
+  if_let at = shaped _ (do
+    inside ← nest (quote (codes "let")) (in_if_let around.here)
+    done (if_let_of at inside.0 inside.1))
 
-  -- "else" "if" cond block | "else" block
-  unfoldable pub else_part : Arms → Form (solid (quoted (codes "else")) [] 1) Arms
-  else_part arms = shaped _ (do
+  -- "else" "if" | "else" block | nothing, after an arm
+  unfoldable pub after_arm : List IfArm
+      → Form (loose (quoted (codes "else")) (quoted (codes "else"))) Arms
+  after_arm arms = shaped _ (either (do
     _ ← expect (codes "else")
     either (do
-      next ← arm
-      done (arms.0 ++ next ∷ [], None)) (do
+      at ← expect (codes "if")
+      done (record { arms = arms; next = arm_at at })) (do
         body ← block
-        done (arms.0, Some body)))
+        done (record { arms = arms; next = other_block body }))) (done (record {
+          arms = arms;
+          next = no_more;
+        })))
 
-  -- "if" cond block { "else" "if" cond block } ["else" block]
-  unfoldable pub if_stmt : Form (solid (quoted (codes "if")) (quoted (codes "else")) 1) Stmt
+  -- cond block, and what comes after it
+  unfoldable pub next_arm : Arms → Form (solid expr_first (quoted (codes "else")) 1) Arms
+  next_arm arms = shaped _ (do
+    cond ← expr around false
+    body ← block
+    after_arm (arms.arms ++ if_arm (place_of arms.next) cond body ∷ []))
+
+  -- "let" ..
+  unfoldable pub last_arm : Arms
+      → Form (solid (quoted (codes "let")) (quoted (codes "else")) 2) Arms
+  last_arm arms = shaped _ (do
+    rest ← if_let (place_of arms.next)
+    done (record { arms = arms.arms; next = last_stmt rest }))
+
+  -- "if" carm block {"else" "if" carm block} ["else" block]
+  unfoldable pub if_stmt : Form (solid (quoted (codes "if")) (quoted (codes "else")) 2) Stmt
   if_stmt = shaped _ (do
-    first ← arm
-    arms ← turns (λ arms. is_none arms.1) (first ∷ [], None) else_part
-    done (stmts.If arms.0 arms.1))
+    at ← expect (codes "if")
+    arms ← until has_next (record { arms = []; next = arm_at at }) next_arm last_arm
+    done (if_of arms))
 
   -- "while" cond block
   unfoldable pub while_stmt : Form (solid (quoted (codes "while")) [] 1) Stmt
   while_stmt = shaped _ (do
     at ← expect (codes "while")
     cond ← expr around false
-    body ← block
-    done (stmts.While at cond body))
+    body ← nest (quote (codes "{")) (in_block (with_break around).here)
+    done (stmts.While at cond (block_of body.1)))
 
   -- "switch" cond "{" .. "}"
   unfoldable pub switch_stmt : Form (solid (quoted (codes "switch")) [] 1) Stmt
   switch_stmt = shaped _ (do
     at ← expect (codes "switch")
     subject ← expr around false
-    inside ← nest (quote (codes "{")) in_switch
+    inside ← nest (quote (codes "{")) (in_switch (with_break around).here)
     done (stmts.Switch at subject inside.1.0 inside.1.1))
 
-  -- "return" [expr], where the expression begins on the line of the "return"
+  -- "return" [value], where the value begins on the line of the "return"
   unfoldable pub return_stmt : Form
-      (solid (quoted (codes "return")) (expr_ext ++ not_first expr_first) 0) Stmt
+      (solid (quoted (codes "return")) (value_ext ++ not_first value_first) 0) Stmt
   return_stmt = shaped _ (do
     at ← expect (codes "return")
     either (do
-      given ← same_line (expr around true)
-      done (stmts.Return at (Some given))) (done (stmts.Return at None)))
+      given ← same_line (value_in around around.here.wanted)
+      done (stmts.Return at (Some given.value))) (done (stmts.Return at None)))
 
   -- "break"
   unfoldable pub break_stmt : Form (solid (quoted (codes "break")) [] 0) Stmt
@@ -208,9 +329,9 @@ module _ (around : Around) where
   -- a statement that isn't a variable
   unfoldable pub other_stmt : Form (solid other_stmt_first stmt_ext 0) Stmt
   other_stmt = shaped _
-      (either discard (either if_stmt (either while_stmt (either switch_stmt
-      (either return_stmt (either break_stmt (either continue_stmt (either word_stmt
-      (either self_stmt (either task_stmt plain_stmt))))))))))
+      (when (not around.here.no_break) break_stmt (either discard (either if_stmt
+      (either while_stmt (either switch_stmt (either return_stmt (either continue_stmt
+      (either word_stmt (either self_stmt (either task_stmt plain_stmt))))))))))
 
   -- a statement of the text, and the statements that it stands for
   unfoldable pub stmt : Form (solid stmt_first stmt_ext 0) (List Stmt)
@@ -219,26 +340,11 @@ module _ (around : Around) where
     done (other ∷ [])))
 
   -- { stmt } "}"
-  unfoldable pub statements : Form (shape_of in_block) (List Stmt)
+  unfoldable pub statements : Form (solid (quoted (codes "}") ++ stmt_first) [] 0) (List Stmt)
   statements = shaped _ (do
     read ← items stmt
     _ ← expect (codes "}")
     done (joined read.0))
-
-  -- a closure's header, { stmt } and "}"
-  unfoldable pub closure_inside : Form (shape_of in_closure) ClosureInside
-  closure_inside = shaped _ (do
-    head ← header around
-    read ← items stmt
-    _ ← expect (codes "}")
-    done (inside_of head (joined read.0)))
-
-  unfoldable pub task_inside : Form (shape_of in_task) ClosureInside
-  task_inside = shaped _ (do
-    head ← task_header around
-    read ← items stmt
-    _ ← expect (codes "}")
-    done (inside_of head (joined read.0)))
 
   -- "_" | "let" Word
   unfoldable pub pattern : Form (solid (one_of (codes "_" ∷ codes "let" ∷ [])) [] 0) Pattern
@@ -285,9 +391,49 @@ module _ (around : Around) where
     done (Some (block_of body.0)))
 
   -- {arm} ["default" ..] "}"; each is the first on its line, or follows `;`
-  unfoldable pub switch_inside : Form (shape_of in_switch) (List CaseArm × Option Block)
+  unfoldable pub switch_inside : Form (shape_of (in_switch around.here)) (List CaseArm × Option Block)
   switch_inside = shaped _ (do
     cases ← turns (λ _. true) ([], false) (λ cases. line_start (not cases.1) (case_part cases))
     otherwise ← either (line_start (not cases.1) default_part) (done None)
     _ ← expect (codes "}")
     done (cases.0, otherwise))
+
+-- What stands in an `if` after the `let` of an arm. No `break` leaves it.
+module _ (around : Around) where
+  -- the later arms of the `if`, or none
+  unfoldable pub later_arms : Form (loose (quoted (codes "else")) (quoted (codes "else"))) Block
+  later_arms = shaped _ (either (do
+    _ ← expect (codes "else")
+    either (do
+      rest ← if_stmt (without_break around)
+      done (block_of (rest ∷ []))) (block (without_break around))) (done (block_of [])))
+
+  -- Word "=" cond block, and the later arms
+  unfoldable pub if_let_inside : Form (shape_of (in_if_let around.here)) IfLet
+  if_let_inside = shaped _ (do
+    name ← terminal (name_in around word (codes "print"))
+    _ ← terminal an_equals
+    subject ← expr around false
+    chosen ← block (without_break around)
+    otherwise ← later_arms
+    done (record {
+      name = name;
+      subject = subject;
+      chosen = chosen;
+      otherwise = otherwise;
+    }))
+
+-- What a closure has beside its `{`. A `return` in it gives the closure's result.
+module _ (around : Around) where
+  -- a closure's header, { stmt } and "}"
+  unfoldable pub closure_inside : Form (shape_of (in_closure around.here)) ClosureInside
+  closure_inside = shaped _ (do
+    head ← header around
+    body ← statements (returning around (wanted_of head.result))
+    done (inside_of head body))
+
+  unfoldable pub task_inside : Form (shape_of (in_task around.here)) ClosureInside
+  task_inside = shaped _ (do
+    head ← task_header around
+    body ← statements (returning around (wanted_of head.result))
+    done (inside_of head body))

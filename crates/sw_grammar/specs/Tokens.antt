@@ -23,11 +23,15 @@ abbrev pub prefix_op : List ℕ → Set
 prefix_op text = standing fixities.Prefix text
 
 -- The words that an expression may be of: each word outside the quoted texts, and those of the
--- quoted ones that may be names. `Task` isn't one of them, since it begins a form of its own.
-abbrev pub value_word : Set
-value_word =
+-- quoted ones that may be names. `Task` isn't one of them, since it begins a form of its own; and
+-- `Optional` begins one where a value may be an optional.
+abbrev pub plain_word : Set
+plain_word =
     unquoted_word ++ one_of (codes "Never" ∷ codes "Sendable" ∷ codes "detached" ∷ codes "main"
     ∷ codes "nonsending" ∷ codes "print" ∷ codes "shared" ∷ codes "yield" ∷ [])
+
+abbrev pub value_word : Set
+value_word = plain_word ++ quoted (codes "Optional")
 
 -- an `@` with a word, but `@concurrent`
 abbrev pub at_word : Set
@@ -79,6 +83,10 @@ expr_first =
     plain_first ++ quoted (codes "self") ++ quoted (codes "Task") ++ value_word
     ++ quoted (codes "(") ++ quoted (codes "{")
 
+-- a value in a place where it may be an optional
+abbrev pub value_first : Set
+value_first = quoted (codes "nil") ++ expr_first
+
 abbrev pub stmt_first : Set
 stmt_first =
     plain_first ++ quoted (codes "self") ++ quoted (codes "Task") ++ value_word
@@ -88,7 +96,7 @@ stmt_first =
 -- What parts go on with where they could end.
 
 abbrev pub type_ext : Set
-type_ext = quoted (codes "->") ++ quoted (codes "<")
+type_ext = quoted (codes "->") ++ quoted (codes "<") ++ quoted (codes "?")
 
 abbrev pub postfix_ext : Set
 postfix_ext = not_first (quoted (codes "(")) ++ quoted (codes ".")
@@ -97,8 +105,20 @@ abbrev pub expr_ext : Set
 expr_ext =
     postfix_ext ++ times ++ plus ++ compares ++ infix_op (codes "&&") ++ infix_op (codes "||")
 
+-- after `Optional` a `(` may stand on any line
+abbrev pub value_ext : Set
+value_ext = quoted (codes "(") ++ expr_ext
+
+-- the value of a variable
+abbrev pub bind_ext : Set
+bind_ext = value_ext ++ quoted (codes "??")
+
 abbrev pub stmt_ext : Set
-stmt_ext = expr_ext ++ assign_ops ++ quoted (codes "else") ++ not_first expr_first
+stmt_ext = bind_ext ++ assign_ops ++ quoted (codes "else") ++ not_first value_first
+
+-- the text of the optional of a word
+abbrev pub optional_text : List ℕ → List ℕ
+optional_text text = text ++ codes "?"
 
 -- The values of tokens. `id_of` gives the index of a text among the texts of names.
 module _ (id_of : List ℕ → ℕ) where

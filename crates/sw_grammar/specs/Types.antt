@@ -1,21 +1,68 @@
 -- Types.
-use Rattle.std.specs.Prelude.{ℕ, Bool, true, false, Some, None, List, [], ◌∷◌, ◌++◌, codes}
-use Rattle.sw_grammar_forms.specs.Sets.{quoted}
-use Rattle.sw_grammar_forms.specs.Form.{Shape, solid, one, empty, seq, alt, star}
+use Rattle.std.specs.Prelude.{ℕ, Bool, true, false, Option, Some, None, List, [], ◌∷◌, ◌++◌, codes}
+use Rattle.sw_token.specs.declared.Fixity.TheVariants as fixities
+use Rattle.sw_token.specs.Spelling.{Spelled}
+use Rattle.sw_grammar_forms.specs.Sets.{Set, quoted}
+use Rattle.sw_grammar_forms.specs.Form.{Shape, Terminal, solid, one, empty, seq, alt, star}
 use Rattle.sw_grammar_forms.specs.Form.Form.{done, terminal, either, unless, nest, turns, shaped}
-use Rattle.sw_grammar_forms.specs.Terminals.{◌>>=◌, expect}
+use Rattle.sw_grammar_forms.specs.Terminals.{◌>>=◌, expect, skip}
 use Rattle.sw_grammar_forms.specs.Quotes.{quote}
+use Rattle.sw_tree.specs.declared.name.Name.{Name}
 use Rattle.sw_tree.specs.declared.type_tree.TypeTree.{TypeTree}
 use Rattle.sw_tree.specs.declared.type_tree.TypeTree.TheVariants as trees
+use Rattle.sw_sugar.specs.Optionals.{name_at}
 use Rattle.sw_grammar.specs.Around.{Around}
-use Rattle.sw_grammar.specs.Tokens.{value_word, type_first, type_ext, name_in, at_in}
+use Rattle.sw_grammar.specs.Tokens.{value_word, type_first, type_ext, name_of, at_in, optional_text}
 use Rattle.sw_grammar.specs.Nests.{in_types, in_payload, in_result, in_task_type, shape_of, Form}
 
 abbrev pub is_empty : {A : Type 0} → List A → Bool
 is_empty [] = true
 is_empty (_ ∷ _) = false
 
+-- a written type, and the word `T` where it is `T?`
+pub record Typed : Type 0 where
+  pub tree : TypeTree
+  pub wanted : Option (List ℕ)
+
+-- a word of a type: its name, its text, and the id of its text with `?`
+pub record TypeWord : Type 0 where
+  pub name : Name
+  pub text : List ℕ
+  pub optional : ℕ
+
+-- a type that is no optional
+abbrev pub typed : TypeTree → Typed
+typed tree = record { tree = tree; wanted = None }
+
+-- the type that a word with or without `?` names
+abbrev pub named : TypeWord → Bool → Typed
+named word true = record {
+  tree = trees.Named (name_at word.name.at word.optional);
+  wanted = Some word.text;
+}
+named word false = typed (trees.Named word.name)
+
+-- what there is of a type that may be left out
+abbrev pub tree_of : Option Typed → Option TypeTree
+tree_of None = None
+tree_of (Some written) = Some written.tree
+
+abbrev pub wanted_of : Option Typed → Option (List ℕ)
+wanted_of None = None
+wanted_of (Some written) = written.wanted
+
 module _ (around : Around) where
+  abbrev pub type_word_of : Spelled → TypeWord
+  type_word_of token = record {
+    name = name_of around.id_of token;
+    text = token.text;
+    optional = around.id_of (optional_text token.text);
+  }
+
+  abbrev pub type_word : Set → List ℕ → Terminal TypeWord
+  type_word set text =
+      record { set = set; value = type_word_of; text = text; fixity = fixities.None }
+
   -- "(" types ")" "->" type | "(" ")"
   unfoldable pub round_type : Form (solid (quoted (codes "(")) type_ext 1) TypeTree
   round_type = shaped _ (do
@@ -32,22 +79,33 @@ module _ (around : Around) where
     result ← nest (quote (codes "->")) in_result
     done (trees.Arrow params.0 (Some mark) params.1 result.1))
 
-  -- "Task" "<" type "," "Never" ">", or the word alone
-  unfoldable pub task_type : Form (solid (quoted (codes "Task")) type_ext 0) TypeTree
+  -- "Task" "<" type "," "Never" ">", or the word with or without "?"
+  unfoldable pub task_type : Form (solid (quoted (codes "Task")) type_ext 0) Typed
   task_type = shaped _ (do
-    name ← terminal (name_in around (quoted (codes "Task")) (codes "Task"))
+    word ← terminal (type_word (quoted (codes "Task")) (codes "Task"))
     either (do
       inner ← nest (quote (codes "<")) in_task_type
-      done (trees.TaskOf name.at inner.1)) (done (trees.Named name)))
+      done (typed (trees.TaskOf word.name.at inner.1))) (do
+        marked ← skip (codes "?")
+        done (named word marked)))
 
-  unfoldable pub named_type : Form (solid value_word [] 0) TypeTree
+  -- Word ["?"]
+  unfoldable pub named_type : Form (solid value_word (quoted (codes "?")) 0) Typed
   named_type = shaped _ (do
-    name ← terminal (name_in around value_word (codes "print"))
-    done (trees.Named name))
+    word ← terminal (type_word value_word (codes "print"))
+    marked ← skip (codes "?")
+    done (named word marked))
+
+  -- a type, and whether it is an optional
+  unfoldable pub written_type : Form (solid type_first type_ext 0) Typed
+  written_type = shaped _ (either (marked_type >>= λ tree. done (typed tree))
+      (either (round_type >>= λ tree. done (typed tree)) (either task_type named_type)))
 
   -- a type
   unfoldable pub type : Form (solid type_first type_ext 0) TypeTree
-  type = shaped _ (either marked_type (either round_type (either task_type named_type)))
+  type = shaped _ (do
+    written ← written_type
+    done written.tree)
 
   -- more of a list that `,` parts, after those read so far
   abbrev pub more_of : {A : Type 0} {s : Shape} → List A → Form s A

@@ -7,7 +7,8 @@ ghost use Rattle.sw_token.specs.Spelling.{IsSpelling, Spelled};
 ghost use Rattle.sw_grammar_forms.specs.Outcome.{stands};
 ghost use Rattle.sw_grammar_forms.specs.Sets.{has, is_quoted_operator, is_name, is_at};
 ghost use Rattle.sw_tree.specs.declared.decl.Decl.{Decl};
-ghost use Rattle.sw_grammar.specs.Tokens.{infix_op, prefix_op, value_word, at_word, plain_at_word};
+ghost use Rattle.sw_grammar.specs.Tokens.{infix_op, prefix_op, value_word, plain_word, at_word};
+ghost use Rattle.sw_grammar.specs.Tokens.{plain_at_word};
 ghost use Rattle.sw_grammar.specs.Program.{IsProgram, IsProgramWithin, IsTooDeep, IsUnexpected};
 ghost use Rattle.sw_grammar.specs.Program.{IsFirstUnexpected};
 ghost use Rattle.sw_grammar.specs.Program.{Spells, SpellsWithin};
@@ -22,6 +23,9 @@ pub fn grammar_sets_have_their_tokens()
         ≡ (stands fixities.Prefix (Some token) && bytes_eq token.text text) }
     ensures value_word { (token : Spelled) → has value_word token
         ≡ (is_name (kind_of token.text) && not (bytes_eq token.text (codes "Task"))) }
+    ensures plain_word { (token : Spelled) → has plain_word token
+        ≡ (is_name (kind_of token.text) && not (list_any (λ text. bytes_eq token.text text)
+        (codes "Task" ∷ codes "Optional" ∷ []))) }
     ensures at_word { (token : Spelled) → has at_word token
         ≡ (is_at (kind_of token.text) && not (bytes_eq token.text (codes "@concurrent"))) }
     ensures plain_at_word { (token : Spelled) → has plain_at_word token

@@ -10,6 +10,9 @@ returns-clause-prefix_op c = sets.has-prefix_op
 pub returns-clause-value_word : goal.returns-clause-value_word
 returns-clause-value_word c = sets.has-value_word
 
+pub returns-clause-plain_word : goal.returns-clause-plain_word
+returns-clause-plain_word c = sets.has-plain_word
+
 pub returns-clause-at_word : goal.returns-clause-at_word
 returns-clause-at_word c = sets.has-at_word
 
