@@ -1,5 +1,5 @@
 -- What the headers of closures and tasks weigh.
-use Rattle.std.proofs.Common.{codes, refl, arith}
+use Rattle.std.proofs.Common.{IsTrue, codes, refl, arith}
 use Rattle.sw_grammar_forms.specs.Sets.{quoted, word}
 use Rattle.sw_grammar_forms.specs.Relations.{Relation}
 use Rattle.sw_tree.proofs.Counting.{in_all, in_option}
@@ -13,26 +13,28 @@ use Rattle.sw_grammar.specs.Closures.{closure_param, closure_params, result_if, 
 use Rattle.sw_grammar.specs.Closures.{signature_if, header, task_signature, task_signature_if}
 use Rattle.sw_grammar.specs.Closures.{task_header}
 use Rattle.sw_grammar_facts.proofs.Weighing.{Weighing}
-use Rattle.sw_grammar_facts.proofs.NestWeights.{weight, signed, headed, task_signed, task_headed}
+use Rattle.sw_grammar_facts.proofs.NestWeights.{weight, of_typed_if, signed, headed, task_signed}
+use Rattle.sw_grammar_facts.proofs.NestWeights.{task_headed}
 use Rattle.sw_grammar_facts.proofs.TypeRules.{Keeps, own_list_of, own_some_of, own_name, own_mark}
-use Rattle.sw_grammar_facts.proofs.TypeRules.{own_opened, own_type}
+use Rattle.sw_grammar_facts.proofs.TypeRules.{own_opened, own_type, own_written_type}
+use Rattle.sw_grammar_facts.proofs.Unmarked.{fits}
 
-module _ {around : Around} (w : Weighing around.id_of) (table : (n : Nest) → Relation (El n))
-    (nests : (n : Nest) → Owns w.of_token none (table n) (weight w n)) where
+module _ (around : Around) (w : Weighing around.id_of) (table : (n : Nest) → Relation (El n))
+    (nests : (n : Nest) → IsTrue (fits n) → Owns w.tally none (table n) (weight w n)) where
   own_captured : Keeps w table (captured around) none w.node
   unfolding captured
   own_captured =
-      own_then _ _ (own_name w table word (codes "print") refl) (λ name.
+      own_then _ _ (own_name around w table word (codes "print") refl) (λ name.
       own_done _ (λ k. omega arith))
 
   pub own_captured_words : Keeps w table (captured_words around) none (in_all w.node)
   unfolding captured_words
-  own_captured_words = own_some_of w table (captured around) w.node own_captured (codes "]")
+  own_captured_words = own_some_of around w table (captured around) w.node own_captured (codes "]")
 
   own_captures : Keeps w table (captures around) none (in_all w.node)
   unfolding captures
   own_captures =
-      own_then _ _ (own_opened w table nests (codes "[") in_captures) (λ words.
+      own_then _ _ (own_opened w table nests (codes "[") refl in_captures refl) (λ words.
       own_done _ (λ k. omega arith))
 
   own_captures_if : Keeps w table (captures_if around) none (in_all w.node)
@@ -42,25 +44,25 @@ module _ {around : Around} (w : Weighing around.id_of) (table : (n : Nest) → R
   own_closure_param : Keeps w table (closure_param around) none w.closure_param
   unfolding closure_param
   own_closure_param =
-      own_then _ _ (own_name w table word (codes "print") refl) (λ name. own_past _ (λ _.
-      own_then _ _ (own_type w table nests) (λ written. own_done _ (λ k.
+      own_then _ _ (own_name around w table word (codes "print") refl) (λ name. own_past _ (λ _.
+      own_then _ _ (own_type around w table nests) (λ written. own_done _ (λ k.
       omega (arith, w.closure_param-is (record { name = name; ty = written }) k)))))
 
   pub own_closure_params : Keeps w table (closure_params around) none (in_all w.closure_param)
   unfolding closure_params
   own_closure_params =
-      own_list_of w table (closure_param around) w.closure_param own_closure_param (codes ")")
+      own_list_of around w table (closure_param around) w.closure_param own_closure_param (codes ")")
 
-  own_result_if : Keeps w table (result_if around) none (in_option w.type)
+  own_result_if : Keeps w table (result_if around) none (of_typed_if w)
   unfolding result_if in_option
   own_result_if =
-      own_either _ (own_past _ (λ _. own_then _ _ (own_type w table nests) (λ written.
+      own_either _ (own_past _ (λ _. own_then _ _ (own_written_type around w table nests) (λ written.
       own_done _ (λ k. omega arith)))) (own_done _ (λ k. omega arith))
 
   own_signature : Keeps w table (signature around) none (signed w)
   unfolding signature
   own_signature =
-      own_then _ _ (own_opened w table nests (codes "(") in_closure_params) (λ params.
+      own_then _ _ (own_opened w table nests (codes "(") refl in_closure_params refl) (λ params.
       own_then _ _ own_result_if (λ result. own_done _ (λ k. omega arith)))
 
   own_signature_if : Keeps w table (signature_if around) none (signed w)
@@ -71,7 +73,7 @@ module _ {around : Around} (w : Weighing around.id_of) (table : (n : Nest) → R
   unfolding header in_all in_option
   own_header =
       own_either _ (own_then _ _
-      (own_mark w table (quoted (codes "@Sendable")) (codes "@Sendable") refl) (λ mark.
+      (own_mark around w table (quoted (codes "@Sendable")) (codes "@Sendable") refl) (λ mark.
       own_then _ _ own_captures_if (λ words. own_then _ _ own_signature_if (λ written.
       own_past _ (λ _. own_done _ (λ k. omega arith))))))
       (own_either _ (own_then _ _ own_captures (λ words. own_then _ _ own_signature_if (λ written.
@@ -93,7 +95,7 @@ module _ {around : Around} (w : Weighing around.id_of) (table : (n : Nest) → R
   pub own_task_header : Keeps w table (task_header around) none (task_headed w)
   unfolding task_header in_all in_option
   own_task_header =
-      own_either _ (own_then _ _ (own_mark w table at_word (codes "@Sendable") refl) (λ mark.
+      own_either _ (own_then _ _ (own_mark around w table at_word (codes "@Sendable") refl) (λ mark.
       own_then _ _ own_captures_if (λ words. own_then _ _ own_task_signature_if (λ written.
       own_past _ (λ _. own_done _ (λ k. omega arith))))))
       (own_either _ (own_then _ _ own_captures (λ words.

@@ -13,7 +13,8 @@ use Rattle.sw_tree.specs.declared.decl.PropTree.{PropTree}
 use Rattle.sw_tree.specs.declared.decl.Written.{Written}
 use Rattle.sw_tree.specs.declared.name.Name.{Name}
 use Rattle.sw_tree.specs.declared.stmt.Block.{Block}
-use Rattle.sw_grammar_facts.proofs.Owning.{none}
+use Rattle.sw_grammar_facts.proofs.Owning.{none, tally_of}
+use Rattle.sw_grammar_facts.proofs.Questions.{IsOther}
 use Rattle.sw_grammar.specs.Tokens.{name_of, at_name}
 use Rattle.sw_grammar_facts.proofs.Spread.{spread_none}
 use Rattle.sw_grammar_facts.proofs.Weighing.{Weighing}
@@ -28,10 +29,11 @@ pub record DeclWeights (id_of : List ℕ → ℕ) : Type 0 where
   pub prop : PropTree → Weight
   pub case : CaseTree → Weight
   pub decl : Decl → Weight
-  pub of_entry : (token : Spelled) (k : ℕ) → entry token.at k ≤ of_token token k
-  pub of_word : (token : Spelled) → IsTrue (has word token) → (k : ℕ)
+  pub of_entry : (token : Spelled) → IsOther token → (k : ℕ)
+      → entry token.at k ≤ of_token token k
+  pub of_word : (token : Spelled) → IsOther token → IsTrue (has word token) → (k : ℕ)
       → node (name_of id_of token) k + label (name_of id_of token) k ≤ of_token token k
-  pub of_mark : (token : Spelled) → IsTrue (has attribute token) → (k : ℕ)
+  pub of_mark : (token : Spelled) → IsOther token → IsTrue (has attribute token) → (k : ℕ)
       → label (at_name id_of token) k ≤ of_token token k
   pub func-is : (given : FuncTree) (k : ℕ) → func given k ≤ node given.word k
   pub prop-is : (given : PropTree) (k : ℕ) → prop given k ≤ node given.word k
@@ -63,7 +65,7 @@ pub record DeclWeights (id_of : List ℕ → ℕ) : Type 0 where
 -- They make a weighing.
 unfoldable pub weighing : {id_of : List ℕ → ℕ} → DeclWeights id_of → Weighing id_of
 weighing w = record {
-  of_token = w.of_token;
+  tally = tally_of w.of_token;
   place = λ at. none;
   entry = w.entry;
   node = w.node;
@@ -74,9 +76,12 @@ weighing w = record {
   closure_param = λ param. none;
   task_param = λ param. none;
   closure = λ closure. none;
+  inside = λ it. none;
   link = λ link. none;
   block = λ block. none;
   stmt = λ stmt. none;
+  stmts = λ all. none;
+  for_block = λ name body. none;
   pattern = λ pattern. none;
   case_arm = λ arm. none;
   if_arm = λ arm. none;
@@ -87,12 +92,13 @@ weighing w = record {
   init = λ init. none;
   case = w.case;
   decl = w.decl;
-  of_place = λ token k. omega arith;
-  of_span = λ token _ k. omega (arith, spread_none (length token.text) token.at k);
+  of_place = λ token _ k. omega arith;
+  of_span = λ token _ _ k. omega (arith, spread_none (length token.text) token.at k);
   of_entry = w.of_entry;
-  of_word = w.of_word;
+  of_word = λ token other _ is k. w.of_word token other is k;
   of_mark = w.of_mark;
   of_node = λ name k. omega arith;
+  of_optional_type = λ name text k. omega arith;
   type-Named = λ name k. omega arith;
   type-Unit = λ at k. omega arith;
   type-Arrow = λ at mark params result k. omega arith;
@@ -110,12 +116,20 @@ weighing w = record {
   expr-Fun = λ body k. omega arith;
   expr-Spawn = λ at detached opened body k. omega arith;
   expr-Yield = λ at k. omega arith;
+  expr-None = λ at text _ k. omega arith;
+  expr-Some = λ at text value _ k. omega arith;
+  expr-Optional = λ at k. omega arith;
   arg-roll = λ name value k. omega arith;
   closure_param-is = λ given k. omega arith;
-  closure-roll = λ at mark captures params result body k. omega arith;
+  inside-is = λ it _ k. omega arith;
+  closure-opened = λ at it _ k. omega arith;
   link-roll = λ op at operand k. omega arith;
   block-roll = λ body k. omega arith;
+  stmts-nil = λ k. omega arith;
+  stmts-one = λ one k. omega arith;
+  stmts-append = λ xs ys _ k. omega arith;
   stmt-Bind = λ mutable name ty value k. omega arith;
+  stmts-Or = λ binding _ _ _ _ colon_at ty eq_at value or k. omega arith;
   stmt-Assign = λ at op first value _ k. omega arith;
   stmt-Discard = λ at value k. omega arith;
   stmt-If = λ arms otherwise k. omega arith;
@@ -127,7 +141,9 @@ weighing w = record {
   stmt-Plain = λ value k. omega arith;
   pattern-Skip = λ at k. omega arith;
   pattern-Let = λ name k. omega arith;
-  case_arm-roll = λ name given body k. omega arith;
+  for_block-is = λ name body _ k. omega arith;
+  arm-Some = λ at name body k. omega arith;
+  case_arm-roll = λ name given body _ k. omega arith;
   if_arm-roll = λ at cond body k. omega arith;
   written-Absent = λ k. omega arith;
   written-At = λ name k. omega arith;
@@ -135,19 +151,19 @@ weighing w = record {
   written-Concurrent = λ k. omega arith;
   written-Nonsending = λ k. omega arith;
   param-is = λ given k. omega arith;
-  func-is = λ given k. omega (arith, w.func-is given k);
+  func-is = λ given _ k. omega (arith, w.func-is given k);
   prop-is = λ given k. omega (arith, w.prop-is given k);
-  init-is = λ given k. omega arith;
+  init-is = λ given _ k. omega arith;
   case-is = λ given k. omega (arith, w.case-is given k);
   decl-Entry = λ word mark at is_async body k.
       omega (arith, w.decl-Entry word mark at is_async body k);
-  decl-Struct = λ word conforms fields funcs k.
+  decl-Struct = λ word conforms fields funcs _ k.
       omega (arith, w.decl-Struct word conforms fields funcs k);
-  decl-Enum = λ word conforms given funcs k.
+  decl-Enum = λ word conforms given funcs _ k.
       omega (arith, w.decl-Enum word conforms given funcs k);
-  decl-Class = λ mark word conforms props inits funcs k.
+  decl-Class = λ mark word conforms props inits funcs _ k.
       omega (arith, w.decl-Class mark word conforms props inits funcs k);
-  decl-Actor = λ word props inits funcs k.
+  decl-Actor = λ word props inits funcs _ k.
       omega (arith, w.decl-Actor word props inits funcs k);
   decl-GlobalActor = w.decl-GlobalActor;
   decl-Func = w.decl-Func;

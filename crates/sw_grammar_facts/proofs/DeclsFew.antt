@@ -4,6 +4,7 @@ use Rattle.sw_token.specs.Spelling.{Spelled}
 use Rattle.sw_tree.proofs.Counting.{Weight, in_all}
 use Rattle.sw_tree.specs.declared.decl.Decl.{Decl}
 use Rattle.sw_grammar_facts.proofs.Owning.{none}
+use Rattle.sw_grammar_facts.proofs.Questions.{besides, besides_is}
 use Rattle.sw_grammar.specs.Program.{Spells}
 use Rattle.sw_grammar_facts.proofs.DeclWeights.{DeclWeights, weighing}
 use Rattle.sw_grammar_facts.proofs.ProgramRules.{owned}
@@ -14,7 +15,7 @@ single k = 1
 -- A token that gives a declaration its key weighs one, and a declaration weighs one.
 decls : (id_of : List ℕ → ℕ) → DeclWeights id_of
 decls id_of = record {
-  of_token = λ token. single;
+  of_token = besides (λ token. single);
   entry = λ at. single;
   node = λ name. single;
   label = λ name. none;
@@ -22,9 +23,9 @@ decls id_of = record {
   prop = λ prop. single;
   case = λ given. none;
   decl = λ decl. single;
-  of_entry = λ token k. omega arith;
-  of_word = λ token _ k. omega arith;
-  of_mark = λ token _ k. omega arith;
+  of_entry = λ token other k. omega (arith, besides_is (λ token. single) token other k);
+  of_word = λ token other _ k. omega (arith, besides_is (λ token. single) token other k);
+  of_mark = λ token _ _ k. omega arith;
   func-is = λ given k. omega arith;
   prop-is = λ given k. omega arith;
   case-is = λ given k. omega arith;
@@ -49,5 +50,6 @@ pub spelled_are_few : (id_of : List ℕ → ℕ) (given : List Decl) (tokens : L
 unfolding decls weighing
 spelled_are_few id_of given tokens spells =
     let less : in_all {X = Decl} (λ x. single) given 0 ≤ in_all {X = Spelled} (λ x. single) tokens 0
-    = owned (weighing (decls id_of)) given tokens spells.form 0 in
+    = owned (weighing (decls id_of)) (λ token. single) (λ token k. omega arith)
+    (λ one k. omega arith) given tokens refl spells 0 in
     omega (arith, less, all_single given 0, all_single tokens 0)

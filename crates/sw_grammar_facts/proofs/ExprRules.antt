@@ -1,10 +1,10 @@
 -- What expressions weigh.
-use Rattle.std.proofs.Common.{ℕ, ◌+◌, ◌≤◌, Bool, true, false, List, [], ◌∷◌, ◌++◌}
-use Rattle.std.proofs.Common.{None, Some, Option, codes, refl, arith}
-use Rattle.sw_grammar_forms.specs.Sets.{Set, quoted, word}
+use Rattle.std.proofs.Common.{◌≡◌, ℕ, ◌+◌, ◌≤◌, Bool, true, false, List, [], ◌∷◌, ◌++◌}
+use Rattle.std.proofs.Common.{None, Some, Option, IsTrue, codes, refl, arith}
+use Rattle.sw_grammar_forms.specs.Sets.{Set, integer, quoted, word}
 use Rattle.sw_grammar_forms.specs.Form.{Shape}
-use Rattle.sw_grammar_forms.specs.Form.Form.{turns, done, terminal}
-use Rattle.sw_grammar_forms.specs.Quotes.{an_integer}
+use Rattle.sw_grammar_forms.specs.Form.Form.{turns, done, nest, terminal}
+use Rattle.sw_grammar_forms.specs.Quotes.{an_integer, quote}
 use Rattle.sw_grammar_forms.specs.Relations.{Relation}
 use Rattle.sw_grammar_forms.specs.Terminals.{literal, ◌>>=◌}
 use Rattle.sw_tree.proofs.Counting.{in_all, in_option, in_all-append}
@@ -13,11 +13,11 @@ use Rattle.sw_tree.specs.declared.expr.Expr.{Expr}
 use Rattle.sw_tree.specs.declared.expr.Expr.TheVariants as exprs
 use Rattle.sw_tree.specs.declared.expr.Arg.{Arg}
 use Rattle.sw_tree.specs.declared.expr.Link.{Link as Operand}
-use Rattle.sw_tree.specs.declared.stmt.Block.{roll-Block}
 use Rattle.sw_grammar_facts.proofs.Owning.{none, Owns, own_done, own_token, own_then, own_either}
-use Rattle.sw_grammar_facts.proofs.Owning.{own_only, own_past, own_turns, own_with, own_from, own_when}
+use Rattle.sw_grammar_facts.proofs.Owning.{own_only, own_past, own_turns, own_with, own_from}
+use Rattle.sw_grammar_facts.proofs.Owning.{own_when, own_opened_nest, paid_after_less}
 use Rattle.sw_grammar.specs.Around.{Around}
-use Rattle.sw_grammar.specs.Nests.{Nest, El, Form, Link, ClosureInside}
+use Rattle.sw_grammar.specs.Nests.{Nest, El, Form, Link}
 use Rattle.sw_grammar.specs.Nests.Nest.{in_round, in_args, in_member, in_closure, in_task}
 use Rattle.sw_grammar.specs.Tokens.{value_word, times, plus, compares, infix_op, infix_in}
 use Rattle.sw_grammar.specs.Exprs.{with_members, chained, linked, closure_at, members}
@@ -28,12 +28,14 @@ use Rattle.sw_grammar.specs.Exprs.{more_plus, sum, more_compares, comparison, mo
 use Rattle.sw_grammar.specs.Exprs.{more_or, more_operands, awaited, expr, other_expr, labelled, arg}
 use Rattle.sw_grammar.specs.Exprs.{args, round, nothing}
 use Rattle.sw_grammar_facts.proofs.Weighing.{Weighing}
-use Rattle.sw_grammar_facts.proofs.NestWeights.{weight, dotted, inside}
+use Rattle.sw_grammar_facts.proofs.NestWeights.{weight, dotted, tasked}
+use Rattle.sw_grammar_facts.proofs.Questions.{is_paid, other_of}
+use Rattle.sw_grammar_facts.proofs.Unmarked.{fits, wants_word}
 use Rattle.sw_grammar_facts.proofs.TypeRules.{Keeps, own_list_of, own_quote, own_name, own_infix}
 use Rattle.sw_grammar_facts.proofs.TypeRules.{own_prefix, own_opened, own_opened_on_line}
 
-module _ {around : Around} (w : Weighing around.id_of) where
-  with_members_weigh : (base : Expr) (links : List Link) (k : ℕ)
+module _ {id_of : List ℕ → ℕ} (w : Weighing id_of) where
+  pub with_members_weigh : (base : Expr) (links : List Link) (k : ℕ)
       → w.expr (with_members base links) k ≤ w.expr base k + in_all (dotted w) links k
   unfolding in_all in_option
   with_members_weigh base [] k = omega arith
@@ -69,27 +71,19 @@ module _ {around : Around} (w : Weighing around.id_of) where
   called_weighs name (Some given) links k =
       omega (arith, w.expr-Call name given k, with_members_weigh (exprs.Call name given) links k)
 
-  closure_weighs : (at : ℕ) (it : ClosureInside) (k : ℕ)
-      → w.closure (closure_at at it) k ≤ w.place at k + inside w it k
-  closure_weighs at it k =
-      let body = roll-Block (record { stmts = it.body }) in
-      omega (
-        arith,
-        w.closure-roll at it.mark it.captures it.params it.result body k,
-        w.block-roll it.body k,
-      )
-
+module _ (around : Around) (w : Weighing around.id_of) where
   module _ (table : (n : Nest) → Relation (El n)) where
     -- operators and their operands
-    own_links : {s : Shape} (set : Set) (text : List ℕ) (operand : Form s Expr)
+    own_links : {s : Shape} (set : Set) (text : List ℕ) → is_paid set ≡ true
+        → (operand : Form s Expr)
         → Keeps w table operand none w.expr
         → Keeps w table (turns (λ _. true) [] (λ links. (terminal (infix_in set text) >>= λ op.
         operand >>= λ x. done (links ++ linked op x ∷ []))))
         none (in_all w.link)
     unfolding in_all
-    own_links set text operand each =
-        own_with _ (λ k. omega arith) (own_turns _ {w = in_all w.link} (λ links. own_only _ true
-        (own_then _ _ (own_infix w table set text) (λ op. own_then _ _ each (λ x. own_done _ (λ k.
+    own_links set text paid operand each =
+        own_with _ (λ k. omega arith) (own_turns _ {w = in_all w.link} (λ links. own_only _ true (λ _.
+        own_then _ _ (own_infix w table set text paid) (λ op. own_then _ _ each (λ x. own_done _ (λ k.
         omega (
           arith,
           in_all-append w.link links (linked op x ∷ []) k,
@@ -98,25 +92,28 @@ module _ {around : Around} (w : Weighing around.id_of) where
 
     own_literal : Keeps w table literal none (λ value. w.place value.0)
     unfolding literal
-    own_literal = own_token _ an_integer (λ token _ k. w.of_place token k)
+    own_literal =
+        own_token _ an_integer
+        (λ token member k. w.of_place token (other_of integer token refl member) k)
 
-    module _ (nests : (n : Nest) → Owns w.of_token none (table n) (weight w n)) where
-      own_members : Keeps w table (members around) none (in_all (dotted w))
+    module _ (nests : (n : Nest) → IsTrue (fits n) → Owns w.tally none (table n) (weight w n))
+        (fit : IsTrue (wants_word around.here.wanted)) where
+      pub own_members : Keeps w table (members around) none (in_all (dotted w))
       unfolding members in_all
       own_members =
-          own_either _ (own_then _ _ (own_opened w table nests (codes ".") in_member) (λ links.
+          own_either _ (own_then _ _ (own_opened w table nests (codes ".") refl (in_member around.here) fit) (λ links.
           own_done _ (λ k. omega arith))) (own_done _ (λ k. omega arith))
 
       own_call : Keeps w table (call around) none (in_option (in_all w.arg))
       unfolding call in_option
       own_call =
-          own_either _ (own_then _ _ (own_opened_on_line w table nests (codes "(") in_args)
+          own_either _ (own_then _ _ (own_opened_on_line w table nests (codes "(") refl (in_args around.here) fit)
           (λ given. own_done _ (λ k. omega arith))) (own_done _ (λ k. omega arith))
 
       pub own_member : Keeps w table (member around) none (in_all (dotted w))
       unfolding member in_all
       own_member =
-          own_then _ _ (own_name w table word (codes "print") refl) (λ name.
+          own_then _ _ (own_name around w table word (codes "print") refl) (λ name.
           own_then _ _ own_call (λ given. own_then _ _ own_members (λ links.
           own_done _ (λ k. omega arith))))
 
@@ -125,36 +122,50 @@ module _ {around : Around} (w : Weighing around.id_of) where
       unfolding after_word called
       own_after_word name =
           own_then _ _ own_call (λ given. own_then _ _ own_members (λ links.
-          own_done _ (λ k. let one = called_weighs name given links k in omega (arith, one))))
+          own_done _ (λ k. let one = called_weighs w name given links k in omega (arith, one))))
 
       pub own_after_operand : (base : Expr)
           → Keeps w table (after_operand around base) (w.expr base) w.expr
       unfolding after_operand
       own_after_operand base =
           own_then _ _ own_members (λ links. own_done _ (λ k.
-          omega (arith, with_members_weigh base links k)))
+          omega (arith, with_members_weigh w base links k)))
 
       pub own_a_literal : Keeps w table (a_literal around) none w.expr
       unfolding a_literal
       own_a_literal =
           own_either _ (own_then _ _ own_literal (λ value. own_done _ (λ k.
           omega (arith, w.expr-Int value.0 value.1 k)))) (own_either _
-          (own_then _ _ (own_quote w table (codes "true")) (λ at. own_done _ (λ k.
+          (own_then _ _ (own_quote w table (codes "true") refl) (λ at. own_done _ (λ k.
           omega (arith, w.expr-Bool at true k))))
-          (own_then _ _ (own_quote w table (codes "false")) (λ at. own_done _ (λ k.
+          (own_then _ _ (own_quote w table (codes "false") refl) (λ at. own_done _ (λ k.
           omega (arith, w.expr-Bool at false k)))))
+
+      -- what stands in a closure or a task is paid by the tokens after its `{`
+      own_opened_closure : Keeps w table (nest (quote (codes "{")) (in_closure around.here)) none
+          (λ body. w.closure (closure_at body.0 body.1))
+      own_opened_closure =
+          own_opened_nest _ (quote (codes "{")) w.place w.inside (λ token. refl)
+          (own_quote w table (codes "{") refl) (nests (in_closure around.here) fit)
+          (λ at it after k. omega (arith, w.closure-opened at it after k))
+
+      own_opened_task : Keeps w table (nest (quote (codes "{")) (in_task around.here)) none
+          (λ body k. w.closure (closure_at body.0 body.1) k + in_all w.task_param body.1.params k)
+      own_opened_task =
+          own_opened_nest _ (quote (codes "{")) w.place (tasked w) (λ token. refl)
+          (own_quote w table (codes "{") refl) (nests (in_task around.here) fit)
+          (λ at it after k. omega (
+            arith,
+            w.closure-opened at it (paid_after_less _ (λ j. omega arith) after) k,
+          ))
 
       own_after_task_dot : (closures : Bool) (at : ℕ)
           → Keeps w table (after_task_dot around closures at) (w.place at) w.expr
       unfolding after_task_dot
       own_after_task_dot closures at =
           own_when _ closures (λ _. own_past _ (λ _.
-          own_then _ _ (own_opened w table nests (codes "{") in_task) (λ body. own_done _ (λ k.
-          omega (
-            arith,
-            w.expr-Spawn at true body.0 body.1 k,
-            closure_weighs body.0 body.1 k,
-          )))))
+          own_then _ _ own_opened_task (λ body. own_done _ (λ k.
+          omega (arith, w.expr-Spawn at true body.0 body.1 k)))))
           (own_past _ (λ _. own_past _ (λ _. own_done _ (λ k. omega (arith, w.expr-Yield at k)))))
 
       pub own_after_task : (closures : Bool) (at : ℕ)
@@ -162,35 +173,27 @@ module _ {around : Around} (w : Weighing around.id_of) where
       unfolding after_task
       own_after_task closures at =
           own_when _ closures (λ _.
-          own_then _ _ (own_opened w table nests (codes "{") in_task) (λ body. own_done _ (λ k.
-          omega (
-            arith,
-            w.expr-Spawn at false body.0 body.1 k,
-            closure_weighs body.0 body.1 k,
-          ))))
+          own_then _ _ own_opened_task (λ body. own_done _ (λ k.
+          omega (arith, w.expr-Spawn at false body.0 body.1 k))))
           (own_past _ (λ _. own_after_task_dot closures at))
 
       own_bracketed : Keeps w table (bracketed around) none w.expr
       unfolding bracketed
       own_bracketed =
-          own_then _ _ (own_opened w table nests (codes "(") in_round) (λ inner.
+          own_then _ _ (own_opened w table nests (codes "(") refl (in_round around.here) fit) (λ inner.
           own_done _ (λ k. omega arith))
 
       own_me : Keeps w table (me around) none w.expr
       unfolding me
       own_me =
-          own_then _ _ (own_quote w table (codes "self")) (λ at. own_done _ (λ k.
+          own_then _ _ (own_quote w table (codes "self") refl) (λ at. own_done _ (λ k.
           omega (arith, w.expr-Me at k)))
 
       own_closure : Keeps w table (closure around) none w.expr
       unfolding closure
       own_closure =
-          own_then _ _ (own_opened w table nests (codes "{") in_closure) (λ body. own_done _ (λ k.
-          omega (
-            arith,
-            w.expr-Fun (closure_at body.0 body.1) k,
-            closure_weighs body.0 body.1 k,
-          )))
+          own_then _ _ own_opened_closure (λ body. own_done _ (λ k.
+          omega (arith, w.expr-Fun (closure_at body.0 body.1) k)))
 
       own_other_primary : (closures : Bool)
           → Keeps w table (other_primary around closures) none w.expr
@@ -202,9 +205,9 @@ module _ {around : Around} (w : Weighing around.id_of) where
       own_postfix : (closures : Bool) → Keeps w table (postfix around closures) none w.expr
       unfolding postfix
       own_postfix closures =
-          own_either _ (own_then _ _ (own_name w table value_word (codes "print") refl) (λ name.
+          own_either _ (own_then _ _ (own_name around w table value_word (codes "print") refl) (λ name.
           own_with _ (λ k. omega arith) (own_after_word name)))
-          (own_then _ _ (own_either _ (own_then _ _ (own_quote w table (codes "Task")) (λ at.
+          (own_then _ _ (own_either _ (own_then _ _ (own_quote w table (codes "Task") refl) (λ at.
           own_with _ (λ k. omega arith) (own_after_task closures at)))
           (own_other_primary closures)) (λ base.
           own_with _ (λ k. omega arith) (own_after_operand base)))
@@ -223,8 +226,8 @@ module _ {around : Around} (w : Weighing around.id_of) where
           → Keeps w table (more_times around closures first) (w.expr first) w.expr
       unfolding more_times
       own_more_times closures first =
-          own_then _ _ (own_links times (codes "*") (unary around closures) (own_unary closures))
-          (λ links. own_done _ (λ k. omega (arith, chained_weighs first links k)))
+          own_then _ _ (own_links times (codes "*") refl (unary around closures) (own_unary closures))
+          (λ links. own_done _ (λ k. omega (arith, chained_weighs w first links k)))
 
       own_product : (closures : Bool) → Keeps w table (product around closures) none w.expr
       unfolding product
@@ -236,8 +239,8 @@ module _ {around : Around} (w : Weighing around.id_of) where
           → Keeps w table (more_plus around closures first) (w.expr first) w.expr
       unfolding more_plus
       own_more_plus closures first =
-          own_then _ _ (own_links plus (codes "+") (product around closures) (own_product closures))
-          (λ links. own_done _ (λ k. omega (arith, chained_weighs first links k)))
+          own_then _ _ (own_links plus (codes "+") refl (product around closures) (own_product closures))
+          (λ links. own_done _ (λ k. omega (arith, chained_weighs w first links k)))
 
       own_sum : (closures : Bool) → Keeps w table (sum around closures) none w.expr
       unfolding sum
@@ -249,11 +252,11 @@ module _ {around : Around} (w : Weighing around.id_of) where
           → Keeps w table (more_compares around closures first) (w.expr first) w.expr
       unfolding more_compares in_all
       own_more_compares closures first =
-          own_either _ (own_then _ _ (own_infix w table compares (codes "==")) (λ op.
+          own_either _ (own_then _ _ (own_infix w table compares (codes "==") refl) (λ op.
           own_then _ _ (own_sum closures) (λ operand. own_done _ (λ k.
           omega (
             arith,
-            chained_weighs first (linked op operand ∷ []) k,
+            chained_weighs w first (linked op operand ∷ []) k,
             w.link-roll op.0 op.1 operand k,
           ))))) (own_done _ (λ k. omega arith))
 
@@ -267,9 +270,9 @@ module _ {around : Around} (w : Weighing around.id_of) where
           → Keeps w table (more_and around closures first) (w.expr first) w.expr
       unfolding more_and
       own_more_and closures first =
-          own_then _ _ (own_links (infix_op (codes "&&")) (codes "&&") (comparison around closures)
+          own_then _ _ (own_links (infix_op (codes "&&")) (codes "&&") refl (comparison around closures)
           (own_comparison closures))
-          (λ links. own_done _ (λ k. omega (arith, chained_weighs first links k)))
+          (λ links. own_done _ (λ k. omega (arith, chained_weighs w first links k)))
 
       own_conjunction : (closures : Bool) → Keeps w table (conjunction around closures) none w.expr
       unfolding conjunction
@@ -281,9 +284,9 @@ module _ {around : Around} (w : Weighing around.id_of) where
           → Keeps w table (more_or around closures first) (w.expr first) w.expr
       unfolding more_or
       own_more_or closures first =
-          own_then _ _ (own_links (infix_op (codes "||")) (codes "||") (conjunction around closures)
+          own_then _ _ (own_links (infix_op (codes "||")) (codes "||") refl (conjunction around closures)
           (own_conjunction closures))
-          (λ links. own_done _ (λ k. omega (arith, chained_weighs first links k)))
+          (λ links. own_done _ (λ k. omega (arith, chained_weighs w first links k)))
 
       pub own_more_operands : (closures : Bool) (first : Expr)
           → Keeps w table (more_operands around closures first) (w.expr first) w.expr
@@ -298,7 +301,7 @@ module _ {around : Around} (w : Weighing around.id_of) where
       pub own_awaited : (closures : Bool) → Keeps w table (awaited around closures) none w.expr
       unfolding awaited
       own_awaited closures =
-          own_then _ _ (own_quote w table (codes "await")) (λ at.
+          own_then _ _ (own_quote w table (codes "await") refl) (λ at.
           own_then _ _ (own_unary closures) (λ first.
           own_from _ (w.place at) w.expr (λ k. omega arith) (own_more_operands closures first)
           (λ inner. own_done _ (λ k. omega (arith, w.expr-Await at inner k)))))
@@ -309,7 +312,7 @@ module _ {around : Around} (w : Weighing around.id_of) where
           own_either _ (own_awaited closures) (own_then _ _ (own_unary closures) (λ first.
           own_with _ (λ k. omega arith) (own_more_operands closures first)))
 
-      own_other_expr : Keeps w table (other_expr around) none w.expr
+      pub own_other_expr : Keeps w table (other_expr around) none w.expr
       unfolding other_expr
       own_other_expr =
           own_either _ (own_awaited true) (own_then _ _ (own_either _ (own_negated true)
@@ -326,12 +329,12 @@ module _ {around : Around} (w : Weighing around.id_of) where
       own_arg : Keeps w table (arg around) none w.arg
       unfolding arg in_option
       own_arg =
-          own_either _ (own_then _ _ (own_name w table value_word (codes "print") refl) (λ name.
+          own_either _ (own_then _ _ (own_name around w table value_word (codes "print") refl) (λ name.
           own_either _ (own_with _ (λ k. omega arith) (own_labelled name))
           (own_from _ none w.expr (λ k. omega arith) (own_after_word name) (λ first.
           own_from _ none w.expr (λ k. omega arith) (own_more_operands true first) (λ value.
           own_done _ (λ k. omega (arith, w.arg-roll None value k)))))))
-          (own_either _ (own_then _ _ (own_name w table (quoted (codes "Task")) (codes "Task") refl)
+          (own_either _ (own_then _ _ (own_name around w table (quoted (codes "Task")) (codes "Task") refl)
           (λ name. own_either _ (own_with _ (λ k. omega arith) (own_labelled name))
           (own_from _ none w.expr (λ k. omega (arith, w.of_node name k))
           (own_after_task true name.at)
@@ -343,7 +346,7 @@ module _ {around : Around} (w : Weighing around.id_of) where
 
       pub own_args : Keeps w table (args around) none (in_all w.arg)
       unfolding args
-      own_args = own_list_of w table (arg around) w.arg own_arg (codes ")")
+      own_args = own_list_of around w table (arg around) w.arg own_arg (codes ")")
 
       pub own_round : Keeps w table (round around) none w.expr
       unfolding round

@@ -1,15 +1,20 @@
 -- What a relation's value weighs, against the tokens that it is spelled by. A weight says of each
 -- offset how often it stands somewhere, so a value owns what it holds where it weighs no more than
--- its tokens and what earlier tokens have left over.
-use Rattle.std.proofs.Common.{◌≡◌, ℕ, zero, suc, ◌+◌, ◌≤◌, Bool, true, not, IsTrue, Option, List}
-use Rattle.std.proofs.Common.{[], ◌∷◌, ⊎_elim}
-use Rattle.std.proofs.Common.{sym, ap, subst, arith}
-use Rattle.sw_token.specs.Spelling.{Spelled}
+-- its tokens and what earlier tokens have left over. The tokens stand as those of a text do; so it
+-- is also known which part of a value is paid by earlier tokens than another.
+use Rattle.std.proofs.Common.{◌≡◌, ℕ, zero, suc, ◌+◌, ◌≤◌, ◌<◌, Bool, true, false, not, IsTrue, Option, List}
+use Rattle.std.proofs.Common.{[], ◌∷◌, ◌++◌, length, ⊎_elim, append_assoc, refl}
+use Rattle.std.proofs.Common.{◌∙◌, sym, ap, subst, arith}
+use Rattle.std.specs.List.{AllByRecursion}
+use Rattle.sw_token.proofs.Steps.{some_token}
+use Rattle.sw_token.specs.Spelling.{Spelled, StandApart}
 use Rattle.sw_tree.proofs.Counting.{Weight, in_all, in_all-nil, in_all-cons, in_all-append}
+use Rattle.sw_grammar_forms.proofs.Rising.{HasTokenText, StandApart-prefix, StandApart-rest, end_of}
+use Rattle.sw_grammar_forms.proofs.Rising.{texts_prefix, texts_rest}
 use Rattle.sw_grammar_forms.specs.Form.{Shape, Terminal, Form}
 use Rattle.sw_grammar_forms.specs.Form.Form.{some_items}
 use Rattle.sw_grammar_forms.specs.Relations.{Relation, NoToken, One, FollowedBy, Either, Only, Turns, stop}
-use Rattle.sw_grammar_forms.specs.Relations.{turn}
+use Rattle.sw_grammar_forms.specs.Relations.{turn, Chosen}
 use Rattle.sw_grammar_forms.specs.Relations.{Passing, may_start, OneMore, spelled}
 use Rattle.sw_grammar_forms.specs.Sets.{has}
 use Rattle.sw_grammar_forms.specs.Spells.{inside}
@@ -18,82 +23,254 @@ use Rattle.sw_grammar_forms.specs.Terminals.{items}
 abbrev pub none : Weight
 none k = 0
 
-module _ (of_token : Spelled → Weight) where
+-- What tokens weigh, and a test that the tokens of a text pass, and so those of each part of it.
+pub record Tally : Type 0 where
+  pub of_token : Spelled → Weight
+  pub known : List Spelled → Bool
+  pub known_left : (us vs : List Spelled) → IsTrue (known (us ++ vs)) → IsTrue (known us)
+  pub known_right : (us vs : List Spelled) → IsTrue (known (us ++ vs)) → IsTrue (known vs)
+
+-- tokens that only have a weight
+abbrev pub tally_of : (Spelled → Weight) → Tally
+tally_of of_token = record {
+  of_token = of_token;
+  known = λ tokens. true;
+  known_left = λ us vs _. refl;
+  known_right = λ us vs _. refl;
+}
+
+module _ (tally : Tally) where
+  -- tokens of a text, from an offset on
+  pub record Stands (from : ℕ) (tokens : List Spelled) : Type 0 where
+    pub texts : AllByRecursion HasTokenText tokens
+    pub apart : StandApart from tokens
+    pub known : IsTrue (tally.known tokens)
+
+  stands_left : (from : ℕ) (us vs : List Spelled) → Stands from (us ++ vs) → Stands from us
+  stands_left from us vs all = record {
+    texts = texts_prefix us vs all.texts;
+    apart = StandApart-prefix from us vs all.apart;
+    known = tally.known_left us vs all.known;
+  }
+
+  stands_right : (from : ℕ) (us vs : List Spelled) → Stands from (us ++ vs)
+      → Stands (end_of from us) vs
+  stands_right from us vs all = record {
+    texts = texts_rest us vs all.texts;
+    apart = StandApart-rest from us vs all.apart;
+    known = tally.known_right us vs all.known;
+  }
+
+  -- a weight that tokens between two offsets pay
+  pub record Part (from to : ℕ) (weight : Weight) : Type 0 where
+    pub tokens : List Spelled
+    pub stands : Stands from tokens
+    pub end : end_of from tokens ≡ to
+    pub paid : (k : ℕ) → weight k ≤ in_all tally.of_token tokens k
+
+  -- of two weights the second is paid by later tokens
+  pub record InTurn (first second : Weight) : Type 0 where
+    pub from : ℕ
+    pub middle : ℕ
+    pub next : ℕ
+    pub to : ℕ
+    pub before : Part from middle first
+    pub less : middle ≤ next
+    pub after : Part next to second
+
+  -- a weight that tokens after an offset pay
+  pub record PaidAfter (at : ℕ) (weight : Weight) : Type 0 where
+    pub from : ℕ
+    pub to : ℕ
+    pub later : at < from
+    pub part : Part from to weight
+
+  -- where tokens end that stand from an offset on
+  ends_after : (from : ℕ) (tokens : List Spelled) → StandApart from tokens
+      → from ≤ end_of from tokens
+  ends_after from [] apart = omega arith
+  ends_after from (token ∷ tokens) apart =
+      let one = apart.0 in
+      omega (arith, ends_after (token.at + length token.text) tokens apart.1)
+
+  pub part_rises : {from to : ℕ} {weight : Weight} → Part from to weight → from ≤ to
+  part_rises {from} part =
+      subst (λ end. from ≤ end) part.end (ends_after from part.tokens part.stands.apart)
+
+  pub in_turn : {from middle next to : ℕ} {first second : Weight} → Part from middle first
+      → middle ≤ next → Part next to second → InTurn first second
+  in_turn {from} {middle} {next} {to} before less after = record {
+    from = from;
+    middle = middle;
+    next = next;
+    to = to;
+    before = before;
+    less = less;
+    after = after;
+  }
+
+  -- what weighs less is paid by the same tokens
+  pub part_of_less : {from to : ℕ} {weight less : Weight} → ((k : ℕ) → less k ≤ weight k)
+      → Part from to weight → Part from to less
+  part_of_less lighter part = record {
+    tokens = part.tokens;
+    stands = part.stands;
+    end = part.end;
+    paid = λ k. let one = part.paid k in let two = lighter k in omega arith;
+  }
+
+  pub paid_after_less : {at : ℕ} {weight less : Weight} → ((k : ℕ) → less k ≤ weight k)
+      → PaidAfter at weight → PaidAfter at less
+  paid_after_less lighter after = record {
+    from = after.from;
+    to = after.to;
+    later = after.later;
+    part = part_of_less lighter after.part;
+  }
+
   pub record Owns {A : Type 0} (base : Weight) (P : Relation A) (w : A → Weight) : Type 0 where
-    pub owns : (a : A) (tokens : List Spelled) → P a tokens → (k : ℕ)
-        → w a k ≤ base k + in_all of_token tokens k
+    pub owns : (from : ℕ) (a : A) (tokens : List Spelled) → Stands from tokens → P a tokens → (k : ℕ)
+        → w a k ≤ base k + in_all tally.of_token tokens k
+
+  -- the same of tokens from one offset on
+  pub record OwnsAt {A : Type 0} (from : ℕ) (base : Weight) (P : Relation A)
+      (w : A → Weight) : Type 0 where
+    pub owns_at : (a : A) (tokens : List Spelled) → Stands from tokens → P a tokens → (k : ℕ)
+        → w a k ≤ base k + in_all tally.of_token tokens k
+
+  pub own_at : {A : Type 0} {base : Weight} {P : Relation A} {w : A → Weight} (from : ℕ)
+      → Owns base P w → OwnsAt from base P w
+  own_at from own = record { owns_at = own.owns from }
+
+  pub own_anywhere : {A : Type 0} {base : Weight} {P : Relation A} {w : A → Weight}
+      → ((from : ℕ) → OwnsAt from base P w) → Owns base P w
+  own_anywhere each = record { owns = λ from. (each from).owns_at }
+
+  -- what one value weighs, where another is read after it
+  abbrev part_of : {A : Type 0} {P : Relation A} {w : A → Weight} → Owns none P w → (from : ℕ) (a : A)
+      (tokens : List Spelled) → Stands from tokens → P a tokens
+      → Part from (end_of from tokens) (w a)
+  part_of own from a tokens stands given = record {
+    tokens = tokens;
+    stands = stands;
+    end = refl;
+    paid = λ k. let one = own.owns from a tokens stands given k in omega arith;
+  }
 
   module _ {A : Type 0} where
     -- no token
     pub own_done : {base : Weight} {w : A → Weight} {a : A} → ((k : ℕ) → w a k ≤ base k)
         → Owns base (NoToken a) w
     own_done {base} {w} {a} less = record {
-      owns = λ b tokens given k. subst (λ x. w x k ≤ base k + in_all of_token tokens k)
-          (sym given.0) (let one = less k in omega arith);
+      owns = λ from b tokens stands given k.
+          subst (λ x. w x k ≤ base k + in_all tally.of_token tokens k) (sym given.0)
+          (let one = less k in omega arith);
     }
 
     -- a token, where what it gives weighs no more than it does
+    pub own_text : (t : Terminal A) {w : A → Weight}
+        → ((token : Spelled) → HasTokenText token → IsTrue (has t.set token) → (k : ℕ)
+        → w (t.value token) k ≤ tally.of_token token k)
+        → Owns none (One t) w
+    own_text t {w} less = record {
+      owns = λ from a tokens stands one k.
+          let texts : AllByRecursion HasTokenText (one.token ∷ [])
+          = subst (AllByRecursion HasTokenText) one.alone stands.texts in
+          let here = less one.token texts.0 one.member k in
+          let is : w a k ≡ w (t.value one.token) k = ap (λ x. w x k) one.value in
+          let all = ap (λ ts. in_all tally.of_token ts k) one.alone in
+          omega (
+            arith,
+            all,
+            in_all-cons tally.of_token one.token [] k,
+            in_all-nil tally.of_token k,
+          );
+    }
+
     pub own_token : (t : Terminal A) {w : A → Weight}
         → ((token : Spelled) → IsTrue (has t.set token) → (k : ℕ)
-        → w (t.value token) k ≤ of_token token k)
+        → w (t.value token) k ≤ tally.of_token token k)
         → Owns none (One t) w
-    own_token t {w} less = record {
-      owns = λ a tokens one k.
-          let here = less one.token one.member k in
-          let is : w a k ≡ w (t.value one.token) k = ap (λ x. w x k) one.value in
-          let all = ap (λ ts. in_all of_token ts k) one.alone in
-          omega (arith, all, in_all-cons of_token one.token [] k, in_all-nil of_token k);
+    own_token t less = own_text t (λ token text member k. less token member k)
+
+    -- one after another, from an offset on, where it is known which tokens pay the first
+    pub own_part : {B : Type 0} {base : Weight} {P : Relation A} {Q : A → Relation B}
+        {w : B → Weight} {from : ℕ} (u : A → Weight) → Owns none P u
+        → ((a : A) (to : ℕ) → Part from to (u a) → OwnsAt to (λ k. base k + u a k) (Q a) w)
+        → OwnsAt from base (FollowedBy P Q) w
+    own_part {base = base} {w = w} {from = from} u first second = record {
+      owns_at = λ b tokens stands both k.
+          let halves = subst (Stands from) both.whole stands in
+          let part = part_of first from both.value both.left
+          (stands_left from both.left both.right halves) both.first in
+          let one = part.paid k in
+          let two = (second both.value (end_of from both.left) part).owns_at b both.right
+          (stands_right from both.left both.right halves) both.second k in
+          let all = ap (λ ts. in_all tally.of_token ts k) both.whole in
+          omega (arith, all, in_all-append tally.of_token both.left both.right k);
     }
 
     -- one after another: what the first weighs is left over for the second
     pub own_then : {B : Type 0} {base : Weight} {P : Relation A} {Q : A → Relation B}
         {w : B → Weight} (u : A → Weight) → Owns none P u
         → ((a : A) → Owns (λ k. base k + u a k) (Q a) w) → Owns base (FollowedBy P Q) w
-    own_then {base = base} {w = w} u first second = record {
-      owns = λ b tokens both k.
-          let one = first.owns both.value both.left both.first k in
-          let two = (second both.value).owns b both.right both.second k in
-          let all = ap (λ ts. in_all of_token ts k) both.whole in
-          omega (arith, all, in_all-append of_token both.left both.right k);
-    }
+    own_then u first second =
+        own_anywhere (λ from. own_part u first (λ a to part. own_at to (second a)))
 
     module _ {base : Weight} {P Q : Relation A} {w : A → Weight} where
       -- one of two
       pub own_either : Owns base P w → Owns base Q w → Owns base (Either P Q) w
       own_either first second = record {
-        owns = λ a tokens one k. ⊎_elim (λ p. first.owns a tokens p k)
-            (λ q. second.owns a tokens q k) one;
+        owns = λ from a tokens stands one k. ⊎_elim (λ p. first.owns from a tokens stands p k)
+            (λ q. second.owns from a tokens stands q k) one;
       }
 
       -- one of two, of which the first stands only under a condition
       pub own_when : (is_so : Bool) → (IsTrue is_so → Owns base P w) → Owns base Q w
           → Owns base (Either (Only is_so P) Q) w
       own_when is_so first second = record {
-        owns = λ a tokens one k. ⊎_elim (λ p. (first p.0).owns a tokens p.1 k)
-            (λ q. second.owns a tokens q k) one;
+        owns = λ from a tokens stands one k. ⊎_elim
+            (λ p. (first p.0).owns from a tokens stands p.1 k)
+            (λ q. second.owns from a tokens stands q k) one;
       }
+
+      -- one of two, of which the second stands only under a condition
+      pub own_unless : (is_so : Bool) → Owns base P w → (IsTrue is_so → Owns base Q w)
+          → Owns base (Either P (Only is_so Q)) w
+      own_unless is_so first second = record {
+        owns = λ from a tokens stands one k. ⊎_elim (λ p. first.owns from a tokens stands p k)
+            (λ q. (second q.0).owns from a tokens stands q.1 k) one;
+      }
+
+      -- one or the other by a condition
+      pub own_chosen : (is_so : Bool) → (IsTrue is_so → Owns base P w) → Owns base Q w
+          → Owns base (Chosen is_so P Q) w
+      own_chosen true first second = first refl
+      own_chosen false first second = second
 
     module _ {base : Weight} {P : Relation A} {w : A → Weight} where
       -- spellings whose first token passes a test
       pub own_passing : (test : Option Spelled → Bool) → Owns base P w
           → Owns base (Passing test P) w
-      own_passing test first = record { owns = λ a tokens one. first.owns a tokens one.0 }
+      own_passing test first =
+          record { owns = λ from a tokens stands one. first.owns from a tokens stands one.0 }
 
       -- spellings that stand only under a condition
-      pub own_only : (is_so : Bool) → Owns base P w → Owns base (Only is_so P) w
-      own_only is_so first = record { owns = λ a tokens one. first.owns a tokens one.1 }
+      pub own_only : (is_so : Bool) → (IsTrue is_so → Owns base P w) → Owns base (Only is_so P) w
+      own_only is_so first =
+          record { owns = λ from a tokens stands one. (first one.0).owns from a tokens stands one.1 }
 
     -- a value that is dropped
     pub own_nothing : {base : Weight} {P : Relation A} → Owns base P (λ _. none)
-    own_nothing = record { owns = λ a tokens one k. omega arith }
+    own_nothing = record { owns = λ from a tokens stands one k. omega arith }
 
     -- more may be left over, and less may be weighed
     pub own_more : {base more : Weight} {P : Relation A} {w less : A → Weight}
         → ((k : ℕ) → base k ≤ more k)
         → ((a : A) (k : ℕ) → less a k ≤ w a k) → Owns base P w → Owns more P less
     own_more left lighter first = record {
-      owns = λ a tokens one k.
-          let here = first.owns a tokens one k in
+      owns = λ from a tokens stands one k.
+          let here = first.owns from a tokens stands one k in
           let more = left k in
           let less = lighter a k in
           omega arith;
@@ -110,12 +287,15 @@ module _ (of_token : Spelled → Weight) where
       → Owns start P u → ((a : A) → Owns (λ k. rest k + u a k) (Q a) w)
       → Owns base (FollowedBy P Q) w
   own_from {base = base} {w = w} rest u less first second = record {
-    owns = λ b tokens both k.
-        let one = first.owns both.value both.left both.first k in
-        let two = (second both.value).owns b both.right both.second k in
+    owns = λ from b tokens stands both k.
+        let halves = subst (Stands from) both.whole stands in
+        let one = first.owns from both.value both.left
+        (stands_left from both.left both.right halves) both.first k in
+        let two = (second both.value).owns (end_of from both.left) b both.right
+        (stands_right from both.left both.right halves) both.second k in
         let here = less k in
-        let all = ap (λ ts. in_all of_token ts k) both.whole in
-        omega (arith, all, in_all-append of_token both.left both.right k);
+        let all = ap (λ ts. in_all tally.of_token ts k) both.whole in
+        omega (arith, all, in_all-append tally.of_token both.left both.right k);
   }
 
   -- one after another, where the value of the first is dropped
@@ -126,18 +306,106 @@ module _ (of_token : Spelled → Weight) where
       own_then (λ _. none) own_nothing
       (λ a. own_more (λ k. omega arith) (λ b k. omega arith) (second a))
 
+  -- the same from an offset on
+  pub own_past_at : {A B : Type 0} {base : Weight} {P : Relation A} {Q : A → Relation B}
+      {w : B → Weight} {from : ℕ}
+      → ((a : A) (to : ℕ) → from ≤ to → OwnsAt to base (Q a) w)
+      → OwnsAt from base (FollowedBy P Q) w
+  own_past_at {A} {base = base} {from = from} second =
+      own_part (λ _. none) own_nothing (λ a to part.
+      let it = second a to (part_rises part) in
+      record {
+        owns_at = λ b tokens stands given k.
+            let one = it.owns_at b tokens stands given k in omega arith;
+      })
+
+  -- Tokens that follow one another directly.
+
+  -- after this token
+  pub record OwnsAfter {A : Type 0} (before : Spelled) (base : Weight) (P : Relation A)
+      (w : A → Weight) : Type 0 where
+    pub owns_after : (from : ℕ) (a : A) (tokens : List Spelled) → Stands from (before ∷ tokens)
+        → P a tokens → (k : ℕ) → w a k ≤ base k + in_all tally.of_token tokens k
+
+  pub own_after_any : {A : Type 0} {before : Spelled} {base : Weight} {P : Relation A}
+      {w : A → Weight} → Owns base P w → OwnsAfter before base P w
+  own_after_any {before = before} own = record {
+    owns_after = λ from a tokens stands given.
+        own.owns (before.at + length before.text) a tokens
+        (stands_right from (before ∷ []) tokens stands) given;
+  }
+
+  pub own_after_either : {A : Type 0} {before : Spelled} {base : Weight} {P Q : Relation A}
+      {w : A → Weight} → OwnsAfter before base P w → OwnsAfter before base Q w
+      → OwnsAfter before base (Either P Q) w
+  own_after_either first second = record {
+    owns_after = λ from a tokens stands one k. ⊎_elim
+        (λ p. first.owns_after from a tokens stands p k)
+        (λ q. second.owns_after from a tokens stands q k) one;
+  }
+
+  module _ {A B : Type 0} {base : Weight} (t : Terminal A) {Q : A → Relation B} {w : B → Weight}
+      (u : A → Weight)
+      (less : (token : Spelled) → HasTokenText token → IsTrue (has t.set token) → (k : ℕ)
+      → u (t.value token) k ≤ tally.of_token token k) where
+    -- a token, and what comes after it
+    pub own_read : ((token : Spelled) → HasTokenText token → IsTrue (has t.set token)
+        → OwnsAfter token (λ k. base k + u (t.value token) k) (Q (t.value token)) w)
+        → Owns base (FollowedBy (One t) Q) w
+    own_read second = record {
+      owns = λ from b tokens stands both k.
+          let one = both.first in
+          let whole : tokens ≡ one.token ∷ both.right
+          = both.whole ∙ ap (λ ts. ts ++ both.right) one.alone in
+          let standing = subst (Stands from) whole stands in
+          let text : HasTokenText one.token = standing.texts.0 in
+          let rest = (second one.token text one.member).owns_after from b both.right standing
+          (subst (λ a. Q a b both.right) one.value both.second) k in
+          let here = less one.token text one.member k in
+          let all = ap (λ ts. in_all tally.of_token ts k) whole in
+          omega (arith, all, in_all-cons tally.of_token one.token both.right k);
+    }
+
+    -- a token after another
+    pub own_read_next : {before : Spelled}
+        → ((token : Spelled) → IsTrue (has t.set token)
+        → IsTrue (tally.known (before ∷ token ∷ []))
+        → Owns (λ k. base k + u (t.value token) k) (Q (t.value token)) w)
+        → OwnsAfter before base (FollowedBy (One t) Q) w
+    own_read_next {before} second = record {
+      owns_after = λ from b tokens stands both k.
+          let one = both.first in
+          let whole : tokens ≡ one.token ∷ both.right
+          = both.whole ∙ ap (λ ts. ts ++ both.right) one.alone in
+          let standing = subst (λ ts. Stands from (before ∷ ts)) whole stands in
+          let pair = stands_left from (before ∷ one.token ∷ []) both.right standing in
+          let after = stands_right from (before ∷ one.token ∷ []) both.right standing in
+          let rest = (second one.token one.member pair.known).owns
+          (one.token.at + length one.token.text) b both.right after
+          (subst (λ a. Q a b both.right) one.value both.second) k in
+          let here = less one.token pair.texts.1.0 one.member k in
+          let all = ap (λ ts. in_all tally.of_token ts k) whole in
+          omega (arith, all, in_all-cons tally.of_token one.token both.right k);
+    }
+
   -- turns: what a state weighs is left over for the next turn
   module _ {S : Type 0} {One : S → Relation S} {w : S → Weight}
       (each : (s : S) → Owns (w s) (One s) w) where
-    turned : (s last : S) (tokens : List Spelled) → Turns One s last tokens → (k : ℕ)
-        → w last k ≤ w s k + in_all of_token tokens k
-    turned s last tokens (stop s') k = omega arith
-    turned s last tokens (turn s' next last' us vs one more) k =
-        let here = (each s').owns next us one k in
-        omega (arith, turned next last' vs more k, in_all-append of_token us vs k)
+    turned : (from : ℕ) (s last : S) (tokens : List Spelled) → Stands from tokens
+        → Turns One s last tokens → (k : ℕ)
+        → w last k ≤ w s k + in_all tally.of_token tokens k
+    turned from s last tokens stands (stop s') k = omega arith
+    turned from s last tokens stands (turn s' next last' us vs one more) k =
+        let here = (each s').owns from next us (stands_left from us vs stands) one k in
+        omega (
+          arith,
+          turned (end_of from us) next last' vs (stands_right from us vs stands) more k,
+          in_all-append tally.of_token us vs k,
+        )
 
     pub own_turns : (s : S) → Owns (w s) (Turns One s) w
-    own_turns s = record { owns = λ last tokens all. turned s last tokens all }
+    own_turns s =
+        record { owns = λ from last tokens stands all. turned from s last tokens stands all }
 
   -- a nest: a token and what stands after it
   pub own_nest : {A B : Type 0} {base : Weight} {P : Relation A} {Q : Relation B}
@@ -148,42 +416,141 @@ module _ (of_token : Spelled → Weight) where
       own_then u first (λ a. own_then v (own_more (λ k. omega arith) (λ b k. omega arith) second)
       (λ b. own_done (λ k. let one = less a b k in omega arith)))
 
-  -- Items, each of which a `;` or the end of a line ends, weigh what they weigh one by one.
+  -- a nest, where what stands in it is paid by the tokens after its first
+  pub own_opened_nest : {B : Type 0} {base : Weight} (t : Terminal ℕ) {Q : Relation B}
+      {w : ℕ × B → Weight} (u : ℕ → Weight) (v : B → Weight)
+      → ((token : Spelled) → t.value token ≡ token.at) → Owns none (One t) u → Owns none Q v
+      → ((a : ℕ) (b : B) → PaidAfter a (v b) → (k : ℕ) → w (a, b) k ≤ base k + u a k + v b k)
+      → Owns base (FollowedBy (One t) (λ a. FollowedBy Q (λ b. NoToken (a, b)))) w
+  own_opened_nest {base = base} t {w = w} u v place first second less = record {
+    owns = λ from pair tokens stands both k.
+        let halves = subst (Stands from) both.whole stands in
+        let opening = both.first in
+        let opened = stands_left from both.left both.right halves in
+        let one = first.owns from both.value both.left opened opening k in
+        let middle = end_of from both.left in
+        let rest = stands_right from both.left both.right halves in
+        let nest = both.second in
+        let inner = subst (Stands middle) nest.whole rest in
+        let part = part_of second middle nest.value nest.left
+        (stands_left middle nest.left nest.right inner) nest.first in
+        let texts : AllByRecursion HasTokenText (opening.token ∷ [])
+        = subst (AllByRecursion HasTokenText) opening.alone opened.texts in
+        let at : both.value ≡ opening.token.at = opening.value ∙ place opening.token in
+        let end : middle ≡ opening.token.at + length opening.token.text
+        = ap (end_of from) opening.alone in
+        let here = less both.value nest.value (record {
+          from = middle;
+          to = end_of middle nest.left;
+          later = omega (arith, some_token true opening.token.text [] texts.0);
+          part = part;
+        }) k in
+        let two = part.paid k in
+        let is : w pair k ≡ w (both.value, nest.value) k = ap (λ x. w x k) nest.second.0 in
+        let all = ap (λ ts. in_all tally.of_token ts k) both.whole in
+        let more = ap (λ ts. in_all tally.of_token ts k) nest.whole in
+        omega (
+          arith,
+          all,
+          more,
+          in_all-append tally.of_token both.left both.right k,
+          in_all-append tally.of_token nest.left nest.right k,
+        );
+  }
+
+  -- Items, each of which a `;` or the end of a line ends. What those so far weigh is paid by the
+  -- tokens so far, and what the next weighs by the next tokens.
+  module _ {N : Type 0} (El : N → Type 0) (shape_of : N → Shape) (table : (n : N) → Relation (El n))
+      {A : Type 0} {s : Shape} (item : Form El shape_of s A) (u : A → Weight)
+      (each : Owns none (spelled El shape_of table item) u) (w : List A → Weight)
+      (empty : (k : ℕ) → w [] k ≤ 0)
+      (more : (xs : List A) (x : A) → InTurn (w xs) (u x) → (k : ℕ)
+      → w (xs ++ x ∷ []) k ≤ w xs k + u x k) where
+    one_more_item : (from middle : ℕ) (state : List A × Bool) → Part from middle (w state.0)
+        → OwnsAt middle (w state.0) (OneMore (spelled El shape_of table item) state)
+        (λ read. w read.0)
+    one_more_item from middle state so_far =
+        own_part u (own_passing (may_start (not state.1)) each) (λ x to part.
+        own_at to (own_past (λ ended. own_done (λ k.
+        more state.0 x (in_turn so_far (omega arith) part) k))))
+
+    -- the tokens so far, and those of the items after them
+    more_items_owned : (from : ℕ) (us : List Spelled) (state last : List A × Bool)
+        (tokens : List Spelled) → Stands from (us ++ tokens)
+        → ((k : ℕ) → w state.0 k ≤ in_all tally.of_token us k)
+        → Turns (OneMore (spelled El shape_of table item)) state last tokens
+        → (k : ℕ) → w last.0 k ≤ in_all tally.of_token (us ++ tokens) k
+    more_items_owned from us state last tokens stands so_far (stop s') k =
+        let one = so_far k in omega (arith, in_all-append tally.of_token us [] k)
+    more_items_owned from us state last tokens stands so_far (turn s' next last' xs ys one rest) k =
+        let regrouped = sym (append_assoc us xs ys) in
+        let grouped = subst (Stands from) regrouped stands in
+        let before = stands_left from (us ++ xs) ys grouped in
+        let part : Part from (end_of from us) (w s'.0) = record {
+          tokens = us;
+          stands = stands_left from us xs before;
+          end = refl;
+          paid = so_far;
+        } in
+        subst (λ ts. w last'.0 k ≤ in_all tally.of_token ts k) (sym regrouped)
+        (more_items_owned from (us ++ xs) next last' ys grouped (λ j.
+        let here = (one_more_item from (end_of from us) s' part).owns_at next xs
+        (stands_right from us xs before) one j in
+        let start = so_far j in
+        omega (arith, in_all-append tally.of_token us xs j)) rest k)
+
+    pub own_items_by : Owns none (spelled El shape_of table (items item)) (λ read. w read.0)
+    own_items_by = record {
+      owns = λ from last tokens stands all k.
+          let it = more_items_owned from [] ([], true) last tokens stands
+          (λ j. let one = empty j in omega (arith, in_all-nil tally.of_token j)) all k in
+          omega arith;
+    }
+
+    pub own_some_items_by : Owns none (spelled El shape_of table (some_items item))
+        (λ read. w read.0)
+    own_some_items_by = record {
+      owns = λ from last tokens stands both k.
+          let halves = subst (Stands from) both.whole stands in
+          let left = stands_left from both.left both.right halves in
+          let start : Part from from (w []) = record {
+            tokens = [];
+            stands = stands_left from [] both.left left;
+            end = refl;
+            paid = λ j. let one = empty j in omega (arith, in_all-nil tally.of_token j);
+          } in
+          let first = (one_more_item from from ([], true) start).owns_at both.value both.left left
+          both.first in
+          let it = more_items_owned from both.left both.value last both.right halves
+          (λ j. let one = empty j in let two = first j in omega arith) both.second k in
+          let all = ap (λ ts. in_all tally.of_token ts k) both.whole in
+          omega (arith, all);
+    }
+
+  -- the same, where items weigh what they weigh one by one
   module _ {N : Type 0} (El : N → Type 0) (shape_of : N → Shape) (table : (n : N) → Relation (El n))
       {A : Type 0} {s : Shape} (item : Form El shape_of s A) (w : A → Weight) where
-    one_more_item : Owns none (spelled El shape_of table item) w → (state : List A × Bool)
-        → Owns (in_all w state.0) (OneMore (spelled El shape_of table item) state)
-        (λ read. in_all w read.0)
-    one_more_item each state =
-        own_then w (own_passing (may_start (not state.1)) each) (λ x. own_past (λ ended.
-        own_done (λ k. omega (
-          arith,
-          in_all-append w state.0 (x ∷ []) k,
-          in_all-cons w x [] k,
-          in_all-nil w k,
-        ))))
-
-    pub own_some_items : Owns none (spelled El shape_of table item) w
-        → Owns none (spelled El shape_of table (some_items item)) (λ read. in_all w read.0)
-    own_some_items each =
-        own_from none (λ (state : List A × Bool). in_all w state.0)
-        (λ k. omega (arith, in_all-nil w k)) (one_more_item each ([], true))
-        (λ state. own_with (λ k. omega arith)
-        (own_turns {w = λ (state : List A × Bool). in_all w state.0} (one_more_item each) state))
-
     pub own_items : Owns none (spelled El shape_of table item) w
         → Owns none (spelled El shape_of table (items item)) (λ read. in_all w read.0)
     own_items each =
-        own_more (λ k. omega (arith, in_all-nil w k)) (λ read k. omega arith)
-        (own_turns {w = λ (state : List A × Bool). in_all w state.0} (one_more_item each)
-        ([], true))
+        own_items_by El shape_of table item w each (in_all w) (λ k. omega (arith, in_all-nil w k))
+        (λ xs x _ k. omega (
+          arith,
+          in_all-append w xs (x ∷ []) k,
+          in_all-cons w x [] k,
+          in_all-nil w k,
+        ))
 
   -- The nests of a grammar own what they weigh, at each depth, where their bodies do over nests
   -- that do.
   module _ {N : Type 0} (El : N → Type 0) (shape_of : N → Shape)
-      (body : (n : N) → Form El shape_of (shape_of n) (El n)) (w : (n : N) → El n → Weight)
-      (own_body : (table : (n : N) → Relation (El n)) → ((n : N) → Owns none (table n) (w n))
-      → (n : N) → Owns none (spelled El shape_of table (body n)) (w n)) where
-    pub own_inside : (depth : ℕ) (n : N) → Owns none (inside El shape_of body depth n) (w n)
-    own_inside zero n = record { owns = λ a tokens never. absurd never }
-    own_inside (suc depth) n = own_body (inside El shape_of body depth) (own_inside depth) n
+      (body : (n : N) → Form El shape_of (shape_of n) (El n)) (IsGood : N → Type 0)
+      (w : (n : N) → El n → Weight)
+      (own_body : (table : (n : N) → Relation (El n))
+      → ((n : N) → IsGood n → Owns none (table n) (w n))
+      → (n : N) → IsGood n → Owns none (spelled El shape_of table (body n)) (w n)) where
+    pub own_inside : (depth : ℕ) (n : N) → IsGood n
+        → Owns none (inside El shape_of body depth n) (w n)
+    own_inside zero n good = record { owns = λ from a tokens stands never. absurd never }
+    own_inside (suc depth) n good =
+        own_body (inside El shape_of body depth) (own_inside depth) n good

@@ -1,6 +1,6 @@
 -- The size of a program, of which each token of its text gives a part of sixteen at most.
 use Rattle.std.proofs.Common.{◌≡◌, ℕ, zero, suc, ◌+◌, ◌*◌, ◌≤◌, IsTrue, List, [], ◌∷◌, map, length}
-use Rattle.std.proofs.Common.{Option, Some, None, option_map, refl, ap, arith}
+use Rattle.std.proofs.Common.{◌++◌, true, codes, Option, Some, None, option_map, refl, ap, arith}
 use Rattle.std.proofs.lemmas.List.Sums.{sum_by-cons}
 use Rattle.std.specs.List.{sum, sum_by}
 use Rattle.sw_token.specs.Spelling.{Spelled}
@@ -8,17 +8,30 @@ use Rattle.sw_tree.specs.Folds.{fold_arg, fold_block, fold_case_arm, fold_closur
 use Rattle.sw_tree.specs.Folds.{fold_if_arm, fold_link, fold_stmt}
 use Rattle.sw_tree.specs.Place.{is_place}
 use Rattle.sw_tree.specs.declared.decl.Decl.{Decl}
+use Rattle.sw_tree.specs.declared.expr.Arg.{roll-Arg}
 use Rattle.sw_tree.specs.declared.expr.Expr.{Expr}
-use Rattle.sw_tree.proofs.Counting.{Weight, in_all, in_option}
+use Rattle.sw_tree.specs.declared.expr.Expr.TheVariants as exprs
+use Rattle.sw_tree.specs.declared.operator.AssignOp.TheVariants as assigns
+use Rattle.sw_tree.specs.declared.stmt.Block.{roll-Block}
+use Rattle.sw_tree.specs.declared.stmt.Pattern.TheVariants as patterns
+use Rattle.sw_tree.specs.declared.type_tree.TypeTree.{TypeTree}
+use Rattle.sw_tree.proofs.Counting.{Weight, in_all, in_all-append, in_option}
 use Rattle.sw_tree.proofs.FoldEquations as eq
 use Rattle.sw_tree_facts.specs.Sizes.{ExprSize, block_size, decl_size, expr_size, func_size}
 use Rattle.sw_tree_facts.specs.Sizes.{init_size, prop_size, read_alone, size_of, size_steps}
 use Rattle.sw_tree_facts.specs.Sizes.{some_read, some_size, value_size}
 use Rattle.sw_tree_facts.proofs.PlaceSizes.{places_have_no_size}
+use Rattle.sw_sugar.specs.Calls.{or_literal_form}
+use Rattle.sw_sugar.specs.Optionals.{begun, block_of, declared, name_at, or_literal_stmts, or_switch}
+use Rattle.sw_sugar.specs.Optionals.{some_arm, some_tree, taken, use_at}
+use Rattle.sw_sugar.specs.declared.words.OrLiteral.{OrLiteral}
+use Rattle.sw_grammar.specs.Enums.{Marked, enum_of}
 use Rattle.sw_grammar.specs.Exprs.{closure_at}
 use Rattle.sw_grammar.specs.Program.{Spells}
-use Rattle.sw_grammar_facts.proofs.Owning.{none}
+use Rattle.sw_grammar.specs.Tokens.{optional_text}
+use Rattle.sw_grammar_facts.proofs.Owning.{none, tally_of}
 use Rattle.sw_grammar_facts.proofs.ProgramRules.{owned}
+use Rattle.sw_grammar_facts.proofs.Questions.{besides, besides_is}
 use Rattle.sw_grammar_facts.proofs.Spread.{spread}
 use Rattle.sw_grammar_facts.proofs.Weighing.{Weighing}
 
@@ -78,10 +91,66 @@ place_size : (x : Expr) → IsTrue (is_place x) → fold_expr size_steps x ≡ r
 unfolding expr_size
 place_size x is = places_have_no_size x is
 
+-- the sums of lists of one
+sum_one : (n : ℕ) → sum (n ∷ []) ≡ n
+sum_one n = omega (arith, sum_by-cons (λ (n : ℕ). n) n [])
+
+some_sizes : (some of at : ℕ) (value : Expr)
+    → (fold_expr size_steps (some_tree some of at value)).read
+    ≤ 2 + (fold_expr size_steps value).read
+some_sizes some of at value =
+    let arg = roll-Arg (record { label = None; value = value }) in
+    omega (
+      arith,
+      read_is (eq.fold_expr-Method size_steps (use_at (suc at) of) (name_at at some) (arg ∷ [])),
+      read_is (eq.fold_expr-Use size_steps (name_at (suc at) of)),
+      eq.fold_arg-roll size_steps None value,
+      sum_one (fold_arg size_steps arg),
+    )
+
+-- a `switch` with an arm and its pattern
+or_sizes : (form : OrLiteral) (ty : TypeTree) (value literal : Expr)
+    → sum (map (fold_stmt size_steps) (or_literal_stmts form ty value literal))
+    ≤ 3 + (fold_expr size_steps value).read + (fold_expr size_steps literal).read
+or_sizes form ty value literal =
+    let whole = name_at (suc form.op_at) form.word.whole in
+    let part = name_at (suc form.let_at) form.word.part in
+    let last = name_at (suc (suc form.let_at)) form.word.whole in
+    let pattern = patterns.Let (name_at form.colon_at form.word.part) in
+    let body = block_of (taken form ∷ []) in
+    let arm = some_arm form.some form.colon_at (name_at form.colon_at form.word.part) body in
+    omega (
+      arith,
+      sum_three (fold_stmt size_steps (begun form ty literal))
+          (fold_stmt size_steps (or_switch form value)) (fold_stmt size_steps (declared form ty)),
+      eq.fold_stmt-Bind size_steps true (name_at form.op_at form.word.whole) (Some ty) literal,
+      eq.fold_stmt-Switch size_steps form.eq_at value (arm ∷ []) (Some (block_of [])),
+      sum_one (fold_case_arm size_steps arm),
+      eq.fold_case_arm-roll size_steps (name_at form.colon_at form.some) (pattern ∷ []) body,
+      eq.fold_block-roll size_steps (taken form ∷ []),
+      sum_one (fold_stmt size_steps (taken form)),
+      eq.fold_block-roll size_steps [],
+      eq.fold_stmt-Assign size_steps form.let_at assigns.Set (exprs.Use whole) (exprs.Use part),
+      read_is (eq.fold_expr-Use size_steps whole),
+      ap (λ (size : ExprSize). size.write) (eq.fold_expr-Use size_steps whole),
+      read_is (eq.fold_expr-Use size_steps part),
+      eq.fold_stmt-Bind size_steps form.mutable form.word.name (Some ty) (exprs.Use last),
+      read_is (eq.fold_expr-Use size_steps last),
+    )
+  where
+    sum_three : (a b c : ℕ) → sum (a ∷ b ∷ c ∷ []) ≡ a + b + c
+    sum_three a b c =
+        omega (
+          arith,
+          sum_by-cons (λ (n : ℕ). n) a (b ∷ c ∷ []),
+          sum_by-cons (λ (n : ℕ). n) b (c ∷ []),
+          sum_one c,
+        )
+
 sizes : (id_of : List ℕ → ℕ) → Weighing id_of
 unfolding block_size
 sizes id_of = record {
-  of_token = of_token;
+  tally = tally_of (besides of_token);
   place = λ at. single;
   entry = λ at. single;
   node = λ name. single;
@@ -92,9 +161,12 @@ sizes id_of = record {
   closure_param = λ param. none;
   task_param = λ param. none;
   closure = λ x k. fold_closure size_steps x;
+  inside = λ it k. sum (map (fold_stmt size_steps) it.body);
   link = λ x k. fold_link size_steps x;
   block = λ x k. fold_block size_steps x;
   stmt = λ x k. fold_stmt size_steps x;
+  stmts = λ all k. sum (map (fold_stmt size_steps) all);
+  for_block = λ name body k. 1 + fold_block size_steps body;
   pattern = λ pattern. single;
   case_arm = λ x k. fold_case_arm size_steps x;
   if_arm = λ x k. fold_if_arm size_steps x;
@@ -105,13 +177,19 @@ sizes id_of = record {
   init = λ init k. init_size init;
   case = λ given. single;
   decl = λ decl k. decl_size decl;
-  of_place = λ token k. omega arith;
-  of_span = λ token short k.
-      omega (arith, short, spread_single (length token.text) token.at k);
-  of_entry = λ token k. omega arith;
-  of_word = λ token _ k. omega arith;
-  of_mark = λ token _ k. omega arith;
+  of_place = λ token other k. omega (arith, besides_is of_token token other k);
+  of_span = λ token other short k.
+      omega (
+        arith,
+        besides_is of_token token other k,
+        short,
+        spread_single (length token.text) token.at k,
+      );
+  of_entry = λ token other k. omega (arith, besides_is of_token token other k);
+  of_word = λ token other _ _ k. omega (arith, besides_is of_token token other k);
+  of_mark = λ token other _ k. omega (arith, besides_is of_token token other k);
   of_node = λ name k. omega arith;
+  of_optional_type = λ name text k. omega arith;
   type-Named = λ name k. omega arith;
   type-Unit = λ at k. omega arith;
   type-Arrow = λ at mark params result k. omega arith;
@@ -150,22 +228,49 @@ sizes id_of = record {
         read_is (eq.fold_expr-Spawn size_steps at detached (closure_at opened body)),
       );
   expr-Yield = λ at k. omega (arith, read_is (eq.fold_expr-Yield size_steps at));
+  expr-None = λ at text _ k.
+      let word = name_at at (id_of (codes "none")) in
+      let of = id_of (optional_text text) in
+      omega (
+        arith,
+        read_is (eq.fold_expr-Member size_steps (use_at (suc at) of) word),
+        read_is (eq.fold_expr-Use size_steps (name_at (suc at) of)),
+      );
+  expr-Some = λ at text value _ k. some_sizes (id_of (codes "some")) (id_of (optional_text text))
+      at value;
+  expr-Optional = λ at k.
+      omega (arith, read_is (eq.fold_expr-Use size_steps (name_at at (id_of (codes "Optional")))));
   arg-roll = λ name value k. omega (arith, eq.fold_arg-roll size_steps name value);
   closure_param-is = λ given k. omega arith;
-  closure-roll = λ at mark captures params result body k.
+  inside-is = λ it _ k. omega arith;
+  closure-opened = λ at it _ k.
+      let body = roll-Block (record { stmts = it.body }) in
       omega (
         arith,
-        eq.fold_closure-roll size_steps at mark captures params result body,
+        eq.fold_closure-roll size_steps at it.mark it.captures it.params it.result body,
+        eq.fold_block-roll size_steps it.body,
       );
   link-roll = λ op at operand k. omega (arith, eq.fold_link-roll size_steps op at operand);
-  block-roll = λ body k.
+  block-roll = λ body k. omega (arith, eq.fold_block-roll size_steps body);
+  stmts-nil = λ k. omega arith;
+  stmts-one = λ one k. omega (arith, sum_by-cons (λ (n : ℕ). n) (fold_stmt size_steps one) []);
+  stmts-append = λ xs ys _ k.
       omega (
         arith,
-        eq.fold_block-roll size_steps body,
-        in_sum (fold_stmt size_steps) body k,
+        in_sum (fold_stmt size_steps) (xs ++ ys) k,
+        in_sum (fold_stmt size_steps) xs k,
+        in_sum (fold_stmt size_steps) ys k,
+        in_all-append (λ x k. fold_stmt size_steps x) xs ys k,
       );
   stmt-Bind = λ mutable name ty value k.
       omega (arith, eq.fold_stmt-Bind size_steps mutable name ty value);
+  stmts-Or = λ binding _ _ _ _ colon_at ty eq_at value or k.
+      omega (
+        arith,
+        or_sizes (or_literal_form id_of binding.word.text binding.mutable binding.word.name
+            binding.let_at colon_at eq_at or.op_at) ty value or.other,
+        spread_single 3 binding.let_at k,
+      );
   stmt-Assign = λ at op first value is k.
       omega (
         arith,
@@ -199,7 +304,11 @@ sizes id_of = record {
   stmt-Plain = λ value k. omega (arith, eq.fold_stmt-Plain size_steps value);
   pattern-Skip = λ at k. omega arith;
   pattern-Let = λ name k. omega arith;
-  case_arm-roll = λ name given body k.
+  for_block-is = λ name body _ k. omega arith;
+  arm-Some = λ at name body k.
+      let some = name_at at (id_of (codes "some")) in
+      omega (arith, eq.fold_case_arm-roll size_steps some (patterns.Let name ∷ []) body);
+  case_arm-roll = λ name given body _ k.
       omega (arith, eq.fold_case_arm-roll size_steps name given body, in_length given k);
   if_arm-roll = λ at cond body k.
       omega (arith, eq.fold_if_arm-roll size_steps at cond body);
@@ -209,23 +318,23 @@ sizes id_of = record {
   written-Concurrent = λ k. omega arith;
   written-Nonsending = λ k. omega arith;
   param-is = λ given k. omega arith;
-  func-is = λ given k. omega arith;
+  func-is = λ given _ k. omega arith;
   prop-is = λ given k. omega (arith, in_value given.value k);
-  init-is = λ given k. omega arith;
+  init-is = λ given _ k. omega arith;
   case-is = λ given k. omega arith;
   decl-Entry = λ word mark at is_async body k. omega arith;
-  decl-Struct = λ word conforms fields funcs k.
+  decl-Struct = λ word conforms fields funcs _ k.
       omega (arith, in_sum_by prop_size fields k, in_sum_by func_size funcs k);
-  decl-Enum = λ word conforms given funcs k.
+  decl-Enum = λ word conforms given funcs _ k.
       omega (arith, in_length given k, in_sum_by func_size funcs k);
-  decl-Class = λ mark word conforms props inits funcs k.
+  decl-Class = λ mark word conforms props inits funcs _ k.
       omega (
         arith,
         in_sum_by prop_size props k,
         in_sum_by init_size inits k,
         in_sum_by func_size funcs k,
       );
-  decl-Actor = λ word props inits funcs k.
+  decl-Actor = λ word props inits funcs _ k.
       omega (
         arith,
         in_sum_by prop_size props k,
@@ -242,11 +351,16 @@ unfolding in_all
 all_of_tokens [] k = refl
 all_of_tokens (token ∷ tokens) k = omega (arith, all_of_tokens tokens k)
 
+-- the enum of an optional, with two cases
+enum_small : (id_of : List ℕ → ℕ) (one : Marked) → decl_size (enum_of id_of one) ≤ 16
+enum_small id_of one = omega arith
+
 -- Each token gives sixteen at most to the size of the declarations.
 pub spelled_are_small : (id_of : List ℕ → ℕ) (decls : List Decl) (tokens : List Spelled)
     → Spells id_of decls tokens → size_of decls ≤ 16 * length tokens
 unfolding size_of sizes
 spelled_are_small id_of decls tokens spells =
     let less : in_all (λ (decl : Decl) k. decl_size decl) decls 0 ≤ in_all of_token tokens 0
-    = owned (sizes id_of) decls tokens spells.form 0 in
+    = owned (sizes id_of) of_token (λ token k. omega arith) (λ one k. enum_small id_of one)
+    decls tokens refl spells 0 in
     omega (arith, less, in_sum_by decl_size decls 0, all_of_tokens tokens 0)

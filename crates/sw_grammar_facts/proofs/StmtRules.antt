@@ -1,239 +1,437 @@
 -- What statements weigh.
-use Rattle.std.proofs.Common.{◌≡◌, ℕ, Bool, true, false, not, List, [], ◌∷◌, None}
-use Rattle.std.proofs.Common.{Some, codes, refl, arith}
-use Rattle.sw_grammar_forms.specs.Relations.{Relation, One, may_start, stays}
-use Rattle.sw_grammar_forms.specs.Sets.{word}
+use Rattle.std.proofs.Common.{◌≡◌, ℕ, ◌+◌, ◌≤◌, Bool, true, false, not, IsTrue, List, [], ◌∷◌, ◌++◌}
+use Rattle.std.proofs.Common.{Option, None, Some, codes, refl, subst, arith}
+use Rattle.std.proofs.lemmas.List.{flat_map_more}
+use Rattle.sw_token.specs.Spelling.{Spelled}
+use Rattle.sw_grammar_forms.proofs.Rising.{HasTokenText}
+use Rattle.sw_grammar_forms.specs.Quotes.{quote}
+use Rattle.sw_grammar_forms.specs.Relations.{Relation, One, may_start, spelled, stays}
+use Rattle.sw_grammar_forms.specs.Sets.{has, quoted, word}
 use Rattle.sw_grammar_forms.specs.Terminals.{items}
 use Rattle.sw_tree.specs.Place.{is_place}
-use Rattle.sw_tree.proofs.Counting.{in_all, in_option, in_all-append, in_all-flat_map}
+use Rattle.sw_tree.proofs.Counting.{Weight, in_all, in_option, in_all-append}
 use Rattle.sw_tree.specs.declared.expr.Expr.{Expr}
 use Rattle.sw_tree.specs.declared.expr.Expr.TheVariants as exprs
+use Rattle.sw_tree.specs.declared.stmt.IfArm.{IfArm}
 use Rattle.sw_tree.specs.declared.stmt.Stmt.{Stmt}
-use Rattle.sw_grammar_facts.proofs.Owning.{none, Owns, own_done, own_token, own_then, own_either}
-use Rattle.sw_grammar_facts.proofs.Owning.{own_only, own_past, own_turns, own_with, own_from, own_when}
-use Rattle.sw_grammar_facts.proofs.Owning.{own_passing, own_more, own_items, own_some_items}
-use Rattle.sw_grammar.specs.Around.{Around}
-use Rattle.sw_grammar.specs.Nests.{Nest, El, shape_of}
-use Rattle.sw_grammar.specs.Nests.Nest.{in_block, in_switch, in_patterns}
-use Rattle.sw_grammar.specs.Tokens.{value_word, an_assignment}
-use Rattle.sw_grammar.specs.Stmts.{joined, block_of, case_arm, Arms, Cases, block, value, type_if}
+use Rattle.sw_tree.specs.declared.stmt.Stmt.TheVariants as stmts
+use Rattle.sw_tree.specs.declared.type_tree.TypeTree.{TypeTree}
+use Rattle.sw_sugar.specs.Optionals.{some_arm}
+use Rattle.sw_grammar.specs.Around.{Around, returning, with_break, without_break}
+use Rattle.sw_grammar.specs.Closures.{inside_of}
+use Rattle.sw_grammar.specs.Nests.{Nest, El, IfLet, shape_of}
+use Rattle.sw_grammar.specs.Nests.Nest.{in_block, in_if_let, in_switch, in_patterns}
+use Rattle.sw_grammar.specs.Tokens.{name_of, value_word, an_assignment, assign_ops}
+use Rattle.sw_grammar.specs.Types.{Typed, wanted_of}
+use Rattle.sw_grammar.specs.Stmts.{joined, block_of, case_arm, if_arm, Arms, Binding, Cases, Next, Or}
+use Rattle.sw_grammar.specs.Stmts.Next.{arm_at, no_more, other_block, last_stmt}
+use Rattle.sw_grammar.specs.Stmts.{is_arm, has_next, place_of, if_with, if_let_of, bound, word_in}
+use Rattle.sw_grammar.specs.Stmts.{block, value, type_if, literal_if, typed_binding, after_binding}
 use Rattle.sw_grammar.specs.Stmts.{binding, bind, discard, after_place, word_stmt, self_stmt}
-use Rattle.sw_grammar.specs.Stmts.{task_stmt, plain_stmt, arm, else_part, if_stmt, while_stmt}
-use Rattle.sw_grammar.specs.Stmts.{switch_stmt, return_stmt, break_stmt, continue_stmt}
-use Rattle.sw_grammar.specs.Stmts.{other_stmt, stmt, statements, closure_inside, task_inside, pattern}
-use Rattle.sw_grammar.specs.Stmts.{patterns_inside, patterns_if, arm_body, case_part, default_part}
-use Rattle.sw_grammar.specs.Stmts.{switch_inside}
-use Rattle.sw_grammar_facts.proofs.Weighing.{Weighing}
-use Rattle.sw_grammar_facts.proofs.NestWeights.{weight, inside, tasked, armed, cased}
-use Rattle.sw_grammar_facts.proofs.TypeRules.{Keeps, own_some_of, own_quote, own_name, own_opened}
-use Rattle.sw_grammar_facts.proofs.TypeRules.{own_type}
+use Rattle.sw_grammar.specs.Stmts.{task_stmt, plain_stmt, if_let, after_arm, next_arm, last_arm}
+use Rattle.sw_grammar.specs.Stmts.{if_stmt, while_stmt, switch_stmt, return_stmt, break_stmt}
+use Rattle.sw_grammar.specs.Stmts.{continue_stmt, other_stmt, stmt, statements, closure_inside}
+use Rattle.sw_grammar.specs.Stmts.{task_inside, pattern, patterns_inside, patterns_if, arm_body}
+use Rattle.sw_grammar.specs.Stmts.{case_part, default_part, switch_inside, later_arms, if_let_inside}
+use Rattle.sw_grammar_facts.proofs.ClosureRules.{own_header, own_task_header}
 use Rattle.sw_grammar_facts.proofs.ExprRules.{own_after_word, own_after_operand, own_a_literal}
 use Rattle.sw_grammar_facts.proofs.ExprRules.{own_after_task, own_negated, own_more_operands}
 use Rattle.sw_grammar_facts.proofs.ExprRules.{own_awaited, own_expr}
-use Rattle.sw_grammar_facts.proofs.ClosureRules.{own_header, own_task_header}
+use Rattle.sw_grammar_facts.proofs.NestWeights.{weight, of_typed_if, tasked, cased, if_let_weight}
+use Rattle.sw_grammar_facts.proofs.Owning.{none, Owns, InTurn, OwnsAfter, in_turn, own_after_any}
+use Rattle.sw_grammar_facts.proofs.Owning.{own_after_either, own_anywhere, own_at, own_chosen}
+use Rattle.sw_grammar_facts.proofs.Owning.{own_done, own_either, own_from, own_items_by, own_only}
+use Rattle.sw_grammar_facts.proofs.Owning.{own_part, own_passing, own_past, own_past_at, own_read}
+use Rattle.sw_grammar_facts.proofs.Owning.{own_read_next, own_some_items_by, own_then, own_token}
+use Rattle.sw_grammar_facts.proofs.Owning.{own_turns, own_when, own_with, part_of_less, part_rises}
+use Rattle.sw_grammar_facts.proofs.Questions.{other_of}
+use Rattle.sw_grammar_facts.proofs.Spread.{spread}
+use Rattle.sw_grammar_facts.proofs.TypeRules.{Keeps, own_some_of, own_quote, own_name, own_opened}
+use Rattle.sw_grammar_facts.proofs.TypeRules.{own_whole, own_written_type}
+use Rattle.sw_grammar_facts.proofs.Unmarked.{fits, wants_word}
+use Rattle.sw_grammar_facts.proofs.ValueRules.{own_equals, own_value_in}
+use Rattle.sw_grammar_facts.proofs.Wanted.{own_part_knowing, own_then_knowing, want_header}
+use Rattle.sw_grammar_facts.proofs.Wanted.{want_task_header, want_written_type}
+use Rattle.sw_grammar_facts.proofs.Weighing.{IsTyped, Weighing}
 
-module _ {around : Around} (w : Weighing around.id_of) (table : (n : Nest) → Relation (El n))
-    (nests : (n : Nest) → Owns w.of_token none (table n) (weight w n)) where
+-- What an optional's other value weighs, and the words of a variable with a type.
+module _ {id_of : List ℕ → ℕ} (w : Weighing id_of) where
+  abbrev or_weight : Or → Weight
+  or_weight or k = spread w.place 2 or.op_at k + w.expr or.other k
+
+  abbrev words_weight : Binding → ℕ → Weight
+  words_weight binding colon_at k =
+      spread w.place 3 binding.let_at k + w.node binding.word.name k + w.place colon_at k
+
+  -- the arms of an `if` that are read, and what comes after them
+  abbrev next_weight : Next → Weight
+  next_weight (arm_at at) = w.place at
+  next_weight no_more = none
+  next_weight (other_block body) = w.block body
+  next_weight (last_stmt rest) = w.stmt rest
+
+  abbrev armed : Arms → Weight
+  armed arms k = in_all w.if_arm arms.arms k + next_weight arms.next k
+
+  -- the place of the `if` of another arm
+  place_paid : (next : Next) → IsTrue (is_arm next) → (k : ℕ)
+      → w.place (place_of next) k ≤ next_weight next k
+  place_paid (arm_at at) is k = omega arith
+  place_paid no_more is k = absurd (cc)
+  place_paid (other_block body) is k = absurd (cc)
+  place_paid (last_stmt rest) is k = absurd (cc)
+
+  if_weighs : (arms : List IfArm) (next : Next) (k : ℕ)
+      → w.stmt (if_with arms next) k ≤ in_all w.if_arm arms k + next_weight next k
+  unfolding in_option in_all
+  if_weighs [] (arm_at at) k = omega (arith, w.stmt-If [] None k)
+  if_weighs [] no_more k = omega (arith, w.stmt-If [] None k)
+  if_weighs [] (other_block body) k = omega (arith, w.stmt-If [] (Some body) k)
+  if_weighs [] (last_stmt rest) k = omega arith
+  if_weighs (arm ∷ arms) (arm_at at) k = omega (arith, w.stmt-If (arm ∷ arms) None k)
+  if_weighs (arm ∷ arms) no_more k = omega (arith, w.stmt-If (arm ∷ arms) None k)
+  if_weighs (arm ∷ arms) (other_block body) k =
+      omega (arith, w.stmt-If (arm ∷ arms) (Some body) k)
+  if_weighs (arm ∷ arms) (last_stmt rest) k =
+      omega (
+        arith,
+        w.stmt-If (arm ∷ arms) (Some (block_of (rest ∷ []))) k,
+        w.block-roll (rest ∷ []) k,
+        w.stmts-one rest k,
+      )
+
+module _ (around : Around) (w : Weighing around.id_of) where
+  bound_weighs : (binding : Binding) (word_token colon : Spelled)
+      → IsTyped around.id_of binding word_token colon
+      → IsTrue (w.tally.known (word_token ∷ colon ∷ [])) → (colon_at : ℕ) (ty : TypeTree)
+      → (eq_at : ℕ) (value : Expr) (or : Option Or) (k : ℕ)
+      → w.stmts (bound around binding colon_at ty eq_at value or) k
+      ≤ words_weight w binding colon_at k + w.type ty k + w.place eq_at k + w.expr value k
+      + in_option (or_weight w) or k
+  unfolding in_option
+  bound_weighs binding word_token colon typed known colon_at ty eq_at value None k =
+      let one = stmts.Bind binding.mutable binding.word.name (Some ty) value in
+      omega (
+        arith,
+        w.stmts-one one k,
+        w.stmt-Bind binding.mutable binding.word.name (Some ty) value k,
+      )
+  bound_weighs binding word_token colon typed known colon_at ty eq_at value (Some or) k =
+      omega (
+        arith,
+        w.stmts-Or binding word_token colon typed known colon_at ty eq_at value or k,
+      )
+
+  if_let_weighs : (at let_at : ℕ) (it : IfLet) (k : ℕ)
+      → w.stmt (if_let_of around at let_at it) k
+      ≤ w.place at k + w.place let_at k + if_let_weight w it k
+  unfolding in_all in_option
+  if_let_weighs at let_at it k =
+      let arm = some_arm (around.id_of (codes "some")) let_at it.name it.chosen in
+      omega (
+        arith,
+        w.stmt-Switch at it.subject (arm ∷ []) (Some it.otherwise) k,
+        w.arm-Some let_at it.name it.chosen k,
+      )
+
+module _ (around : Around) (w : Weighing around.id_of) (table : (n : Nest) → Relation (El n))
+    (nests : (n : Nest) → IsTrue (fits n) → Owns w.tally none (table n) (weight w n))
+    (fit : IsTrue (wants_word around.here.wanted)) where
   pub own_block : Keeps w table (block around) none w.block
   unfolding block
   own_block =
-      own_then _ _ (own_opened w table nests (codes "{") in_block) (λ body. own_done _ (λ k.
-      omega (arith, w.block-roll body.1 k)))
+      own_then _ _ (own_opened w table nests (codes "{") refl (in_block around.here) fit) (λ body.
+      own_done _ (λ k. omega (arith, w.block-roll body.1 k)))
 
   pub own_value : Keeps w table (value around) none w.expr
   unfolding value
   own_value =
-      own_past _ (λ _. own_then _ _ (own_expr w table nests true) (λ given.
+      own_past _ (λ _. own_then _ _ (own_expr around w table nests fit true) (λ given.
       own_done _ (λ k. omega arith)))
 
-  pub own_type_if : Keeps w table (type_if around) none (in_option w.type)
+  pub own_type_if : Keeps w table (type_if around) none (of_typed_if w)
   unfolding type_if in_option
   own_type_if =
-      own_either _ (own_past _ (λ _. own_then _ _ (own_type w table nests) (λ written.
+      own_either _ (own_past _ (λ _. own_then _ _ (own_written_type around w table nests) (λ written.
       own_done _ (λ k. omega arith)))) (own_done _ (λ k. omega arith))
 
-  own_binding : (mutable : Bool) → Keeps w table (binding around mutable) none (in_all w.stmt)
-  unfolding binding in_all
-  own_binding mutable =
-      own_then _ _ (own_name w table word (codes "print") refl) (λ name.
-      own_then _ _ own_type_if (λ written. own_then _ _ own_value (λ given. own_done _ (λ k.
-      omega (arith, w.stmt-Bind mutable name written given k)))))
+  own_literal_if : (is_plain : Bool)
+      → Keeps w table (literal_if around is_plain) none (in_option (or_weight w))
+  unfolding literal_if in_option
+  own_literal_if is_plain =
+      own_when _ is_plain (λ _. own_then _ _ (own_whole w table (codes "??") refl refl) (λ op_at.
+      own_then _ _ (own_a_literal around w table nests fit) (λ other. own_done _ (λ k. omega arith))))
+      (own_done _ (λ k. omega arith))
 
-  own_bind : Keeps w table (bind around) none (in_all w.stmt)
+  own_typed_binding : (binding : Binding) (word_token colon : Spelled)
+      → IsTyped around.id_of binding word_token colon
+      → IsTrue (w.tally.known (word_token ∷ colon ∷ [])) → (colon_at : ℕ) (written : Typed)
+      → IsTrue (wants_word written.wanted)
+      → Keeps w table (typed_binding around binding colon_at written)
+      (λ k. words_weight w binding colon_at k + w.type written.tree k) w.stmts
+  unfolding typed_binding
+  own_typed_binding binding word_token colon typed known colon_at written wants =
+      own_then _ _ (own_equals w) (λ eq_at.
+      own_then _ _ (own_value_in around w table nests fit written.wanted wants) (λ given.
+      own_then _ _ (own_literal_if given.is_plain) (λ or. own_done _ (λ k.
+      omega (
+        arith,
+        bound_weighs around w binding word_token colon typed known colon_at written.tree eq_at
+            given.value or k,
+      )))))
+
+  own_after_binding : (binding : Binding) (word_token : Spelled) → HasTokenText word_token
+      → IsTrue (has word word_token) → binding.word.text ≡ word_token.text
+      → binding.word.name ≡ name_of around.id_of word_token
+      → OwnsAfter w.tally word_token
+      (λ k. spread w.place 3 binding.let_at k + w.node binding.word.name k)
+      (spelled El shape_of table (after_binding around binding)) w.stmts
+  unfolding after_binding in_option
+  own_after_binding binding word_token whole is_word text name =
+      own_after_either _ (own_read_next _ (quote (codes ":")) w.place
+      (λ token _ member k. w.of_place token (other_of (quoted (codes ":")) token refl member) k)
+      (λ colon is_colon known.
+      own_then_knowing w.tally _ (want_written_type around table)
+      (own_written_type around w table nests) (λ written wants.
+      own_with _ (λ k. omega arith) (own_typed_binding binding word_token colon (record {
+        whole_text = whole;
+        is_word = is_word;
+        is_colon = is_colon;
+        text = text;
+        name = name;
+      }) known colon.at written wants))))
+      (own_after_any _ (own_then _ _ own_value (λ given. own_done _ (λ k.
+      omega (
+        arith,
+        w.stmts-one (stmts.Bind binding.mutable binding.word.name None given) k,
+        w.stmt-Bind binding.mutable binding.word.name None given k,
+      )))))
+
+  own_binding : (mutable : Bool) (let_at : ℕ)
+      → Keeps w table (binding around mutable let_at) (spread w.place 3 let_at) w.stmts
+  unfolding binding
+  own_binding mutable let_at =
+      own_read _ (word_in around) (λ found. w.node found.name)
+      (λ token whole member k.
+      omega (arith, w.of_word token (other_of word token refl member) whole member k))
+      (λ token whole member. own_after_binding (record {
+        mutable = mutable;
+        let_at = let_at;
+        word = record { name = name_of around.id_of token; text = token.text };
+      }) token whole member refl refl)
+
+  own_bind : Keeps w table (bind around) none w.stmts
   unfolding bind
-  own_bind = own_either _ (own_past _ (λ _. own_binding false)) (own_past _ (λ _. own_binding true))
+  own_bind =
+      own_either _ (own_then _ _ (own_whole w table (codes "let") refl refl) (λ at.
+      own_with _ (λ k. omega arith) (own_binding false at)))
+      (own_then _ _ (own_whole w table (codes "var") refl refl) (λ at.
+      own_with _ (λ k. omega arith) (own_binding true at)))
 
   own_discard : Keeps w table (discard around) none w.stmt
   unfolding discard
   own_discard =
-      own_then _ _ (own_quote w table (codes "_")) (λ at. own_then _ _ own_value (λ given.
+      own_then _ _ (own_quote w table (codes "_") refl) (λ at. own_then _ _ own_value (λ given.
       own_done _ (λ k. omega (arith, w.stmt-Discard at given k))))
 
-  own_assignment : Owns w.of_token none (One an_assignment) (λ op. w.place op.1)
-  own_assignment = own_token _ an_assignment (λ token _ k. w.of_place token k)
+  own_assignment : Owns w.tally none (One an_assignment) (λ op. w.place op.1)
+  own_assignment =
+      own_token _ an_assignment
+      (λ token member k. w.of_place token (other_of assign_ops token refl member) k)
 
   own_after_place : (first : Expr) → Keeps w table (after_place around first) (w.expr first) w.stmt
   unfolding after_place
   own_after_place first =
       own_when _ (is_place first) (λ is. own_then _ _ own_assignment (λ op.
-      own_then _ _ (own_expr w table nests true) (λ given. own_done _ (λ k.
+      own_then _ _ (own_expr around w table nests fit true) (λ given. own_done _ (λ k.
       omega (arith, w.stmt-Assign op.1 op.0 first given is k)))))
-      (own_from _ none w.expr (λ k. omega arith) (own_more_operands w table nests true first)
+      (own_from _ none w.expr (λ k. omega arith) (own_more_operands around w table nests fit true first)
       (λ whole. own_done _ (λ k. omega (arith, w.stmt-Plain whole k))))
 
   own_word_stmt : Keeps w table (word_stmt around) none w.stmt
   unfolding word_stmt
   own_word_stmt =
-      own_then _ _ (own_name w table value_word (codes "print") refl) (λ name.
-      own_from _ none w.expr (λ k. omega arith) (own_after_word w table nests name) (λ first.
+      own_then _ _ (own_name around w table value_word (codes "print") refl) (λ name.
+      own_from _ none w.expr (λ k. omega arith) (own_after_word around w table nests fit name) (λ first.
       own_with _ (λ k. omega arith) (own_after_place first)))
 
   own_self_stmt : Keeps w table (self_stmt around) none w.stmt
   unfolding self_stmt
   own_self_stmt =
-      own_then _ _ (own_quote w table (codes "self")) (λ at.
+      own_then _ _ (own_quote w table (codes "self") refl) (λ at.
       own_from _ none w.expr (λ k. omega (arith, w.expr-Me at k))
-      (own_after_operand w table nests (exprs.Me at)) (λ first.
+      (own_after_operand around w table nests fit (exprs.Me at)) (λ first.
       own_with _ (λ k. omega arith) (own_after_place first)))
 
   own_task_stmt : Keeps w table (task_stmt around) none w.stmt
   unfolding task_stmt
   own_task_stmt =
-      own_then _ _ (own_quote w table (codes "Task")) (λ at.
-      own_from _ none w.expr (λ k. omega arith) (own_after_task w table nests true at) (λ base.
-      own_from _ none w.expr (λ k. omega arith) (own_after_operand w table nests base) (λ first.
-      own_from _ none w.expr (λ k. omega arith) (own_more_operands w table nests true first)
+      own_then _ _ (own_quote w table (codes "Task") refl) (λ at.
+      own_from _ none w.expr (λ k. omega arith) (own_after_task around w table nests fit true at) (λ base.
+      own_from _ none w.expr (λ k. omega arith) (own_after_operand around w table nests fit base) (λ first.
+      own_from _ none w.expr (λ k. omega arith) (own_more_operands around w table nests fit true first)
       (λ whole. own_done _ (λ k. omega (arith, w.stmt-Plain whole k))))))
 
   own_plain_stmt : Keeps w table (plain_stmt around) none w.stmt
   unfolding plain_stmt
   own_plain_stmt =
-      own_then _ w.expr (own_either _ (own_awaited w table nests true) (own_then _ _
-      (own_either _ (own_negated w table nests true)
-      (own_then _ _ (own_a_literal w table nests) (λ base.
-      own_with _ (λ k. omega arith) (own_after_operand w table nests base))))
-      (λ first. own_with _ (λ k. omega arith) (own_more_operands w table nests true first))))
+      own_then _ w.expr (own_either _ (own_awaited around w table nests fit true) (own_then _ _
+      (own_either _ (own_negated around w table nests fit true)
+      (own_then _ _ (own_a_literal around w table nests fit) (λ base.
+      own_with _ (λ k. omega arith) (own_after_operand around w table nests fit base))))
+      (λ first. own_with _ (λ k. omega arith) (own_more_operands around w table nests fit true first))))
       (λ whole. own_done _ (λ k. omega (arith, w.stmt-Plain whole k)))
 
-  own_arm : Keeps w table (arm around) none w.if_arm
-  unfolding arm
-  own_arm =
-      own_then _ _ (own_quote w table (codes "if")) (λ at.
-      own_then _ _ (own_expr w table nests false) (λ cond. own_then _ _ own_block (λ body.
-      own_done _ (λ k. omega (arith, w.if_arm-roll at cond body k)))))
+  own_if_let : (at : ℕ) → Keeps w table (if_let around at) (w.place at) w.stmt
+  unfolding if_let
+  own_if_let at =
+      own_then _ _ (own_opened w table nests (codes "let") refl (in_if_let around.here) fit)
+      (λ inside. own_done _ (λ k. omega (arith, if_let_weighs around w at inside.0 inside.1 k)))
 
-  own_else_part : (arms : Arms) → Keeps w table (else_part around arms) (armed w arms) (armed w)
-  unfolding else_part in_all in_option
-  own_else_part arms =
-      own_past _ (λ _. own_either _ (own_then _ _ own_arm (λ next. own_done _ (λ k.
-      omega (arith, in_all-append w.if_arm arms.0 (next ∷ []) k))))
-      (own_then _ _ own_block (λ body. own_done _ (λ k. omega arith))))
+  own_after_arm : (arms : List IfArm)
+      → Keeps w table (after_arm around arms) (in_all w.if_arm arms) (armed w)
+  unfolding after_arm
+  own_after_arm arms =
+      own_either _ (own_past _ (λ _. own_either _
+      (own_then _ _ (own_quote w table (codes "if") refl) (λ at. own_done _ (λ k. omega arith)))
+      (own_then _ _ own_block (λ body. own_done _ (λ k. omega arith)))))
+      (own_done _ (λ k. omega arith))
 
-  own_if_stmt : Keeps w table (if_stmt around) none w.stmt
-  unfolding if_stmt in_all in_option
+  own_next_arm : (arms : Arms) → IsTrue (has_next arms)
+      → Keeps w table (next_arm around arms) (armed w arms) (armed w)
+  unfolding next_arm in_all
+  own_next_arm arms is =
+      own_then _ _ (own_expr around w table nests fit false) (λ cond. own_then _ _ own_block (λ body.
+      let one = if_arm (place_of arms.next) cond body in
+      own_with _ (λ k. omega (
+        arith,
+        in_all-append w.if_arm arms.arms (one ∷ []) k,
+        w.if_arm-roll (place_of arms.next) cond body k,
+        place_paid w arms.next is k,
+      )) (own_after_arm (arms.arms ++ one ∷ []))))
+
+  own_last_arm : (arms : Arms) → IsTrue (has_next arms)
+      → Keeps w table (last_arm around arms) (armed w arms) (armed w)
+  unfolding last_arm
+  own_last_arm arms is =
+      own_from _ (in_all w.if_arm arms.arms) w.stmt
+      (λ k. omega (arith, place_paid w arms.next is k)) (own_if_let (place_of arms.next)) (λ rest.
+      own_done _ (λ k. omega arith))
+
+  pub own_if_stmt : Keeps w table (if_stmt around) none w.stmt
+  unfolding if_stmt in_all
   own_if_stmt =
-      own_then _ _ own_arm (λ first. own_from _ none (armed w) (λ k. omega arith)
-      (own_turns _ {w = armed w} (λ arms. own_only _ _ (own_else_part arms)) (first ∷ [], None))
-      (λ arms. own_done _ (λ k. omega (arith, w.stmt-If arms.0 arms.1 k))))
+      own_then _ _ (own_quote w table (codes "if") refl) (λ at.
+      let start : Arms = record { arms = []; next = arm_at at } in
+      own_from _ {start = armed w start} none (armed w) (λ k. omega arith)
+      (own_from _ {start = armed w start} none (armed w) (λ k. omega arith)
+      (own_turns _ {w = armed w} (λ arms. own_only _ (has_next arms) (own_next_arm arms))
+      start)
+      (λ arms. own_chosen _ (has_next arms)
+      (λ is. own_with _ (λ k. omega arith) (own_last_arm arms is))
+      (own_done _ (λ k. omega arith))))
+      (λ arms. own_done _ (λ k. omega (arith, if_weighs w arms.arms arms.next k))))
 
   own_while_stmt : Keeps w table (while_stmt around) none w.stmt
   unfolding while_stmt
   own_while_stmt =
-      own_then _ _ (own_quote w table (codes "while")) (λ at.
-      own_then _ _ (own_expr w table nests false) (λ cond. own_then _ _ own_block (λ body.
-      own_done _ (λ k. omega (arith, w.stmt-While at cond body k)))))
+      own_then _ _ (own_quote w table (codes "while") refl) (λ at.
+      own_then _ _ (own_expr around w table nests fit false) (λ cond.
+      own_then _ _ (own_opened w table nests (codes "{") refl
+      (in_block (with_break around).here) fit) (λ body. own_done _ (λ k.
+      omega (
+        arith,
+        w.stmt-While at cond (block_of body.1) k,
+        w.block-roll body.1 k,
+      )))))
 
   own_switch_stmt : Keeps w table (switch_stmt around) none w.stmt
   unfolding switch_stmt
   own_switch_stmt =
-      own_then _ _ (own_quote w table (codes "switch")) (λ at.
-      own_then _ _ (own_expr w table nests false) (λ subject.
-      own_then _ _ (own_opened w table nests (codes "{") in_switch) (λ arms. own_done _ (λ k.
+      own_then _ _ (own_quote w table (codes "switch") refl) (λ at.
+      own_then _ _ (own_expr around w table nests fit false) (λ subject.
+      own_then _ _ (own_opened w table nests (codes "{") refl
+      (in_switch (with_break around).here) fit) (λ arms. own_done _ (λ k.
       omega (arith, w.stmt-Switch at subject arms.1.0 arms.1.1 k)))))
 
   own_return_stmt : Keeps w table (return_stmt around) none w.stmt
   unfolding return_stmt in_option
   own_return_stmt =
-      own_then _ _ (own_quote w table (codes "return")) (λ at. own_either _
-      (own_then _ _ (own_passing _ stays (own_expr w table nests true)) (λ given.
-      own_done _ (λ k. omega (arith, w.stmt-Return at (Some given) k))))
+      own_then _ _ (own_quote w table (codes "return") refl) (λ at. own_either _
+      (own_then _ _ (own_passing _ stays
+      (own_value_in around w table nests fit around.here.wanted fit)) (λ given.
+      own_done _ (λ k. omega (arith, w.stmt-Return at (Some given.value) k))))
       (own_done _ (λ k. omega (arith, w.stmt-Return at None k))))
 
   own_break_stmt : Keeps w table (break_stmt around) none w.stmt
   unfolding break_stmt
   own_break_stmt =
-      own_then _ _ (own_quote w table (codes "break")) (λ at. own_done _ (λ k.
+      own_then _ _ (own_quote w table (codes "break") refl) (λ at. own_done _ (λ k.
       omega (arith, w.stmt-Break at k)))
 
   own_continue_stmt : Keeps w table (continue_stmt around) none w.stmt
   unfolding continue_stmt
   own_continue_stmt =
-      own_then _ _ (own_quote w table (codes "continue")) (λ at. own_done _ (λ k.
+      own_then _ _ (own_quote w table (codes "continue") refl) (λ at. own_done _ (λ k.
       omega (arith, w.stmt-Continue at k)))
 
   own_other_stmt : Keeps w table (other_stmt around) none w.stmt
   unfolding other_stmt
   own_other_stmt =
-      own_either _ own_discard (own_either _ own_if_stmt
-      (own_either _ own_while_stmt (own_either _ own_switch_stmt (own_either _ own_return_stmt
-      (own_either _ own_break_stmt (own_either _ own_continue_stmt (own_either _ own_word_stmt
+      own_when _ (not around.here.no_break) (λ _. own_break_stmt) (own_either _ own_discard
+      (own_either _ own_if_stmt (own_either _ own_while_stmt (own_either _ own_switch_stmt
+      (own_either _ own_return_stmt (own_either _ own_continue_stmt (own_either _ own_word_stmt
       (own_either _ own_self_stmt (own_either _ own_task_stmt own_plain_stmt)))))))))
 
-  own_stmt : Keeps w table (stmt around) none (in_all w.stmt)
-  unfolding stmt in_all
+  own_stmt : Keeps w table (stmt around) none w.stmts
+  unfolding stmt
   own_stmt =
-      own_either _ own_bind (own_then _ _ own_other_stmt (λ other. own_done _ (λ k. omega arith)))
+      own_either _ own_bind (own_then _ _ own_other_stmt (λ other. own_done _ (λ k.
+      omega (arith, w.stmts-one other k))))
 
-  -- statements that are joined weigh what they weigh one by one
-  joined_weigh : (parts : List (List Stmt)) (k : ℕ)
-      → in_all w.stmt (joined parts) k ≡ in_all (in_all w.stmt) parts k
-  joined_weigh parts k = in_all-flat_map w.stmt (λ part. part) parts k
+  -- what the statements of the text stand for so far, and what the next one does
+  joined_more : (parts : List (List Stmt)) (part : List Stmt)
+      → InTurn w.tally (w.stmts (joined parts)) (w.stmts part) → (k : ℕ)
+      → w.stmts (joined (parts ++ part ∷ [])) k ≤ w.stmts (joined parts) k + w.stmts part k
+  joined_more parts part turn k =
+      subst (λ all. w.stmts all k ≤ w.stmts (joined parts) k + w.stmts part k)
+      (flat_map_more (λ (one : List Stmt). one) [] parts part)
+      (w.stmts-append (joined parts) part turn k)
 
-  own_stmts : Keeps w table (items (stmt around)) none (λ read. in_all w.stmt (joined read.0))
+  own_stmts : Keeps w table (items (stmt around)) none (λ read. w.stmts (joined read.0))
   own_stmts =
-      own_more _ (λ k. omega arith) (λ read k. omega (arith, joined_weigh read.0 k))
-      (own_items _ El shape_of table (stmt around) (in_all w.stmt) own_stmt)
+      own_items_by _ El shape_of table (stmt around) w.stmts own_stmt
+      (λ parts. w.stmts (joined parts)) w.stmts-nil joined_more
 
-  pub own_statements : Keeps w table (statements around) none (in_all w.stmt)
+  pub own_statements : Keeps w table (statements around) none w.stmts
   unfolding statements
   own_statements =
       own_then _ _ own_stmts (λ read. own_past _ (λ _. own_done _ (λ k. omega arith)))
 
-  pub own_closure_inside : Keeps w table (closure_inside around) none (inside w)
-  unfolding closure_inside
-  own_closure_inside =
-      own_then _ _ (own_header w table nests) (λ head. own_then _ _ own_stmts (λ read.
-      own_past _ (λ _. own_done _ (λ k. omega arith))))
-
-  pub own_task_inside : Keeps w table (task_inside around) none (tasked w)
-  unfolding task_inside
-  own_task_inside =
-      own_then _ _ (own_task_header w table nests) (λ head. own_then _ _ own_stmts (λ read.
-      own_past _ (λ _. own_done _ (λ k. omega arith))))
-
   own_pattern : Keeps w table (pattern around) none w.pattern
   unfolding pattern
   own_pattern =
-      own_either _ (own_then _ _ (own_quote w table (codes "_")) (λ at. own_done _ (λ k.
+      own_either _ (own_then _ _ (own_quote w table (codes "_") refl) (λ at. own_done _ (λ k.
       omega (arith, w.pattern-Skip at k))))
-      (own_past _ (λ _. own_then _ _ (own_name w table word (codes "print") refl) (λ name.
+      (own_past _ (λ _. own_then _ _ (own_name around w table word (codes "print") refl) (λ name.
       own_done _ (λ k. omega (arith, w.pattern-Let name k)))))
 
   pub own_patterns_inside : Keeps w table (patterns_inside around) none (in_all w.pattern)
   unfolding patterns_inside
-  own_patterns_inside = own_some_of w table (pattern around) w.pattern own_pattern (codes ")")
+  own_patterns_inside = own_some_of around w table (pattern around) w.pattern own_pattern (codes ")")
 
   own_patterns_if : Keeps w table (patterns_if around) none (in_all w.pattern)
   unfolding patterns_if in_all
   own_patterns_if =
-      own_either _ (own_then _ _ (own_opened w table nests (codes "(") in_patterns) (λ given.
+      own_either _ (own_then _ _ (own_opened w table nests (codes "(") refl in_patterns refl) (λ given.
       own_done _ (λ k. omega arith))) (own_done _ (λ k. omega arith))
 
-  own_arm_body : Keeps w table (arm_body around) none (λ read. in_all w.stmt read.0)
+  own_arm_body : Keeps w table (arm_body around) none (λ read. w.stmts read.0)
   unfolding arm_body
   own_arm_body =
-      own_then _ _ (own_some_items _ El shape_of table (stmt around) (in_all w.stmt) own_stmt)
-      (λ read. own_done _ (λ k. omega (arith, joined_weigh read.0 k)))
+      own_then _ _ (own_some_items_by _ El shape_of table (stmt around) w.stmts own_stmt
+      (λ parts. w.stmts (joined parts)) w.stmts-nil joined_more)
+      (λ read. own_done _ (λ k. omega arith))
 
   own_case_part : (cases : Cases)
       → Keeps w table (case_part around cases) (in_all w.case_arm cases.0)
@@ -241,14 +439,16 @@ module _ {around : Around} (w : Weighing around.id_of) (table : (n : Nest) → R
   unfolding case_part in_all
   own_case_part cases =
       own_past _ (λ _. own_past _ (λ _.
-      own_then _ _ (own_name w table word (codes "print") refl) (λ name.
-      own_then _ _ own_patterns_if (λ pats. own_past _ (λ _. own_then _ _ own_arm_body (λ body.
-      own_done _ (λ k. omega (
+      own_then _ _ (own_name around w table word (codes "print") refl) (λ name.
+      own_anywhere _ (λ from. own_part _ _ own_patterns_if (λ pats middle before.
+      own_past_at _ (λ _ next less. own_part _ _ own_arm_body (λ body to after.
+      own_at _ to (own_done _ (λ k. omega (
         arith,
         in_all-append w.case_arm cases.0 (case_arm name pats body.0 ∷ []) k,
-        w.case_arm-roll name pats (block_of body.0) k,
+        w.case_arm-roll name pats (block_of body.0)
+            (in_turn _ before less (part_of_less _ (w.block-roll body.0) after)) k,
         w.block-roll body.0 k,
-      ))))))))
+      ))))))))))
 
   own_default_part : Keeps w table (default_part around) none (in_option w.block)
   unfolding default_part in_option
@@ -260,9 +460,66 @@ module _ {around : Around} (w : Weighing around.id_of) (table : (n : Nest) → R
   unfolding switch_inside in_all in_option
   own_switch_inside =
       own_from _ none (λ (read : Cases). in_all w.case_arm read.0) (λ k. omega arith)
-      (own_turns _ {w = λ (read : Cases). in_all w.case_arm read.0} (λ read. own_only _ _
-      (own_passing _ (may_start (not read.1)) (own_case_part read))) ([], false)) (λ read.
+      (own_turns _ {w = λ (read : Cases). in_all w.case_arm read.0} (λ read.
+      own_only _ true (λ _. own_passing _ (may_start (not read.1)) (own_case_part read)))
+      ([], false)) (λ read.
       own_then _ (in_option w.block) (own_either _
       (own_passing _ (may_start (not read.1)) own_default_part)
       (own_done _ (λ k. omega arith))) (λ otherwise. own_past _ (λ _.
       own_done _ (λ k. omega arith))))
+
+-- What stands after the `let` of an `if`, and in closures and tasks.
+module _ (around : Around) (w : Weighing around.id_of) (table : (n : Nest) → Relation (El n))
+    (nests : (n : Nest) → IsTrue (fits n) → Owns w.tally none (table n) (weight w n))
+    (fit : IsTrue (wants_word around.here.wanted)) where
+  own_later_arms : Keeps w table (later_arms around) none w.block
+  unfolding later_arms
+  own_later_arms =
+      own_either _ (own_past _ (λ _. own_either _
+      (own_then _ _ (own_if_stmt (without_break around) w table nests fit) (λ rest.
+      own_done _ (λ k. omega (arith, w.block-roll (rest ∷ []) k, w.stmts-one rest k))))
+      (own_block (without_break around) w table nests fit)))
+      (own_done _ (λ k. omega (arith, w.block-roll [] k, w.stmts-nil k)))
+
+  pub own_if_let_inside : Keeps w table (if_let_inside around) none (if_let_weight w)
+  unfolding if_let_inside
+  own_if_let_inside =
+      own_anywhere _ (λ from.
+      own_part _ _ (own_name around w table word (codes "print") refl) (λ name middle before.
+      own_past_at _ (λ _ past less.
+      own_part _ _ (own_expr around w table nests fit false) (λ subject next read.
+      own_part _ _ (own_block (without_break around) w table nests fit)
+      (λ chosen to after.
+      own_at _ to (own_then _ _ own_later_arms (λ otherwise. own_done _ (λ k. omega (
+        arith,
+        w.for_block-is name chosen (in_turn _ (part_of_less _ (λ j. omega arith) before)
+            (let rises = part_rises _ read in omega arith) after) k,
+      )))))))))
+
+  pub own_closure_inside : Keeps w table (closure_inside around) none w.inside
+  unfolding closure_inside
+  own_closure_inside =
+      own_anywhere _ (λ from. own_part_knowing w.tally _ (want_header around table)
+      (own_header around w table nests) (λ head wants middle before.
+      own_part _ _
+      (own_statements (returning around (wanted_of head.result)) w table nests wants)
+      (λ body to after.
+      own_at _ to (own_done _ (λ k. omega (
+        arith,
+        w.inside-is (inside_of head body) (in_turn _ (part_of_less _ (λ j. omega arith) before)
+            (omega arith) after) k,
+      ))))))
+
+  pub own_task_inside : Keeps w table (task_inside around) none (tasked w)
+  unfolding task_inside
+  own_task_inside =
+      own_anywhere _ (λ from. own_part_knowing w.tally _ (want_task_header around table)
+      (own_task_header around w table nests) (λ head wants middle before.
+      own_part _ _
+      (own_statements (returning around (wanted_of head.result)) w table nests wants)
+      (λ body to after.
+      own_at _ to (own_done _ (λ k. omega (
+        arith,
+        w.inside-is (inside_of head body) (in_turn _ (part_of_less _ (λ j. omega arith) before)
+            (omega arith) after) k,
+      ))))))

@@ -2,25 +2,39 @@
 -- has an operator, and a global variable has a first value. What breaks this weighs something, and
 -- tokens weigh nothing.
 use Rattle.std.proofs.Common.{◌≡◌, ℕ, ◌+◌, ◌≤◌, List, [], ◌∷◌, ◌++◌, map, flat_map, Option, None}
-use Rattle.std.proofs.Common.{Some, option_map, unwrap_or, IsSome, length, ap, refl, arith}
+use Rattle.std.proofs.Common.{Some, option_map, unwrap_or, IsSome, length, codes, suc, true, ap, refl}
+use Rattle.std.proofs.Common.{arith}
 use Rattle.std.proofs.lemmas.List.Elements.{All-contains, All-from_recursion}
 use Rattle.std.specs.List.{AllByRecursion}
 use Rattle.sw_token.specs.Spelling.{Spelled}
 use Rattle.sw_tree.proofs.Counting.{Weight, hits, hits_same, in_all, in_all-nil, in_all-cons}
 use Rattle.sw_tree.proofs.Counting.{in_all-append, in_all-map, in_all-flat_map, in_all-joined}
-use Rattle.sw_tree.proofs.Counting.{in_all-option}
+use Rattle.sw_tree.proofs.Counting.{in_all-option, in_option}
 use Rattle.sw_tree.specs.Keys.{Keys, joined}
 use Rattle.sw_tree.specs.declared.decl.Decl.{Decl}
 use Rattle.sw_tree.specs.declared.decl.Decl.TheVariants.{Entry, Struct, Enum, Class, Actor}
 use Rattle.sw_tree.specs.declared.decl.Decl.TheVariants.{GlobalActor, Func, Global}
+use Rattle.sw_tree.specs.declared.expr.Arg.{roll-Arg}
 use Rattle.sw_tree.specs.declared.expr.Expr.{Expr}
+use Rattle.sw_tree.specs.declared.expr.Expr.TheVariants as exprs
+use Rattle.sw_tree.specs.declared.operator.AssignOp.TheVariants as assigns
+use Rattle.sw_tree.specs.declared.stmt.Block.{roll-Block}
+use Rattle.sw_tree.specs.declared.stmt.Pattern.TheVariants as patterns
+use Rattle.sw_tree.specs.declared.type_tree.TypeTree.{TypeTree}
 use Rattle.sw_tree_facts.specs.Unwritten.{AreWritten, expr_unwritten, block_unwritten}
 use Rattle.sw_tree_facts.specs.Unwritten.{func_unwritten, init_unwritten, prop_unwritten}
 use Rattle.sw_tree_facts.specs.Unwritten.{decl_unwritten}
 use Rattle.sw_tree_facts.specs.Values.{AreValued}
-use Rattle.sw_grammar_facts.proofs.Owning.{none}
+use Rattle.sw_sugar.specs.Calls.{or_literal_form}
+use Rattle.sw_sugar.specs.Optionals.{block_of, name_at, or_literal_stmts, some_arm, some_tree}
+use Rattle.sw_sugar.specs.Optionals.{taken, use_at}
+use Rattle.sw_sugar.specs.declared.words.OrLiteral.{OrLiteral}
+use Rattle.sw_grammar.specs.Enums.{Marked, enum_of}
 use Rattle.sw_grammar.specs.Exprs.{closure_at}
 use Rattle.sw_grammar.specs.Program.{Spells}
+use Rattle.sw_grammar.specs.Tokens.{optional_text}
+use Rattle.sw_grammar_facts.proofs.Owning.{none, tally_of}
+use Rattle.sw_grammar_facts.proofs.Questions.{besides}
 use Rattle.sw_grammar_facts.proofs.ProgramRules.{owned}
 use Rattle.sw_tree_facts.proofs.UnwrittenEquations as unwritten
 use Rattle.sw_tree_facts.proofs.UnwrittenEquations.{stmt_unwritten, arg_unwritten}
@@ -58,10 +72,65 @@ in_decl given k = in_all hits (decl_unwritten given) k + unvalued given
 same : {xs ys : Keys} → xs ≡ ys → (k : ℕ) → in_all hits xs k ≡ in_all hits ys k
 same equal k = ap (λ all. in_all hits all k) equal
 
+some_unwritten : (some of at : ℕ) (value : Expr) (k : ℕ)
+    → in_all hits (expr_unwritten (some_tree some of at value)) k
+    ≤ in_all hits (expr_unwritten value) k
+unfolding in_all
+some_unwritten some of at value k =
+    let arg = roll-Arg (record { label = None; value = value }) in
+    omega (
+      arith,
+      same (unwritten.expr_unwritten-Method (use_at (suc at) of) (name_at at some) (arg ∷ [])) k,
+      in_all-append hits (expr_unwritten (use_at (suc at) of)) (joined (map arg_unwritten (arg ∷ [])))
+          k,
+      in_all-joined hits arg_unwritten (arg ∷ []) k,
+      same (unwritten.expr_unwritten-Use (name_at (suc at) of)) k,
+      same (unwritten.arg_unwritten-roll None value) k,
+    )
+
+or_unwritten : (form : OrLiteral) (ty : TypeTree) (value literal : Expr) (k : ℕ)
+    → in_all (λ one. in_all hits (stmt_unwritten one)) (or_literal_stmts form ty value literal) k
+    ≤ in_all hits (expr_unwritten value) k + in_all hits (expr_unwritten literal) k
+unfolding in_all in_option
+or_unwritten form ty value literal k =
+    let whole = name_at (suc form.op_at) form.word.whole in
+    let part = name_at (suc form.let_at) form.word.part in
+    let last = name_at (suc (suc form.let_at)) form.word.whole in
+    let part_word = name_at form.colon_at form.word.part in
+    let body = block_of (taken form ∷ []) in
+    let arm = some_arm form.some form.colon_at part_word body in
+    let none_block = Some (block_of []) in
+    let arms = joined (map case_arm_unwritten (arm ∷ [])) in
+    omega (
+      arith,
+      same (unwritten.stmt_unwritten-Bind true (name_at form.op_at form.word.whole) (Some ty)
+          literal) k,
+      same (unwritten.stmt_unwritten-Switch form.eq_at value (arm ∷ []) none_block) k,
+      in_all-append hits (expr_unwritten value ++ arms)
+          (unwrap_or (option_map block_unwritten none_block) []) k,
+      in_all-append hits (expr_unwritten value) arms k,
+      in_all-joined hits case_arm_unwritten (arm ∷ []) k,
+      in_all-option hits block_unwritten none_block k,
+      same (unwritten.block_unwritten-roll []) k,
+      in_all-nil hits k,
+      same (unwritten.case_arm_unwritten-roll (name_at form.colon_at form.some)
+          (patterns.Let part_word ∷ []) body) k,
+      same (unwritten.block_unwritten-roll (taken form ∷ [])) k,
+      in_all-joined hits stmt_unwritten (taken form ∷ []) k,
+      same (unwritten.stmt_unwritten-Assign form.let_at assigns.Set (exprs.Use whole)
+          (exprs.Use part)) k,
+      in_all-append hits (expr_unwritten (exprs.Use whole)) (expr_unwritten (exprs.Use part)) k,
+      same (unwritten.expr_unwritten-Use whole) k,
+      same (unwritten.expr_unwritten-Use part) k,
+      same (unwritten.stmt_unwritten-Bind form.mutable form.word.name (Some ty)
+          (exprs.Use last)) k,
+      same (unwritten.expr_unwritten-Use last) k,
+    )
+
 module _ (id_of : List ℕ → ℕ) where
   text_forms : Weighing id_of
   text_forms = record {
-    of_token = λ token. none;
+    tally = tally_of (besides (λ token. none));
     place = λ at. none;
     entry = λ at. none;
     node = λ name. none;
@@ -72,9 +141,12 @@ module _ (id_of : List ℕ → ℕ) where
     closure_param = λ param. none;
     task_param = λ param. hits param.name.at;
     closure = λ closure. in_all hits (closure_unwritten closure);
+    inside = λ it k. in_all (λ one. in_all hits (stmt_unwritten one)) it.body k;
     link = λ link. in_all hits (link_unwritten link);
     block = λ block. in_all hits (block_unwritten block);
     stmt = λ stmt. in_all hits (stmt_unwritten stmt);
+    stmts = in_all (λ one. in_all hits (stmt_unwritten one));
+    for_block = λ name body. in_all hits (block_unwritten body);
     pattern = λ pattern. none;
     case_arm = λ arm. in_all hits (case_arm_unwritten arm);
     if_arm = λ arm. in_all hits (if_arm_unwritten arm);
@@ -85,12 +157,13 @@ module _ (id_of : List ℕ → ℕ) where
     init = λ init. in_all hits (init_unwritten init);
     case = λ given. none;
     decl = in_decl;
-    of_place = λ token k. omega arith;
-    of_span = λ token _ k. omega (arith, spread_none (length token.text) token.at k);
-    of_entry = λ token k. omega arith;
-    of_word = λ token _ k. omega arith;
-    of_mark = λ token _ k. omega arith;
+    of_place = λ token _ k. omega arith;
+    of_span = λ token _ _ k. omega (arith, spread_none (length token.text) token.at k);
+    of_entry = λ token _ k. omega arith;
+    of_word = λ token _ _ _ k. omega arith;
+    of_mark = λ token _ _ k. omega arith;
     of_node = λ name k. omega arith;
+    of_optional_type = λ name text k. omega arith;
     type-Named = λ name k. omega arith;
     type-Unit = λ at k. omega arith;
     type-Arrow = λ at mark params result k. omega arith;
@@ -141,12 +214,36 @@ module _ (id_of : List ℕ → ℕ) where
         );
     expr-Yield = λ at k.
         omega (arith, same (unwritten.expr_unwritten-Yield at) k, in_all-nil hits k);
-    arg-roll = λ name value k. omega (arith, same (unwritten.arg_unwritten-roll name value) k);
-    closure_param-is = λ given k. omega arith;
-    closure-roll = λ at mark captures params result body k.
+    expr-None = λ at text _ k.
+        let of = name_at (suc at) (id_of (optional_text text)) in
         omega (
           arith,
-          same (unwritten.closure_unwritten-roll at mark captures params result body) k,
+          same (unwritten.expr_unwritten-Member (exprs.Use of)
+              (name_at at (id_of (codes "none")))) k,
+          same (unwritten.expr_unwritten-Use of) k,
+          in_all-nil hits k,
+        );
+    expr-Some = λ at text value _ k.
+        omega (
+          arith,
+          some_unwritten (id_of (codes "some")) (id_of (optional_text text)) at value k,
+        );
+    expr-Optional = λ at k.
+        omega (
+          arith,
+          same (unwritten.expr_unwritten-Use (name_at at (id_of (codes "Optional")))) k,
+          in_all-nil hits k,
+        );
+    arg-roll = λ name value k. omega (arith, same (unwritten.arg_unwritten-roll name value) k);
+    closure_param-is = λ given k. omega arith;
+    inside-is = λ it _ k. omega arith;
+    closure-opened = λ at it _ k.
+        let body = roll-Block (record { stmts = it.body }) in
+        omega (
+          arith,
+          same (unwritten.closure_unwritten-roll at it.mark it.captures it.params it.result body) k,
+          same (unwritten.block_unwritten-roll it.body) k,
+          in_all-joined hits stmt_unwritten it.body k,
         );
     link-roll = λ op at operand k.
         omega (arith, same (unwritten.link_unwritten-roll op at operand) k);
@@ -155,6 +252,21 @@ module _ (id_of : List ℕ → ℕ) where
           arith,
           same (unwritten.block_unwritten-roll body) k,
           in_all-joined hits stmt_unwritten body k,
+        );
+    stmts-nil = λ k. omega (arith, in_all-nil (λ one. in_all hits (stmt_unwritten one)) k);
+    stmts-one = λ one k.
+        omega (
+          arith,
+          in_all-cons (λ one. in_all hits (stmt_unwritten one)) one [] k,
+          in_all-nil (λ one. in_all hits (stmt_unwritten one)) k,
+        );
+    stmts-append = λ xs ys _ k.
+        omega (arith, in_all-append (λ one. in_all hits (stmt_unwritten one)) xs ys k);
+    stmts-Or = λ binding _ _ _ _ colon_at ty eq_at value or k.
+        omega (
+          arith,
+          or_unwritten (or_literal_form id_of binding.word.text binding.mutable binding.word.name
+              binding.let_at colon_at eq_at or.op_at) ty value or.other k,
         );
     stmt-Bind = λ mutable name ty value k.
         omega (arith, same (unwritten.stmt_unwritten-Bind mutable name ty value) k);
@@ -203,7 +315,14 @@ module _ (id_of : List ℕ → ℕ) where
     stmt-Plain = λ value k. omega (arith, same (unwritten.stmt_unwritten-Plain value) k);
     pattern-Skip = λ at k. omega arith;
     pattern-Let = λ name k. omega arith;
-    case_arm-roll = λ name given body k.
+    for_block-is = λ name body _ k. omega arith;
+    arm-Some = λ at name body k.
+        omega (
+          arith,
+          same (unwritten.case_arm_unwritten-roll (name_at at (id_of (codes "some")))
+              (patterns.Let name ∷ []) body) k,
+        );
+    case_arm-roll = λ name given body _ k.
         omega (arith, same (unwritten.case_arm_unwritten-roll name given body) k);
     if_arm-roll = λ at cond body k.
         omega (
@@ -217,21 +336,21 @@ module _ (id_of : List ℕ → ℕ) where
     written-Concurrent = λ k. omega arith;
     written-Nonsending = λ k. omega arith;
     param-is = λ given k. omega arith;
-    func-is = λ given k. omega arith;
+    func-is = λ given _ k. omega arith;
     prop-is = λ given k. omega (arith, in_all-option hits expr_unwritten given.value k);
-    init-is = λ given k. omega arith;
+    init-is = λ given _ k. omega arith;
     case-is = λ given k. omega arith;
     decl-Entry = λ word mark at is_async body k. omega arith;
-    decl-Struct = λ word conforms fields funcs k.
+    decl-Struct = λ word conforms fields funcs _ k.
         omega (
           arith,
           in_all-append hits (flat_map prop_unwritten fields) (flat_map func_unwritten funcs) k,
           in_all-flat_map hits prop_unwritten fields k,
           in_all-flat_map hits func_unwritten funcs k,
         );
-    decl-Enum = λ word conforms given funcs k.
+    decl-Enum = λ word conforms given funcs _ k.
         omega (arith, in_all-flat_map hits func_unwritten funcs k);
-    decl-Class = λ mark word conforms props inits funcs k.
+    decl-Class = λ mark word conforms props inits funcs _ k.
         omega (
           arith,
           in_all-append hits (flat_map prop_unwritten props ++ flat_map init_unwritten inits)
@@ -241,7 +360,7 @@ module _ (id_of : List ℕ → ℕ) where
           in_all-flat_map hits init_unwritten inits k,
           in_all-flat_map hits func_unwritten funcs k,
         );
-    decl-Actor = λ word props inits funcs k.
+    decl-Actor = λ word props inits funcs _ k.
         omega (
           arith,
           in_all-append hits (flat_map prop_unwritten props ++ flat_map init_unwritten inits)
@@ -285,12 +404,20 @@ unfolding in_all
 light [] k = refl
 light (token ∷ tokens) k = omega (arith, light tokens k)
 
+enum_weightless : (id_of : List ℕ → ℕ) (one : Marked) (k : ℕ) → in_decl (enum_of id_of one) k ≤ 0
+enum_weightless id_of one k = omega (arith, in_all-nil hits k)
+
 -- declarations of texts weigh nothing
 weightless : (id_of : List ℕ → ℕ) (decls : List Decl) (tokens : List Spelled)
     → Spells id_of decls tokens → (k : ℕ) → in_all in_decl decls k ≤ 0
 unfolding text_forms
 weightless id_of decls tokens given k =
-    omega (arith, owned (text_forms id_of) decls tokens given.form k, light tokens k)
+    omega (
+      arith,
+      owned (text_forms id_of) (λ token. none) (λ token j. omega arith) (enum_weightless id_of) decls
+          tokens refl given k,
+      light tokens k,
+    )
 
 pub globals_are_valued : (id_of : List ℕ → ℕ) (decls : List Decl) (tokens : List Spelled)
     → Spells id_of decls tokens → AreValued decls

@@ -1,2 +1,1 @@
 pub mod Interned
-pub mod Order

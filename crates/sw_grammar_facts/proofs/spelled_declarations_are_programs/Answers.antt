@@ -1,7 +1,7 @@
 use Rattle.sw_grammar_facts.proofs.CaseWords.{cases_are_apart}
 use Rattle.sw_grammar_facts.proofs.KeysDiffer.{spelled_are_keyed}
 use Rattle.sw_grammar_facts.proofs.NamesKnown.{spelled_are_named}
-use Rattle.sw_grammar_facts.proofs.Order.ScopedPrograms.{spelled_are_scoped}
+use Rattle.sw_grammar_facts.proofs.Scopes.Told.{spelled_are_scoped}
 use Rattle.sw_grammar_facts.proofs.TextForms.{globals_are_valued, are_written}
 use Rattle.sw_grammar_facts.proofs.spelled_declarations_are_programs.Goals as goal
 
