@@ -1,3 +1,5 @@
 pub mod WordSets
 pub mod BeginSets
 pub mod NestSteps
+pub mod Anywhere
+pub mod RuleNests

@@ -4,12 +4,17 @@ use Rattle.std.specs.Prelude.{Option}
 use Rattle.sw_token.specs.Spelling.{Spelled}
 use Rattle.sw_grammar_forms.specs.Sets.{starts, word, quoted, attribute}
 use Rattle.sw_grammar_forms.proofs.KindSets.{starts-without, starts-within}
-use Rattle.sw_grammar.specs.Tokens.{value_word, at_word}
+use Rattle.sw_grammar.specs.Tokens.{plain_word, value_word, at_word}
 
 pub starts-value_word : (token : Option Spelled)
     → starts value_word token ≡ (starts word token && not (starts (quoted (codes "Task")) token))
 starts-value_word token =
     starts-without value_word word (quoted (codes "Task")) token refl refl refl
+
+pub starts-plain_word : (token : Option Spelled) → starts plain_word token
+    ≡ (starts value_word token && not (starts (quoted (codes "Optional")) token))
+starts-plain_word token =
+    starts-without plain_word value_word (quoted (codes "Optional")) token refl refl refl
 
 pub starts-at_word : (token : Option Spelled) → starts at_word token
     ≡ (starts attribute token && not (starts (quoted (codes "@concurrent")) token))

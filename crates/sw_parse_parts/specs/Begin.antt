@@ -7,8 +7,8 @@ abbrev pub booleans : Set
 booleans = one_of (codes "true" ∷ codes "false" ∷ [])
 
 -- words that name values, integer literals and operators before an operand
-abbrev pub value_first : Set
-value_first = value_word ++ (integer ++ prefix_ops)
+abbrev pub operand_begin : Set
+operand_begin = value_word ++ (integer ++ prefix_ops)
 
 -- what else an expression begins with
 abbrev pub expr_words : Set

@@ -2,3 +2,4 @@ pub mod Taking
 pub mod Around
 pub mod Begin
 pub mod Nested
+pub mod Typed

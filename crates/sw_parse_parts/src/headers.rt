@@ -13,12 +13,12 @@ ghost use Rattle.sw_grammar.specs.Reading.{read};
 ghost use Rattle.sw_parse_parts.specs.Around.{known};
 
 use super::around::Around;
-use super::types::type_tree;
+use super::types::{Typed, type_tree, written_type};
 use super::words::word;
 use std::alloc::Global;
 use sw_grammar_forms::{Cursor, Stop};
 use sw_list::ListOf;
-use sw_tree::{ClosureParam, ClosureParamList, Name, NameList, TypeTree};
+use sw_tree::{ClosureParam, ClosureParamList, Name, NameList};
 
 /// The words of a capture list, in `[` and `]`.
 #[tactic(auto, unfolding(sw_grammar::specs::Closures::captures))]
@@ -199,12 +199,12 @@ fn more_params(
 
 /// `->` and a result type, or nothing.
 #[tactic(auto, unfolding(sw_grammar::specs::Closures::result_if))]
-fn result_if(
+fn result_if<'a>(
     alloc: Global,
     around: &Around<'_>,
-    tokens: &mut Cursor<'_>,
+    tokens: &mut Cursor<'a>,
     depth: u32,
-) -> Result<Option<TypeTree>, Stop>
+) -> Result<Option<Typed<'a>>, Stop>
     ensures { Gives (read (known around.now) depth (result_if (known around.now)) tokens.old) result
         tokens.new }
 {
@@ -212,17 +212,17 @@ fn result_if(
         return Ok(None);
     }
     tokens.expect("->")?;
-    Ok(Some(type_tree(alloc, around, tokens, depth)?))
+    Ok(Some(written_type(alloc, around, tokens, depth)?))
 }
 
 /// The parameters of a closure, in `(` and `)`, and its result type, where it comes.
 #[tactic(auto, unfolding(sw_grammar::specs::Closures::signature))]
-pub fn signature(
+pub fn signature<'a>(
     alloc: Global,
     around: &Around<'_>,
-    tokens: &mut Cursor<'_>,
+    tokens: &mut Cursor<'a>,
     depth: u32,
-) -> Result<(ClosureParamList, Option<TypeTree>), Stop>
+) -> Result<(ClosureParamList, Option<Typed<'a>>), Stop>
     ensures { Gives (read (known around.now) depth (signature (known around.now)) tokens.old) result
         tokens.new }
 {
@@ -233,12 +233,12 @@ pub fn signature(
 
 /// The parameters of a closure and its result type, where a `(` comes; else neither.
 #[tactic(auto, unfolding(sw_grammar::specs::Closures::signature_if))]
-pub fn signature_if(
+pub fn signature_if<'a>(
     alloc: Global,
     around: &Around<'_>,
-    tokens: &mut Cursor<'_>,
+    tokens: &mut Cursor<'a>,
     depth: u32,
-) -> Result<(ClosureParamList, Option<TypeTree>), Stop>
+) -> Result<(ClosureParamList, Option<Typed<'a>>), Stop>
     ensures { Gives (read (known around.now) depth (signature_if (known around.now)) tokens.old)
         result tokens.new }
 {
@@ -251,12 +251,12 @@ pub fn signature_if(
 /// The `()` of a task's closure, `async` where it comes, and its result type where it comes. A task
 /// has no parameters, so the list is empty.
 #[tactic(auto, unfolding(sw_grammar::specs::Closures::task_signature))]
-pub fn task_signature(
+pub fn task_signature<'a>(
     alloc: Global,
     around: &Around<'_>,
-    tokens: &mut Cursor<'_>,
+    tokens: &mut Cursor<'a>,
     depth: u32,
-) -> Result<(ClosureParamList, Option<TypeTree>), Stop>
+) -> Result<(ClosureParamList, Option<Typed<'a>>), Stop>
     ensures { Gives (read (known around.now) depth (task_signature (known around.now)) tokens.old)
         result tokens.new }
 {
@@ -269,12 +269,12 @@ pub fn task_signature(
 /// Where a `(` comes, the `()` of a task's closure, with `async` and its result type where these
 /// come; else no parameters and no result type.
 #[tactic(auto, unfolding(sw_grammar::specs::Closures::task_signature_if))]
-pub fn task_signature_if(
+pub fn task_signature_if<'a>(
     alloc: Global,
     around: &Around<'_>,
-    tokens: &mut Cursor<'_>,
+    tokens: &mut Cursor<'a>,
     depth: u32,
-) -> Result<(ClosureParamList, Option<TypeTree>), Stop>
+) -> Result<(ClosureParamList, Option<Typed<'a>>), Stop>
     ensures { Gives (read (known around.now) depth (task_signature_if (known around.now))
         tokens.old) result tokens.new }
 {

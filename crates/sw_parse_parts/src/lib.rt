@@ -22,11 +22,12 @@ pub use headers::{
 };
 pub use operators::{
     a_literal, assign_op, equals, infix_and, infix_compare, infix_or, infix_plus, infix_times,
-    prefix_op, sees_assign, sees_binding, sees_compare, sees_expr_on_line, sees_literal, sees_plus,
-    sees_prefix, sees_stmt, sees_times,
+    prefix_op, sees_assign, sees_binding, sees_compare, sees_expr, sees_literal, sees_plus,
+    sees_prefix, sees_stmt, sees_times, sees_value_on_line,
 };
 pub use patterns::patterns_if;
-pub use types::{some_types, type_if, type_tree};
+pub use types::{Typed, some_types, tree_of, type_if, type_tree, wanted_of, written_type};
 pub use words::{
-    attribute, sees_attribute, sees_value_word, sendable, task_word, value_word, word,
+    DeclaredWord, attribute, declared_word, plain_word, sees_attribute, sees_plain_word,
+    sees_value_word, sendable, task_word, value_word, word,
 };

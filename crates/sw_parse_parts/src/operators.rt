@@ -6,14 +6,15 @@ ghost use Rattle.sw_grammar_forms.specs.Reader.{next};
 ghost use Rattle.sw_grammar_forms.specs.Relations.{head};
 ghost use Rattle.sw_grammar_forms.specs.Sets.{starts, one_of, not_first};
 ghost use Rattle.sw_grammar.specs.Tokens.{times, plus, compares, assign_ops, prefix_ops, infix_op};
-ghost use Rattle.sw_grammar.specs.Tokens.{literal_first, expr_first, stmt_first, an_equals};
+ghost use Rattle.sw_grammar.specs.Tokens.{literal_first, expr_first, value_first, stmt_first};
+ghost use Rattle.sw_grammar.specs.Tokens.{an_equals};
 ghost use Rattle.sw_grammar.specs.Tokens.{infix_of, assign_of, infix_in, a_prefix};
 ghost use Rattle.sw_grammar.specs.Tokens.{an_assignment};
 ghost use Rattle.sw_grammar.specs.Exprs as exprs;
 ghost use Rattle.sw_grammar.specs.Reading.{read};
 ghost use Rattle.sw_parse_parts.specs.Around.{known};
 ghost use Rattle.sw_parse_parts.specs.Taking.{TakesAs, infix_value, prefix_value, assign_value};
-ghost use Rattle.sw_parse_parts.specs.Begin.{booleans, value_first, expr_words, stmt_words};
+ghost use Rattle.sw_parse_parts.specs.Begin.{booleans, operand_begin, expr_words, stmt_words};
 
 use super::around::Around;
 use super::words::sees_value_word;
@@ -255,8 +256,8 @@ pub fn sees_binding(tokens: &Cursor<'_>) -> bool
 
 /// Whether the next token is a word that names a value, an integer literal or an operator before
 /// its operand.
-fn begins_value(tokens: &Cursor<'_>) -> bool
-    ensures { result ≡ starts value_first (head tokens.now) }
+fn begins_operand(tokens: &Cursor<'_>) -> bool
+    ensures { result ≡ starts operand_begin (head tokens.now) }
 {
     if sees_value_word(tokens) {
         return true;
@@ -271,7 +272,7 @@ fn begins_value(tokens: &Cursor<'_>) -> bool
 pub fn sees_stmt(tokens: &Cursor<'_>) -> bool
     ensures { result ≡ starts stmt_first (head tokens.now) }
 {
-    if begins_value(tokens) {
+    if begins_operand(tokens) {
         return true;
     }
     sees_stmt_word(tokens)
@@ -287,20 +288,31 @@ fn sees_stmt_word(tokens: &Cursor<'_>) -> bool
     tokens.sees_one_of(texts.as_slice())
 }
 
-/// Whether an expression begins with the next token, which isn't the first on its line.
-pub fn sees_expr_on_line(tokens: &Cursor<'_>) -> bool
-    ensures { result ≡ starts (not_first expr_first) (head tokens.now) }
+/// Whether a value begins with the next token, which isn't the first on its line, in a place where
+/// it may be an optional.
+pub fn sees_value_on_line(tokens: &Cursor<'_>) -> bool
+    ensures { result ≡ starts (not_first value_first) (head tokens.now) }
 {
     if tokens.begins_line() {
         return false;
     }
+    sees_value(tokens)
+}
+
+fn sees_value(tokens: &Cursor<'_>) -> bool
+    ensures { result ≡ starts value_first (head tokens.now) }
+{
+    if tokens.sees("nil") {
+        return true;
+    }
     sees_expr(tokens)
 }
 
-fn sees_expr(tokens: &Cursor<'_>) -> bool
+/// Whether an expression begins with the next token.
+pub fn sees_expr(tokens: &Cursor<'_>) -> bool
     ensures { result ≡ starts expr_first (head tokens.now) }
 {
-    if begins_value(tokens) {
+    if begins_operand(tokens) {
         return true;
     }
     sees_expr_word(tokens)

@@ -5,31 +5,62 @@ ghost use Rattle.sw_grammar_forms.specs.Outcome.{Gives};
 ghost use Rattle.sw_grammar_forms.specs.Reader.{next};
 ghost use Rattle.sw_grammar_forms.specs.Relations.{head};
 ghost use Rattle.sw_grammar_forms.specs.Sets.{starts, word, quoted, attribute};
-ghost use Rattle.sw_tree.specs.Names.{id_in};
-ghost use Rattle.sw_grammar.specs.Tokens.{value_word, at_word, name_of, at_name, name_in, at_in};
+ghost use Rattle.sw_grammar.specs.Tokens.{plain_word, value_word, at_word, name_of, at_name};
+ghost use Rattle.sw_grammar.specs.Tokens.{name_in, at_in};
+ghost use Rattle.sw_grammar.specs.Stmts.{word_in};
 ghost use Rattle.sw_parse_parts.specs.Around.{known};
 ghost use Rattle.sw_parse_parts.specs.Taking.{TakesAs};
 
 use super::around::Around;
+use std::marker::Model;
 use sw_grammar_forms::{Cursor, Stop};
-use sw_tree::{Name, Names};
+use sw_tree::Name;
+
+/// A word that is declared, and its text.
+#[derive(Drop)]
+pub struct DeclaredWord<'a> {
+    name: Name,
+    text: &'a str,
+}
+
+impl<'a> Model for DeclaredWord<'a> {
+    ghost use Rattle.sw_grammar.specs.Stmts.{DeclaredWord};
+
+    ghost Value = { DeclaredWord };
+
+    ghost view = { λ word. record { name = word.name; text = word.text.now } };
+}
+
+impl<'a> DeclaredWord<'a> {
+    pub fn name(&self) -> Name
+        ensures { result ≡ self.now.name }
+    {
+        self.name
+    }
+
+    pub fn text(&self) -> &'a str
+        ensures { result.now ≡ self.now.text }
+    {
+        self.text
+    }
+}
 
 /// Takes the next token as a name.
-fn take_name(names: &Names, tokens: &mut Cursor<'_>) -> Name
+fn take_name(around: &Around<'_>, tokens: &mut Cursor<'_>) -> Name
     requires { 0 < length tokens.old }
-    ensures { TakesAs (name_of (id_in names.now)) tokens.old result tokens.new }
+    ensures { TakesAs (name_of (known around.now).id_of) tokens.old result tokens.new }
 {
-    let id = names.id_of(tokens.text());
+    let id = around.id_of(tokens.text());
     let at = tokens.take();
     Name { at, id }
 }
 
 /// Takes the next token, which is an attribute, as a name.
-fn take_attribute(names: &Names, tokens: &mut Cursor<'_>) -> Name
+fn take_attribute(around: &Around<'_>, tokens: &mut Cursor<'_>) -> Name
     requires { IsTrue (starts attribute (head tokens.old)) }
-    ensures { TakesAs (at_name (id_in names.now)) tokens.old result tokens.new }
+    ensures { TakesAs (at_name (known around.now).id_of) tokens.old result tokens.new }
 {
-    let id = names.id_of(tokens.attribute());
+    let id = around.id_of(tokens.attribute());
     let at = tokens.take();
     Name { at, id }
 }
@@ -42,7 +73,22 @@ pub fn word(around: &Around<'_>, tokens: &mut Cursor<'_>) -> Result<Name, Stop>
     if !tokens.sees_word() {
         return Err(tokens.stop());
     }
-    Ok(take_name(around.names, tokens))
+    Ok(take_name(around, tokens))
+}
+
+/// Takes a word that is declared.
+pub fn declared_word<'a>(
+    around: &Around<'_>,
+    tokens: &mut Cursor<'a>,
+) -> Result<DeclaredWord<'a>, Stop>
+    ensures { Gives (next (word_in (known around.now)) tokens.old) result tokens.new }
+{
+    if !tokens.sees_word() {
+        return Err(tokens.stop());
+    }
+    let text = tokens.text();
+    let name = take_name(around, tokens);
+    Ok(DeclaredWord { name, text })
 }
 
 /// Whether the next token is a word that names a value: any that names something, but `Task`.
@@ -60,7 +106,25 @@ pub fn value_word(around: &Around<'_>, tokens: &mut Cursor<'_>) -> Result<Name, 
     if !sees_value_word(tokens) {
         return Err(tokens.stop());
     }
-    Ok(take_name(around.names, tokens))
+    Ok(take_name(around, tokens))
+}
+
+/// Whether the next token is a word that names a value, and isn't `Optional`.
+pub fn sees_plain_word(tokens: &Cursor<'_>) -> bool
+    ensures { result ≡ starts plain_word (head tokens.now) }
+{
+    sees_value_word(tokens) && !tokens.sees("Optional")
+}
+
+/// Takes a word that names a value, and isn't `Optional`.
+pub fn plain_word(around: &Around<'_>, tokens: &mut Cursor<'_>) -> Result<Name, Stop>
+    ensures { Gives (next (name_in (known around.now) plain_word (codes "print")) tokens.old) result
+        tokens.new }
+{
+    if !sees_plain_word(tokens) {
+        return Err(tokens.stop());
+    }
+    Ok(take_name(around, tokens))
 }
 
 /// Takes the word `Task`.
@@ -71,7 +135,7 @@ pub fn task_word(around: &Around<'_>, tokens: &mut Cursor<'_>) -> Result<Name, S
     if !tokens.sees("Task") {
         return Err(tokens.stop());
     }
-    Ok(take_name(around.names, tokens))
+    Ok(take_name(around, tokens))
 }
 
 /// Whether the next token is an attribute other than `@concurrent`.
@@ -89,7 +153,7 @@ pub fn attribute(around: &Around<'_>, tokens: &mut Cursor<'_>) -> Result<Name, S
     if !sees_attribute(tokens) {
         return Err(tokens.stop());
     }
-    Ok(take_attribute(around.names, tokens))
+    Ok(take_attribute(around, tokens))
 }
 
 /// Takes the attribute `@Sendable`.
@@ -100,5 +164,5 @@ pub fn sendable(around: &Around<'_>, tokens: &mut Cursor<'_>) -> Result<Name, St
     if !tokens.sees("@Sendable") {
         return Err(tokens.stop());
     }
-    Ok(take_attribute(around.names, tokens))
+    Ok(take_attribute(around, tokens))
 }

@@ -2,10 +2,10 @@ use Rattle.std.proofs.Common.{codes}
 use Rattle.std.proofs.lemmas.Result.{err_from_is_err_and}
 use Rattle.sw_grammar_forms.specs.Quotes.{quote}
 use Rattle.sw_grammar_forms.proofs.ItemLoops.{refuses}
-use Rattle.sw_grammar_forms.proofs.NestReads.{nest_read, nest_stops}
-use Rattle.sw_grammar.specs.Grammar.{body}
-use Rattle.sw_grammar.specs.Nests.{El, shape_of, in_captures}
+use Rattle.sw_grammar.specs.Nests.{in_captures}
 use Rattle.sw_parse_parts.specs.Around.{known}
+use Rattle.sw_parse_parts.proofs.Anywhere.{same_captured_words}
+use Rattle.sw_parse_parts.proofs.RuleNests.{rule_read, rule_stops}
 use Rattle.sw_parse_parts.proofs.headers.captured_list.Goals as goal
 
 pub returns-in_err-inside : goal.returns-in_err-inside
@@ -13,10 +13,12 @@ returns-in_err-inside c =
     let stop = err_from_is_err_and c.from_residual-in_err-inside.result
     c.from_residual-in_err-inside.ensures.1 in
     rw (stop.1, stop.2) (refuses _ _ _ _ _
-    (nest_stops El shape_of (body (known c.args.around.now)) c.args.depth (quote (codes "["))
-    in_captures _ _ _ c.in_ok-at.ensures.opened) c.in_err-inside.ensures)
+    (rule_stops (known c.args.around.now) in_captures
+    (same_captured_words (known c.args.around.now)) c.args.depth (quote (codes "["))
+    _ _ _ c.in_ok-at.ensures.opened) c.in_err-inside.ensures)
 
 pub returns : goal.returns
 returns c =
-    nest_read El shape_of (body (known c.args.around.now)) c.args.depth (quote (codes "["))
-    in_captures _ _ _ _ _ c.in_ok-at.ensures.opened c.in_ok-inside.ensures
+    rule_read (known c.args.around.now) in_captures
+    (same_captured_words (known c.args.around.now)) c.args.depth (quote (codes "["))
+    _ _ _ _ _ c.in_ok-at.ensures.opened c.in_ok-inside.ensures

@@ -9,14 +9,14 @@ use Rattle.sw_parse_parts.proofs.headers.more_params.Goals as goal
 
 pub loop-alloc-smaller : goal.loop-alloc-smaller
 loop-alloc-smaller c =
-    list_shorter El shape_of (body (known c.args.around.now)) good c.args.depth (codes ",")
+    list_shorter El shape_of (body (known c.args.around.now).id_of) good c.args.depth (codes ",")
     (closure_param (known c.args.around.now)) refl _ _ _ _
     (c.skip.ensures ∙ ap (λ found. Ok (found, c.skip.new.self)) c.loop-alloc-test.true)
     c.in_ok-closure_param.ensures
 
 pub loop-alloc-preserved : goal.loop-alloc-preserved
 loop-alloc-preserved c = rw c.in_ok-push-2.ensures.items
-    (list_turn El shape_of (body (known c.args.around.now)) good c.args.depth (codes ",")
+    (list_turn El shape_of (body (known c.args.around.now).id_of) good c.args.depth (codes ",")
     (closure_param (known c.args.around.now)) refl _ _ _ _ c.loop-alloc.params.items _
     c.loop-alloc.invariant
     (c.skip.ensures ∙ ap (λ found. Ok (found, c.skip.new.self)) c.loop-alloc-test.true)

@@ -1,13 +1,13 @@
 use Rattle.std.proofs.Common.{sym, ◌∙◌, refl}
 use Rattle.sw_grammar.specs.Tokens.{stmt_first}
-use Rattle.sw_parse_parts.specs.Begin.{value_first, stmt_words}
+use Rattle.sw_parse_parts.specs.Begin.{operand_begin, stmt_words}
 use Rattle.sw_parse_parts.proofs.BeginSets.{joined_left, joined_right}
 use Rattle.sw_parse_parts.proofs.operators.sees_stmt.Goals as goal
 
-pub returns-then-begins_value : goal.returns-then-begins_value
-returns-then-begins_value c = joined_left stmt_first value_first stmt_words _ refl refl
-    (sym c.begins_value.ensures ∙ c.if-begins_value.true)
+pub returns-then-begins_operand : goal.returns-then-begins_operand
+returns-then-begins_operand c = joined_left stmt_first operand_begin stmt_words _ refl refl
+    (sym c.begins_operand.ensures ∙ c.if-begins_operand.true)
 
 pub returns : goal.returns
-returns c = c.sees_stmt_word.ensures ∙ joined_right stmt_first value_first stmt_words _ refl refl
-    (sym c.begins_value.ensures ∙ c.if-begins_value.false)
+returns c = c.sees_stmt_word.ensures ∙ joined_right stmt_first operand_begin stmt_words _ refl refl
+    (sym c.begins_operand.ensures ∙ c.if-begins_operand.false)

@@ -9,7 +9,7 @@ abbrev pub decreases-marked_type : goal.decreases-marked_type
 decreases-marked_type l = 8 * l.depth + 1
 
 abbrev pub decreases-more_types : goal.decreases-more_types
-decreases-more_types l = 8 * l.depth + 3
+decreases-more_types l = 8 * l.depth + 4
 
 abbrev pub decreases-params : goal.decreases-params
 decreases-params l = 8 * l.depth + 0
@@ -21,10 +21,10 @@ abbrev pub decreases-round_type : goal.decreases-round_type
 decreases-round_type l = 8 * l.depth + 1
 
 abbrev pub decreases-some_types : goal.decreases-some_types
-decreases-some_types l = 8 * l.depth + 4
+decreases-some_types l = 8 * l.depth + 5
 
 abbrev pub decreases-task_inner : goal.decreases-task_inner
-decreases-task_inner l = 8 * l.depth + 3
+decreases-task_inner l = 8 * l.depth + 4
 
 abbrev pub decreases-task_result : goal.decreases-task_result
 decreases-task_result l = 8 * l.depth + 0
@@ -33,10 +33,13 @@ abbrev pub decreases-task_type : goal.decreases-task_type
 decreases-task_type l = 8 * l.depth + 1
 
 abbrev pub decreases-type_tree : goal.decreases-type_tree
-decreases-type_tree l = 8 * l.depth + 2
+decreases-type_tree l = 8 * l.depth + 3
 
 abbrev pub decreases-types : goal.decreases-types
-decreases-types l = 8 * l.depth + 5
+decreases-types l = 8 * l.depth + 6
+
+abbrev pub decreases-written_type : goal.decreases-written_type
+decreases-written_type l = 8 * l.depth + 2
 
 -- What is left of the list gives the same answer as the whole list.
 abbrev pub invariant-more_types-loop-alloc : goal.invariant-more_types-loop-alloc
