@@ -3,3 +3,5 @@ pub mod LinkLoops
 pub mod MemberSteps
 pub mod PlacedNests
 pub mod StmtTurns
+pub mod ClosureSteps
+pub mod OptionalSteps

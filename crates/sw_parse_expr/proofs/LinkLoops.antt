@@ -31,21 +31,22 @@ module _ (around : Around) (depth : ℕ) {s : Shape} (t : Terminal (InfixOp × �
       (link : Operand) → Links links ts ≡ start → OneLink ts ≡ Ok (link, us)
       → Links (links ++ link ∷ []) us ≡ start
   link_turn start ts us links link same e =
-      loops.one_turn El shape_of (body around) good depth t item linked ok start ts us links link
-      same e
+      loops.one_turn El shape_of (body around.id_of) good depth t item linked ok start ts us links
+      link same e
 
   pub stops_at_link : (start : Answer (List Operand)) (ts : List Spelled) (links : List Operand)
       → starts t.set (head ts) ≡ true → Links links ts ≡ start → Refuses (OneLink ts) start
   stops_at_link start ts links goes same =
-      loops.stops_at_one El shape_of (body around) good depth t item linked ok start ts links goes
-      same
+      loops.stops_at_one El shape_of (body around.id_of) good depth t item linked ok start ts links
+      goes same
 
   pub link_shorter : (ts us : List Spelled) (link : Operand) → OneLink ts ≡ Ok (link, us)
       → length us < length ts
   link_shorter ts us link e =
-      loops.shorter El shape_of (body around) good depth t item linked ok ts us link e
+      loops.shorter El shape_of (body around.id_of) good depth t item linked ok ts us link e
 
   pub links_read : (start : Answer (List Operand)) (ts : List Spelled) (links : List Operand)
       → starts t.set (head ts) ≡ false → Links links ts ≡ start → start ≡ Ok (links, ts)
   links_read start ts links ends same =
-      loops.all_read El shape_of (body around) good depth t item linked ok start ts links ends same
+      loops.all_read El shape_of (body around.id_of) good depth t item linked ok start ts links ends
+      same

@@ -35,11 +35,11 @@ module _ (around : Around) where
   dotted : (depth : ℕ) (base : Expr) (ts : List Spelled)
       → starts (quoted (codes ".")) (head ts) ≡ true
       → read around depth (after_operand around base) ts
-      ≡ after_dot base (read around depth (nest (quote (codes ".")) in_member) ts)
+      ≡ after_dot base (read around depth (nest (quote (codes ".")) (in_member around.here)) ts)
   unfolding after_operand members
   dotted depth base ts goes =
-      ap (λ b. and_then (cond b (and_then (read around depth (nest (quote (codes ".")) in_member)
-      ts)
+      ap (λ b. and_then (cond b (and_then
+      (read around depth (nest (quote (codes ".")) (in_member around.here)) ts)
       (λ x. pure {A = List Link} x.0.1 x.1)) (pure {A = List Link} [] ts))
       (λ x. pure {A = Expr} (with_members base x.0) x.1)) goes
 
@@ -49,8 +49,8 @@ module _ (around : Around) where
       → read around depth (after_operand around base) ts ≡ Ok (base, ts)
   unfolding after_operand members
   members_end depth base ts ends =
-      ap (λ b. and_then (cond b (and_then (read around depth (nest (quote (codes ".")) in_member)
-      ts)
+      ap (λ b. and_then (cond b (and_then
+      (read around depth (nest (quote (codes ".")) (in_member around.here)) ts)
       (λ x. pure {A = List Link} x.0.1 x.1)) (pure {A = List Link} [] ts))
       (λ x. pure {A = Expr} (with_members base x.0) x.1)) ends
 
@@ -60,8 +60,8 @@ module _ (around : Around) where
       (read around depth (after_operand around base) ts)
   stops_at_dot depth base ts goes fault e =
       dotted depth base ts goes
-      ∙ ap (after_dot base) (nest_reads El shape_of (body around) depth (quote (codes "."))
-      in_member
+      ∙ ap (after_dot base) (nest_reads El shape_of (body around.id_of) depth (quote (codes "."))
+      (in_member around.here)
       ts ∙ bind_stop (opening depth (quote (codes ".")) ts) _ fault e)
 
   -- a member is its word with its arguments, and the members after it
@@ -137,7 +137,8 @@ module _ (around : Around) where
       (λ x. read around (depth - 1) (after_operand around x.0) x.1)
   at_member depth base ts us at goes opened =
       dotted depth base ts goes
-      ∙ (ap (after_dot base) (nest_opened around in_member depth (quote (codes ".")) ts us at opened
+      ∙ (ap (after_dot base) (nest_opened around (in_member around.here) depth
+      (quote (codes ".")) ts us at opened
       ∙ ap (λ r. and_then r (λ x. pure {A = ℕ × List Link} (at, x.0) x.1))
       (member_is (depth - 1) us))
       ∙ one_then (depth - 1) base at (one_member around (depth - 1) us))

@@ -19,13 +19,14 @@ module _ (around : Around) (n : Nest) (depth : ℕ) (t : Terminal ℕ) (ts us : 
     (at : ℕ) (opened : opening depth t ts ≡ Ok (at, us)) where
   -- the reader of a nest that is open is that of its inside
   pub nest_opened : read around depth (nest t n) ts
-      ≡ then_read (read around (depth - 1) (body around n)) (λ x. pure {A = ℕ × El n} (at, x)) us
+      ≡ then_read (read around (depth - 1) (body around.id_of n))
+      (λ x. pure {A = ℕ × El n} (at, x)) us
   nest_opened =
-      nest_reads El shape_of (body around) depth t n ts
+      nest_reads El shape_of (body around.id_of) depth t n ts
       ∙ bind_step (opening depth t ts) _ (at, us) _ opened refl
 
   pub placed : {A : Type 0} (f : ℕ → El n → A) (result : Result A Stop) (left : List Spelled)
-      → Gives (made (f at) (read around (depth - 1) (body around n)) us) result left
+      → Gives (made (f at) (read around (depth - 1) (body around.id_of n)) us) result left
       → Gives (then_read (read around depth (nest t n)) (λ x. pure (f x.0 x.1)) ts) result left
   placed {A = A} f result left gives = subst (λ a. Gives a result left) (sym same) gives
     where
@@ -39,7 +40,7 @@ module _ (around : Around) (n : Nest) (depth : ℕ) (t : Terminal ℕ) (ts us : 
       by (Err fault) = refl
 
       same : then_read (read around depth (nest t n)) (λ x. pure (f x.0 x.1)) ts
-          ≡ made (f at) (read around (depth - 1) (body around n)) us
+          ≡ made (f at) (read around (depth - 1) (body around.id_of n)) us
       same = ap (λ answer. and_then {X = (ℕ × El n) × List Spelled} {Y = A × List Spelled} answer
           (λ x. Ok (f x.0.0 x.0.1, x.1))) nest_opened
-          ∙ by (read around (depth - 1) (body around n) us)
+          ∙ by (read around (depth - 1) (body around.id_of n) us)

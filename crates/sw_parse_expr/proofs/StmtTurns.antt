@@ -62,22 +62,22 @@ module _ (around : Around) (depth : ℕ) where
           → Refuses (check (may_start (not ended)) ts) Made
       stops_at_start goes fault e =
           bind_stop start _ fault
-          (turns.stops_at_start El shape_of (body around) good depth (stmt around) refl start ts
-          on.parts ended goes on.same fault e)
+          (turns.stops_at_start El shape_of (body around.id_of) good depth (stmt around) refl start
+          ts on.parts ended goes on.same fault e)
 
       pub stops_at_stmt : (us : List Spelled) (value : Unit {0})
           → starts stmt_first (head ts) ≡ true → check (may_start (not ended)) ts ≡ Ok (value, us)
           → Refuses (one us) Made
       stops_at_stmt us value goes a fault e =
           bind_stop start _ fault
-          (turns.stops_at_item El shape_of (body around) good depth (stmt around) refl start ts us
-          on.parts ended value goes on.same a fault e)
+          (turns.stops_at_item El shape_of (body around.id_of) good depth (stmt around) refl start
+          ts us on.parts ended value goes on.same a fault e)
 
       pub all_read : starts stmt_first (head ts) ≡ false → Made ≡ Ok (f xs ended, ts)
       all_read ends =
           bind_step start _ ((on.parts, ended), ts) _
-          (turns.all_read El shape_of (body around) good depth (stmt around) refl start ts on.parts
-          ended ends on.same) (ap (λ (ys : List Stmt). Ok (f ys ended, ts)) on.are)
+          (turns.all_read El shape_of (body around.id_of) good depth (stmt around) refl start ts
+          on.parts ended ends on.same) (ap (λ (ys : List Stmt). Ok (f ys ended, ts)) on.are)
 
     pub one_turn : (us vs ws : List Spelled) (marked : Bool) (x : List Stmt) (value : Unit {0})
         → starts stmt_first (head ts) ≡ true → check (may_start (not ended)) ts ≡ Ok (value, us)
@@ -87,13 +87,13 @@ module _ (around : Around) (depth : ℕ) where
       parts = on.parts ++ x ∷ [];
       are = joined_more on.parts x ∙ ap (λ ys. ys ++ x) on.are;
       same =
-          turns.one_turn El shape_of (body around) good depth (stmt around) refl start ts us vs ws
-          on.parts ended marked x value goes on.same a b c;
+          turns.one_turn El shape_of (body around.id_of) good depth (stmt around) refl start ts us
+          vs ws on.parts ended marked x value goes on.same a b c;
     }
 
   pub shorter : (ts us vs ws : List Spelled) (ended marked : Bool) (x : List Stmt)
       (value : Unit {0}) → check (may_start (not ended)) ts ≡ Ok (value, us)
       → one us ≡ Ok (x, vs) → skipping (codes ";") vs ≡ Ok (marked, ws) → length ws < length ts
   shorter ts us vs ws ended marked x value a b c =
-      loops.shorter El shape_of (body around) good depth (stmt around) refl ts us vs ws [] ended
-      marked x value a b c
+      loops.shorter El shape_of (body around.id_of) good depth (stmt around) refl ts us vs ws []
+      ended marked x value a b c

@@ -1,17 +1,21 @@
 -- What closures and tasks have before their statements, as the code keeps it, and the parts of its
 -- rules that are functions of their own.
-use Rattle.std.specs.Prelude.{ℕ, Some, None, List, [], ◌++◌, codes}
+use Rattle.std.specs.Prelude.{ℕ, Option, Some, None, List, [], ◌++◌, codes}
 use Rattle.sw_grammar_forms.specs.Sets.{quoted}
 use Rattle.sw_grammar_forms.specs.Form.{Shape, solid, one, seq, empty}
 use Rattle.sw_grammar_forms.specs.Form.Form.{done, terminal}
 use Rattle.sw_grammar_forms.specs.Quotes.{quote}
+use Rattle.sw_grammar_forms.specs.Reader.{Reader}
 use Rattle.sw_grammar_forms.specs.Terminals.{◌>>=◌, expect}
 use Rattle.sw_tree.specs.declared.expr.Closure.{Closure, roll-Closure}
 use Rattle.sw_tree.specs.declared.stmt.Stmt.{Stmt}
 use Rattle.sw_tree.specs.declared.stmt.Block.{roll-Block}
-use Rattle.sw_grammar.specs.Around.{Around}
+use Rattle.sw_grammar.specs.Around.{Around, returning}
 use Rattle.sw_grammar.specs.Nests.{Form}
 use Rattle.sw_grammar.specs.Tokens.{at_word, at_in}
+use Rattle.sw_grammar.specs.Types.{Typed, tree_of, wanted_of}
+use Rattle.sw_grammar.specs.Stmts.{statements}
+use Rattle.sw_grammar.specs.Reading.{read}
 use Rattle.sw_grammar.specs.Exprs.{loose}
 use Rattle.sw_grammar.specs.Closures as closures
 use Rattle.sw_grammar.specs.Closures.{header_of, captures, captures_if, signature, signature_if}
@@ -34,9 +38,14 @@ closure_of at header body = roll-Closure (record {
   mark = header.mark;
   captures = header.captures;
   params = header.params;
-  result = header.result;
+  result = tree_of header.result;
   body = roll-Block (record { stmts = body });
 })
+
+-- reads the statements of a body with this result type, up to their `}`
+abbrev pub result_stmts : Around → ℕ → Option Typed → Reader (List Stmt)
+result_stmts around depth result =
+    read around depth (statements (returning around (wanted_of result)))
 
 abbrev captures_shape : Shape
 captures_shape = loose (quoted (codes "[")) (quoted (codes "["))

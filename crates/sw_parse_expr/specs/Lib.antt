@@ -1,3 +1,4 @@
 pub mod Below
 pub mod Headers
 pub mod Parts
+pub mod Values

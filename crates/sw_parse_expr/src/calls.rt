@@ -50,7 +50,8 @@ fn round_args<I: Inner>(
     depth: u32,
 ) -> Result<ArgList, Stop>
     requires { Below I.reads inner.now depth }
-    ensures { Gives (nested (known around.now) depth (quote_on_line (codes "(")) in_args tokens.old)
+    ensures { Gives (nested (known around.now) depth (quote_on_line (codes "("))
+        (in_args (known around.now).here) tokens.old)
         result tokens.new }
 {
     tokens.open_on_line("(", depth)?;

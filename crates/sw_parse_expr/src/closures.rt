@@ -14,7 +14,8 @@ ghost use Rattle.sw_parse_parts.specs.Around.{known};
 ghost use Rattle.sw_parse_parts.specs.Nested.{made};
 ghost use Rattle.sw_parse_expr.specs.Below.{Below};
 ghost use Rattle.sw_parse_expr.specs.Parts.{stmts_of};
-ghost use Rattle.sw_parse_expr.specs.Headers.{header_value, closure_of, marked_header};
+ghost use Rattle.sw_parse_expr.specs.Headers.{header_value, closure_of, result_stmts};
+ghost use Rattle.sw_parse_expr.specs.Headers.{marked_header};
 ghost use Rattle.sw_parse_expr.specs.Headers.{captured_header, signed_header};
 ghost use Rattle.sw_parse_expr.specs.Headers.{marked_task_header, captured_task_header};
 ghost use Rattle.sw_parse_expr.specs.Headers.{signed_task_header};
@@ -24,29 +25,29 @@ use std::alloc::Global;
 use sw_grammar_forms::{Cursor, Stop};
 use sw_list::ListOf;
 use sw_parse_parts::{
-    Around, attribute, captures, captures_if, sees_attribute, sees_stmt, sendable, signature,
-    signature_if, task_signature, task_signature_if,
+    Around, Typed, attribute, captures, captures_if, sees_attribute, sees_stmt, sendable,
+    signature, signature_if, task_signature, task_signature_if, tree_of, wanted_of,
 };
-use sw_tree::{Block, Closure, ClosureParamList, Name, NameList, StmtList, TypeTree};
+use sw_tree::{Block, Closure, ClosureParamList, Name, NameList, StmtList};
 
 /// What a closure has before its statements.
 #[derive(Drop)]
-pub struct Header {
+pub struct Header<'a> {
     /// `@Sendable`, or a task's global actor.
     pub mark: Option<Name>,
     pub captures: NameList,
     pub params: ClosureParamList,
-    pub result: Option<TypeTree>,
+    pub result: Option<Typed<'a>>,
 }
 
 /// The header of a closure, where it comes.
 #[tactic(auto, unfolding(sw_grammar::specs::Closures::header))]
-fn closure_header(
+fn closure_header<'a>(
     alloc: Global,
     around: &Around<'_>,
-    tokens: &mut Cursor<'_>,
+    tokens: &mut Cursor<'a>,
     depth: u32,
-) -> Result<Header, Stop>
+) -> Result<Header<'a>, Stop>
     ensures { Gives (made header_value (read (known around.now) depth
         (closures.header (known around.now))) tokens.old) result tokens.new }
 {
@@ -64,12 +65,12 @@ fn closure_header(
 
 /// The header of a task's body, where it comes.
 #[tactic(auto, unfolding(sw_grammar::specs::Closures::task_header))]
-fn task_header(
+fn task_header<'a>(
     alloc: Global,
     around: &Around<'_>,
-    tokens: &mut Cursor<'_>,
+    tokens: &mut Cursor<'a>,
     depth: u32,
-) -> Result<Header, Stop>
+) -> Result<Header<'a>, Stop>
     ensures { Gives (made header_value (read (known around.now) depth
         (closures.task_header (known around.now))) tokens.old) result tokens.new }
 {
@@ -108,6 +109,41 @@ pub fn statements<I: Inner>(
     Ok(ListOf::from_vec(stmts))
 }
 
+/// Statements up to their `}`.
+#[tactic(auto, unfolding(sw_grammar::specs::Stmts::statements))]
+pub fn stmts_inside<I: Inner>(
+    alloc: Global,
+    inner: &I,
+    around: &Around<'_>,
+    tokens: &mut Cursor<'_>,
+    depth: u32,
+) -> Result<StmtList, Stop>
+    requires { I.reads inner.now depth }
+    ensures { Gives (read (known around.now) depth (stmts.statements (known around.now)) tokens.old)
+        result tokens.new }
+{
+    let stmts = statements(alloc, inner, around, tokens, depth)?;
+    tokens.expect("}")?;
+    Ok(stmts)
+}
+
+/// The statements of a body with this result type, up to their `}`.
+fn result_stmts<I: Inner>(
+    alloc: Global,
+    inner: &I,
+    around: &Around<'_>,
+    tokens: &mut Cursor<'_>,
+    depth: u32,
+    result_type: &Option<Typed<'_>>,
+) -> Result<StmtList, Stop>
+    requires { I.reads inner.now depth }
+    ensures { Gives (result_stmts (known around.now) depth result_type.now tokens.old) result
+        tokens.new }
+{
+    let within = around.returning(wanted_of(result_type));
+    stmts_inside(alloc, inner, &within, tokens, depth)
+}
+
 /// A closure, from its `{` to its `}`.
 pub fn closure<I: Inner>(
     alloc: Global,
@@ -117,7 +153,8 @@ pub fn closure<I: Inner>(
     depth: u32,
 ) -> Result<Closure, Stop>
     requires { Below I.reads inner.now depth }
-    ensures { Gives (then_read (read (known around.now) depth (nest (quote (codes "{")) in_closure))
+    ensures { Gives (then_read (read (known around.now) depth (nest (quote (codes "{"))
+        (in_closure (known around.now).here)))
         (λ x. pure (exprs.closure_at x.0 x.1)) tokens.old) result tokens.new }
 {
     let at = tokens.open("{", depth)?;
@@ -125,7 +162,6 @@ pub fn closure<I: Inner>(
 }
 
 /// A closure after its `{`, which stands at this position.
-#[tactic(auto, unfolding(sw_grammar::specs::Stmts::closure_inside))]
 fn closure_inside<I: Inner>(
     alloc: Global,
     inner: &I,
@@ -139,8 +175,7 @@ fn closure_inside<I: Inner>(
         (stmts.closure_inside (known around.now))) tokens.old) result tokens.new }
 {
     let header = closure_header(alloc, around, tokens, depth)?;
-    let stmts = statements(alloc, inner, around, tokens, depth)?;
-    tokens.expect("}")?;
+    let stmts = result_stmts(alloc, inner, around, tokens, depth, &header.result)?;
     Ok(closure_of(at, header, stmts))
 }
 
@@ -153,7 +188,8 @@ pub fn task_body<I: Inner>(
     depth: u32,
 ) -> Result<Closure, Stop>
     requires { Below I.reads inner.now depth }
-    ensures { Gives (then_read (read (known around.now) depth (nest (quote (codes "{")) in_task))
+    ensures { Gives (then_read (read (known around.now) depth (nest (quote (codes "{"))
+        (in_task (known around.now).here)))
         (λ x. pure (exprs.closure_at x.0 x.1)) tokens.old) result tokens.new }
 {
     let at = tokens.open("{", depth)?;
@@ -161,7 +197,6 @@ pub fn task_body<I: Inner>(
 }
 
 /// The body of a task after its `{`, which stands at this position.
-#[tactic(auto, unfolding(sw_grammar::specs::Stmts::task_inside))]
 fn task_inside<I: Inner>(
     alloc: Global,
     inner: &I,
@@ -175,27 +210,26 @@ fn task_inside<I: Inner>(
         (stmts.task_inside (known around.now))) tokens.old) result tokens.new }
 {
     let header = task_header(alloc, around, tokens, depth)?;
-    let stmts = statements(alloc, inner, around, tokens, depth)?;
-    tokens.expect("}")?;
+    let stmts = result_stmts(alloc, inner, around, tokens, depth, &header.result)?;
     Ok(closure_of(at, header, stmts))
 }
 
 /// A closure with these statements.
-fn closure_of(at: u32, header: Header, stmts: StmtList) -> Closure
-    ensures { result ≡ closure_of at header stmts }
+fn closure_of(at: u32, header: Header<'_>, stmts: StmtList) -> Closure
+    ensures { result ≡ closure_of at header.entry stmts }
 {
     Closure {
         at,
         mark: header.mark,
         captures: header.captures,
         params: header.params,
-        result: header.result,
+        result: tree_of(header.result),
         body: Block { stmts },
     }
 }
 
 /// No header.
-fn no_header(alloc: Global) -> Header
+fn no_header<'a>(alloc: Global) -> Header<'a>
     ensures { result ≡ header_value closures.no_header }
 {
     Header {
@@ -207,12 +241,12 @@ fn no_header(alloc: Global) -> Header
 }
 
 /// A closure's header that begins with `@Sendable`.
-fn marked_header(
+fn marked_header<'a>(
     alloc: Global,
     around: &Around<'_>,
-    tokens: &mut Cursor<'_>,
+    tokens: &mut Cursor<'a>,
     depth: u32,
-) -> Result<Header, Stop>
+) -> Result<Header<'a>, Stop>
     ensures { Gives (made header_value (read (known around.now) depth
         (marked_header (known around.now)))
         tokens.old) result tokens.new }
@@ -230,12 +264,12 @@ fn marked_header(
 }
 
 /// A closure's header that begins with a capture list.
-fn captured_header(
+fn captured_header<'a>(
     alloc: Global,
     around: &Around<'_>,
-    tokens: &mut Cursor<'_>,
+    tokens: &mut Cursor<'a>,
     depth: u32,
-) -> Result<Header, Stop>
+) -> Result<Header<'a>, Stop>
     ensures { Gives (made header_value (read (known around.now) depth
         (captured_header (known around.now)))
         tokens.old) result tokens.new }
@@ -252,12 +286,12 @@ fn captured_header(
 }
 
 /// A closure's header that begins with its parameters.
-fn signed_header(
+fn signed_header<'a>(
     alloc: Global,
     around: &Around<'_>,
-    tokens: &mut Cursor<'_>,
+    tokens: &mut Cursor<'a>,
     depth: u32,
-) -> Result<Header, Stop>
+) -> Result<Header<'a>, Stop>
     ensures { Gives (made header_value (read (known around.now) depth
         (signed_header (known around.now)))
         tokens.old) result tokens.new }
@@ -273,12 +307,12 @@ fn signed_header(
 }
 
 /// A task's header that begins with an attribute.
-fn marked_task_header(
+fn marked_task_header<'a>(
     alloc: Global,
     around: &Around<'_>,
-    tokens: &mut Cursor<'_>,
+    tokens: &mut Cursor<'a>,
     depth: u32,
-) -> Result<Header, Stop>
+) -> Result<Header<'a>, Stop>
     ensures { Gives (made header_value (read (known around.now) depth
         (marked_task_header (known around.now)))
         tokens.old) result tokens.new }
@@ -296,12 +330,12 @@ fn marked_task_header(
 }
 
 /// A task's header that begins with a capture list.
-fn captured_task_header(
+fn captured_task_header<'a>(
     alloc: Global,
     around: &Around<'_>,
-    tokens: &mut Cursor<'_>,
+    tokens: &mut Cursor<'a>,
     depth: u32,
-) -> Result<Header, Stop>
+) -> Result<Header<'a>, Stop>
     ensures { Gives (made header_value (read (known around.now) depth
         (captured_task_header (known around.now)))
         tokens.old) result tokens.new }
@@ -318,12 +352,12 @@ fn captured_task_header(
 }
 
 /// A task's header that begins with its brackets.
-fn signed_task_header(
+fn signed_task_header<'a>(
     alloc: Global,
     around: &Around<'_>,
-    tokens: &mut Cursor<'_>,
+    tokens: &mut Cursor<'a>,
     depth: u32,
-) -> Result<Header, Stop>
+) -> Result<Header<'a>, Stop>
     ensures { Gives (made header_value (read (known around.now) depth
         (signed_task_header (known around.now)))
         tokens.old) result tokens.new }

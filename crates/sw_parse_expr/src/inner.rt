@@ -10,7 +10,7 @@ ghost use Rattle.sw_parse_parts.specs.Around.{known};
 use std::alloc::Global;
 use sw_grammar_forms::{Cursor, Stop};
 use sw_parse_parts::Around;
-use sw_tree::{Arg, Expr, StmtList};
+use sw_tree::{Arg, Expr, Stmt, StmtList};
 
 /// A parser of what stands in nests: expressions, arguments and statements further in.
 ///
@@ -58,4 +58,16 @@ pub trait Inner {
         requires { reads self.now depth }
         ensures { Gives (read (known around.now) depth (stmts.stmt (known around.now)) tokens.old)
             result tokens.new };
+
+    /// An `if` with all its arms, after the `else` of an arm with `let`.
+    fn if_stmt(
+        &self,
+        alloc: Global,
+        around: &Around<'_>,
+        tokens: &mut Cursor<'_>,
+        depth: u32,
+    ) -> Result<Stmt, Stop>
+        requires { reads self.now depth }
+        ensures { Gives (read (known around.now) depth (stmts.if_stmt (known around.now))
+            tokens.old) result tokens.new };
 }

@@ -76,7 +76,7 @@ pub fn after_task<I: Inner>(
 
 /// An expression in brackets.
 #[tactic(auto, unfolding(sw_grammar::specs::Exprs::bracketed))]
-fn bracketed<I: Inner>(
+pub fn bracketed<I: Inner>(
     alloc: Global,
     inner: &I,
     around: &Around<'_>,

@@ -9,14 +9,14 @@ use Rattle.sw_parse_expr.proofs.calls.more_args.Goals as goal
 
 pub loop-alloc-smaller : goal.loop-alloc-smaller
 loop-alloc-smaller g c =
-    list_shorter El shape_of (body (known c.args.around.now)) good c.args.depth (codes ",")
+    list_shorter El shape_of (body (known c.args.around.now).id_of) good c.args.depth (codes ",")
     (arg (known c.args.around.now)) refl _ _ _ _
     (c.skip.ensures ∙ ap (λ found. Ok (found, c.skip.new.self)) c.loop-alloc-test.true)
     c.in_ok-arg.ensures
 
 pub loop-alloc-preserved : goal.loop-alloc-preserved
 loop-alloc-preserved g c = rw c.in_ok-push-2.ensures.items
-    (list_turn El shape_of (body (known c.args.around.now)) good c.args.depth (codes ",")
+    (list_turn El shape_of (body (known c.args.around.now).id_of) good c.args.depth (codes ",")
     (arg (known c.args.around.now)) refl _ _ _ _ c.loop-alloc.args.items _ c.loop-alloc.invariant
     (c.skip.ensures ∙ ap (λ found. Ok (found, c.skip.new.self)) c.loop-alloc-test.true)
     c.in_ok-arg.ensures)

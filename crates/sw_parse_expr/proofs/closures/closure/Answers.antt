@@ -8,5 +8,5 @@ use Rattle.sw_parse_expr.proofs.closures.closure.Goals as goal
 
 pub returns : goal.returns
 returns g c =
-    placed (known c.args.around.now) in_closure c.args.depth (quote (codes "{")) _ _ _
-    c.in_ok-at.ensures.opened closure_at _ _ c.closure_inside.ensures
+    placed (known c.args.around.now) (in_closure (known c.args.around.now).here) c.args.depth
+    (quote (codes "{")) _ _ _ c.in_ok-at.ensures.opened closure_at _ _ c.closure_inside.ensures

@@ -9,5 +9,6 @@ use Rattle.sw_parse_expr.proofs.operands.bracketed.Goals as goal
 pub returns : goal.returns
 unfolding bracketed
 returns g c =
-    in_nest_itself (known c.args.around.now) in_round c.args.depth (quote (codes "(")) _ _ _ _ _
-    c.in_ok-open.ensures.opened c.in_ok-open.ensures.room c.round.ensures
+    in_nest_itself (known c.args.around.now) (in_round (known c.args.around.now).here) c.args.depth
+    (quote (codes "(")) _ _ _ _ _ c.in_ok-open.ensures.opened
+    c.in_ok-open.ensures.room c.round.ensures
