@@ -39,7 +39,7 @@ module _ (around : Around) (depth : ℕ) {s : Shape} {A : Type 0} (item : Form s
 
   next_turn : (xs : List A) (ts : List Spelled) → goes ts → More xs ts ≡ then_read (turn xs) More ts
   next_turn xs ts some =
-      loop_goes_on El shape_of (body around) good depth (λ _. true) comma_item ok xs ts some
+      loop_goes_on El shape_of (body around.id_of) good depth (λ _. true) comma_item ok xs ts some
 
   turned : (xs : List A) (ts us vs : List Spelled) (at : ℕ) (x : A)
       → next (quote (codes ",")) ts ≡ Ok (at, us) → read around depth item us ≡ Ok (x, vs)
@@ -60,7 +60,7 @@ module _ (around : Around) (depth : ℕ) {s : Shape} {A : Type 0} (item : Form s
       → next (quote (codes ",")) ts ≡ Ok (at, us) → read around depth item us ≡ Ok (x, vs)
       → length vs < length ts
   part_shrinks ts us vs xs at x a b =
-      turn_takes El shape_of (body around) good depth comma_item ok xs (xs ++ x ∷ []) ts vs
+      turn_takes El shape_of (body around.id_of) good depth comma_item ok xs (xs ++ x ∷ []) ts vs
       (turned xs ts us vs at x a b)
 
   pub all_parts : (init : List A) (start ts : List Spelled) (xs : List A)
@@ -68,4 +68,4 @@ module _ (around : Around) (depth : ℕ) {s : Shape} {A : Type 0} (item : Form s
       → More xs ts ≡ More init start → More init start ≡ Ok (xs, ts)
   all_parts init start ts xs ends same =
       sym same
-      ∙ loop_stops El shape_of (body around) good depth (λ _. true) comma_item ok xs ts ends
+      ∙ loop_stops El shape_of (body around.id_of) good depth (λ _. true) comma_item ok xs ts ends

@@ -42,7 +42,7 @@ module _ (around : Around) (depth : ℕ) where
       → Same start ts xs ended
       → Refuses (check (may_start (not ended)) ts) (decls_of around depth start)
   stops_at_start start ts xs ended some same =
-      loops.stops_at_start El shape_of (body around) good depth (decl around) refl start ts xs ended
+      loops.stops_at_start El shape_of (body around.id_of) good depth (decl around) refl start ts xs ended
       some same
 
   pub stops_at_decl : (start ts us : List Spelled) (xs : List Decl) (ended : Bool)
@@ -50,7 +50,7 @@ module _ (around : Around) (depth : ℕ) where
       → check (may_start (not ended)) ts ≡ Ok (value, us)
       → Refuses (read around depth (decl around) us) (decls_of around depth start)
   stops_at_decl start ts us xs ended value some same first =
-      loops.stops_at_item El shape_of (body around) good depth (decl around) refl start ts us xs
+      loops.stops_at_item El shape_of (body around.id_of) good depth (decl around) refl start ts us xs
       ended
       value some same first
 
@@ -61,7 +61,7 @@ module _ (around : Around) (depth : ℕ) where
       → read around depth (decl around) us ≡ Ok (x, vs) → skipping (codes ";") vs ≡ Ok (marked, ws)
       → Same start ws (xs ++ x ∷ []) marked
   one_turn start ts us vs ws xs ended marked x value some same a b c =
-      loops.one_turn El shape_of (body around) good depth (decl around) refl start ts us vs ws xs
+      loops.one_turn El shape_of (body around.id_of) good depth (decl around) refl start ts us vs ws xs
       ended
       marked x value some same a b c
 
@@ -70,7 +70,7 @@ module _ (around : Around) (depth : ℕ) where
       → read around depth (decl around) us ≡ Ok (x, vs) → skipping (codes ";") vs ≡ Ok (marked, ws)
       → length ws < length ts
   shorter ts us vs ws xs ended marked x value a b c =
-      loops.shorter El shape_of (body around) good depth (decl around) refl ts us vs ws xs ended
+      loops.shorter El shape_of (body around.id_of) good depth (decl around) refl ts us vs ws xs ended
       marked
       x value a b c
 
@@ -78,5 +78,5 @@ module _ (around : Around) (depth : ℕ) where
       → starts decl_first (head ts) ≡ false → Same start ts xs ended
       → decls_of around depth start ≡ Ok (xs, ts)
   all_read start ts xs ended ends same =
-      loops.all_read El shape_of (body around) good depth (decl around) refl start ts xs ended ends
+      loops.all_read El shape_of (body around.id_of) good depth (decl around) refl start ts xs ended ends
       same

@@ -1,76 +1,61 @@
--- The names of tokens, interned token by token.
-use Rattle.std.proofs.Common.{◌≡◌, ℕ, ◌+◌, ◌<◌, ◌≤◌, true, false, List, [], ◌∷◌, ◌++◌, length}
-use Rattle.std.proofs.Common.{take, drop, refl, sym, ◌∙◌, ap, append_assoc, append-nil, arith}
-use Rattle.std.proofs.lemmas.List.{length-append, take_at, flat_map_more}
+-- The names of tokens, interned text by text.
+use Rattle.std.proofs.Common.{◌≡◌, ℕ, suc, ◌+◌, ◌*◌, ◌<◌, ◌≤◌, Bool, true, false, if◌then◌else◌}
+use Rattle.std.proofs.Common.{List, [], ◌∷◌, ◌++◌, length, take, drop, codes, refl, sym, ◌∙◌, ap, subst}
+use Rattle.std.proofs.Common.{append_assoc, append-nil, length-append, arith}
+use Rattle.std.proofs.lemmas.List.{take-append-le}
+use Rattle.std.specs.Prelude.{Some, bytes_eq}
 use Rattle.sw_token.specs.declared.Kind.{Kind}
 use Rattle.sw_token.specs.declared.Kind.TheVariants as kinds
 use Rattle.sw_token.specs.Kinds.{kind_of}
 use Rattle.sw_token.specs.Spelling.{Spelled}
 use Rattle.sw_grammar_forms.specs.Outcome.{Takes, text_of}
 use Rattle.sw_grammar_forms.specs.Relations.{head}
-use Rattle.sw_grammar_forms.specs.Sets.{starts, word, attribute, is_name, is_at}
-use Rattle.sw_grammar_forms.proofs.SetLaws.{has-word}
+use Rattle.sw_grammar_forms.specs.Sets.{starts, quoted, word, attribute, is_name, is_at}
+use Rattle.sw_grammar_forms.proofs.CursorSteps.{sees_quoted}
 use Rattle.sw_grammar_forms.proofs.KindSets.{has-attribute}
+use Rattle.sw_grammar_forms.proofs.SetLaws.{has-word}
 use Rattle.sw_tree.proofs.NamesLemmas.{length-with_text}
 use Rattle.sw_tree.specs.Names.{with_text, with_texts, predeclared}
-use Rattle.sw_grammar_facts.specs.Interned.{name_texts, texts_in}
-use Rattle.sw_parse_decl.specs.Parts.{next_texts}
+use Rattle.sw_sugar.specs.Calls.{declared_texts}
+use Rattle.sw_grammar.specs.Tokens.{optional_text}
+use Rattle.sw_grammar_facts.specs.Interned.{made_texts, texts_by, next_texts, given_texts}
+use Rattle.sw_parse_decl.specs.Texts.{ArePartlyInterned}
 
-word_kind : (kind : Kind) (text : List ℕ) → is_name kind ≡ true → name_texts kind text ≡ text ∷ []
-word_kind kinds.Word text is = refl
-word_kind kinds.At text is = absurd (cc)
-word_kind kinds.Underscore text is = absurd (cc)
-word_kind (kinds.Key _) text is = absurd (cc)
-word_kind (kinds.Int _) text is = absurd (cc)
-word_kind (kinds.Op _) text is = absurd (cc)
-word_kind (kinds.Mark _) text is = absurd (cc)
+-- Several texts, interned in turn.
 
-at_kind : (kind : Kind) (text : List ℕ) → is_at kind ≡ true
-    → name_texts kind text ≡ drop 1 text ∷ []
-at_kind kinds.Word text is = absurd (cc)
-at_kind kinds.At text is = refl
-at_kind kinds.Underscore text is = absurd (cc)
-at_kind (kinds.Key _) text is = absurd (cc)
-at_kind (kinds.Int _) text is = absurd (cc)
-at_kind (kinds.Op _) text is = absurd (cc)
-at_kind (kinds.Mark _) text is = absurd (cc)
-
-other_kind : (kind : Kind) (text : List ℕ) → is_name kind ≡ false → is_at kind ≡ false
-    → name_texts kind text ≡ []
-other_kind kinds.Word text is is' = absurd (cc)
-other_kind kinds.At text is is' = absurd (cc)
-other_kind kinds.Underscore text is is' = refl
-other_kind (kinds.Key _) text is is' = refl
-other_kind (kinds.Int _) text is is' = refl
-other_kind (kinds.Op _) text is is' = refl
-other_kind (kinds.Mark _) text is is' = refl
-
--- What the next token adds to the texts.
-
-pub word_adds : (texts : List (List ℕ)) (ts : List Spelled) → starts word (head ts) ≡ true
-    → with_texts texts (next_texts ts) ≡ with_text texts (text_of (head ts))
+-- the first isn't interned
+pub none_interned : (before after : List (List ℕ)) (text : List ℕ) (more : List (List ℕ))
+    → after ≡ before → ArePartlyInterned before (text ∷ more) after
 unfolding with_texts
-word_adds texts [] h = absurd (cc)
-word_adds texts (token ∷ ts) h =
-    ap (λ more. with_texts texts more)
-    (word_kind (kind_of token.text) token.text (sym (has-word token) ∙ h))
+none_interned before after text more same = (0, omega arith, same)
 
-pub attribute_adds : (texts : List (List ℕ)) (ts : List Spelled)
-    → starts attribute (head ts) ≡ true
-    → with_texts texts (next_texts ts) ≡ with_text texts (drop 1 (text_of (head ts)))
+-- the first is interned, and not all others
+pub first_interned : (before middle after : List (List ℕ)) (text : List ℕ) (more : List (List ℕ))
+    → middle ≡ with_text before text → ArePartlyInterned middle more after
+    → ArePartlyInterned before (text ∷ more) after
 unfolding with_texts
-attribute_adds texts [] h = absurd (cc)
-attribute_adds texts (token ∷ ts) h =
-    ap (λ more. with_texts texts more)
-    (at_kind (kind_of token.text) token.text (sym (has-attribute token) ∙ h))
+first_interned before middle after text more is (n, less, same) =
+    (suc n, omega (arith, less), same ∙ ap (λ texts. with_texts texts (take n more)) is)
 
-pub none_added : (texts : List (List ℕ)) (ts : List Spelled) → starts word (head ts) ≡ false
-    → starts attribute (head ts) ≡ false → texts ≡ with_texts texts (next_texts ts)
+-- the same with several in place of the first
+pub then_partly : (before middle after : List (List ℕ)) (first more : List (List ℕ))
+    → middle ≡ with_texts before first → ArePartlyInterned middle more after
+    → ArePartlyInterned before (first ++ more) after
 unfolding with_texts
-none_added texts [] h k = refl
-none_added texts (token ∷ ts) h k =
-    sym (ap (λ more. with_texts texts more) (other_kind (kind_of token.text) token.text
-    (sym (has-word token) ∙ h) (sym (has-attribute token) ∙ k)))
+then_partly before middle after [] more is part =
+    subst (λ texts. ArePartlyInterned texts more after) is part
+then_partly before middle after (text ∷ first) more is part =
+    first_interned before (with_text before text) after text (first ++ more) refl
+    (then_partly (with_text before text) middle after first more is part)
+
+-- and more come after them
+pub partly_of_more : (before after : List (List ℕ)) (texts more : List (List ℕ))
+    → ArePartlyInterned before texts after → ArePartlyInterned before (texts ++ more) after
+partly_of_more before after texts more (n, less, same) = (
+  n,
+  omega (arith, less, length-append texts more),
+  same ∙ ap (with_texts before) (sym (take-append-le n texts more (omega (arith, less)))),
+)
 
 with_both : (texts more others : List (List ℕ))
     → with_texts texts (more ++ others) ≡ with_texts (with_texts texts more) others
@@ -78,81 +63,245 @@ unfolding with_texts
 with_both texts [] others = refl
 with_both texts (text ∷ more) others = with_both (with_text texts text) more others
 
--- The names of the first of all tokens are interned, and these tokens are left.
-pub record IsInterned (old : List (List ℕ)) (all : List Spelled) (new : List (List ℕ))
-    (left : List Spelled) : Type 0 where
-  pub first : List Spelled
-  pub rest : all ≡ first ++ left
-  pub texts : new ≡ with_texts old (texts_in first)
-
-pub none_yet : (old : List (List ℕ)) (all : List Spelled) → IsInterned old all old all
+pub length-with_texts : (texts more : List (List ℕ))
+    → length (with_texts texts more) ≤ length texts + length more
 unfolding with_texts
-none_yet old all = record { first = []; rest = refl; texts = refl }
-
-more_texts : (ts : List Spelled) (token : Spelled)
-    → texts_in ts ++ name_texts (kind_of token.text) token.text ≡ texts_in (ts ++ token ∷ [])
-more_texts ts token = flat_map_more (λ it. name_texts (kind_of it.text) it.text) [] ts token
-
-pub one_more : (old texts new : List (List ℕ)) (all ts left : List Spelled) (at : ℕ)
-    → Takes ts at left → new ≡ with_texts texts (next_texts ts) → IsInterned old all texts ts
-    → IsInterned old all new left
-one_more old texts new all [] left at takes is so_far = absurd takes
-one_more old texts new all (token ∷ ts) left at takes is so_far = record {
-  first = so_far.first ++ token ∷ [];
-  rest =
-      so_far.rest ∙ sym (append_assoc so_far.first (token ∷ []) ts)
-      ∙ ap (λ us. (so_far.first ++ token ∷ []) ++ us) (sym takes.1);
-  texts =
-      is ∙ ap (λ it. with_texts it (name_texts (kind_of token.text) token.text)) so_far.texts
-      ∙ sym (with_both old (texts_in so_far.first) (name_texts (kind_of token.text) token.text))
-      ∙ ap (with_texts old) (more_texts so_far.first token);
-}
-
-pub all_interned : (old new : List (List ℕ)) (all left : List Spelled) → length left ≤ 0
-    → IsInterned old all new left → new ≡ with_texts old (texts_in all)
-all_interned old new all [] less so_far =
-    so_far.texts ∙ ap (λ ts. with_texts old (texts_in ts))
-    (sym (so_far.rest ∙ append-nil so_far.first))
-all_interned old new all (token ∷ left) less so_far = absurd (omega arith)
-
-pub some_interned : (old texts new : List (List ℕ)) (all left : List Spelled) → 0 < length left
-    → IsInterned old all texts left → new ≡ texts
-    → (n : ℕ) × (n < length all) × (new ≡ with_texts old (texts_in (take n all)))
-some_interned old texts new all left more so_far same = (
-  length so_far.first,
-  omega (arith, ap length so_far.rest, length-append so_far.first left),
-  same ∙ so_far.texts ∙ ap (λ ts. with_texts old (texts_in ts))
-      (sym (take_at so_far.first left (length so_far.first) refl)
-      ∙ ap (take (length so_far.first)) (sym so_far.rest)),
+length-with_texts texts [] = omega arith
+length-with_texts texts (text ∷ more) = omega (
+  arith,
+  length-with_text texts text,
+  length-with_texts (with_text texts text) more,
 )
 
--- A token adds one text at most.
-one_at_most : (kind : Kind) (text : List ℕ) (texts : List (List ℕ))
-    → length (with_texts texts (name_texts kind text)) ≤ length texts + 1
+-- What rules may make of a word, by the token after it.
+
+abbrev made_by : Bool → Bool → List ℕ → List (List ℕ)
+made_by marked typed text =
+    if marked then optional_text text ∷ [] else (if typed then declared_texts text else [])
+
+made_is : (text : List ℕ) (ts : List Spelled) → made_texts text ts ≡ made_by
+    (starts (quoted (codes "?")) (head ts)) (starts (quoted (codes ":")) (head ts)) text
+made_is text [] = refl
+made_is text (next ∷ after) =
+    ap (λ b. made_by b (bytes_eq next.text (codes ":")) text)
+    (sees_quoted (codes "?") (Some next) refl)
+    ∙ ap (λ b. made_by (starts (quoted (codes "?")) (Some next)) b text)
+    (sees_quoted (codes ":") (Some next) refl)
+
+pub made_of_optional : (text : List ℕ) (ts : List Spelled)
+    → starts (quoted (codes "?")) (head ts) ≡ true → optional_text text ∷ [] ≡ made_texts text ts
+made_of_optional text ts is =
+    sym (made_is text ts
+    ∙ ap (λ b. made_by b (starts (quoted (codes ":")) (head ts)) text) is)
+
+pub made_of_declared : (text : List ℕ) (ts : List Spelled)
+    → starts (quoted (codes "?")) (head ts) ≡ false → starts (quoted (codes ":")) (head ts) ≡ true
+    → declared_texts text ≡ made_texts text ts
+made_of_declared text ts is is' =
+    sym (made_is text ts
+    ∙ (ap (λ b. made_by b (starts (quoted (codes ":")) (head ts)) text) is
+    ∙ ap (λ b. made_by false b text) is'))
+
+pub made_of_nothing : (text : List ℕ) (ts : List Spelled)
+    → starts (quoted (codes "?")) (head ts) ≡ false
+    → starts (quoted (codes ":")) (head ts) ≡ false → [] ≡ made_texts text ts
+made_of_nothing text ts is is' =
+    sym (made_is text ts
+    ∙ (ap (λ b. made_by b (starts (quoted (codes ":")) (head ts)) text) is
+    ∙ ap (λ b. made_by false b text) is'))
+
+-- What the next token gives.
+
+word_kind : (kind : Kind) (text : List ℕ) (after : List Spelled) → is_name kind ≡ true
+    → text ∷ made_texts text after ≡ texts_by kind text after
+word_kind kinds.Word text after is = refl
+word_kind kinds.At text after is = absurd (cc)
+word_kind kinds.Underscore text after is = absurd (cc)
+word_kind (kinds.Key _) text after is = absurd (cc)
+word_kind (kinds.Int _) text after is = absurd (cc)
+word_kind (kinds.Op _) text after is = absurd (cc)
+word_kind (kinds.Mark _) text after is = absurd (cc)
+
+at_kind : (kind : Kind) (text : List ℕ) (after : List Spelled) → is_at kind ≡ true
+    → drop 1 text ∷ [] ≡ texts_by kind text after
+at_kind kinds.Word text after is = absurd (cc)
+at_kind kinds.At text after is = refl
+at_kind kinds.Underscore text after is = absurd (cc)
+at_kind (kinds.Key _) text after is = absurd (cc)
+at_kind (kinds.Int _) text after is = absurd (cc)
+at_kind (kinds.Op _) text after is = absurd (cc)
+at_kind (kinds.Mark _) text after is = absurd (cc)
+
+other_kind : (kind : Kind) (text : List ℕ) (after : List Spelled) → is_name kind ≡ false
+    → is_at kind ≡ false → [] ≡ texts_by kind text after
+other_kind kinds.Word text after is is' = absurd (cc)
+other_kind kinds.At text after is is' = absurd (cc)
+other_kind kinds.Underscore text after is is' = refl
+other_kind (kinds.Key _) text after is is' = refl
+other_kind (kinds.Int _) text after is is' = refl
+other_kind (kinds.Op _) text after is is' = refl
+other_kind (kinds.Mark _) text after is is' = refl
+
+word_gives : (ts : List Spelled) → starts word (head ts) ≡ true
+    → text_of (head ts) ∷ made_texts (text_of (head ts)) (drop 1 ts) ≡ next_texts ts
+word_gives [] is = absurd (cc)
+word_gives (token ∷ after) is =
+    word_kind (kind_of token.text) token.text after (sym (has-word token) ∙ is)
+
+attribute_gives : (ts : List Spelled) → starts attribute (head ts) ≡ true
+    → drop 1 (text_of (head ts)) ∷ [] ≡ next_texts ts
+attribute_gives [] is = absurd (cc)
+attribute_gives (token ∷ after) is =
+    at_kind (kind_of token.text) token.text after (sym (has-attribute token) ∙ is)
+
+pub other_gives : (ts : List Spelled) → starts word (head ts) ≡ false
+    → starts attribute (head ts) ≡ false → [] ≡ next_texts ts
+other_gives [] is is' = refl
+other_gives (token ∷ after) is is' =
+    other_kind (kind_of token.text) token.text after (sym (has-word token) ∙ is)
+    (sym (has-attribute token) ∙ is')
+
+pub rest_of : (ts left : List Spelled) (at : ℕ) → Takes ts at left → left ≡ drop 1 ts
+rest_of [] left at takes = absurd takes
+rest_of (token ∷ after) left at takes = takes.1
+
+-- the next token is a word
+module _ (old : List (List ℕ)) (ts : List Spelled) (is : starts word (head ts) ≡ true) where
+  pub word_fails : (new : List (List ℕ)) → new ≡ old → ArePartlyInterned old (next_texts ts) new
+  word_fails new same =
+      subst (λ texts. ArePartlyInterned old texts new) (word_gives ts is)
+      (none_interned old new (text_of (head ts)) (made_texts (text_of (head ts)) (drop 1 ts)) same)
+
+  module _ (middle : List (List ℕ)) (text : List ℕ) (left : List Spelled)
+      (text-is : text ≡ text_of (head ts)) (left-is : left ≡ drop 1 ts)
+      (one : middle ≡ with_text old text) where
+    all_texts : text ∷ made_texts text left ≡ next_texts ts
+    all_texts = (λ j. text-is j ∷ made_texts (text-is j) (left-is j)) ∙ word_gives ts is
+
+    pub word_texts : (new : List (List ℕ)) → new ≡ with_texts middle (made_texts text left)
+        → new ≡ with_texts old (next_texts ts)
+    unfolding with_texts
+    word_texts new more =
+        more ∙ (ap (λ texts. with_texts texts (made_texts text left)) one
+        ∙ ap (with_texts old) all_texts)
+
+    pub word_partly : (new : List (List ℕ)) → ArePartlyInterned middle (made_texts text left) new
+        → ArePartlyInterned old (next_texts ts) new
+    word_partly new part =
+        subst (λ texts. ArePartlyInterned old texts new) all_texts
+        (first_interned old middle new text (made_texts text left) one part)
+
+-- the next token is an `@` with a word
+module _ (old : List (List ℕ)) (ts : List Spelled) (is : starts attribute (head ts) ≡ true) where
+  pub attribute_fails : (new : List (List ℕ)) → new ≡ old
+      → ArePartlyInterned old (next_texts ts) new
+  attribute_fails new same =
+      subst (λ texts. ArePartlyInterned old texts new) (attribute_gives ts is)
+      (none_interned old new (drop 1 (text_of (head ts))) [] same)
+
+  pub attribute_texts : (new : List (List ℕ)) (text : List ℕ) → text ≡ drop 1 (text_of (head ts))
+      → new ≡ with_text old text → new ≡ with_texts old (next_texts ts)
+  unfolding with_texts
+  attribute_texts new text text-is one =
+      one ∙ (ap (with_text old) text-is ∙ ap (with_texts old) (attribute_gives ts is))
+
+-- The texts of all tokens.
+
+made_few : (text : List ℕ) (ts : List Spelled) → length (made_texts text ts) ≤ 2
+made_few text [] = omega arith
+made_few text (next ∷ after) = by (bytes_eq next.text (codes "?")) (bytes_eq next.text (codes ":"))
+  where
+    by : (b c : Bool) → length (made_by b c text) ≤ 2
+    by true c = omega arith
+    by false true = omega arith
+    by false false = omega arith
+
+few_by : (kind : Kind) (text : List ℕ) (after : List Spelled)
+    → length (texts_by kind text after) ≤ 3
+few_by kinds.Word text after = omega (arith, made_few text after)
+few_by kinds.At text after = omega arith
+few_by kinds.Underscore text after = omega arith
+few_by (kinds.Key _) text after = omega arith
+few_by (kinds.Int _) text after = omega arith
+few_by (kinds.Op _) text after = omega arith
+few_by (kinds.Mark _) text after = omega arith
+
+next_few : (ts : List Spelled) → length (next_texts ts) ≤ 3
+next_few [] = omega arith
+next_few (token ∷ after) = few_by (kind_of token.text) token.text after
+
+given_split : (ts : List Spelled) → 0 < length ts
+    → given_texts ts ≡ next_texts ts ++ given_texts (drop 1 ts)
+given_split [] some = absurd (omega arith)
+given_split (token ∷ after) some = refl
+
+-- Of all texts the first are interned, those that the tokens left don't give.
+pub record IsInterned (old : List (List ℕ)) (all : List (List ℕ)) (new : List (List ℕ))
+    (left : List Spelled) : Type 0 where
+  pub first : List (List ℕ)
+  pub rest : all ≡ first ++ given_texts left
+  pub texts : new ≡ with_texts old first
+
+pub cases_interned : (old middle new : List (List ℕ)) (none some : List ℕ) (ts : List Spelled)
+    → middle ≡ with_text old none → new ≡ with_text middle some
+    → IsInterned old ((none ∷ some ∷ []) ++ given_texts ts) new ts
 unfolding with_texts
-one_at_most kinds.Word text texts = length-with_text texts text
-one_at_most kinds.At text texts = length-with_text texts (drop 1 text)
-one_at_most kinds.Underscore text texts = omega arith
-one_at_most (kinds.Key _) text texts = omega arith
-one_at_most (kinds.Int _) text texts = omega arith
-one_at_most (kinds.Op _) text texts = omega arith
-one_at_most (kinds.Mark _) text texts = omega arith
+cases_interned old middle new none some ts is is' = record {
+  first = none ∷ some ∷ [];
+  rest = refl;
+  texts = is' ∙ ap (λ texts. with_text texts some) is;
+}
 
-pub room_left : (texts new : List (List ℕ)) (ts left : List Spelled) (at : ℕ) → Takes ts at left
-    → new ≡ with_texts texts (next_texts ts) → length texts + length ts < 4294967295
-    → length new + length left < 4294967295
-room_left texts new [] left at takes is less = absurd takes
-room_left texts new (token ∷ ts) left at takes is less =
-    omega (
-      arith,
-      ap length is,
-      one_at_most (kind_of token.text) token.text texts,
-      ap length takes.1,
-    )
+module _ (old all middle : List (List ℕ)) (ts : List Spelled) (some : 0 < length ts)
+    (so_far : IsInterned old all middle ts) where
+  split : all ≡ so_far.first ++ (next_texts ts ++ given_texts (drop 1 ts))
+  split = so_far.rest ∙ ap (λ texts. so_far.first ++ texts) (given_split ts some)
 
-pub takes_one : (ts left : List Spelled) (at : ℕ) → Takes ts at left → length left < length ts
-takes_one [] left at takes = absurd takes
-takes_one (token ∷ ts) left at takes = omega (arith, ap length takes.1)
+  pub one_more : (new : List (List ℕ)) (left : List Spelled) → left ≡ drop 1 ts
+      → new ≡ with_texts middle (next_texts ts) → IsInterned old all new left
+  one_more new left is texts = record {
+    first = so_far.first ++ next_texts ts;
+    rest =
+        split ∙ (sym (append_assoc so_far.first (next_texts ts) (given_texts (drop 1 ts)))
+        ∙ ap (λ us. (so_far.first ++ next_texts ts) ++ given_texts us) (sym is));
+    texts =
+        texts ∙ (ap (λ it. with_texts it (next_texts ts)) so_far.texts
+        ∙ sym (with_both old so_far.first (next_texts ts)));
+  }
+
+  pub partly_of_all : (new : List (List ℕ)) → ArePartlyInterned middle (next_texts ts) new
+      → ArePartlyInterned old all new
+  partly_of_all new part =
+      subst (λ texts. ArePartlyInterned old texts new) (sym split)
+      (then_partly old middle new so_far.first (next_texts ts ++ given_texts (drop 1 ts))
+      so_far.texts (partly_of_more middle new (next_texts ts) (given_texts (drop 1 ts)) part))
+
+pub all_interned : (old all new : List (List ℕ)) (left : List Spelled) → length left ≤ 0
+    → IsInterned old all new left → new ≡ with_texts old all
+all_interned old all new [] none so_far =
+    so_far.texts ∙ ap (with_texts old) (sym (so_far.rest ∙ append-nil so_far.first))
+all_interned old all new (token ∷ left) none so_far = absurd (omega arith)
+
+shorter : (ts left : List Spelled) → 0 < length ts → left ≡ drop 1 ts
+    → length ts ≡ length left + 1
+shorter [] left some is = absurd (omega arith)
+shorter (token ∷ after) left some is = omega (arith, ap length is)
+
+pub takes_one : (ts left : List Spelled) → 0 < length ts → left ≡ drop 1 ts
+    → length left < length ts
+takes_one ts left some is = omega (arith, shorter ts left some is)
+
+-- a token gives three texts at most
+pub room_left : (most : ℕ) (texts new : List (List ℕ)) (ts left : List Spelled) → 0 < length ts
+    → left ≡ drop 1 ts → new ≡ with_texts texts (next_texts ts)
+    → length texts + 3 * length ts < most → length new + 3 * length left < most
+room_left most texts new ts left some is texts-are less = omega (
+  arith,
+  shorter ts left some is,
+  ap length texts-are,
+  length-with_texts texts (next_texts ts),
+  next_few ts,
+)
 
 pub predeclared_few : length predeclared ≡ 13
 unfolding predeclared

@@ -4,5 +4,8 @@ pub mod MemberLists
 pub mod MemberLoops
 pub mod MarkSteps
 pub mod DeclLoops
+pub mod OuterSteps
 pub mod InternSteps
+pub mod EnumSteps
+pub mod ProgramTexts
 pub mod ProgramFaults

@@ -80,7 +80,7 @@ module _ (around : Around) (depth : ℕ) (kind : TypeKind) where
       → Refuses (check (may_start (not ended)) ts)
       (made collected (members_of around depth kind) start)
   stops_at_start start ts all ended some so_far fault e =
-      all_refused start fault (loops.stops_at_start El shape_of (body around) good depth
+      all_refused start fault (loops.stops_at_start El shape_of (body around.id_of) good depth
       (member_of around kind) (good_kind kind) start ts so_far.0 ended some so_far.2 fault e)
 
   pub stops_at_member : (start ts us : List Spelled) (all : Members) (ended : Bool)
@@ -89,7 +89,7 @@ module _ (around : Around) (depth : ℕ) (kind : TypeKind) where
       → Refuses (and_member all one_member us)
       (made collected (members_of around depth kind) start)
   stops_at_member start ts us all ended value some so_far first fault e =
-      all_refused start fault (loops.stops_at_item El shape_of (body around) good depth
+      all_refused start fault (loops.stops_at_item El shape_of (body around.id_of) good depth
       (member_of around kind) (good_kind kind) start ts us so_far.0 ended value some so_far.2 first
       fault (one_refused all (one_member us) fault e))
 
@@ -103,7 +103,7 @@ module _ (around : Around) (depth : ℕ) (kind : TypeKind) where
       let one = one_read all after (one_member us) vs b in (
         so_far.0 ++ one.0 ∷ [],
         one.2 ∙ (ap (λ m. with_member m one.0) so_far.1 ∙ with_collected so_far.0 one.0),
-        loops.one_turn El shape_of (body around) good depth (member_of around kind) (good_kind kind)
+        loops.one_turn El shape_of (body around.id_of) good depth (member_of around kind) (good_kind kind)
             start ts us vs ws so_far.0 ended marked one.0 value some so_far.2 a one.1 c,
       )
 
@@ -114,7 +114,7 @@ module _ (around : Around) (depth : ℕ) (kind : TypeKind) where
       → skipping (codes ";") vs ≡ Ok (marked, ws) → length ws < length ts
   shorter ts us vs ws all after ended marked value a b c =
       let one = one_read all after (one_member us) vs b in
-      loops.shorter El shape_of (body around) good depth (member_of around kind) (good_kind kind)
+      loops.shorter El shape_of (body around.id_of) good depth (member_of around kind) (good_kind kind)
       ts us vs ws [] ended marked one.0 value a one.1 c
 
   pub all_read : (start ts : List Spelled) (all : Members) (ended : Bool)
@@ -122,6 +122,6 @@ module _ (around : Around) (depth : ℕ) (kind : TypeKind) where
       → made collected (members_of around depth kind) start ≡ Ok (all, ts)
   all_read start ts all ended ends so_far =
       bind_step (members_of around depth kind start) _ (so_far.0, ts) _
-      (loops.all_read El shape_of (body around) good depth (member_of around kind) (good_kind kind)
+      (loops.all_read El shape_of (body around.id_of) good depth (member_of around kind) (good_kind kind)
       start ts so_far.0 ended ends so_far.2)
       (ap (λ m. Ok (m, ts)) (sym so_far.1))

@@ -7,7 +7,7 @@ use Rattle.sw_grammar_forms.specs.Sets.{Set, quoted}
 use Rattle.sw_grammar_forms.specs.Terminals.{items}
 use Rattle.sw_grammar.specs.Around.{Around}
 use Rattle.sw_grammar.specs.Nests.{Form, Member, method_first}
-use Rattle.sw_grammar.specs.Tokens.{binding_first, type_ext, expr_ext, infix_op}
+use Rattle.sw_grammar.specs.Tokens.{binding_first, type_ext, value_ext, infix_op}
 use Rattle.sw_grammar.specs.Decls.{field, prop, init, enum_cases, method_member}
 use Rattle.sw_grammar.specs.Reading.{read}
 use Rattle.sw_parse_decl.specs.declared.kinds.TypeKind.{TypeKind}
@@ -20,7 +20,7 @@ member_shape kinds.Enum =
     alt (solid (quoted (codes "case")) (quoted (codes "(") ++ quoted (codes ",")) 0)
     (solid method_first [] 1)
 member_shape kinds.Class =
-    alt (solid binding_first (type_ext ++ infix_op (codes "=") ++ expr_ext) 0)
+    alt (solid binding_first (type_ext ++ infix_op (codes "=") ++ value_ext) 0)
     (alt (solid (quoted (codes "init")) [] 1) (solid method_first [] 1))
 
 abbrev pub member_of : (around : Around) (kind : TypeKind) → Form (member_shape kind) Member

@@ -1,9 +1,11 @@
 //! What the parser of declarations asks of a parser of expressions and statements.
 
+ghost use Rattle.std.specs.Prelude.{option_map};
 ghost use Rattle.sw_grammar_forms.specs.Outcome.{Gives};
 ghost use Rattle.sw_grammar.specs.Stmts.{value, block};
 ghost use Rattle.sw_grammar.specs.Reading.{read};
 ghost use Rattle.sw_parse_parts.specs.Around.{known};
+ghost use Rattle.sw_parse_decl.specs.Parts.{given_value};
 
 use std::alloc::Global;
 use sw_grammar_forms::{Cursor, Stop};
@@ -27,6 +29,18 @@ pub trait Bodies {
     ) -> Result<Expr, Stop>
         ensures { Gives (read (known around.now) depth (value (known around.now)) tokens.old) result
             tokens.new };
+
+    /// `=` and a value, where a `T?` may be wanted of a word `T`.
+    fn value_for(
+        &self,
+        alloc: Global,
+        around: &Around<'_>,
+        tokens: &mut Cursor<'_>,
+        depth: u32,
+        wanted: Option<&str>,
+    ) -> Result<Expr, Stop>
+        ensures { Gives (given_value (known around.now) depth
+            (option_map (λ text. text.now) wanted.entry) tokens.old) result tokens.new };
 
     /// A block, from its `{` to its `}`.
     fn block(

@@ -20,7 +20,7 @@ use crate::types::{actor_decl, class_after, enum_decl, struct_decl};
 use std::alloc::Global;
 use sw_grammar_forms::{Cursor, Stop};
 use sw_list::ListOf;
-use sw_parse_parts::{Around, attribute, sees_attribute, type_if};
+use sw_parse_parts::{Around, attribute, sees_attribute, tree_of, type_if, wanted_of};
 use sw_tree::{Decl, DeclList, Name, PropTree, Written};
 
 /// A function, after the isolation that is written.
@@ -56,12 +56,12 @@ fn global_value<B: Bodies>(
 {
     let word = declared(around, tokens, depth)?;
     let ty = type_if(alloc, around, tokens, depth)?;
-    let value = bodies.value(alloc, around, tokens, depth)?;
+    let value = bodies.value_for(alloc, around, tokens, depth, wanted_of(&ty))?;
     Ok(Decl::Global(PropTree {
         written,
         mutable,
         word,
-        ty,
+        ty: tree_of(ty),
         value: Some(value),
     }))
 }

@@ -140,7 +140,7 @@ fn entry_body<B: Bodies>(
         tokens.old) result tokens.new }
 {
     tokens.open("{", depth)?;
-    entry_inside(alloc, bodies, around, tokens, depth - 1)
+    entry_inside(alloc, bodies, &around.outermost(), tokens, depth - 1)
 }
 
 /// What stands in the `{` and `}` of a global actor.
@@ -149,5 +149,5 @@ fn global_actor_body(around: &Around<'_>, tokens: &mut Cursor<'_>, depth: u32) -
         result tokens.new }
 {
     tokens.open("{", depth)?;
-    global_actor_inside(around, tokens, depth - 1)
+    global_actor_inside(&around.outermost(), tokens, depth - 1)
 }

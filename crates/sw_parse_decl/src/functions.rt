@@ -5,7 +5,9 @@ ghost use Rattle.sw_grammar_forms.specs.Outcome.{Gives};
 ghost use Rattle.sw_grammar.specs.Decls.{declared, param_type, param, params_inside, params};
 ghost use Rattle.sw_grammar.specs.Decls.{sent_result};
 ghost use Rattle.sw_grammar.specs.Decls.{func_after, method};
-ghost use Rattle.sw_grammar.specs.Types.{more_of};
+ghost use Rattle.sw_grammar.specs.Around.{returning};
+ghost use Rattle.sw_grammar.specs.Stmts.{block};
+ghost use Rattle.sw_grammar.specs.Types.{more_of, wanted_of};
 ghost use Rattle.sw_grammar.specs.Nests.Nest.{in_params};
 ghost use Rattle.sw_grammar.specs.Reading.{read};
 ghost use Rattle.sw_grammar_forms.specs.Quotes.{quote};
@@ -17,8 +19,10 @@ use crate::isolations::{async_if, concurrent, nonisolated};
 use std::alloc::Global;
 use sw_grammar_forms::{Cursor, Stop};
 use sw_list::ListOf;
-use sw_parse_parts::{Around, attribute, sees_attribute, type_tree, word};
-use sw_tree::{FuncTree, Name, ParamList, ParamTree, TypeTree, Written};
+use sw_parse_parts::{
+    Around, Typed, attribute, sees_attribute, tree_of, type_tree, wanted_of, word, written_type,
+};
+use sw_tree::{Block, FuncTree, Name, ParamList, ParamTree, Written};
 
 /// The word that a declaration declares.
 #[tactic(auto, unfolding(sw_grammar::specs::Decls::declared))]
@@ -80,19 +84,19 @@ fn param(
 
 /// The result of a function, and whether it is `sending`.
 #[tactic(auto, unfolding(sw_grammar::specs::Decls::sent_result))]
-fn sent_result(
+fn sent_result<'a>(
     alloc: Global,
     around: &Around<'_>,
-    tokens: &mut Cursor<'_>,
+    tokens: &mut Cursor<'a>,
     depth: u32,
-) -> Result<(bool, Option<TypeTree>), Stop>
+) -> Result<(bool, Option<Typed<'a>>), Stop>
     ensures { Gives (read (known around.now) depth (sent_result (known around.now)) tokens.old)
         result tokens.new }
 {
     if tokens.sees("->") {
         tokens.expect("->")?;
         let sends = tokens.skip("sending");
-        let ty = type_tree(alloc, around, tokens, depth)?;
+        let ty = written_type(alloc, around, tokens, depth)?;
         return Ok((sends, Some(ty)));
     }
     Ok((false, None))
@@ -125,7 +129,7 @@ fn round_params(
         tokens.new }
 {
     tokens.open("(", depth)?;
-    params_inside(alloc, around, tokens, depth - 1)
+    params_inside(alloc, &around.outermost(), tokens, depth - 1)
 }
 
 /// Parameters up to a `)`.
@@ -169,6 +173,21 @@ fn more_params(
     Ok(ListOf::from_vec(params))
 }
 
+/// The block of a function, after its result.
+fn func_body<B: Bodies>(
+    alloc: Global,
+    bodies: &B,
+    around: &Around<'_>,
+    tokens: &mut Cursor<'_>,
+    depth: u32,
+    ty: &Option<Typed<'_>>,
+) -> Result<Block, Stop>
+    ensures { Gives (read (known around.now) depth
+        (block (returning (known around.now) (wanted_of ty.now))) tokens.old) result tokens.new }
+{
+    bodies.block(alloc, &around.returning(wanted_of(ty)), tokens, depth)
+}
+
 /// A function from its `func` on, after the isolation that is written.
 #[tactic(auto, unfolding(sw_grammar::specs::Decls::func_after))]
 pub fn func_after<B: Bodies>(
@@ -188,14 +207,14 @@ pub fn func_after<B: Bodies>(
     let params = params(alloc, around, tokens, depth)?;
     let is_async = async_if(around, tokens, depth, &written)?;
     let (sends, result) = sent_result(alloc, around, tokens, depth)?;
-    let body = bodies.block(alloc, around, tokens, depth)?;
+    let body = func_body(alloc, bodies, around, tokens, depth, &result)?;
     Ok(FuncTree {
         written,
         word,
         params,
         is_async,
         sends,
-        result,
+        result: tree_of(result),
         body,
     })
 }

@@ -38,7 +38,7 @@ fn round_isolation(around: &Around<'_>, tokens: &mut Cursor<'_>, depth: u32) -> 
         result tokens.new }
 {
     tokens.open("(", depth)?;
-    isolation_inside(around, tokens, depth - 1)
+    isolation_inside(&around.outermost(), tokens, depth - 1)
 }
 
 /// `nonsending` and the `)`; gives the position of the word.

@@ -1,6 +1,6 @@
 //! The members of types.
 
-ghost use Rattle.std.specs.Prelude.{◌≡◌, [], ◌∷◌, codes};
+ghost use Rattle.std.specs.Prelude.{◌≡◌, [], ◌∷◌, codes, option_map};
 ghost use Rattle.sw_grammar_forms.specs.Outcome.{Gives};
 ghost use Rattle.sw_grammar.specs.Decls.{method_member, value_if, field_after, field, prop_after};
 ghost use Rattle.sw_grammar.specs.Decls.{prop};
@@ -18,7 +18,7 @@ use crate::functions::{declared, method, params};
 use std::alloc::Global;
 use sw_grammar_forms::{Cursor, Stop};
 use sw_list::ListOf;
-use sw_parse_parts::{Around, some_types, type_tree};
+use sw_parse_parts::{Around, some_types, type_tree, written_type};
 use sw_token::Fixity;
 use sw_tree::{
     CaseList, CaseTree, Expr, FuncList, InitList, InitTree, PropList, PropTree, TypeTreeList,
@@ -68,7 +68,7 @@ pub fn method_member<B: Bodies>(
     Ok(members)
 }
 
-/// `=` and an expression, or nothing.
+/// `=` and a value, or nothing.
 #[tactic(auto, unfolding(sw_grammar::specs::Decls::value_if))]
 fn value_if<B: Bodies>(
     alloc: Global,
@@ -76,12 +76,15 @@ fn value_if<B: Bodies>(
     around: &Around<'_>,
     tokens: &mut Cursor<'_>,
     depth: u32,
+    wanted: Option<&str>,
 ) -> Result<Option<Expr>, Stop>
-    ensures { Gives (read (known around.now) depth (value_if (known around.now)) tokens.old) result
-        tokens.new }
+    ensures { Gives (read (known around.now) depth
+        (value_if (known around.now) (option_map (λ text. text.now) wanted.entry)) tokens.old)
+        result tokens.new }
 {
     if tokens.sees_operator("=", Fixity::Infix) {
-        return Ok(Some(bodies.value(alloc, around, tokens, depth)?));
+        let value = bodies.value_for(alloc, around, tokens, depth, wanted)?;
+        return Ok(Some(value));
     }
     Ok(None)
 }
@@ -151,13 +154,13 @@ fn prop_after<B: Bodies>(
     let word = declared(around, tokens, depth)?;
     let mut members = members;
     if tokens.skip(":") {
-        let ty = type_tree(alloc, around, tokens, depth)?;
-        let value = value_if(alloc, bodies, around, tokens, depth)?;
+        let ty = written_type(alloc, around, tokens, depth)?;
+        let value = value_if(alloc, bodies, around, tokens, depth, ty.wanted())?;
         members.props.push(PropTree {
             written: Written::Absent,
             mutable,
             word,
-            ty: Some(ty),
+            ty: Some(ty.tree()),
             value,
         })?;
         return Ok(members);
@@ -300,5 +303,5 @@ fn payload(
         result tokens.new }
 {
     tokens.open("(", depth)?;
-    some_types(alloc, around, tokens, depth - 1)
+    some_types(alloc, &around.outermost(), tokens, depth - 1)
 }

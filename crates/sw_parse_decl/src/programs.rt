@@ -1,82 +1,40 @@
-//! Whole programs, and the names of their tokens.
+//! Whole programs.
 
-ghost use Rattle.std.specs.Prelude.{◌≡◌, ◌+◌, ◌<◌, ◌≤◌, ℕ, [], length, take};
-ghost use Rattle.std.specs.Prelude.{OnOk, OnErr, IfOk, IfErr};
+ghost use Rattle.std.specs.Prelude.{◌≡◌, ◌≤◌, length, IfOk, IfErr};
 ghost use Rattle.sw_token.specs.Spelling.{spelling_of};
 ghost use Rattle.sw_token.specs.Tokens.{IsTokens};
 ghost use Rattle.sw_grammar_forms.specs.Outcome.{Gives};
-ghost use Rattle.sw_tree.specs.Names.{id_in, with_texts};
-ghost use Rattle.sw_grammar_facts.specs.Interned.{texts_in};
-ghost use Rattle.sw_parse_decl.specs.Parts.{next_texts};
-ghost use Rattle.sw_parse_decl.specs.Programs.{whole_program, texts_of, IsProgramOf, Explains};
+ghost use Rattle.sw_parse_parts.specs.Around.{known};
+ghost use Rattle.sw_parse_decl.specs.Programs.{whole_around, texts_of, IsProgramOf, Explains};
 
 use crate::bodies::Bodies;
 use crate::decls::decls;
+use crate::enums::with_enums;
 use crate::fault::ParseFault;
-use std::alloc::{AllocError, Global};
+use crate::names::names_of;
+use std::alloc::Global;
 use sw_grammar_forms::{Cursor, Stop};
 use sw_parse_parts::Around;
 use sw_text::Source;
 use sw_token::Token;
-use sw_tree::{DeclList, Names, Program};
+use sw_tree::{DeclList, Program};
 
 /// How many nests may be open at a token of a program.
 pub const MAX_NESTS: u32 = 128;
 
-/// A program and no more.
+/// The declarations that tokens spell and no more.
 #[tactic(auto, unfolding(sw_grammar::specs::Decls::program))]
 fn whole<B: Bodies>(
     alloc: Global,
     bodies: &B,
-    names: &Names,
+    around: &Around<'_>,
     tokens: &mut Cursor<'_>,
 ) -> Result<DeclList, Stop>
-    ensures { Gives (whole_program (id_in names.now) tokens.old) result tokens.new }
+    ensures { Gives (whole_around (known around.now) tokens.old) result tokens.new }
 {
-    let around = Around { names };
-    let decls = decls(alloc, bodies, &around, tokens, MAX_NESTS)?;
+    let decls = decls(alloc, bodies, around, tokens, MAX_NESTS)?;
     tokens.finish()?;
     Ok(decls)
-}
-
-/// Interns the name of the next token, where it may name something.
-fn intern_next(names: &mut Names, tokens: &Cursor<'_>) -> Result<(), AllocError>
-    requires { length names.old < 4294967295 }
-    ensures texts { OnOk result (names.new ≡ with_texts names.old (next_texts tokens.now)) }
-    ensures err { OnErr result (names.new ≡ names.old) }
-{
-    if tokens.sees_word() {
-        names.intern(tokens.text())?;
-    } else if tokens.sees_attribute() {
-        names.intern(tokens.attribute())?;
-    }
-    Ok(())
-}
-
-/// Takes all tokens and interns their names, as they come. Where memory runs out at one of them,
-/// those of the tokens before it are interned.
-pub fn intern_names(names: &mut Names, tokens: &mut Cursor<'_>) -> Result<(), AllocError>
-    requires { length names.old + length tokens.old < 4294967295 }
-    ensures texts { OnOk result (names.new ≡ with_texts names.old (texts_in tokens.old)) }
-    ensures left { OnOk result (tokens.new ≡ []) }
-    ensures err { OnErr result ((n : ℕ) × (n < length tokens.old)
-        × (names.new ≡ with_texts names.old (texts_in (take n tokens.old)))) }
-{
-    while tokens.count() > 0 {
-        intern_next(names, tokens)?;
-        tokens.take();
-    }
-    Ok(())
-}
-
-/// The predeclared names and those of the tokens.
-fn names_of(alloc: Global, tokens: &mut Cursor<'_>) -> Result<Names, AllocError>
-    requires { length tokens.old < 4294967000 }
-    ensures { IfOk result (λ names. names ≡ texts_of tokens.old) }
-{
-    let mut names = Names::new(alloc)?;
-    intern_names(&mut names, tokens)?;
-    Ok(names)
 }
 
 /// The program that the tokens of a text spell, or why they spell none.
@@ -99,8 +57,12 @@ pub fn program<B: Bodies>(
     let bytes = source.len() as usize;
     prove!(tokens.len() <= bytes);
     let names = names_of(alloc, &mut Cursor::new(source, tokens))?;
-    match whole(alloc, bodies, &names, &mut Cursor::new(source, tokens)) {
-        Ok(decls) => Ok(Program::new(decls, names)),
+    let around = Around::new(&names);
+    match whole(alloc, bodies, &around, &mut Cursor::new(source, tokens)) {
+        Ok(decls) => {
+            let decls = with_enums(alloc, &around, decls, &mut Cursor::new(source, tokens))?;
+            Ok(Program::new(decls, names))
+        }
         Err(Stop::Unexpected { left }) => Err(ParseFault::Unexpected {
             token: (tokens.len() - left) as u32,
         }),

@@ -307,7 +307,7 @@ fn struct_body<B: Bodies>(
         tokens.old) result tokens.new }
 {
     tokens.open("{", depth)?;
-    struct_inside(alloc, bodies, around, tokens, depth - 1)
+    struct_inside(alloc, bodies, &around.outermost(), tokens, depth - 1)
 }
 
 /// What stands in the `{` and `}` of an enum.
@@ -322,7 +322,7 @@ fn enum_body<B: Bodies>(
         tokens.old) result tokens.new }
 {
     tokens.open("{", depth)?;
-    enum_inside(alloc, bodies, around, tokens, depth - 1)
+    enum_inside(alloc, bodies, &around.outermost(), tokens, depth - 1)
 }
 
 /// What stands in the `{` and `}` of a class or an actor.
@@ -337,5 +337,5 @@ fn class_body<B: Bodies>(
         tokens.old) result tokens.new }
 {
     tokens.open("{", depth)?;
-    class_inside(alloc, bodies, around, tokens, depth - 1)
+    class_inside(alloc, bodies, &around.outermost(), tokens, depth - 1)
 }

@@ -1,12 +1,13 @@
-use Rattle.std.proofs.Common.{codes}
+use Rattle.std.proofs.Common.{codes, refl}
 use Rattle.sw_grammar_forms.specs.Quotes.{quote}
+use Rattle.sw_grammar.specs.Decls.{entry_inside}
 use Rattle.sw_grammar.specs.Nests.Nest.{in_entry}
-use Rattle.sw_parse_parts.specs.Around.{known}
 use Rattle.sw_parse_decl.specs.Entries.{main_of}
-use Rattle.sw_parse_parts.proofs.NestSteps.{in_nest}
+use Rattle.sw_parse_decl.proofs.OuterSteps.{in_outer}
 use Rattle.sw_parse_decl.proofs.entry.entry_body.Goals as goal
 
 pub returns : goal.returns
 returns g c =
-    in_nest (known c.args.around.now) in_entry main_of c.args.depth (quote (codes "{")) _ _ _ _ _
-    c.in_ok-open.ensures.opened c.in_ok-open.ensures.room c.entry_inside.ensures
+    in_outer c.args.around.now c.outermost.result c.outermost.ensures in_entry entry_inside
+    refl c.args.depth (quote (codes "{")) _ _ _ c.in_ok-open.ensures.opened
+    c.in_ok-open.ensures.room main_of _ _ c.entry_inside.ensures

@@ -3,7 +3,7 @@ use Rattle.sw_tree.specs.Names.{with_texts}
 use Rattle.sw_grammar_facts.specs.Interned.{texts_in}
 use Rattle.sw_parse_decl.specs.Programs.{texts_of}
 use Rattle.sw_parse_decl.proofs.InternSteps.{predeclared_few}
-use Rattle.sw_parse_decl.proofs.programs.names_of.Goals as goal
+use Rattle.sw_parse_decl.proofs.names.names_of.Goals as goal
 
 pub intern_names-requires : goal.intern_names-requires
 intern_names-requires c =

@@ -1,0 +1,53 @@
+-- The texts of a program's names have those that its tokens give.
+use Rattle.std.proofs.Common.{◌≡◌, ℕ, ◌<◌, List, length, slice_get, codes, refl, ◌∙◌, ap, arith}
+use Rattle.std.proofs.Common.{if◌then◌else◌}
+use Rattle.std.proofs.lemmas.Bool.{lt-ltb}
+use Rattle.std.proofs.lemmas.List.Elements.{All-from_recursion, All-weaker}
+use Rattle.std.specs.Prelude.{All, Some}
+use Rattle.sw_token.specs.Spelling.{Spelled}
+use Rattle.sw_tree.proofs.NamesLemmas.{ids_of_interned, ids_stay, text_at_id}
+use Rattle.sw_tree.specs.Names.{id_in, predeclared, with_texts}
+use Rattle.sw_grammar.specs.Around.{index_in}
+use Rattle.sw_grammar_facts.specs.Interned.{texts_in, AreInterned}
+use Rattle.sw_parse_decl.specs.Programs.{texts_of}
+use Rattle.sw_parse_decl.proofs.InternSteps.{predeclared_few}
+
+pub interned : (tokens : List Spelled) → AreInterned (texts_of tokens) tokens
+unfolding texts_of
+interned tokens =
+    All-from_recursion (λ text. id_in (with_texts predeclared (texts_in tokens)) text
+    < length (with_texts predeclared (texts_in tokens))) (texts_in tokens)
+    (ids_of_interned predeclared (texts_in tokens))
+
+-- the first of the texts is `Int`
+int_first : id_in predeclared (codes "Int") ≡ 0
+unfolding predeclared id_in
+int_first = refl
+
+int_stays : (tokens : List Spelled) → (id_in (texts_of tokens) (codes "Int") ≡ 0)
+    × (id_in predeclared (codes "Int") < length (texts_of tokens))
+unfolding texts_of
+int_stays tokens =
+    let kept = ids_stay predeclared (texts_in tokens) (codes "Int")
+    (omega (arith, int_first, predeclared_few)) in
+    (kept.0 ∙ int_first, kept.1)
+
+pub int_is_first : (tokens : List Spelled) → id_in (texts_of tokens) (codes "Int") ≡ 0
+int_is_first tokens = (int_stays tokens).0
+
+pub some_texts : (tokens : List Spelled) → 0 < length (texts_of tokens)
+some_texts tokens = omega (arith, int_first, (int_stays tokens).1)
+
+-- a text that is there stands at its id
+stands_there : (texts : List (List ℕ)) (text : List ℕ) → id_in texts text < length texts
+    → slice_get texts (index_in texts text) ≡ Some text
+stands_there texts text within =
+    ap (λ b. slice_get texts (if b then id_in texts text else 0))
+    (lt-ltb (id_in texts text) (length texts) within)
+    ∙ text_at_id texts text within
+
+pub given_stand : (tokens : List Spelled)
+    → All (λ text. slice_get (texts_of tokens) (index_in (texts_of tokens) text) ≡ Some text)
+    (texts_in tokens)
+given_stand tokens =
+    All-weaker _ _ (stands_there (texts_of tokens)) (texts_in tokens) (interned tokens)
