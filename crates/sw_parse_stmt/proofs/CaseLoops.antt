@@ -42,7 +42,7 @@ module _ (around : Around) (depth : ℕ) where
       → check (may_start (not ended)) ts ≡ Ok (value, us) → one cases us ≡ Ok (next, vs)
       → Rest next vs ≡ start
   one_turn start ts us vs cases ended value next goes same a b =
-      loops.one_turn El shape_of (body around) good depth (λ _. true) turn refl start ts vs
+      loops.one_turn El shape_of (body around.id_of) good depth (λ _. true) turn refl start ts vs
       (cases, ended) next goes same (begun ts us vs cases ended value next a b)
 
   pub stops_at_case : (start : Answer Cases) (ts us : List Spelled) (cases : List CaseArm)
@@ -51,7 +51,7 @@ module _ (around : Around) (depth : ℕ) where
       → Refuses (one cases us) start
   unfolding case_part
   stops_at_case start ts us cases ended value goes same a fault e =
-      loops.stops_at_turn El shape_of (body around) good depth (λ _. true) turn refl start ts
+      loops.stops_at_turn El shape_of (body around.id_of) good depth (λ _. true) turn refl start ts
       (cases, ended) goes same fault
       (bind_step (check (may_start (not ended)) ts) _ (value, us) _ a e)
 
@@ -59,5 +59,5 @@ module _ (around : Around) (depth : ℕ) where
       (value : Unit {0}) (next : Cases) → check (may_start (not ended)) ts ≡ Ok (value, us)
       → one cases us ≡ Ok (next, vs) → length vs < length ts
   shorter ts us vs cases ended value next a b =
-      loops.shorter El shape_of (body around) good depth (λ _. true) turn refl ts vs
+      loops.shorter El shape_of (body around.id_of) good depth (λ _. true) turn refl ts vs
       (cases, ended) next (begun ts us vs cases ended value next a b)

@@ -11,11 +11,10 @@ use Rattle.sw_grammar_forms.specs.Form.{Terminal}
 use Rattle.sw_grammar_forms.proofs.CursorSteps.{first_line}
 use Rattle.sw_grammar_forms.proofs.ItemLoops.{Refuses}
 use Rattle.sw_grammar_forms.proofs.ReaderLaws.{bind_step, bind_stop}
-use Rattle.sw_tree.specs.declared.expr.Expr.{Expr}
 use Rattle.sw_tree.specs.declared.stmt.Stmt.TheVariants as variants
 use Rattle.sw_grammar.specs.Around.{Around}
-use Rattle.sw_grammar.specs.Tokens.{expr_first}
-use Rattle.sw_grammar.specs.Exprs.{expr}
+use Rattle.sw_grammar.specs.Tokens.{value_first}
+use Rattle.sw_grammar.specs.Values.{Given, value_in}
 use Rattle.sw_grammar.specs.Stmts.{return_stmt}
 use Rattle.sw_grammar.specs.Reading.{read}
 
@@ -67,21 +66,27 @@ module _ {A B : Type 0} (set : Set) (t : Terminal ℕ) (reader : Reader A) (with
         (chosen (not_first set) (given at) (pure (without at)) us goes
         ∙ bind_stop (checked stays reader us) _ fault (on_line set reader us goes ∙ e))
 
-module _ (around : Around) (depth : ℕ) (ts us : List Spelled) (at : ℕ)
+module _ (around : Around) (depth : ℕ) (wanted : Option (List ℕ))
+    (is : wanted ≡ around.here.wanted) (ts us : List Spelled) (at : ℕ)
     (word : next (quote (codes "return")) ts ≡ Ok (at, us))
-    (goes : starts (not_first expr_first) (head us) ≡ true) where
-  abbrev value : Reader Expr
-  value = read around depth (expr around true)
+    (goes : starts (not_first value_first) (head us) ≡ true) where
+  abbrev value : Option (List ℕ) → Reader Given
+  value word = read around depth (value_in around word)
 
-  pub return_read : (x : Expr) (vs : List Spelled) → value us ≡ Ok (x, vs)
-      → read around depth (return_stmt around) ts ≡ Ok (variants.Return at (Some x), vs)
+  same : value around.here.wanted us ≡ value wanted us
+  same = ap (λ word. value word us) (sym is)
+
+  pub return_read : (x : Given) (vs : List Spelled) → value wanted us ≡ Ok (x, vs)
+      → read around depth (return_stmt around) ts ≡ Ok (variants.Return at (Some x.value), vs)
   unfolding return_stmt
   return_read x vs e =
-      line_read expr_first (quote (codes "return")) value (λ a y. variants.Return a (Some y))
-      (λ a. variants.Return a None) ts us at word goes x vs e
+      line_read value_first (quote (codes "return")) (value around.here.wanted)
+      (λ a y. variants.Return a (Some y.value)) (λ a. variants.Return a None) ts us at word goes x
+      vs (same ∙ e)
 
-  pub return_stops : Refuses (value us) (read around depth (return_stmt around) ts)
+  pub return_stops : Refuses (value wanted us) (read around depth (return_stmt around) ts)
   unfolding return_stmt
   return_stops fault e =
-      line_stops expr_first (quote (codes "return")) value (λ a y. variants.Return a (Some y))
-      (λ a. variants.Return a None) ts us at word goes fault e
+      line_stops value_first (quote (codes "return")) (value around.here.wanted)
+      (λ a y. variants.Return a (Some y.value)) (λ a. variants.Return a None) ts us at word goes
+      fault (same ∙ e)

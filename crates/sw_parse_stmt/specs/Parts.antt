@@ -1,20 +1,24 @@
 -- Parts of the rules of statements that are functions of their own.
-use Rattle.std.specs.Prelude.{ℕ, Bool, true, not, List, Option, None, is_none, [], ◌∷◌, codes}
+use Rattle.std.specs.Prelude.{ℕ, Bool, true, not, List, Option, None, [], ◌∷◌, codes}
 use Rattle.sw_grammar_forms.specs.Sets.{quoted}
-use Rattle.sw_grammar_forms.specs.Form.{alt, seq, star, started, empty, solid}
+use Rattle.sw_grammar_forms.specs.Form.{alt, seq, star, started, empty, one, solid}
 use Rattle.sw_grammar_forms.specs.Form.Form.{done, either, turns, line_start, more_items}
 use Rattle.sw_grammar_forms.specs.Reader.{Reader}
-use Rattle.sw_grammar_forms.specs.Terminals.{◌>>=◌}
+use Rattle.sw_grammar_forms.specs.Quotes.{quote}
+use Rattle.sw_grammar_forms.specs.Terminals.{◌>>=◌, expect}
 use Rattle.sw_tree.specs.declared.expr.Expr.{Expr}
 use Rattle.sw_tree.specs.declared.stmt.Block.{Block}
 use Rattle.sw_tree.specs.declared.stmt.Stmt.{Stmt}
 use Rattle.sw_grammar.specs.Around.{Around}
-use Rattle.sw_grammar.specs.Tokens.{prefix_ops, literal_first, postfix_ext}
+use Rattle.sw_grammar.specs.Tokens.{prefix_ops, literal_first, postfix_ext, expr_first}
+use Rattle.sw_grammar.specs.Tokens.{type_first, type_ext, infix_op, bind_ext}
 use Rattle.sw_grammar.specs.Nests.{Form}
 use Rattle.sw_grammar.specs.Exprs.{loose, negated, a_literal, after_operand}
 use Rattle.sw_grammar.specs.Reading.{read}
-use Rattle.sw_grammar.specs.Stmts.{Arms, Cases, arm_ext, joined, else_part, case_part, default_part}
-use Rattle.sw_grammar.specs.Stmts.{stmt}
+use Rattle.sw_grammar.specs.Types.{written_type}
+use Rattle.sw_grammar.specs.Stmts.{Arms, Binding, Cases, arm_ext, has_next, joined, next_arm, stmt}
+use Rattle.sw_grammar.specs.Stmts.{typed_binding, case_part, default_part}
+use Rattle.sw_grammar.specs.Stmts.Next.{arm_at}
 use Rattle.sw_parse_parts.specs.Nested.{made}
 
 -- an operand that begins with a literal or a prefix operator
@@ -23,10 +27,23 @@ abbrev pub plain_operand : (around : Around)
     (seq (solid literal_first [] 0) (loose (quoted (codes ".")) postfix_ext))) Expr
 plain_operand around = either (negated around true) (a_literal around >>= after_operand around)
 
--- what comes after some arms of an `if`
+-- no arm of an `if` at this place is read
+abbrev pub begun : ℕ → Arms
+begun at = record { arms = []; next = arm_at at }
+
+-- the arms without `let` after some of an `if`, and what comes after them
 abbrev pub more_arms : (around : Around) → Arms
-    → Form (star (solid (quoted (codes "else")) [] 1)) Arms
-more_arms around arms = turns (λ arms. is_none arms.1) arms (else_part around)
+    → Form (star (solid expr_first (quoted (codes "else")) 1)) Arms
+more_arms around arms = turns has_next arms (next_arm around)
+
+-- a variable after its word, from the `:` before its type on
+abbrev pub with_type : (around : Around) → Binding
+    → Form (seq (one (quote (codes ":"))) (seq (solid type_first type_ext 0)
+    (solid (infix_op (codes "=")) bind_ext 0))) (List Stmt)
+with_type around binding = do
+  colon_at ← expect (codes ":")
+  written ← written_type around
+  typed_binding around binding colon_at written
 
 -- the arms of a `switch` after some, each the first on its line or after a `;`
 abbrev pub more_cases : (around : Around) → Cases

@@ -12,7 +12,7 @@ ghost use Rattle.sw_parse_expr.specs.Below.{Below};
 
 use std::alloc::Global;
 use sw_grammar_forms::{Cursor, Stop};
-use sw_parse_expr::{Inner, expr, statements};
+use sw_parse_expr::{Inner, expr, stmts_inside};
 use sw_parse_parts::{Around, equals};
 use sw_tree::{Block, Expr, StmtList};
 
@@ -35,7 +35,7 @@ pub fn block<I: Inner>(
 }
 
 /// Statements in `{` and `}`.
-fn braced<I: Inner>(
+pub fn braced<I: Inner>(
     alloc: Global,
     inner: &I,
     around: &Around<'_>,
@@ -43,29 +43,11 @@ fn braced<I: Inner>(
     depth: u32,
 ) -> Result<StmtList, Stop>
     requires { Below I.reads inner.now depth }
-    ensures { Gives (nested (known around.now) depth (quote (codes "{")) in_block tokens.old)
-        result tokens.new }
+    ensures { Gives (nested (known around.now) depth (quote (codes "{"))
+        (in_block (known around.now).here) tokens.old) result tokens.new }
 {
     tokens.open("{", depth)?;
     stmts_inside(alloc, inner, around, tokens, depth - 1)
-}
-
-/// Statements up to their `}`.
-#[tactic(auto, unfolding(sw_grammar::specs::Stmts::statements))]
-fn stmts_inside<I: Inner>(
-    alloc: Global,
-    inner: &I,
-    around: &Around<'_>,
-    tokens: &mut Cursor<'_>,
-    depth: u32,
-) -> Result<StmtList, Stop>
-    requires { I.reads inner.now depth }
-    ensures { Gives (read (known around.now) depth (stmts.statements (known around.now)) tokens.old)
-        result tokens.new }
-{
-    let stmts = statements(alloc, inner, around, tokens, depth)?;
-    tokens.expect("}")?;
-    Ok(stmts)
 }
 
 /// `=` and an expression.

@@ -9,11 +9,15 @@
 //! of memory is the one free answer, and after a stop nothing is said of the tokens that are left.
 #![tactic(auto)]
 
+mod arms;
 mod blocks;
 mod control;
+mod if_let;
 mod simple;
 mod statement;
 mod switch;
+mod variables;
 
 pub use blocks::{block, value};
+pub use control::if_stmt;
 pub use statement::stmt;

@@ -1,4 +1,4 @@
-//! Statements but those with blocks: variables, assignments, returns and expressions.
+//! Statements but variables and those with blocks: assignments, returns and expressions.
 
 ghost use Rattle.sw_grammar_forms.specs.Outcome.{Gives};
 ghost use Rattle.sw_grammar.specs.Stmts as stmts;
@@ -10,61 +10,13 @@ ghost use Rattle.sw_parse_stmt.specs.Parts.{plain_operand};
 use super::blocks::value;
 use std::alloc::Global;
 use sw_grammar_forms::{Cursor, Stop};
-use sw_list::ListOf;
 use sw_parse_expr::{
-    Inner, after_operand, after_task, after_word, awaited, expr, more_operands, negated,
+    Inner, after_operand, after_task, after_word, awaited, expr, more_operands, negated, value_in,
 };
 use sw_parse_parts::{
-    Around, a_literal, assign_op, sees_assign, sees_expr_on_line, sees_prefix, type_if, value_word,
-    word,
+    Around, a_literal, assign_op, sees_assign, sees_prefix, sees_value_on_line, value_word,
 };
-use sw_tree::{Expr, Stmt, StmtList};
-
-/// A variable after its `let` or `var`, as the statements that it stands for.
-#[tactic(auto, unfolding(sw_grammar::specs::Stmts::binding))]
-fn binding<I: Inner>(
-    alloc: Global,
-    inner: &I,
-    around: &Around<'_>,
-    tokens: &mut Cursor<'_>,
-    depth: u32,
-    mutable: bool,
-) -> Result<StmtList, Stop>
-    requires { Below I.reads inner.now depth }
-    ensures { Gives (read (known around.now) depth
-        (stmts.binding (known around.now) mutable) tokens.old) result tokens.new }
-{
-    let name = word(around, tokens)?;
-    let ty = type_if(alloc, around, tokens, depth)?;
-    let value = value(alloc, inner, around, tokens, depth)?;
-    let bind = Stmt::Bind {
-        mutable,
-        name,
-        ty,
-        value,
-    };
-    Ok(ListOf::one(alloc, bind)?)
-}
-
-/// A variable.
-#[tactic(auto, unfolding(sw_grammar::specs::Stmts::bind))]
-pub fn bind<I: Inner>(
-    alloc: Global,
-    inner: &I,
-    around: &Around<'_>,
-    tokens: &mut Cursor<'_>,
-    depth: u32,
-) -> Result<StmtList, Stop>
-    requires { Below I.reads inner.now depth }
-    ensures { Gives (read (known around.now) depth (stmts.bind (known around.now)) tokens.old)
-        result tokens.new }
-{
-    if tokens.skip("let") {
-        return binding(alloc, inner, around, tokens, depth, false);
-    }
-    tokens.expect("var")?;
-    binding(alloc, inner, around, tokens, depth, true)
-}
+use sw_tree::{Expr, Stmt};
 
 /// A value that is dropped: `_ = value`.
 #[tactic(auto, unfolding(sw_grammar::specs::Stmts::discard))]
@@ -223,11 +175,11 @@ pub fn return_stmt<I: Inner>(
         result tokens.new }
 {
     let at = tokens.expect("return")?;
-    if sees_expr_on_line(tokens) {
-        let value = expr(alloc, inner, around, tokens, depth, true)?;
+    if sees_value_on_line(tokens) {
+        let given = value_in(alloc, inner, around, tokens, depth, around.wanted())?;
         return Ok(Stmt::Return {
             at,
-            value: Some(value),
+            value: Some(given.value()),
         });
     }
     Ok(Stmt::Return { at, value: None })

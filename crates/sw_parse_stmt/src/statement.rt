@@ -8,10 +8,10 @@ ghost use Rattle.sw_parse_expr.specs.Below.{Below};
 
 use super::control::{if_stmt, while_stmt};
 use super::simple::{
-    bind, break_stmt, continue_stmt, discard, plain_stmt, return_stmt, self_stmt, task_stmt,
-    word_stmt,
+    break_stmt, continue_stmt, discard, plain_stmt, return_stmt, self_stmt, task_stmt, word_stmt,
 };
 use super::switch::switch_stmt;
+use super::variables::bind;
 use std::alloc::Global;
 use sw_grammar_forms::{Cursor, Stop};
 use sw_list::ListOf;
@@ -52,6 +52,9 @@ fn other_stmt<I: Inner>(
     ensures { Gives (read (known around.now) depth (stmts.other_stmt (known around.now)) tokens.old)
         result tokens.new }
 {
+    if !around.no_break() && tokens.sees("break") {
+        return break_stmt(around, tokens, depth);
+    }
     if tokens.sees("_") {
         return discard(alloc, inner, around, tokens, depth);
     }
@@ -66,9 +69,6 @@ fn other_stmt<I: Inner>(
     }
     if tokens.sees("return") {
         return return_stmt(alloc, inner, around, tokens, depth);
-    }
-    if tokens.sees("break") {
-        return break_stmt(around, tokens, depth);
     }
     if tokens.sees("continue") {
         return continue_stmt(around, tokens, depth);

@@ -3,6 +3,7 @@
 ghost use Rattle.std.specs.Prelude.{[], false, codes};
 ghost use Rattle.sw_grammar_forms.specs.Outcome.{Gives};
 ghost use Rattle.sw_grammar_forms.specs.Quotes.{quote};
+ghost use Rattle.sw_grammar.specs.Around.{with_break};
 ghost use Rattle.sw_grammar.specs.Stmts as stmts;
 ghost use Rattle.sw_grammar.specs.Nests.Nest.{in_switch};
 ghost use Rattle.sw_grammar.specs.Reading.{read};
@@ -43,7 +44,7 @@ pub fn switch_stmt<I: Inner>(
     })
 }
 
-/// The arms of a `switch` and its `default`, in `{` and `}`.
+/// The arms of a `switch` and its `default`, in `{` and `}`. A `break` may leave them.
 fn arms<I: Inner>(
     alloc: Global,
     inner: &I,
@@ -52,11 +53,12 @@ fn arms<I: Inner>(
     depth: u32,
 ) -> Result<(CaseArmList, Option<Block>), Stop>
     requires { Below I.reads inner.now depth }
-    ensures { Gives (nested (known around.now) depth (quote (codes "{")) in_switch tokens.old)
-        result tokens.new }
+    ensures { Gives (nested (known around.now) depth (quote (codes "{"))
+        (in_switch (with_break (known around.now)).here) tokens.old) result tokens.new }
 {
     tokens.open("{", depth)?;
-    switch_inside(alloc, inner, around, tokens, depth - 1)
+    let inside = around.with_break();
+    switch_inside(alloc, inner, &inside, tokens, depth - 1)
 }
 
 /// Arms and a `default`, up to their `}`.

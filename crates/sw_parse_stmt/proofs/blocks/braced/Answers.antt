@@ -7,5 +7,5 @@ use Rattle.sw_parse_stmt.proofs.blocks.braced.Goals as goal
 
 pub returns : goal.returns
 returns g c =
-    in_nest_itself (known c.args.around.now) in_block c.args.depth (quote (codes "{")) _ _ _ _ _
-    c.in_ok-open.ensures.opened c.in_ok-open.ensures.room c.stmts_inside.ensures
+    in_nest_itself (known c.args.around.now) (in_block (known c.args.around.now).here) c.args.depth
+    (quote (codes "{")) _ _ _ _ _ c.in_ok-open.ensures.opened c.in_ok-open.ensures.room c.stmts_inside.ensures
