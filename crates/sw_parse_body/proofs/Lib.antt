@@ -1,2 +1,3 @@
 pub mod PhraseFronts
 pub mod FrontSteps
+pub mod WantedWords

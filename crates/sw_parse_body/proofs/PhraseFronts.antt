@@ -15,7 +15,7 @@ use Rattle.sw_grammar_forms.proofs.LoopLaws.{no_token}
 use Rattle.sw_grammar_forms.proofs.ReaderLaws.{left_of, ok_parts}
 use Rattle.sw_grammar_forms.proofs.Rising.{IsSpelling-rest}
 use Rattle.sw_grammar_forms.proofs.WholeLaws as wholes
-use Rattle.sw_grammar.specs.Around.{outermost}
+use Rattle.sw_grammar.specs.Around.{nowhere, outermost, returning}
 use Rattle.sw_grammar.specs.Nests.{El, shape_of}
 use Rattle.sw_grammar.specs.Grammar.{body, good}
 use Rattle.sw_grammar.proofs.BodiesAlike.{blocks_alike, exprs_alike, types_alike}
@@ -38,18 +38,18 @@ front_of_any {A} p ts = by_answer (p ts)
     by_answer (Err fault) = refl
 
 ok : (phrase : Phrase) → (shape phrase).ok ≡ true
-ok a_block = refl
+ok (a_block wanted) = refl
 ok an_expr = refl
 ok a_type = refl
 
 phrases_alike : (phrase : Phrase) (f g : List ℕ → ℕ) (depth : ℕ)
     → Alike Any (read_phrase phrase f depth) (read_phrase phrase g depth)
-phrases_alike a_block f g depth =
-    alike_front Any _ _ _ (blocks_alike (outermost f) (outermost g) depth)
+phrases_alike (a_block wanted) f g depth =
+    alike_front Any _ _ _ (blocks_alike f g (returning (outermost f) wanted).here depth)
 phrases_alike an_expr f g depth =
-    alike_front Any _ _ _ (exprs_alike (outermost f) (outermost g) depth true)
+    alike_front Any _ _ _ (exprs_alike f g nowhere depth true)
 phrases_alike a_type f g depth =
-    alike_front Any _ _ _ (types_alike (outermost f) (outermost g) depth)
+    alike_front Any _ _ _ (types_alike f g nowhere depth)
 
 module _ (phrase : Phrase) (depth : ℕ) (ts : List Spelled) where
   -- what is read with some indices of names
@@ -93,10 +93,10 @@ module _ (phrase : Phrase) (depth : ℕ) (tokens : List Spelled) (from : ℕ) wh
       → IsFront phrase id_of depth tokens from (tree, length tokens - length rest)
   read_front id_of is within tree rest e =
       let given =
-      laws.read_is_front El shape_of (body (outermost id_of)) good (form phrase id_of) (ok phrase)
+      laws.read_is_front El shape_of (body id_of) good (form phrase id_of) (ok phrase)
       (most_nests - depth) left (left_is is) tree rest e in
       let again =
-      laws.front_is_read El shape_of (body (outermost id_of)) good (form phrase id_of) (ok phrase)
+      laws.front_is_read El shape_of (body id_of) good (form phrase id_of) (ok phrase)
       (most_nests - depth) left tree (length left - length rest) given in
       let same : rest ≡ drop (length left - length rest) left
       = (ok_parts (sym e ∙ again)).1 in
@@ -115,10 +115,10 @@ module _ (phrase : Phrase) (depth : ℕ) (tokens : List Spelled) (from : ℕ) wh
       (rest : List Spelled) → reading id_of ≡ Ok (tree, rest) → length rest ≤ length tokens
   rest_within id_of is tree rest e =
       let given =
-      laws.read_is_front El shape_of (body (outermost id_of)) good (form phrase id_of) (ok phrase)
+      laws.read_is_front El shape_of (body id_of) good (form phrase id_of) (ok phrase)
       (most_nests - depth) left (left_is is) tree rest e in
       let again =
-      laws.front_is_read El shape_of (body (outermost id_of)) good (form phrase id_of) (ok phrase)
+      laws.front_is_read El shape_of (body id_of) good (form phrase id_of) (ok phrase)
       (most_nests - depth) left tree (length left - length rest) given in
       omega (
         arith,
@@ -134,7 +134,7 @@ module _ (phrase : Phrase) (depth : ℕ) (tokens : List Spelled) (from : ℕ) wh
   stop_within id_of fault e =
       omega (
         arith,
-        laws.fault_within El shape_of (body (outermost id_of)) good (form phrase id_of) (ok phrase)
+        laws.fault_within El shape_of (body id_of) good (form phrase id_of) (ok phrase)
             (most_nests - depth) left fault e,
         length-drop from tokens,
       )
@@ -148,11 +148,11 @@ module _ (phrase : Phrase) (depth : ℕ) (tokens : List Spelled) (from : ℕ) wh
         count = length left - count;
         at = omega (
           arith,
-          laws.fault_within El shape_of (body (outermost other)) good (form phrase other) (ok phrase)
+          laws.fault_within El shape_of (body other) good (form phrase other) (ok phrase)
               (most_nests - depth) left (unexpected count) same,
           length-drop from tokens,
         );
-        refused = laws.fault_refuses_front El shape_of (body (outermost other)) good (form phrase other)
+        refused = laws.fault_refuses_front El shape_of (body other) good (form phrase other)
             (ok phrase) (most_nests - depth) left (left_is is) count same;
       }
 
@@ -165,11 +165,11 @@ module _ (phrase : Phrase) (depth : ℕ) (tokens : List Spelled) (from : ℕ) wh
         count = length left - count;
         at = omega (
           arith,
-          laws.fault_within El shape_of (body (outermost other)) good (form phrase other) (ok phrase)
+          laws.fault_within El shape_of (body other) good (form phrase other) (ok phrase)
               (most_nests - depth) left (too_deep count) same,
           length-drop from tokens,
         );
-        deep = laws.fault_is_deep El shape_of (body (outermost other)) good (form phrase other)
+        deep = laws.fault_is_deep El shape_of (body other) good (form phrase other)
             (ok phrase) (most_nests - depth) left (left_is is) count same;
       }
 
@@ -196,10 +196,10 @@ module _ (phrase : Phrase) (depth : ℕ) (tokens : List Spelled) (from : ℕ) wh
       → IsFront phrase id_of depth tokens from a → IsFront phrase id_of depth tokens from b → a ≡ b
   one_front id_of a b h k =
       let one =
-      laws.front_is_read El shape_of (body (outermost id_of)) good (form phrase id_of) (ok phrase)
+      laws.front_is_read El shape_of (body id_of) good (form phrase id_of) (ok phrase)
       (most_nests - depth) left a.0 h.count h.spelled in
       let two =
-      laws.front_is_read El shape_of (body (outermost id_of)) good (form phrase id_of) (ok phrase)
+      laws.front_is_read El shape_of (body id_of) good (form phrase id_of) (ok phrase)
       (most_nests - depth) left b.0 k.count k.spelled in
       let both = ok_parts (sym one ∙ two) in
       let h_within : h.count ≤ length left = h.spelled.within in
@@ -223,7 +223,7 @@ module _ (phrase : Phrase) (depth : ℕ) (tokens : List Spelled) (from : ℕ) wh
       → (read : TreeOf phrase × ℕ) → IsFront phrase f depth tokens from read
       → (tree : TreeOf phrase) × IsFront phrase g depth tokens from (tree, read.1)
   same_place f g is within read h =
-      let one = laws.front_is_read El shape_of (body (outermost f)) good (form phrase f) (ok phrase)
+      let one = laws.front_is_read El shape_of (body f) good (form phrase f) (ok phrase)
       (most_nests - depth) left read.0 h.count h.spelled in
       let two = same_rest phrase (most_nests - depth) left f g read.0 (drop h.count left) one in
       let given = read_front g is within two.0 (drop h.count left) two.1 in
@@ -243,10 +243,10 @@ module _ (phrase : Phrase) (depth : ℕ) (tokens : List Spelled) (from : ℕ) wh
       → IsFront phrase id_of depth tokens from read
       → ¬ IsFrontFault phrase id_of depth tokens from fault
   never_both id_of read (faults.Unexpected token) h k =
-      laws.never_refused El shape_of (body (outermost id_of)) good (form phrase id_of) (ok phrase)
+      laws.never_refused El shape_of (body id_of) good (form phrase id_of) (ok phrase)
       (most_nests - depth) left k.count (read.0, h.count, h.spelled) k.refused
   never_both id_of read (faults.TooDeep token) h k =
-      laws.never_too_deep El shape_of (body (outermost id_of)) good (form phrase id_of) (ok phrase)
+      laws.never_too_deep El shape_of (body id_of) good (form phrase id_of) (ok phrase)
       (most_nests - depth) left k.count (read.0, h.count, h.spelled) k.deep
   never_both id_of read faults.Memory h k = k
 

@@ -1,6 +1,6 @@
 -- Phrases: blocks, expressions and types. Which one a list of tokens begins with, from an index on,
 -- and the one fault of tokens that begin with none.
-use Rattle.std.specs.Prelude.{◌≡◌, ◌⊎◌, ℕ, ◌+◌, ◌-◌, ◌≤◌, true, List, drop, take}
+use Rattle.std.specs.Prelude.{◌≡◌, ◌⊎◌, ℕ, ◌+◌, ◌-◌, ◌≤◌, true, List, drop, take, Option}
 use Rattle.sw_token.specs.Spelling.{Spelled}
 use Rattle.sw_grammar_forms.specs.Form.{Shape}
 use Rattle.sw_grammar_forms.specs.Fronts.{IsFrontOf, IsFrontRefused, front}
@@ -17,8 +17,8 @@ use Rattle.std.specs.Prelude.{codes, []}
 use Rattle.sw_tree.specs.declared.expr.Expr.{Expr}
 use Rattle.sw_tree.specs.declared.stmt.Block.{Block}
 use Rattle.sw_tree.specs.declared.type_tree.TypeTree.{TypeTree}
-use Rattle.sw_tree.specs.Names.{id_in, with_texts}
-use Rattle.sw_grammar.specs.Around.{outermost}
+use Rattle.sw_tree.specs.Names.{with_texts}
+use Rattle.sw_grammar.specs.Around.{index_in, outermost, returning}
 use Rattle.sw_grammar.specs.Nests.{El, shape_of, Form}
 use Rattle.sw_grammar.specs.Grammar.{body}
 use Rattle.sw_grammar.specs.Reading.{read}
@@ -32,41 +32,42 @@ use Rattle.sw_parse_decl.specs.declared.fault.ParseFault.{ParseFault}
 use Rattle.sw_parse_decl.specs.declared.fault.ParseFault.TheVariants as faults
 
 pub data Phrase : Type 0 where
-  a_block : Phrase
+  -- a block, with the word `T` where each `return` in it is to give a `T?`
+  a_block : Option (List ℕ) → Phrase
   -- an expression, in which closures may stand
   an_expr : Phrase
   a_type : Phrase
 
 -- the trees of a phrase
 abbrev pub TreeOf : Phrase → Type 0
-TreeOf a_block = Block
+TreeOf (a_block wanted) = Block
 TreeOf an_expr = Expr
 TreeOf a_type = TypeTree
 
 abbrev pub shape : Phrase → Shape
-shape a_block = solid (quoted (codes "{")) [] 1
+shape (a_block wanted) = solid (quoted (codes "{")) [] 1
 shape an_expr = solid expr_first expr_ext 0
 shape a_type = solid type_first type_ext 0
 
 -- the form of a phrase, where `id_of` gives the index of a name's text
 abbrev pub form : (phrase : Phrase) → (List ℕ → ℕ) → Form (shape phrase) (TreeOf phrase)
-form a_block id_of = stmts.block (outermost id_of)
+form (a_block wanted) id_of = stmts.block (returning (outermost id_of) wanted)
 form an_expr id_of = exprs.expr (outermost id_of) true
 form a_type id_of = types.type (outermost id_of)
 
 -- the trees that tokens spell, where `depth` nests are open before them
 abbrev pub SpellsPhrase : (phrase : Phrase) → (List ℕ → ℕ) → ℕ → Relation (TreeOf phrase)
 SpellsPhrase phrase id_of depth =
-    spells El shape_of (body (outermost id_of)) (most_nests - depth) (form phrase id_of)
+    spells El shape_of (body id_of) (most_nests - depth) (form phrase id_of)
 
 -- the same, however many nests are open
 abbrev pub SpellsAtAll : (phrase : Phrase) → (List ℕ → ℕ) → Relation (TreeOf phrase)
-SpellsAtAll phrase id_of = Wide El shape_of (body (outermost id_of)) (form phrase id_of)
+SpellsAtAll phrase id_of = Wide El shape_of (body id_of) (form phrase id_of)
 
 -- The last of the tokens opens a nest too many, where `depth` nests are open before the first.
 abbrev pub OpensTooMany : Phrase → (List ℕ → ℕ) → ℕ → List Spelled → Type 0
 OpensTooMany phrase id_of depth tokens =
-    opens El shape_of (body (outermost id_of)) (most_nests - depth) (form phrase id_of) tokens
+    opens El shape_of (body id_of) (most_nests - depth) (form phrase id_of) tokens
 
 -- The tokens from the index `from` up to, and without, the index `read.1` spell the tree `read.0`,
 -- and with the token after them no such spelling goes on.
@@ -113,23 +114,25 @@ ExplainsFront phrase depth tokens from (faults.TooDeep token) =
     (id_of : List ℕ → ℕ) → IsFrontFault phrase id_of depth tokens from (faults.TooDeep token)
 ExplainsFront phrase depth tokens from faults.Memory = Unit {0}
 
--- the texts of names, and those of the tokens from one index up to another
-abbrev pub texts_after : List (List ℕ) → List Spelled → ℕ → ℕ → List (List ℕ)
-texts_after texts tokens from to =
-    with_texts texts (texts_in (take (to - from) (drop from tokens)))
+-- the texts that the tokens from one index up to another give
+abbrev pub texts_between : List Spelled → ℕ → ℕ → List (List ℕ)
+texts_between tokens from to = texts_in (take (to - from) (drop from tokens))
 
--- The tokens from `from` on have a front, and the names of its tokens before the index `to` are
+-- the texts of names, and those
+abbrev pub texts_after : List (List ℕ) → List Spelled → ℕ → ℕ → List (List ℕ)
+texts_after texts tokens from to = with_texts texts (texts_between tokens from to)
+
+-- The tokens from `from` on have a front, and the first `count` texts that its tokens give are
 -- interned.
 pub record IsPartInterned (phrase : Phrase) (depth : ℕ) (tokens : List Spelled) (from : ℕ)
     (before after : List (List ℕ)) : Type 0 where
   pub read : TreeOf phrase × ℕ
-  pub front : IsFront phrase (id_in before) depth tokens from read
-  pub to : ℕ
-  pub within : to ≤ read.1
-  pub texts : after ≡ texts_after before tokens from to
+  pub front : IsFront phrase (index_in before) depth tokens from read
+  pub count : ℕ
+  pub texts : after ≡ with_texts before (take count (texts_between tokens from read.1))
 
--- A fault of the tokens leaves the names as they were. Out of memory, the names of the front's
--- first tokens may be interned.
+-- A fault of the tokens leaves the names as they were. Out of memory, the first of the
+-- texts that the front's tokens give may be interned.
 abbrev pub KeepsNames : Phrase → ℕ → List Spelled → ℕ → List (List ℕ) → List (List ℕ) → ParseFault
     → Type 0
 KeepsNames phrase depth tokens from before after (faults.Unexpected token) = after ≡ before

@@ -13,7 +13,7 @@ mod parts;
 mod phrases;
 mod programs;
 
-pub use fronts::{body, value, written_type};
+pub use fronts::{body, body_of, value, written_type};
 pub use laws::tokens_have_one_front;
 pub use programs::program;
 pub use sw_parse_decl::ParseFault;

@@ -4,10 +4,11 @@ use super::nests;
 use std::alloc::Global;
 use sw_grammar_forms::{Cursor, Stop};
 use sw_parse_decl::Bodies;
+use sw_parse_expr as exprs;
 use sw_parse_expr::Inner;
 use sw_parse_parts::Around;
 use sw_parse_stmt as stmts;
-use sw_tree::{Arg, Block, Expr, StmtList};
+use sw_tree::{Arg, Block, Expr, Stmt, StmtList};
 
 /// The parser of the values of variables and of the blocks of functions.
 pub struct Parser;
@@ -44,6 +45,16 @@ impl Inner for Parser {
     ) -> Result<StmtList, Stop> {
         nests::stmt(alloc, around, tokens, depth)
     }
+
+    fn if_stmt(
+        &self,
+        alloc: Global,
+        around: &Around<'_>,
+        tokens: &mut Cursor<'_>,
+        depth: u32,
+    ) -> Result<Stmt, Stop> {
+        nests::if_stmt(alloc, around, tokens, depth)
+    }
 }
 
 impl Bodies for Parser {
@@ -55,6 +66,18 @@ impl Bodies for Parser {
         depth: u32,
     ) -> Result<Expr, Stop> {
         stmts::value(alloc, self, around, tokens, depth)
+    }
+
+    fn value_for(
+        &self,
+        alloc: Global,
+        around: &Around<'_>,
+        tokens: &mut Cursor<'_>,
+        depth: u32,
+        wanted: Option<&str>,
+    ) -> Result<Expr, Stop> {
+        let given = exprs::value_for(alloc, self, around, tokens, depth, wanted)?;
+        Ok(given.value())
     }
 
     fn block(

@@ -1,14 +1,13 @@
 use Rattle.std.proofs.Common.{◌≡◌, ◌-◌, drop, ◌∙◌, subst, arith}
-use Rattle.std.proofs.lemmas.List.{length-map}
 use Rattle.std.proofs.lemmas.List.Elements.{All-take, All-drop}
-use Rattle.std.proofs.lemmas.Result.{on_err_weaker}
-use Rattle.std.specs.Prelude.{OnOk}
+use Rattle.std.specs.Prelude.{OnOk, OnErr}
 use Rattle.sw_token.proofs.TokenLaws.{IsTokens-few}
-use Rattle.sw_token.specs.Spelling.{IsReadable, spelled, spelling_of}
+use Rattle.sw_token.specs.Spelling.{IsReadable}
 use Rattle.sw_grammar_forms.proofs.TokensSpelled.{tokens_readable}
 use Rattle.sw_tree.specs.Names.{with_texts}
 use Rattle.sw_grammar_facts.specs.Interned.{texts_in}
-use Rattle.sw_parse_body.proofs.FrontSteps.{between_spelled, some_between}
+use Rattle.sw_parse_decl.specs.Texts.{ArePartlyInterned}
+use Rattle.sw_parse_body.proofs.FrontSteps.{between_spelled}
 use Rattle.sw_parse_body.proofs.fronts.intern_between.Goals as goal
 
 pub prove-unreachable-requires : goal.prove-unreachable-requires
@@ -38,15 +37,8 @@ returns-clause-texts c =
 
 pub returns-clause-err : goal.returns-clause-err
 returns-clause-err c =
-    on_err_weaker c.intern_names.result
-    (some_between c.args.names.now c.intern_names.new.names
-    (spelling_of c.args.source.now c.args.tokens.now) c.new.result c.args.from c.args.to
+    subst (λ ts. OnErr c.intern_names.result
+    (ArePartlyInterned c.args.names.now (texts_in ts) c.intern_names.new.names))
     (c.new.ensures
     ∙ between_spelled c.args.source.now c.args.tokens.now c.args.from (c.args.to - c.args.from))
-    c.requires.ordered
-    (omega (
-      arith,
-      c.requires.within,
-      length-map c.args.tokens.now (spelled c.args.source.now),
-    )))
     c.intern_names.ensures.err
