@@ -51,9 +51,10 @@ diagnostics_depth found =
 edit_depth : (e : Edit) → depth (json.edit e) ≤ 3
 edit_depth e = omega arith
 
-action_depth : (uri : List ℕ) (a : Action) → depth (json.action uri a) ≤ 7
+action_depth : (uri : List ℕ) (a : Action) → depth (json.action uri a) ≤ 8
 action_depth uri a =
-    let each : items_depth (items_of (map json.edit a.edits.items)) ≤ 3 = list_depth json.edit 3 edit_depth a.edits.items in
+    let mends : depth (json.diagnostic a.mends) ≤ 6 = diagnostic_depth a.mends in
+    let edit : depth (json.edit a.edit) ≤ 3 = edit_depth a.edit in
     omega arith
 
 module _ (id : Data) (flat : depth id ≡ 0) where
@@ -75,7 +76,7 @@ module _ (id : Data) (flat : depth id ≡ 0) where
 
   pub offered_depth : (uri : List ℕ) (found : List Action) → depth (reply.offered id uri found) ≤ 127
   offered_depth uri found =
-      let each : items_depth (items_of (map (json.action uri) found)) ≤ 7 = list_depth (json.action uri) 7 (action_depth uri) found in
+      let each : items_depth (items_of (map (json.action uri) found)) ≤ 8 = list_depth (json.action uri) 8 (action_depth uri) found in
       omega arith
 
 pub published_depth : (uri : List ℕ) (found : List Diagnostic) → depth (reply.published uri found) ≤ 127

@@ -1,10 +1,10 @@
 -- Diagnostics and edits of a document, as the protocol has them in JSON. The members of an object
 -- stand in the order of their names.
-use Rattle.std.specs.Prelude.{ℕ, ◌==◌, if◌then◌else◌, List, length, map, codes, Option, Some, None}
-use Rattle.std.specs.Prelude.{option_map, String, string_bytes}
+use Rattle.std.specs.Prelude.{ℕ, ◌==◌, true, if◌then◌else◌, List, length, map, codes, Option}
+use Rattle.std.specs.Prelude.{Some, None, option_map, String, string_bytes}
 use Rattle.std.specs.declared.alloc.Global.{Global}
 use Rattle.serde_json.specs.Data.{Data, null, boolean, number, string, array, object}
-use Rattle.serde_json.specs.Data.{no_members, member, put, unsigned}
+use Rattle.serde_json.specs.Data.{item, no_items, no_members, member, put, unsigned}
 use Rattle.serde_json.specs.View.{items_of}
 use Rattle.sw_lsp_text.specs.declared.diagnostic.Action.{Action}
 use Rattle.sw_lsp_text.specs.declared.diagnostic.Diagnostic.{Diagnostic}
@@ -73,14 +73,19 @@ abbrev pub edit : Edit → Data
 edit e =
     object (member (codes "newText") (text e.text) (member (codes "range") (range e.range) no_members))
 
--- the edits of an action, under the address of their document
-abbrev pub changes : List ℕ → List Edit → Data
-changes uri edits =
-    object (member (codes "changes") (object (member uri (array (items_of (map edit edits))) no_members))
-    no_members)
+abbrev pub just : Data → Data
+just d = array (item d no_items)
 
+-- the edit of an action, under the address of its document
+abbrev pub changes : List ℕ → Edit → Data
+changes uri e =
+    object (member (codes "changes") (object (member uri (just (edit e)) no_members)) no_members)
+
+-- it is the one to take, since no other action mends the same diagnostic
 abbrev pub action : List ℕ → Action → Data
 action uri a =
-    object (member (codes "edit") (changes uri a.edits.items)
+    object (member (codes "diagnostics") (just (diagnostic a.mends))
+    (member (codes "edit") (changes uri a.edit)
+    (member (codes "isPreferred") (boolean true)
     (member (codes "kind") (string (codes "quickfix"))
-    (member (codes "title") (text a.title) no_members)))
+    (member (codes "title") (text a.title) no_members)))))

@@ -1,5 +1,5 @@
 -- Which message of the definitions a message of the code is.
-use Rattle.serde_json.specs.View.{view, items_view}
+use Rattle.serde_json.specs.View.{view}
 use Rattle.sw_lsp_text.specs.Messages as lsp
 use Rattle.sw_lsp_text.specs.declared.message.Message.{Message}
 use Rattle.sw_lsp_text.specs.declared.message.Message.TheVariants as code
@@ -15,8 +15,7 @@ seen (code.ChangedInPart uri) = lsp.ChangedInPart uri.now
 seen (code.Closed uri) = lsp.Closed uri.now
 seen (code.Diagnostic id uri) = lsp.Diagnostic (view id.now) uri.now
 seen (code.Hover id uri place) = lsp.Hover (view id.now) uri.now place
-seen (code.CodeAction id uri range diagnostics) =
-    lsp.CodeAction (view id.now) uri.now range (items_view diagnostics.now)
+seen (code.CodeAction id uri range) = lsp.CodeAction (view id.now) uri.now range
 seen code.Ignored = lsp.Ignored
 seen (code.Unknown id) = lsp.Unknown (view id.now)
 seen (code.BadParams id) = lsp.BadParams (view id.now)

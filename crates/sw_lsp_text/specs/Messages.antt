@@ -2,7 +2,7 @@
 use Rattle.std.specs.Prelude.{ℕ, ℤ, Bool, true, false, ◌||◌, if◌then◌else◌, List, codes}
 use Rattle.std.specs.Prelude.{Option, Some, None, is_some, unwrap_or, option_and_then}
 use Rattle.std.specs.Str.{bytes_eq}
-use Rattle.serde_json.specs.Data.{Data, null, boolean, number, string, array, object, Items}
+use Rattle.serde_json.specs.Data.{Data, null, boolean, number, string, array, object}
 use Rattle.serde_json.specs.Find.{get, pointer, as_array, as_bool, as_i64, as_number}
 use Rattle.sw_lsp_text.specs.Changes.{has_range, last_item}
 use Rattle.sw_lsp_text.specs.Parts.{◌>>=◌, place_in, range_in, text_at, text_behind}
@@ -34,8 +34,8 @@ pub data Message : Type 0 where
   Diagnostic : (id : Data) (uri : List ℕ) → Message
   -- the request for what is known of a place
   Hover : (id : Data) (uri : List ℕ) (place : Place) → Message
-  -- the request for actions on a range, with the diagnostics there
-  CodeAction : (id : Data) (uri : List ℕ) (range : Range) (diagnostics : Items) → Message
+  -- the request for actions on a range
+  CodeAction : (id : Data) (uri : List ℕ) (range : Range) → Message
   -- nothing that is to be answered, or that changes anything
   Ignored : Message
   -- a request of another method
@@ -116,8 +116,7 @@ code_action id d = do
   uri ← uri_in d
   within ← pointer (codes "/params/range") d
   range ← range_in within
-  diagnostics ← option_and_then as_array (pointer (codes "/params/context/diagnostics") d)
-  Some (CodeAction id uri range diagnostics)
+  Some (CodeAction id uri range)
 
 abbrev pub requested : Request → Data → Data → Message
 requested request.Initialize id d = initialize id d

@@ -46,11 +46,3 @@ range_in d = do
   last ← get (codes "end") d
   end ← place_in last
   Some (range start end)
-
--- the range and the code of a diagnostic that a client sends back
-abbrev pub mark_in : Data → Option (Range × List ℕ)
-mark_in d = do
-  within ← get (codes "range") d
-  range ← range_in within
-  code ← text_at (codes "code") d
-  Some (range, code)

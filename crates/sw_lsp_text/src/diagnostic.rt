@@ -35,11 +35,12 @@ pub struct Edit {
     pub text: String,
 }
 
-/// Edits of one document that mend a diagnostic.
+/// An edit of a document that mends one of its diagnostics.
 #[derive(Drop)]
 pub struct Action {
     pub title: String,
-    pub edits: Vec<Edit>,
+    pub edit: Edit,
+    pub mends: Diagnostic,
 }
 
 fn place_value(alloc: Global, place: Place) -> Result<Value, AllocError>
@@ -164,24 +165,17 @@ fn edit_value(alloc: Global, edit: &Edit) -> Result<Value, AllocError>
     json!(in alloc; {"range": range, "newText": &edit.text})
 }
 
-fn edit_list(alloc: Global, all: &[Edit]) -> Result<Value, AllocError>
-    ensures { IfOk result (λ v. view v ≡ array (items_of (map json.edit all.now))) }
-{
-    let mut list = Vec::new(alloc);
-    for one in all {
-        list.push(edit_value(alloc, one)?)?;
-    }
-    Ok(Value::Array(list))
-}
-
 fn action_value(alloc: Global, uri: &str, action: &Action) -> Result<Value, AllocError>
     ensures { IfOk result (λ v. view v ≡ json.action uri.now action.now) }
 {
-    let edits = edit_list(alloc, &action.edits)?;
+    let edit = edit_value(alloc, &action.edit)?;
+    let mends = diagnostic_value(alloc, &action.mends)?;
     json!(in alloc; {
         "title": &action.title,
         "kind": "quickfix",
-        "edit": {"changes": {(uri): edits}}
+        "diagnostics": [mends],
+        "isPreferred": true,
+        "edit": {"changes": {(uri): [edit]}}
     })
 }
 

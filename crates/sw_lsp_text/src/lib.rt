@@ -20,7 +20,6 @@ pub use fault::Fault;
 pub use frame::{BODY_LIMIT, Cut, HEADER_LIMIT, first_cut};
 pub use laws::{cuts_stay, replies_are_shallow, sent_frames_are_whole};
 pub use message::{Message, read_message};
-pub use part::{Mark, mark_in};
 pub use place::{Place, Range};
 pub use reply::{begun, hovered, nothing, offered, published, refused, reported};
 pub use sending::framed;

@@ -55,12 +55,11 @@ pub enum Message<'v> {
         uri: &'v str,
         place: Place,
     },
-    /// The request for actions on a range. Of each diagnostic there `mark_in` tells what is known.
+    /// The request for actions on a range.
     CodeAction {
         id: &'v Value,
         uri: &'v str,
         range: Range,
-        diagnostics: &'v [Value],
     },
     /// Nothing that is to be answered, or that changes anything.
     Ignored,
@@ -220,15 +219,7 @@ fn code_action<'v>(id: &'v Value, message: &'v Value) -> Option<Message<'v>>
 {
     let uri = uri_in(message)?;
     let range = range_in(message.pointer("/params/range")?)?;
-    let diagnostics = message
-        .pointer("/params/context/diagnostics")
-        .and_then(Value::as_array)?;
-    Some(Message::CodeAction {
-        id,
-        uri,
-        range,
-        diagnostics,
-    })
+    Some(Message::CodeAction { id, uri, range })
 }
 
 fn requested<'v>(request: Request, id: &'v Value, message: &'v Value) -> Message<'v>

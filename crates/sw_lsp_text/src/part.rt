@@ -1,17 +1,10 @@
 //! Parts of a message: texts, numbers and places in its JSON.
 ghost use Rattle.std.specs.Prelude.{◌≡◌, option_map};
 ghost use Rattle.serde_json.specs.View.{view};
-ghost use Rattle.sw_lsp_text.specs.Parts.{mark_in, place_in, range_in, small_at, text_at, text_behind};
+ghost use Rattle.sw_lsp_text.specs.Parts.{place_in, range_in, small_at, text_at, text_behind};
 
 use crate::place::{Place, Range};
 use serde_json::Value;
-
-/// What a client knows of a diagnostic that it was sent.
-#[derive(Clone, Copy)]
-pub struct Mark<'v> {
-    pub range: Range,
-    pub code: &'v str,
-}
 
 /// The text of a member.
 pub fn text_at<'v>(value: &'v Value, name: &str) -> Option<&'v str>
@@ -52,13 +45,4 @@ pub fn range_in(value: &Value) -> Option<Range>
     let start = place_in(value.get("start")?)?;
     let end = place_in(value.get("end")?)?;
     Some(Range { start, end })
-}
-
-/// What a client knows of a diagnostic, as it sends it back.
-pub fn mark_in(value: &Value) -> Option<Mark<'_>>
-    ensures { option_map (λ mark. (mark.range, mark.code.now)) result ≡ mark_in (view value.now) }
-{
-    let range = range_in(value.get("range")?)?;
-    let code = text_at(value, "code")?;
-    Some(Mark { range, code })
 }

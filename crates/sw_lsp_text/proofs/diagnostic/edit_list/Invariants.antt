@@ -1,7 +1,0 @@
-use Rattle.std.proofs.Common.{◌≡◌, map, take}
-use Rattle.serde_json.specs.View.{view}
-use Rattle.sw_lsp_text.specs.Diagnostics as json
-use Rattle.sw_lsp_text.proofs.diagnostic.edit_list.Given as goal
-
-abbrev pub invariant-loop-one : goal.invariant-loop-one
-invariant-loop-one l = map view l.list.items ≡ map json.edit (take l.one-index l.all)
