@@ -1,11 +1,12 @@
 -- Which range of a text a position stands for: up to the end of the token over it, or, where there
 -- is none, of the character at it.
 use Rattle.std.specs.Prelude.{◌≡◌, ◌+◌, ◌⊎◌, ℕ, Bool, nat_lt, nat_le, ◌&&◌, if◌then◌else◌}
-use Rattle.std.specs.Prelude.{List, [], length, drop, slice_get, Option, Some, None, option_and_then}
-use Rattle.std.specs.Prelude.{unwrap_or}
+use Rattle.std.specs.Prelude.{List, [], length, drop, slice_get, slice_range, Option, Some, None}
+use Rattle.std.specs.Prelude.{option_and_then, option_map, unwrap_or}
 use Rattle.std.specs.List.{prefix_len}
 use Rattle.std.specs.Str.{IsUtf8}
 use Rattle.sw_lsp_text.specs.declared.place.Range.{Range}
+use Rattle.sw_text.specs.declared.Span.{Span}
 use Rattle.sw_token.specs.declared.Token.{Token}
 use Rattle.sw_token.specs.declared.LexFault.{LexFault}
 use Rattle.sw_token.specs.Tokens.{IsTokens, IsLexicalFault}
@@ -58,3 +59,14 @@ end_of t at = unwrap_or (token_end t.tokens at) (character_end t.text at)
 -- the range of the position `at`, a byte offset
 abbrev pub range_of : Tokenized → ℕ → Range
 range_of t at = record { start = place_in t.text at; end = place_in t.text (end_of t at) }
+
+-- the text of a token
+abbrev pub spelled : List ℕ → Token → List ℕ
+spelled text token = slice_range text token.span.start token.span.end
+
+-- where the token of a number stands, and its text; tokens are numbered from 0
+abbrev pub span_at : Tokenized → ℕ → Option Span
+span_at t number = option_map (λ token. token.span) (slice_get t.tokens number)
+
+abbrev pub text_at : Tokenized → ℕ → Option (List ℕ)
+text_at t number = option_map (spelled t.text) (slice_get t.tokens number)

@@ -5,8 +5,8 @@ use Rattle.sw_lsp_places.specs.Ranges.{has_ended}
 use Rattle.sw_lsp_places.proofs.Orders.{no_token}
 use Rattle.sw_lsp_places.proofs.range.ended.Goals as goal
 
-pub returns : goal.returns
-returns c =
+pub returns-clause-value : goal.returns-clause-value
+returns-clause-value c =
     let parted = IsPartitionedBy-leb (λ token. token.span.end) c.args.tokens.now c.args.at c.requires in
     let point = IsPartitionPoint-from_clause (has_ended c.args.at) _ _
     c.partition_point.ensures.partitioned parted (λ a r q k. search rules) in
