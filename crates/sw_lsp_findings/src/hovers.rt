@@ -27,7 +27,7 @@ fn is_until(place: Place, other: Place) -> bool
 }
 
 /// Whether a place is in a range, or at its end.
-fn is_over(place: Place, range: Range) -> bool
+pub fn is_over(place: Place, range: Range) -> bool
     ensures { result ≡ is_over place range }
 {
     is_until(range.start, place) && is_until(place, range.end)

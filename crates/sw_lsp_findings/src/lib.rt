@@ -10,6 +10,7 @@ mod lookup;
 mod sections;
 mod setting;
 
-pub use findings::findings_of;
-pub use hovers::{Hover, known_at};
+pub use finding::diagnostic_of;
+pub use findings::{breaches_of, findings_of};
+pub use hovers::{Hover, is_over, known_at};
 pub use setting::Setting;

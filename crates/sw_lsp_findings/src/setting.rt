@@ -44,7 +44,8 @@ impl Setting {
         };
     }
 
-    pub(crate) fn default(&self) -> AsyncDefault
+    /// Where asynchronous functions without an annotation run.
+    pub fn default(&self) -> AsyncDefault
         ensures { result ≡ self.now.default }
     {
         self.default
