@@ -1,6 +1,6 @@
 -- Each request has one answer.
-use Rattle.std.proofs.Common.{◌≡◌, ◌≢◌, ℕ, ◌⊎◌, inl, inr, List, [], ◌∷◌, ◌++◌, Option, Some, None, refl, ap, ◌∙◌}
-use Rattle.std.proofs.Common.{option_and_then, codes, subst, sym}
+use Rattle.std.proofs.Common.{◌≡◌, ℕ, inl, inr, List, [], ◌∷◌, ◌++◌, Option, Some, None, refl, ap, ◌∙◌}
+use Rattle.std.proofs.Common.{option_and_then, codes, sym}
 use Rattle.std.specs.List.{AllByRecursion}
 use Rattle.serde_json.specs.Data.{Data}
 use Rattle.serde_json.specs.Find.{get}
@@ -8,10 +8,10 @@ use Rattle.sw_lsp_text.specs.Messages as lsp
 use Rattle.sw_lsp_text.specs.declared.fault.Fault.{Fault}
 use Rattle.sw_lsp_findings.specs.Hovers.{KnownHover}
 use Rattle.sw_lsp_findings.specs.Settings.{KnownSetting}
-use Rattle.sw_lsp.specs.Law.{IsRightlyAnswered, answered, asked}
+use Rattle.sw_lsp.specs.Law.{IsRightlyAnswered, asked}
 use Rattle.sw_lsp.specs.Session.{Exchange, IsSession, IsTurn, ended_as, exchange, goes_on, opens}
-use Rattle.sw_lsp.specs.Steps.{After, Answers, FollowsIn, IsRunning, ServerState, hovered, no_json}
-use Rattle.sw_lsp.specs.Steps.{no_message, says, stopping, turned_down, waiting}
+use Rattle.sw_lsp.specs.Steps.{After, Answers, FollowsIn, IsRunning, ServerState, hovered}
+use Rattle.sw_lsp.specs.Steps.{says, stopping, turned_down, waiting}
 use Rattle.sw_lsp.specs.declared.phase.Phase.{Phase}
 use Rattle.sw_lsp.specs.declared.phase.Phase.TheVariants as phase
 
@@ -39,7 +39,7 @@ waiting_id s (lsp.ChangedInPart uri) = refl
 waiting_id s (lsp.Closed uri) = refl
 waiting_id s (lsp.Diagnostic id uri) = refl
 waiting_id s (lsp.Hover id uri place) = refl
-waiting_id s (lsp.CodeAction id uri range diagnostics) = refl
+waiting_id s (lsp.CodeAction id uri range) = refl
 waiting_id s lsp.Ignored = refl
 waiting_id s (lsp.Unknown id) = refl
 waiting_id s (lsp.BadParams id) = refl
@@ -56,7 +56,7 @@ stopping_id s (lsp.ChangedInPart uri) = refl
 stopping_id s (lsp.Closed uri) = refl
 stopping_id s (lsp.Diagnostic id uri) = refl
 stopping_id s (lsp.Hover id uri place) = refl
-stopping_id s (lsp.CodeAction id uri range diagnostics) = refl
+stopping_id s (lsp.CodeAction id uri range) = refl
 stopping_id s lsp.Ignored = refl
 stopping_id s (lsp.Unknown id) = refl
 stopping_id s (lsp.BadParams id) = refl
@@ -74,7 +74,7 @@ running_id s (lsp.ChangedInPart uri) done e = ap id_in e
 running_id s (lsp.Closed uri) done e = ap id_in e
 running_id s (lsp.Diagnostic id uri) done h = ap id_in h.done_is
 running_id s (lsp.Hover id uri place) done h = ap id_in h.done_is ∙ hovered_id s id h.known
-running_id s (lsp.CodeAction id uri range diagnostics) done e = ap id_in e
+running_id s (lsp.CodeAction id uri range) done h = ap id_in h.done_is
 running_id s lsp.Ignored done e = ap id_in e
 running_id s (lsp.Unknown id) done e = ap id_in e
 running_id s (lsp.BadParams id) done e = ap id_in e

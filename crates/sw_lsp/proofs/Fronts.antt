@@ -9,7 +9,7 @@ use Rattle.sw_lsp_text.specs.Frames.{HasHeader, IsCut, IsHead, IsWithin, blank_l
 use Rattle.sw_lsp_text.specs.Frames.{cut_by_number, cut_by_value}
 use Rattle.sw_lsp_text.specs.Header.{value_in, number_in}
 use Rattle.sw_lsp_text.specs.declared.frame.Cut.{Cut}
-use Rattle.sw_lsp_text.specs.declared.frame.Cut.TheVariants.{Partial, Endless, NoLength, NoNumber}
+use Rattle.sw_lsp_text.specs.declared.frame.Cut.TheVariants.{Partial, Endless}
 use Rattle.sw_lsp_text.specs.declared.frame.Cut.TheVariants.{TooLong, Whole}
 
 -- ---- the first bytes

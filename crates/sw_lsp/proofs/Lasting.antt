@@ -1,8 +1,7 @@
 -- Along a session what is shown stays right.
-use Rattle.std.proofs.Common.{◌≡◌, ℕ, inl, List, [], ◌∷◌, ◌++◌, Option, None, fold, refl, sym, ap, subst, ◌∙◌}
+use Rattle.std.proofs.Common.{◌≡◌, ℕ, inl, List, ◌++◌, Option, None, refl, sym, ap, subst, ◌∙◌}
 use Rattle.std.proofs.lemmas.List.Sums.{fold_push}
 use Rattle.std.specs.Io.KnownBytes.{Consumes, IsAtEnd}
-use Rattle.serde_json.specs.Data.{Data}
 use Rattle.sw_lsp_text.specs.Frames.{IsCut}
 use Rattle.sw_lsp_text.specs.declared.frame.Cut.TheVariants.{Partial}
 use Rattle.sw_lsp_findings.specs.Settings.{KnownSetting}

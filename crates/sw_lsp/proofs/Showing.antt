@@ -1,5 +1,5 @@
 -- What one message does to the texts that are known and to what is shown.
-use Rattle.std.proofs.Common.{◌≡◌, ◌≢◌, ℕ, Bool, true, false, cond, inl, inr, List, [], ◌∷◌, map, Option, Some, None}
+use Rattle.std.proofs.Common.{◌≡◌, ◌≢◌, ℕ, Bool, true, false, cond, inl, inr, List, [], map, Option, Some, None}
 use Rattle.std.proofs.Common.{bytes_eq, refl, sym, ap, subst, ◌∙◌, option_and_then}
 use Rattle.std.specs.Option.{option_or}
 use Rattle.serde_json.specs.Data.{Data}
@@ -11,11 +11,11 @@ use Rattle.sw_lsp_text.specs.declared.fault.Fault.TheVariants as fault
 use Rattle.sw_lsp_findings.specs.Findings.{AreFindings, shown}
 use Rattle.sw_lsp_findings.specs.Hovers.{KnownHover}
 use Rattle.sw_lsp_findings.specs.Settings.{KnownSetting}
-use Rattle.sw_lsp.specs.Documents.{KnownDocuments, text_in, with_text, without}
+use Rattle.sw_lsp.specs.Documents.{KnownDocuments, text_in, with_text}
 use Rattle.sw_lsp.specs.Law.{IsRightlyShown, heard, published_for, shown_by, text_heard}
 use Rattle.sw_lsp.specs.Session.{IsTurn, exchange}
 use Rattle.sw_lsp.specs.Steps.{After, Answers, FollowsIn, Holds, IsRunning, ServerState, forgets, hovered}
-use Rattle.sw_lsp.specs.Steps.{no_json, no_message, outcome, request_id, says, silent, stopping, turned_down, waiting}
+use Rattle.sw_lsp.specs.Steps.{outcome, request_id, says, silent, stopping, turned_down, waiting}
 use Rattle.sw_lsp.specs.declared.phase.Phase.{Phase}
 use Rattle.sw_lsp.specs.declared.phase.Phase.TheVariants as phase
 use Rattle.sw_lsp.proofs.KnownTexts.{same_bytes, text_in-with, text_in-without}
@@ -212,8 +212,8 @@ module _ (s : ServerState) (fresh : IsFresh s) where
       answered_lasts at (lsp.Diagnostic id of) done _ (λ uri. refl) (λ u k. refl) h.done_is
   running_lasts at (lsp.Hover id of place) done h =
       answered_lasts at (lsp.Hover id of place) done _ (hovered_still id h.known) (λ u k. refl) h.done_is
-  running_lasts at (lsp.CodeAction id of range diagnostics) done e =
-      answered_lasts at (lsp.CodeAction id of range diagnostics) done _ (λ uri. refl) (λ u k. refl) e
+  running_lasts at (lsp.CodeAction id of range) done h =
+      answered_lasts at (lsp.CodeAction id of range) done _ (λ uri. refl) (λ u k. refl) h.done_is
   running_lasts at lsp.Ignored done e =
       answered_lasts at lsp.Ignored done None (λ uri. refl) (λ u k. refl) e
   running_lasts at (lsp.Unknown id) done e =

@@ -1,20 +1,24 @@
 -- What a server does about a message: the state after it, and what is sent.
-use Rattle.std.specs.Prelude.{◌≡◌, ◌⊎◌, ℕ, Bool, true, false, List, [], map, Option, Some, None}
+use Rattle.std.specs.Prelude.{◌≡◌, ℕ, Bool, List, [], map, Option, Some, None}
 use Rattle.std.specs.Prelude.{option_map}
 use Rattle.std.specs.Str.{IsUtf8}
-use Rattle.serde_json.specs.Data.{Data, null, Items}
+use Rattle.serde_json.specs.Data.{Data, null}
 use Rattle.serde_json.specs.Read.{read}
 use Rattle.serde_json.specs.View.{view}
 use Rattle.serde_json.specs.declared.value.Value.{Value}
 use Rattle.sw_lsp_text.specs.Messages as lsp
 use Rattle.sw_lsp_text.specs.Replies as reply
+use Rattle.sw_lsp_text.specs.declared.diagnostic.Action.{Action}
 use Rattle.sw_lsp_text.specs.declared.diagnostic.Diagnostic.{Diagnostic}
 use Rattle.sw_lsp_text.specs.declared.fault.Fault.{Fault}
 use Rattle.sw_lsp_text.specs.declared.fault.Fault.TheVariants as fault
 use Rattle.sw_lsp_text.specs.declared.place.Place.{Place}
+use Rattle.sw_lsp_text.specs.declared.place.Range.{Range}
 use Rattle.sw_lsp_findings.specs.Findings.{AreFindings, AreFindingsIn, shown}
 use Rattle.sw_lsp_findings.specs.Hovers.{IsKnownIn, KnownHover}
 use Rattle.sw_lsp_findings.specs.Settings.{KnownSetting, default_by}
+use Rattle.sw_lsp_mends.specs.Actions.{AreActionsIn}
+use Rattle.sw_lsp_mends.specs.Offers.{seen_action}
 use Rattle.sw_lsp.specs.Documents.{KnownDocuments, text_in, with_text, without}
 use Rattle.sw_lsp.specs.declared.phase.Phase.{Phase}
 use Rattle.sw_lsp.specs.declared.phase.Phase.TheVariants as phase
@@ -61,7 +65,7 @@ request_id (lsp.ChangedInPart uri) = None
 request_id (lsp.Closed uri) = None
 request_id (lsp.Diagnostic id uri) = Some id
 request_id (lsp.Hover id uri place) = Some id
-request_id (lsp.CodeAction id uri range diagnostics) = Some id
+request_id (lsp.CodeAction id uri range) = Some id
 request_id lsp.Ignored = None
 request_id (lsp.Unknown id) = Some id
 request_id (lsp.BadParams id) = Some id
@@ -124,6 +128,13 @@ pub record Hovers (s : ServerState) (id : Data) (uri : List ℕ) (place : Place)
   pub is_known : IsKnownIn s.setting (text_in uri s.documents) place known
   pub done_is : done ≡ says s (hovered id known)
 
+-- the answer has the edits that mend what a range of a document touches
+pub record Offers (s : ServerState) (id : Data) (uri : List ℕ) (range : Range) (done : After)
+    : Type 0 where
+  pub found : List Action
+  pub are_found : AreActionsIn s.setting uri (text_in uri s.documents) range (map seen_action found)
+  pub done_is : done ≡ says s (reply.offered id uri found)
+
 -- a server that has begun
 abbrev pub IsRunning : ServerState → lsp.Message → After → Type 0
 IsRunning s (lsp.Initialize id nonsending) done =
@@ -137,7 +148,7 @@ IsRunning s (lsp.ChangedInPart uri) done = done ≡ forgets s uri
 IsRunning s (lsp.Closed uri) done = done ≡ forgets s uri
 IsRunning s (lsp.Diagnostic id uri) done = Reports s id uri done
 IsRunning s (lsp.Hover id uri place) done = Hovers s id uri place done
-IsRunning s (lsp.CodeAction id uri range diagnostics) done = done ≡ says s (reply.offered id uri [])
+IsRunning s (lsp.CodeAction id uri range) done = Offers s id uri range done
 IsRunning s lsp.Ignored done = done ≡ silent s
 IsRunning s (lsp.Unknown id) done = done ≡ says s (reply.refused id fault.NoMethod)
 IsRunning s (lsp.BadParams id) done = done ≡ says s (reply.refused id fault.BadParams)

@@ -5,8 +5,11 @@ ghost use Rattle.sw_lsp_text.specs.MessageRead.{seen};
 ghost use Rattle.sw_lsp_text.specs.Messages as lsp;
 ghost use Rattle.sw_lsp_findings.specs.Findings.{AreFindingsIn, shown};
 ghost use Rattle.sw_lsp_findings.specs.Hovers.{IsKnownIn, seen_hover};
+ghost use Rattle.sw_lsp_mends.specs.Actions.{AreActionsIn};
+ghost use Rattle.sw_lsp_mends.specs.Offers.{seen_action};
 ghost use Rattle.sw_lsp.specs.Documents.{text_in};
-ghost use Rattle.sw_lsp.specs.Steps.{Answers, Follows, Holds, Hovers, IsRunning, Reports, after};
+ghost use Rattle.sw_lsp.specs.Steps.{Answers, Follows, Holds, Hovers, IsRunning, Offers, Reports};
+ghost use Rattle.sw_lsp.specs.Steps.{after};
 ghost use Rattle.sw_lsp.specs.Steps.{first_state, forgets, no_json, no_message, request_id, says};
 ghost use Rattle.sw_lsp.specs.Steps.{stopping, turned_down, waiting};
 
@@ -16,9 +19,10 @@ use serde_json::Value;
 use std::alloc::{AllocError, Global};
 use std::marker::Model;
 use sw_lsp_findings::{Hover, Setting, findings_of, known_at};
+use sw_lsp_mends::actions_at;
 use sw_lsp_text::{
-    Diagnostic, Fault, Message, Place, begun, hovered, nothing, offered, published, read_message,
-    refused, reported,
+    Action, Diagnostic, Fault, Message, Place, Range, begun, hovered, nothing, offered, published,
+    read_message, refused, reported,
 };
 
 /// A server of one client. It keeps how far the session is, how texts are judged and shown, and the
@@ -243,6 +247,33 @@ impl Server {
         Ok(Some(sent))
     }
 
+    /// The edits that mend what a range of a document touches.
+    fn actions_in(&self, alloc: Global, uri: &str, range: Range) -> Result<Vec<Action>, AllocError>
+        ensures { IfOk result (λ found. AreActionsIn self.now.setting uri.now
+            (text_in uri.now self.now.documents) range (map seen_action found.items)) }
+    {
+        match self.documents.text_of(uri) {
+            Some(text) => actions_at(alloc, &self.setting, uri, text.as_bytes(), range),
+            None => Ok(Vec::new(alloc)),
+        }
+    }
+
+    /// Answers with the edits that mend what a range of a document touches.
+    fn offer(
+        &self,
+        alloc: Global,
+        id: &Value,
+        uri: &str,
+        range: Range,
+    ) -> Result<Option<Value>, AllocError>
+        ensures { IfOk result (λ sent.
+            Offers self.now (view id.now) uri.now range (after self.now sent)) }
+    {
+        let found = self.actions_in(alloc, uri, range)?;
+        let sent = offered(alloc, id, uri, found.as_slice())?;
+        Ok(Some(sent))
+    }
+
     /// What is done while the session goes on.
     fn running(&mut self, alloc: Global, message: Message<'_>) -> Result<Option<Value>, AllocError>
         ensures { IfOk result (λ sent.
@@ -266,10 +297,7 @@ impl Server {
             Message::ChangedInPart { uri } | Message::Closed { uri } => self.forget(alloc, uri),
             Message::Diagnostic { id, uri } => self.report(alloc, id, uri),
             Message::Hover { id, uri, place } => self.explain(alloc, id, uri, place),
-            Message::CodeAction { id, uri, .. } => {
-                let sent = offered(alloc, id, uri, &[])?;
-                Ok(Some(sent))
-            }
+            Message::CodeAction { id, uri, range } => self.offer(alloc, id, uri, range),
             Message::Unknown { .. } => self.turned_down(alloc, message, Fault::NoMethod),
             Message::BadParams { .. } => self.turned_down(alloc, message, Fault::BadParams),
             Message::Invalid => self.no_message(alloc),

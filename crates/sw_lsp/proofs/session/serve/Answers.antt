@@ -4,7 +4,6 @@ use Rattle.sw_lsp_text.specs.declared.frame.Cut.TheVariants as cut
 use Rattle.sw_lsp.specs.Served.{IsServed, end_with}
 use Rattle.sw_lsp.specs.Session.{ended_as}
 use Rattle.sw_lsp.specs.declared.ending.Ending.TheVariants as ending
-use Rattle.sw_lsp.proofs.Fronts.{partial_is_short}
 use Rattle.sw_lsp.proofs.Lasting.{served, served_to_the_end}
 use Rattle.sw_lsp.proofs.Turns.{begins, ended_so, takes_in, turns}
 use Rattle.sw_lsp.proofs.session.serve.Goals as goal

@@ -1,4 +1,4 @@
-use Rattle.std.proofs.Common.{Some, None}
+use Rattle.std.proofs.Common.{Some}
 use Rattle.serde_json.specs.View.{view}
 use Rattle.sw_lsp_text.specs.MessageRead.{seen}
 use Rattle.sw_lsp.proofs.server.Server.step.Goals as goal
