@@ -7,6 +7,9 @@ ghost use Rattle.std.specs.Prelude.{◌≡◌};
 ghost use Rattle.std.specs.IoError.{error_kind};
 ghost use Rattle.swiftcheck_lsp.specs.Statuses.{arguments_status, status_of};
 
+#[cfg(test)]
+mod fault_tests;
+
 use std::env;
 use std::io::{self, Error, ErrorKind, Input};
 use std::process::ExitCode;
