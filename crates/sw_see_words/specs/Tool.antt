@@ -1,5 +1,5 @@
 -- The command line as `clap` knows it.
-use Rattle.std.specs.Prelude.{ℕ, true, List, codes}
+use Rattle.std.specs.Prelude.{true, codes}
 use Rattle.clap.specs.Words.{App, new_app, new_rule, with_rule, with_subcommand}
 use Rattle.sw_check_words.specs.Tool.{default_rule, flag, required}
 
@@ -7,9 +7,8 @@ abbrev pub breaches_app : App
 breaches_app = with_rule (with_rule (with_rule (new_app (codes "breaches")) default_rule)
     (flag (codes "color") (codes "color"))) (required (codes "file"))
 
--- a command on a file that reads a schedule, too
-abbrev pub replaying_app : List ℕ → App
-replaying_app name = with_rule (with_rule (with_rule (new_app name) default_rule)
+abbrev pub steps_app : App
+steps_app = with_rule (with_rule (with_rule (new_app (codes "steps")) default_rule)
     (required (codes "file"))) (required (codes "schedule"))
 
 abbrev pub find_app : App
@@ -27,6 +26,5 @@ bare_app = record (new_app (codes "swiftcheck_see")) {
 }
 
 abbrev pub tool : App
-tool = with_subcommand (with_subcommand (with_subcommand (with_subcommand bare_app
-    breaches_app.top) (replaying_app (codes "steps")).top) find_app.top)
-    (replaying_app (codes "draw")).top
+tool = with_subcommand (with_subcommand (with_subcommand bare_app breaches_app.top) steps_app.top)
+    find_app.top

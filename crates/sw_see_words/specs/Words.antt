@@ -18,8 +18,6 @@ pub data Action : Type 0 where
   Steps : (schedule_file : List ℕ) → Action
   -- look for a schedule under which it races; the seed decides which one is found, if one is
   Find : Action
-  -- replay it by the schedule in the other file, and draw that
-  Draw : (schedule_file : List ℕ) → Action
 
 -- What the words ask for.
 pub data Command : Type 0 where
@@ -36,18 +34,17 @@ on_file rows action =
 abbrev pub breaches_by : List Row → Option Command
 breaches_by rows = on_file rows (Breaches (is_set (codes "color") rows))
 
--- a command on a file that reads a schedule, too
-abbrev pub replaying_by : (Text → Action) → List Row → Option Command
-replaying_by action rows = option_and_then (λ schedule_file. on_file rows (action schedule_file))
+-- `steps FILE SCHEDULE`
+abbrev pub steps_by : List Row → Option Command
+steps_by rows = option_and_then (λ schedule_file. on_file rows (Steps schedule_file))
     (first_of (codes "schedule") rows)
 
 -- the command of this name
 abbrev pub command_by : Text → List Row → Option Command
 command_by name rows =
     if bytes_eq name (codes "breaches") then breaches_by rows
-    else if bytes_eq name (codes "steps") then replaying_by Steps rows
+    else if bytes_eq name (codes "steps") then steps_by rows
     else if bytes_eq name (codes "find") then on_file rows Find
-    else if bytes_eq name (codes "draw") then replaying_by Draw rows
     else None
 
 abbrev pub read_rows : Option (Text × List Row) → Option Command

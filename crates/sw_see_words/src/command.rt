@@ -9,8 +9,6 @@ pub enum Action<'a> {
     Steps { schedule_file: &'a str },
     /// Look for a schedule under which it races, by the chance of a seed, which may be any text.
     Find { seed: &'a str },
-    /// Replay it by a schedule, and draw that.
-    Draw { schedule_file: &'a str },
 }
 
 /// What the words ask for.

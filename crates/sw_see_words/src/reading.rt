@@ -84,10 +84,6 @@ fn command<'a>(name: &str, found: &ArgMatches<'a>) -> Option<Command<'a>>
             on_file(found, Action::Steps { schedule_file })
         }
         "find" => find(found),
-        "draw" => {
-            let schedule_file = text_of(found, "schedule")?;
-            on_file(found, Action::Draw { schedule_file })
-        }
         _ => None,
     }
 }

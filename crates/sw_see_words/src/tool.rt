@@ -4,7 +4,7 @@ ghost use Rattle.std.specs.Prelude.{◌≡◌, IfOk, false};
 ghost use Rattle.clap.specs.Words.{app_of, new_rule, rule_of};
 ghost use Rattle.clap.specs.declared.builder.command.Command.TheViews.{out-Command};
 ghost use Rattle.sw_check_words.specs.Tool.{default_rule, flag, required};
-ghost use Rattle.sw_see_words.specs.Tool.{bare_app, breaches_app, find_app, replaying_app, tool};
+ghost use Rattle.sw_see_words.specs.Tool.{bare_app, breaches_app, find_app, steps_app, tool};
 
 use clap::{Arg, ArgAction, Command};
 use std::alloc::{AllocError, Global};
@@ -52,12 +52,12 @@ fn breaches<'a>(alloc: Global) -> Result<Command<'a>, AllocError>
         .arg(required(alloc, "file"))
 }
 
-/// A command on a file that reads a schedule, too.
-fn replaying<'a>(alloc: Global, name: &'a str) -> Result<Command<'a>, AllocError>
-    ensures { IfOk result (λ command. (app_of command ≡ replaying_app name.entry.now)
+/// `steps FILE SCHEDULE`.
+fn steps<'a>(alloc: Global) -> Result<Command<'a>, AllocError>
+    ensures { IfOk result (λ command. (app_of command ≡ steps_app)
         × ((out-Command command).has_globals ≡ false)) }
 {
-    Command::new(alloc, name)
+    Command::new(alloc, "steps")
         .arg(default(alloc))?
         .arg(required(alloc, "file"))?
         .arg(required(alloc, "schedule"))
@@ -91,7 +91,6 @@ pub fn tool<'a>(alloc: Global) -> Result<Command<'a>, AllocError>
 {
     bare(alloc)
         .subcommand(breaches(alloc)?)?
-        .subcommand(replaying(alloc, "steps")?)?
-        .subcommand(find(alloc)?)?
-        .subcommand(replaying(alloc, "draw")?)
+        .subcommand(steps(alloc)?)?
+        .subcommand(find(alloc)?)
 }
