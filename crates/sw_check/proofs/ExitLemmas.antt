@@ -47,19 +47,19 @@ use Rattle.sw_check.proofs.Pieces.{program_then}
 
 -- a reply that has one of these exits: it reports no failure, and nothing is written where the exit
 -- says so
-record HasExit (among : List Exit) (outcome : Outcome) : Type 0 where
-  exit : IsOneOf among outcome.exit
-  plain : is_failure outcome.exit ≡ false
-  silent : is_silent outcome.exit ≡ true → outcome.bytes ≡ []
+pub record HasExit (among : List Exit) (outcome : Outcome) : Type 0 where
+  pub exit : IsOneOf among outcome.exit
+  pub plain : is_failure outcome.exit ≡ false
+  pub silent : is_silent outcome.exit ≡ true → outcome.bytes ≡ []
 
 -- the same of a reply at the end of a command, which writes something
-record HasEndExit (among : List Exit) (outcome : Outcome) : Type 0 where
-  exit : IsOneOf among outcome.exit
-  plain : is_failure outcome.exit ≡ false
-  speaks : is_silent outcome.exit ≡ false
+pub record HasEndExit (among : List Exit) (outcome : Outcome) : Type 0 where
+  pub exit : IsOneOf among outcome.exit
+  pub plain : is_failure outcome.exit ≡ false
+  pub speaks : is_silent outcome.exit ≡ false
 
 -- the refusals of parts
-too_long_exit : (among : List Exit) → IsOneOf among exits.TooLong → HasExit among too_long_file
+pub too_long_exit : (among : List Exit) → IsOneOf among exits.TooLong → HasExit among too_long_file
 too_long_exit among one = record { exit = one; plain = refl; silent = λ _. refl }
 
 judged_exit : (among : List Exit) (rule : AsyncDefault) (phases : List Phase) (text : List ℕ)
@@ -75,7 +75,7 @@ scheduled_exit among schedule one _ (has_fault fault _) =
     record { exit = one; plain = refl; silent = λ e. cc }
 
 -- the last parts refuse nothing
-answers_nothing_else : (Q : Outcome → Type 0) (outcome other : Outcome)
+pub answers_nothing_else : (Q : Outcome → Type 0) (outcome other : Outcome)
     → EndsWithReply outcome (Err other) → Q other
 answers_nothing_else Q outcome other is = cc
 
@@ -96,7 +96,7 @@ verifies_nothing_else : (Q : Outcome → Type 0) (graph : Graph) (certificate : 
 verifies_nothing_else Q graph certificate other is = elim is [ ]
 
 -- a program that is fetched and judged, and the rest
-program_refusals : (among : List Exit) (rule : AsyncDefault) (phases : List Phase) (file : List ℕ)
+pub program_refusals : (among : List Exit) (rule : AsyncDefault) (phases : List Phase) (file : List ℕ)
     (rest : List ℕ → Passed → Part Outcome) → IsOneOf among exits.TooLong
     → IsOneOf among exits.Breached
     → ((text : List ℕ) (passed : Passed) → RefusesBy (HasExit among) (rest text passed))
@@ -110,7 +110,7 @@ program_refusals among rule phases file rest long refused others =
     (others text))
 
 -- a schedule that is fetched, and what is answered
-items_refusals : (among : List Exit) (file : List ℕ)
+pub items_refusals : (among : List Exit) (file : List ℕ)
     (Answers : List ℕ → Result Outcome Outcome → Type 0)
     → IsOneOf among exits.TooLong → IsOneOf among exits.BadSchedule
     → ((items : List ℕ) (other : Outcome) → Answers items (Err other) → HasExit among other)
@@ -173,13 +173,13 @@ refusals (Some (OnFile rule file action)) = file_refusals rule file action
 refusals (Some (Demo actors)) = demo_refusals actors
 
 -- the replies at the end
-answers_end : (among : List Exit) (outcome other : Outcome) → HasEndExit among outcome
+pub answers_end : (among : List Exit) (outcome other : Outcome) → HasEndExit among outcome
     → EndsWithReply outcome (Ok other) → HasEndExit among other
 answers_end among outcome other end is =
     let same : outcome ≡ other = cc (is) in
     subst (HasEndExit among) same end
 
-run_ends : (among : List Exit) → IsOneOf among exits.Done → IsOneOf among exits.Trapped
+pub run_ends : (among : List Exit) → IsOneOf among exits.Done → IsOneOf among exits.Trapped
     → (text : List ℕ) (output : Output) → HasEndExit among (run_outcome text output)
 run_ends among done trapped text output = by output.end where
   by : (end : End)
@@ -218,7 +218,7 @@ demo_ends actors output = by output.end where
   by Ran = record { exit = inr (inl refl); plain = refl; speaks = refl }
   by (Trapped kind at) = record { exit = inr (inr (inl refl)); plain = refl; speaks = refl }
 
-program_ends : (among : List Exit) (rule : AsyncDefault) (phases : List Phase) (file : List ℕ)
+pub program_ends : (among : List Exit) (rule : AsyncDefault) (phases : List Phase) (file : List ℕ)
     (rest : List ℕ → Passed → Part Outcome)
     → ((text : List ℕ) (passed : Passed) → EndsBy (HasEndExit among) (rest text passed))
     → EndsBy (HasEndExit among) (program_then rule phases file rest)
@@ -227,7 +227,7 @@ program_ends among rule phases file rest others =
     (λ _ text _. ends_then (HasEndExit among) (Alone (IsJudgement rule phases text)) (rest text)
     (λ _ passed _. others text passed))
 
-items_end : (among : List Exit) (file : List ℕ)
+pub items_end : (among : List Exit) (file : List ℕ)
     (Answers : List ℕ → Result Outcome Outcome → Type 0)
     → ((items : List ℕ) (outcome : Outcome) → Answers items (Ok outcome) → HasEndExit among outcome)
     → EndsBy (HasEndExit among) (by_items file Answers)

@@ -35,7 +35,11 @@ fn phases_for(action: Action<'_>) -> Phases
 }
 
 /// The items of a schedule in a file.
-fn items_in<S: Shelf>(alloc: Global, schedule_file: &str, shelf: &mut S) -> Result<Schedule, Stop>
+pub fn items_in<S: Shelf>(
+    alloc: Global,
+    schedule_file: &str,
+    shelf: &mut S,
+) -> Result<Schedule, Stop>
     ensures { Does (items_in schedule_file.now) (seen S.known S.received S.faults shelf.old) result
         (seen S.known S.received S.faults shelf.new) }
 {

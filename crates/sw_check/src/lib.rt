@@ -28,7 +28,9 @@ mod parts;
 mod reply;
 mod steady;
 
+pub use commands::items_in;
 pub use laws::{certificate_limit, order_limit, program_limit, words_have_one_reply};
+pub use parts::{Phases, judged, trace_ending};
 use reply::{NoReply, reply};
 use std::alloc::Global;
 pub use steady::run_steady;

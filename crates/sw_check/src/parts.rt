@@ -246,7 +246,7 @@ pub fn owners(
 }
 
 /// The reply about a replay that was watched for races.
-fn trace_ending(alloc: Global, text: &[u8], replay: Replay) -> Result<Outcome, AllocError>
+pub fn trace_ending(alloc: Global, text: &[u8], replay: Replay) -> Result<Outcome, AllocError>
     requires { length text.now ≤ PROGRAM_LIMIT }
     ensures { IfOk result (λ outcome. outcome ≡ replay_outcome text.now replay) }
 {
