@@ -1,0 +1,3 @@
+pub mod ClaimLemmas
+pub mod ExitLemmas
+pub mod PartLemmas
