@@ -1,0 +1,4 @@
+pub mod Doing
+pub mod Forms
+pub mod Making
+pub mod Spots
