@@ -1,0 +1,4 @@
+pub mod Begun
+pub mod Ending
+pub mod Entering
+pub mod Makers
