@@ -1,0 +1,4 @@
+pub mod Bodies
+pub mod Every
+pub mod Keys
+pub mod Lists
