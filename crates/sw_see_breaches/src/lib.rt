@@ -10,4 +10,5 @@ mod rendering;
 
 pub use laws::codes_have_remedies;
 pub use painting::Paint;
+pub use remedies::{meaning_of, remedy_of};
 pub use rendering::show_breaches;
