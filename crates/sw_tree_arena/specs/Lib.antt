@@ -1,0 +1,4 @@
+pub mod Nodes
+pub mod Sites
+pub mod Operations
+pub mod Parts
