@@ -26,6 +26,13 @@ impl<T: Drop> Boxed<T> {
             inner: Box::new(alloc, value)?,
         })
     }
+
+    /// Moves the value out of the heap.
+    pub fn into_inner(self) -> T
+        ensures { result ≡ self }
+    {
+        Box::into_inner(self.inner)
+    }
 }
 
 impl<T> Boxed<T> {
