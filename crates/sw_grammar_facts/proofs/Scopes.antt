@@ -5,4 +5,9 @@ pub mod Weights
 pub mod Sequences
 pub mod OrLiteral
 pub mod Parts
+pub mod Nodes
+pub mod Formed
+pub mod Declaring
+pub mod Members
+pub mod OrScopes
 pub mod Told
