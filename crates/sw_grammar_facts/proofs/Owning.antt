@@ -321,21 +321,24 @@ module _ (tally : Tally) where
 
   -- Tokens that follow one another directly.
 
-  -- after this token
-  pub record OwnsAfter {A : Type 0} (before : Spelled) (base : Weight) (P : Relation A)
+  -- after these tokens
+  pub record OwnsAfter {A : Type 0} (before : List Spelled) (base : Weight) (P : Relation A)
       (w : A → Weight) : Type 0 where
-    pub owns_after : (from : ℕ) (a : A) (tokens : List Spelled) → Stands from (before ∷ tokens)
+    pub owns_after : (from : ℕ) (a : A) (tokens : List Spelled) → Stands from (before ++ tokens)
         → P a tokens → (k : ℕ) → w a k ≤ base k + in_all tally.of_token tokens k
 
-  pub own_after_any : {A : Type 0} {before : Spelled} {base : Weight} {P : Relation A}
+  pub own_after_none : {A : Type 0} {base : Weight} {P : Relation A} {w : A → Weight}
+      → OwnsAfter [] base P w → Owns base P w
+  own_after_none own = record { owns = λ from. own.owns_after from }
+
+  pub own_after_any : {A : Type 0} {before : List Spelled} {base : Weight} {P : Relation A}
       {w : A → Weight} → Owns base P w → OwnsAfter before base P w
   own_after_any {before = before} own = record {
-    owns_after = λ from a tokens stands given.
-        own.owns (before.at + length before.text) a tokens
-        (stands_right from (before ∷ []) tokens stands) given;
+    owns_after = λ from a tokens stands.
+        own.owns (end_of from before) a tokens (stands_right from before tokens stands);
   }
 
-  pub own_after_either : {A : Type 0} {before : Spelled} {base : Weight} {P Q : Relation A}
+  pub own_after_either : {A : Type 0} {before : List Spelled} {base : Weight} {P Q : Relation A}
       {w : A → Weight} → OwnsAfter before base P w → OwnsAfter before base Q w
       → OwnsAfter before base (Either P Q) w
   own_after_either first second = record {
@@ -349,41 +352,26 @@ module _ (tally : Tally) where
       (less : (token : Spelled) → HasTokenText token → IsTrue (has t.set token) → (k : ℕ)
       → u (t.value token) k ≤ tally.of_token token k) where
     -- a token, and what comes after it
-    pub own_read : ((token : Spelled) → HasTokenText token → IsTrue (has t.set token)
-        → OwnsAfter token (λ k. base k + u (t.value token) k) (Q (t.value token)) w)
-        → Owns base (FollowedBy (One t) Q) w
-    own_read second = record {
-      owns = λ from b tokens stands both k.
-          let one = both.first in
-          let whole : tokens ≡ one.token ∷ both.right
-          = both.whole ∙ ap (λ ts. ts ++ both.right) one.alone in
-          let standing = subst (Stands from) whole stands in
-          let text : HasTokenText one.token = standing.texts.0 in
-          let rest = (second one.token text one.member).owns_after from b both.right standing
-          (subst (λ a. Q a b both.right) one.value both.second) k in
-          let here = less one.token text one.member k in
-          let all = ap (λ ts. in_all tally.of_token ts k) whole in
-          omega (arith, all, in_all-cons tally.of_token one.token both.right k);
-    }
-
-    -- a token after another
-    pub own_read_next : {before : Spelled}
-        → ((token : Spelled) → IsTrue (has t.set token)
-        → IsTrue (tally.known (before ∷ token ∷ []))
-        → Owns (λ k. base k + u (t.value token) k) (Q (t.value token)) w)
+    pub own_read : {before : List Spelled}
+        → ((token : Spelled) → HasTokenText token → IsTrue (has t.set token)
+        → IsTrue (tally.known (before ++ token ∷ []))
+        → OwnsAfter (before ++ token ∷ []) (λ k. base k + u (t.value token) k)
+        (Q (t.value token)) w)
         → OwnsAfter before base (FollowedBy (One t) Q) w
-    own_read_next {before} second = record {
+    own_read {before} second = record {
       owns_after = λ from b tokens stands both k.
           let one = both.first in
           let whole : tokens ≡ one.token ∷ both.right
           = both.whole ∙ ap (λ ts. ts ++ both.right) one.alone in
-          let standing = subst (λ ts. Stands from (before ∷ ts)) whole stands in
-          let pair = stands_left from (before ∷ one.token ∷ []) both.right standing in
-          let after = stands_right from (before ∷ one.token ∷ []) both.right standing in
-          let rest = (second one.token one.member pair.known).owns
-          (one.token.at + length one.token.text) b both.right after
-          (subst (λ a. Q a b both.right) one.value both.second) k in
-          let here = less one.token pair.texts.1.0 one.member k in
+          let with_one : before ++ tokens ≡ (before ++ one.token ∷ []) ++ both.right
+          = ap (λ ts. before ++ ts) whole ∙ sym (append_assoc before (one.token ∷ []) both.right) in
+          let standing = subst (Stands from) with_one stands in
+          let first = stands_left from (before ++ one.token ∷ []) both.right standing in
+          let text : HasTokenText one.token =
+          (stands_right from before (one.token ∷ []) first).texts.0 in
+          let rest = (second one.token text one.member first.known).owns_after from b both.right
+          standing (subst (λ a. Q a b both.right) one.value both.second) k in
+          let here = less one.token text one.member k in
           let all = ap (λ ts. in_all tally.of_token ts k) whole in
           omega (arith, all, in_all-cons tally.of_token one.token both.right k);
     }

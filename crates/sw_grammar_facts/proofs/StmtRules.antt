@@ -1,13 +1,14 @@
 -- What statements weigh.
 use Rattle.std.proofs.Common.{◌≡◌, ℕ, ◌+◌, ◌≤◌, Bool, true, false, not, IsTrue, List, [], ◌∷◌, ◌++◌}
-use Rattle.std.proofs.Common.{Option, None, Some, codes, refl, subst, arith}
+use Rattle.std.proofs.Common.{Option, None, Some, codes, length, refl, sym, subst, arith}
 use Rattle.std.proofs.lemmas.List.{flat_map_more}
 use Rattle.sw_token.specs.Spelling.{Spelled}
+use Rattle.sw_grammar_forms.proofs.CursorSteps.{seen_text}
 use Rattle.sw_grammar_forms.proofs.Rising.{HasTokenText}
 use Rattle.sw_grammar_forms.specs.Quotes.{quote}
 use Rattle.sw_grammar_forms.specs.Relations.{Relation, One, may_start, spelled, stays}
-use Rattle.sw_grammar_forms.specs.Sets.{has, quoted, word}
-use Rattle.sw_grammar_forms.specs.Terminals.{items}
+use Rattle.sw_grammar_forms.specs.Sets.{has, is_quoted, quoted, word}
+use Rattle.sw_grammar_forms.specs.Terminals.{expect, items, ◌>>=◌}
 use Rattle.sw_tree.specs.Place.{is_place}
 use Rattle.sw_tree.proofs.Counting.{Weight, in_all, in_option, in_all-append}
 use Rattle.sw_tree.specs.declared.expr.Expr.{Expr}
@@ -42,12 +43,13 @@ use Rattle.sw_grammar_facts.proofs.Owning.{none, Owns, InTurn, OwnsAfter, in_tur
 use Rattle.sw_grammar_facts.proofs.Owning.{own_after_either, own_anywhere, own_at, own_chosen}
 use Rattle.sw_grammar_facts.proofs.Owning.{own_done, own_either, own_from, own_items_by, own_only}
 use Rattle.sw_grammar_facts.proofs.Owning.{own_part, own_passing, own_past, own_past_at, own_read}
-use Rattle.sw_grammar_facts.proofs.Owning.{own_read_next, own_some_items_by, own_then, own_token}
+use Rattle.sw_grammar_facts.proofs.Owning.{own_after_none, own_some_items_by, own_then, own_token}
 use Rattle.sw_grammar_facts.proofs.Owning.{own_turns, own_when, own_with, part_of_less, part_rises}
-use Rattle.sw_grammar_facts.proofs.Questions.{other_of}
+use Rattle.sw_grammar_facts.specs.Interned.{is_binding}
+use Rattle.sw_grammar_facts.proofs.Questions.{is_paid, other_of}
 use Rattle.sw_grammar_facts.proofs.Spread.{spread}
 use Rattle.sw_grammar_facts.proofs.TypeRules.{Keeps, own_some_of, own_quote, own_name, own_opened}
-use Rattle.sw_grammar_facts.proofs.TypeRules.{own_whole, own_written_type}
+use Rattle.sw_grammar_facts.proofs.TypeRules.{own_whole, own_written_type, whole_weighs}
 use Rattle.sw_grammar_facts.proofs.Unmarked.{fits, wants_word}
 use Rattle.sw_grammar_facts.proofs.ValueRules.{own_equals, own_value_in}
 use Rattle.sw_grammar_facts.proofs.Wanted.{own_part_knowing, own_then_knowing, want_header}
@@ -102,8 +104,9 @@ module _ {id_of : List ℕ → ℕ} (w : Weighing id_of) where
 
 module _ (around : Around) (w : Weighing around.id_of) where
   bound_weighs : (binding : Binding) (word_token colon : Spelled)
-      → IsTyped around.id_of binding word_token colon
-      → IsTrue (w.tally.known (word_token ∷ colon ∷ [])) → (colon_at : ℕ) (ty : TypeTree)
+      → (typed : IsTyped around.id_of binding word_token colon)
+      → IsTrue (w.tally.known (typed.let_token ∷ word_token ∷ colon ∷ []))
+      → (colon_at : ℕ) (ty : TypeTree)
       → (eq_at : ℕ) (value : Expr) (or : Option Or) (k : ℕ)
       → w.stmts (bound around binding colon_at ty eq_at value or) k
       ≤ words_weight w binding colon_at k + w.type ty k + w.place eq_at k + w.expr value k
@@ -164,8 +167,9 @@ module _ (around : Around) (w : Weighing around.id_of) (table : (n : Nest) → R
       (own_done _ (λ k. omega arith))
 
   own_typed_binding : (binding : Binding) (word_token colon : Spelled)
-      → IsTyped around.id_of binding word_token colon
-      → IsTrue (w.tally.known (word_token ∷ colon ∷ [])) → (colon_at : ℕ) (written : Typed)
+      → (typed : IsTyped around.id_of binding word_token colon)
+      → IsTrue (w.tally.known (typed.let_token ∷ word_token ∷ colon ∷ []))
+      → (colon_at : ℕ) (written : Typed)
       → IsTrue (wants_word written.wanted)
       → Keeps w table (typed_binding around binding colon_at written)
       (λ k. words_weight w binding colon_at k + w.type written.tree k) w.stmts
@@ -180,26 +184,28 @@ module _ (around : Around) (w : Weighing around.id_of) (table : (n : Nest) → R
             given.value or k,
       )))))
 
-  own_after_binding : (binding : Binding) (word_token : Spelled) → HasTokenText word_token
-      → IsTrue (has word word_token) → binding.word.text ≡ word_token.text
-      → binding.word.name ≡ name_of around.id_of word_token
-      → OwnsAfter w.tally word_token
-      (λ k. spread w.place 3 binding.let_at k + w.node binding.word.name k)
+  own_after_binding : (binding : Binding) (let_token word_token : Spelled)
+      → is_binding let_token.text ≡ true → HasTokenText word_token → IsTrue (has word word_token)
+      → binding.word.text ≡ word_token.text → binding.word.name ≡ name_of around.id_of word_token
+      → OwnsAfter w.tally (let_token ∷ word_token ∷ [])
+      (λ k. none k + spread w.place 3 binding.let_at k + w.node binding.word.name k)
       (spelled El shape_of table (after_binding around binding)) w.stmts
   unfolding after_binding in_option
-  own_after_binding binding word_token whole is_word text name =
-      own_after_either _ (own_read_next _ (quote (codes ":")) w.place
+  own_after_binding binding let_token word_token is_let whole is_word text name =
+      own_after_either _ (own_read _ (quote (codes ":")) w.place
       (λ token _ member k. w.of_place token (other_of (quoted (codes ":")) token refl member) k)
-      (λ colon is_colon known.
-      own_then_knowing w.tally _ (want_written_type around table)
+      (λ colon _ is_colon known.
+      own_after_any _ (own_then_knowing w.tally _ (want_written_type around table)
       (own_written_type around w table nests) (λ written wants.
       own_with _ (λ k. omega arith) (own_typed_binding binding word_token colon (record {
+        let_token = let_token;
+        is_let = is_let;
         whole_text = whole;
         is_word = is_word;
         is_colon = is_colon;
         text = text;
         name = name;
-      }) known colon.at written wants))))
+      }) known colon.at written wants)))))
       (own_after_any _ (own_then _ _ own_value (λ given. own_done _ (λ k.
       omega (
         arith,
@@ -207,26 +213,36 @@ module _ (around : Around) (w : Weighing around.id_of) (table : (n : Nest) → R
         w.stmt-Bind binding.mutable binding.word.name None given k,
       )))))
 
-  own_binding : (mutable : Bool) (let_at : ℕ)
-      → Keeps w table (binding around mutable let_at) (spread w.place 3 let_at) w.stmts
+  own_binding : (mutable : Bool) (let_token : Spelled) → is_binding let_token.text ≡ true
+      → OwnsAfter w.tally (let_token ∷ []) (λ k. none k + spread w.place 3 let_token.at k)
+      (spelled El shape_of table (binding around mutable let_token.at)) w.stmts
   unfolding binding
-  own_binding mutable let_at =
+  own_binding mutable let_token is_let =
       own_read _ (word_in around) (λ found. w.node found.name)
       (λ token whole member k.
       omega (arith, w.of_word token (other_of word token refl member) whole member k))
-      (λ token whole member. own_after_binding (record {
+      (λ token whole member _. own_after_binding (record {
         mutable = mutable;
-        let_at = let_at;
+        let_at = let_token.at;
         word = record { name = name_of around.id_of token; text = token.text };
-      }) token whole member refl refl)
+      }) let_token token is_let whole member refl refl)
+
+  -- `let` or `var`, and what comes after it
+  own_bound : (text : List ℕ) (mutable : Bool) → is_quoted text ≡ true
+      → is_paid (quoted text) ≡ true → length text ≡ 3 → is_binding text ≡ true
+      → Keeps w table (expect text >>= binding around mutable) none w.stmts
+  own_bound text mutable is paid three is_let =
+      own_after_none _ (own_read _ (quote text) (spread w.place 3)
+      (λ token _ member k. subst (λ n. spread w.place n token.at k ≤ w.tally.of_token token k) three
+      (whole_weighs w table text is paid token member k))
+      (λ token _ member _. own_binding mutable token
+      (subst (λ chars. is_binding chars ≡ true) (sym (seen_text text (Some token) is member)) is_let)))
 
   own_bind : Keeps w table (bind around) none w.stmts
   unfolding bind
   own_bind =
-      own_either _ (own_then _ _ (own_whole w table (codes "let") refl refl) (λ at.
-      own_with _ (λ k. omega arith) (own_binding false at)))
-      (own_then _ _ (own_whole w table (codes "var") refl refl) (λ at.
-      own_with _ (λ k. omega arith) (own_binding true at)))
+      own_either _ (own_bound (codes "let") false refl refl refl refl)
+      (own_bound (codes "var") true refl refl refl refl)
 
   own_discard : Keeps w table (discard around) none w.stmt
   unfolding discard

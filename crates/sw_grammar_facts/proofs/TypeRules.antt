@@ -1,20 +1,21 @@
 -- What types weigh, and lists that commas part.
 use Rattle.std.proofs.Common.{◌≡◌, ℕ, ◌+◌, ◌≤◌, Bool, true, nat_le, nat_lt, All, List, [], ◌∷◌, length, get_or}
-use Rattle.std.proofs.Common.{bytes_eq, codes, false, None, Some, refl, sym, ◌∙◌, subst, arith}
+use Rattle.std.proofs.Common.{bytes_eq, codes, false, None, Some, refl, sym, subst, arith}
 use Rattle.std.proofs.lemmas.Bool.{ltb-true}
 use Rattle.std.proofs.lemmas.List.Elements.{All-get_or}
 use Rattle.std.proofs.lemmas.List.Sums.{AllPass-from_list_all, passes_at_first}
 use Rattle.std.proofs.lemmas.Slice.Eq.{bytes_eq-Decides}
 use Rattle.std.specs.List.{list_all, position_or_len}
 use Rattle.std.specs.Prelude.{IsTrue, max}
-use Rattle.sw_grammar_forms.specs.Sets.{Set, word, attribute, within, quoted, quoted_texts}
+use Rattle.sw_token.specs.Spelling.{Spelled}
+use Rattle.sw_grammar_forms.specs.Sets.{Set, has, word, attribute, within, quoted, quoted_texts}
 use Rattle.sw_grammar_forms.specs.Sets.{not_first}
 use Rattle.sw_grammar_forms.specs.Sets.{is_quoted}
 use Rattle.sw_grammar_forms.specs.Form.{Shape}
 use Rattle.sw_grammar_forms.specs.Form.Form.{nest}
 use Rattle.sw_grammar_forms.specs.Relations.{Relation, One, spelled}
 use Rattle.sw_grammar_forms.specs.Quotes.{quote, quote_on_line}
-use Rattle.sw_grammar_forms.proofs.SetLaws.{has-quoted}
+use Rattle.sw_grammar_forms.proofs.CursorSteps.{seen_text}
 use Rattle.sw_grammar_forms.proofs.SetLemmas.{has-within}
 use Rattle.sw_tree.proofs.Counting.{Weight, in_all, in_option, in_all-append}
 use Rattle.sw_grammar_facts.proofs.Owning.{none, Owns, own_done, own_text, own_token, own_then}
@@ -68,14 +69,18 @@ module _ {id_of : List ℕ → ℕ} (w : Weighing id_of) (table : (n : Nest) →
       w.of_place token (other_of (quoted text) token paid member) k)
 
   -- a quoted text with all its places
-  pub own_whole : (text : List ℕ) → is_quoted text ≡ true → is_paid (quoted text) ≡ true
-      → Owns w.tally none (One (quote text)) (spread w.place (length text))
-  own_whole text is paid =
-      own_token _ (quote text) (λ token member k.
-      let same = (bytes_eq-Decides token.text text).0 (sym (has-quoted text token is) ∙ member) in
+  pub whole_weighs : (text : List ℕ) → is_quoted text ≡ true → is_paid (quoted text) ≡ true
+      → (token : Spelled) → IsTrue (has (quoted text) token) → (k : ℕ)
+      → spread w.place (length text) token.at k ≤ w.tally.of_token token k
+  whole_weighs text is paid token member k =
+      let same = seen_text text (Some token) is member in
       subst (λ chars. spread w.place (length chars) token.at k ≤ w.tally.of_token token k) same
       (w.of_span token (other_of (quoted text) token paid member)
-      (subst (λ chars. length chars ≤ 16) (sym same) (quoted_short text is)) k))
+      (subst (λ chars. length chars ≤ 16) (sym same) (quoted_short text is)) k)
+
+  pub own_whole : (text : List ℕ) → is_quoted text ≡ true → is_paid (quoted text) ≡ true
+      → Owns w.tally none (One (quote text)) (spread w.place (length text))
+  own_whole text is paid = own_token _ (quote text) (whole_weighs text is paid)
 
   pub own_infix : (set : Set) (text : List ℕ) → is_paid set ≡ true
       → Owns w.tally none (One (infix_in set text)) (λ op. w.place op.1)

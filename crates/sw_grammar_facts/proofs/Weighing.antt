@@ -1,7 +1,7 @@
 -- A weight of everything that trees hold, by laws that say what each form of node adds to its
 -- parts, and that tokens weigh what they give. Where variables are declared, a law may use that
 -- earlier tokens pay for them than for what they are declared for.
-use Rattle.std.proofs.Common.{◌≡◌, ℕ, ℤ, suc, ◌+◌, ◌≤◌, Bool, IsSome, IsTrue, List, [], ◌∷◌, ◌++◌}
+use Rattle.std.proofs.Common.{◌≡◌, ℕ, ℤ, suc, ◌+◌, ◌≤◌, Bool, true, IsSome, IsTrue, List, [], ◌∷◌, ◌++◌}
 use Rattle.std.proofs.Common.{Option, length, codes}
 use Rattle.sw_token.specs.Spelling.{Spelled}
 use Rattle.sw_grammar_forms.proofs.Rising.{HasTokenText}
@@ -43,14 +43,17 @@ use Rattle.sw_grammar.specs.Tokens.{name_of, at_name, optional_text}
 use Rattle.sw_grammar.specs.Nests.{ClosureInside}
 use Rattle.sw_grammar.specs.Exprs.{closure_at}
 use Rattle.sw_grammar.specs.Stmts.{Binding, Or}
+use Rattle.sw_grammar_facts.specs.Interned.{is_binding}
 use Rattle.sw_grammar_facts.proofs.Owning.{Tally, InTurn, PaidAfter}
 use Rattle.sw_grammar_facts.proofs.Questions.{IsOther}
 use Rattle.sw_grammar_facts.proofs.Spread.{spread}
 use Rattle.sw_grammar_facts.proofs.Unmarked.{is_unmarked}
 
--- the word of a binding, and the `:` after it
+-- the word of a binding, with the `let` or `var` before it and the `:` after it
 pub record IsTyped (id_of : List ℕ → ℕ) (binding : Binding) (word_token colon : Spelled) : Type 0
   where
+    pub let_token : Spelled
+    pub is_let : is_binding let_token.text ≡ true
     pub whole_text : HasTokenText word_token
     pub is_word : IsTrue (has word word_token)
     pub is_colon : IsTrue (has (quoted (codes ":")) colon)
@@ -174,7 +177,8 @@ pub record Weighing (id_of : List ℕ → ℕ) : Type 0 where
       ≤ node name k + in_option type ty k + expr value k
   -- `let x: T = e ?? d`
   pub stmts-Or : (binding : Binding) (word_token colon : Spelled)
-      → IsTyped id_of binding word_token colon → IsTrue (tally.known (word_token ∷ colon ∷ []))
+      → (typed : IsTyped id_of binding word_token colon)
+      → IsTrue (tally.known (typed.let_token ∷ word_token ∷ colon ∷ []))
       → (colon_at : ℕ) (ty : TypeTree) (eq_at : ℕ) (value : Expr) (or : Or) (k : ℕ)
       → stmts (or_literal_stmts (or_literal_form id_of binding.word.text binding.mutable
       binding.word.name binding.let_at colon_at eq_at or.op_at) ty value or.other) k

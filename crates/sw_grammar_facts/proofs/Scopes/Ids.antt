@@ -2,7 +2,7 @@
 -- that, has another.
 use Rattle.std.proofs.Common.{◌≡◌, ℕ, ◌<◌, Bool, true, false, not, ◌||◌, ◌&&◌, ◌==◌, IsTrue, List, []}
 use Rattle.std.proofs.Common.{◌∷◌, ◌++◌, bytes_eq, codes, get_or, length, nat_lt, refl, sym, ap, subst}
-use Rattle.std.proofs.Common.{◌∙◌, if◌then◌else◌, arith}
+use Rattle.std.proofs.Common.{◌∙◌, if◌then◌else◌, Some, arith}
 use Rattle.std.proofs.lemmas.Bool.{and_parts, ltb-true}
 use Rattle.std.proofs.lemmas.Bool.Decides.{nat_tests}
 use Rattle.std.proofs.lemmas.List.Sums.{passes_at_first}
@@ -13,14 +13,15 @@ use Rattle.sw_token.specs.Kinds.{kind_of}
 use Rattle.sw_token.specs.Spelling.{Spelled}
 use Rattle.sw_token.specs.declared.Kind.{Kind}
 use Rattle.sw_token.specs.declared.Kind.TheVariants as kinds
-use Rattle.sw_grammar_forms.proofs.SetLaws.{has-quoted, has-word}
+use Rattle.sw_grammar_forms.proofs.CursorSteps.{seen_text}
+use Rattle.sw_grammar_forms.proofs.SetLaws.{has-word}
 use Rattle.sw_grammar_forms.specs.Sets.{has, is_name, quoted, word}
 use Rattle.sw_tree.specs.Names.{id_in}
-use Rattle.sw_sugar.specs.Calls.{whole_text}
+use Rattle.sw_sugar.specs.Calls.{declared_texts, whole_text}
 use Rattle.sw_grammar.specs.Around.{index_in}
 use Rattle.sw_grammar.specs.Tokens.{optional_text}
-use Rattle.sw_grammar_facts.specs.Interned.{AreInterned, given_texts, made_texts, next_texts, texts_by}
-use Rattle.sw_grammar_facts.specs.Interned.{texts_in}
+use Rattle.sw_grammar_facts.specs.Interned.{AreInterned, given_texts, is_binding, made_texts}
+use Rattle.sw_grammar_facts.specs.Interned.{next_texts, texts_by, texts_in}
 use Rattle.sw_grammar_facts.proofs.CaseWords.{index_is}
 use Rattle.sw_grammar_facts.proofs.Unmarked.{is_unmarked}
 
@@ -115,8 +116,12 @@ module _ (texts : List (List ℕ)) where
   abbrev has_text : List ℕ → Bool
   has_text text = nat_lt (id_in texts text) (length texts)
 
+  -- where `let` or `var` stands before them, or not
+  abbrev knows : Bool → List Spelled → Bool
+  knows bound tokens = list_all has_text (given_texts bound tokens)
+
   unfoldable pub is_known : List Spelled → Bool
-  is_known tokens = list_all has_text (given_texts tokens)
+  is_known tokens = knows false tokens
 
   all_left : (xs ys : List (List ℕ)) → list_all has_text (xs ++ ys) ≡ true
       → list_all has_text xs ≡ true
@@ -139,78 +144,123 @@ module _ (texts : List (List ℕ)) where
       rw parts.0 (all_both xs ys parts.1 second)
 
   -- what a token names before fewer tokens
-  alone : (kind : Kind) (text : List ℕ) (after : List Spelled)
-      → list_all has_text (texts_by kind text after) ≡ true
-      → list_all has_text (texts_by kind text []) ≡ true
-  alone kinds.Word text after all =
-      rw (and_parts (has_text text) (list_all has_text (made_texts text after)) all).0 refl
-  alone kinds.At text after all = all
-  alone kinds.Underscore text after all = refl
-  alone (kinds.Key _) text after all = refl
-  alone (kinds.Int _) text after all = refl
-  alone (kinds.Op _) text after all = refl
-  alone (kinds.Mark _) text after all = refl
+  alone : (bound : Bool) (kind : Kind) (text : List ℕ) (after : List Spelled)
+      → list_all has_text (texts_by bound kind text after) ≡ true
+      → list_all has_text (texts_by bound kind text []) ≡ true
+  alone bound kinds.Word text after all =
+      rw (and_parts (has_text text) (list_all has_text (made_texts bound text after)) all).0 refl
+  alone bound kinds.At text after all = all
+  alone bound kinds.Underscore text after all = refl
+  alone bound (kinds.Key _) text after all = refl
+  alone bound (kinds.Int _) text after all = refl
+  alone bound (kinds.Op _) text after all = refl
+  alone bound (kinds.Mark _) text after all = refl
 
   -- it names by the next token alone
-  same_next : (kind : Kind) (text : List ℕ) (next : Spelled) (us vs : List Spelled)
-      → texts_by kind text (next ∷ us) ≡ texts_by kind text (next ∷ vs)
-  same_next kinds.Word text next us vs = refl
-  same_next kinds.At text next us vs = refl
-  same_next kinds.Underscore text next us vs = refl
-  same_next (kinds.Key _) text next us vs = refl
-  same_next (kinds.Int _) text next us vs = refl
-  same_next (kinds.Op _) text next us vs = refl
-  same_next (kinds.Mark _) text next us vs = refl
+  same_next : (bound : Bool) (kind : Kind) (text : List ℕ) (next : Spelled) (us vs : List Spelled)
+      → texts_by bound kind text (next ∷ us) ≡ texts_by bound kind text (next ∷ vs)
+  same_next bound kinds.Word text next us vs = refl
+  same_next bound kinds.At text next us vs = refl
+  same_next bound kinds.Underscore text next us vs = refl
+  same_next bound (kinds.Key _) text next us vs = refl
+  same_next bound (kinds.Int _) text next us vs = refl
+  same_next bound (kinds.Op _) text next us vs = refl
+  same_next bound (kinds.Mark _) text next us vs = refl
+
+  left_known : (bound : Bool) (us vs : List Spelled) → knows bound (us ++ vs) ≡ true
+      → knows bound us ≡ true
+  left_known bound [] vs all = refl
+  left_known bound (token ∷ []) vs all =
+      all_both (next_texts bound (token ∷ [])) []
+      (alone bound (kind_of token.text) token.text vs
+      (all_left (next_texts bound (token ∷ vs)) (given_texts (is_binding token.text) vs) all)) refl
+  left_known bound (token ∷ next ∷ us) vs all =
+      let first = next_texts bound (token ∷ next ∷ (us ++ vs)) in
+      let binds = is_binding token.text in
+      let more = given_texts binds (next ∷ (us ++ vs)) in
+      all_both (next_texts bound (token ∷ next ∷ us)) (given_texts binds (next ∷ us))
+      (subst (λ named. list_all has_text named ≡ true)
+      (same_next bound (kind_of token.text) token.text next (us ++ vs) us)
+      (all_left first more all))
+      (left_known binds (next ∷ us) vs (all_right first more all))
 
   pub known_left : (us vs : List Spelled) → IsTrue (is_known (us ++ vs)) → IsTrue (is_known us)
   unfolding is_known
-  known_left [] vs all = refl
-  known_left (token ∷ []) vs all =
-      all_both (next_texts (token ∷ [])) []
-      (alone (kind_of token.text) token.text vs
-      (all_left (next_texts (token ∷ vs)) (given_texts vs) all)) refl
-  known_left (token ∷ next ∷ us) vs all =
-      let first = next_texts (token ∷ next ∷ (us ++ vs)) in
-      all_both (next_texts (token ∷ next ∷ us)) (given_texts (next ∷ us))
-      (subst (λ named. list_all has_text named ≡ true)
-      (same_next (kind_of token.text) token.text next (us ++ vs) us)
-      (all_left first (given_texts (next ∷ (us ++ vs))) all))
-      (known_left (next ∷ us) vs (all_right first (given_texts (next ∷ (us ++ vs))) all))
+  known_left = left_known false
+
+  -- a word has fewer where no `let` or `var` is before it
+  unbound : (bound : Bool) (kind : Kind) (text : List ℕ) (after : List Spelled)
+      → list_all has_text (texts_by bound kind text after) ≡ true
+      → list_all has_text (texts_by false kind text after) ≡ true
+  unbound false kind text after all = all
+  unbound true kinds.Word text [] all = all
+  unbound true kinds.Word text (next ∷ after) all =
+      let parts = and_parts (has_text text) (list_all has_text (made_texts true text (next ∷ after)))
+      all in
+      rw parts.0 (by (bytes_eq next.text (codes "?")) (bytes_eq next.text (codes ":")) parts.1)
+    where
+      by : (a b : Bool)
+          → list_all has_text (if a then optional_text text ∷ []
+          else (if true && b then declared_texts text else [])) ≡ true
+          → list_all has_text (if a then optional_text text ∷ []
+          else (if false && b then declared_texts text else [])) ≡ true
+      by true b made = made
+      by false b made = refl
+  unbound true kinds.At text after all = all
+  unbound true kinds.Underscore text after all = refl
+  unbound true (kinds.Key _) text after all = refl
+  unbound true (kinds.Int _) text after all = refl
+  unbound true (kinds.Op _) text after all = refl
+  unbound true (kinds.Mark _) text after all = refl
+
+  right_known : (bound : Bool) (us vs : List Spelled) → knows bound (us ++ vs) ≡ true
+      → knows false vs ≡ true
+  right_known bound [] [] all = refl
+  right_known bound [] (token ∷ vs) all =
+      let first = next_texts bound (token ∷ vs) in
+      let more = given_texts (is_binding token.text) vs in
+      all_both (next_texts false (token ∷ vs)) more
+      (unbound bound (kind_of token.text) token.text vs (all_left first more all))
+      (all_right first more all)
+  right_known bound (token ∷ us) vs all =
+      right_known (is_binding token.text) us vs
+      (all_right (next_texts bound (token ∷ us ++ vs))
+      (given_texts (is_binding token.text) (us ++ vs)) all)
 
   pub known_right : (us vs : List Spelled) → IsTrue (is_known (us ++ vs)) → IsTrue (is_known vs)
   unfolding is_known
-  known_right [] vs all = all
-  known_right (token ∷ us) vs all =
-      known_right us vs
-      (all_right (next_texts (token ∷ us ++ vs)) (given_texts (us ++ vs)) all)
+  known_right = right_known false
 
-  -- a word with a `:` after it has the text of its whole
-  pub whole_known : (word_token colon : Spelled) → IsTrue (has word word_token)
-      → IsTrue (has (quoted (codes ":")) colon)
-      → IsTrue (is_known (word_token ∷ colon ∷ []))
+  -- a word that `let` or `var` is before, with a `:` after it, has the text of its whole
+  pub whole_known : (let_token word_token colon : Spelled) → is_binding let_token.text ≡ true
+      → IsTrue (has word word_token) → IsTrue (has (quoted (codes ":")) colon)
+      → IsTrue (is_known (let_token ∷ word_token ∷ colon ∷ []))
       → id_in texts (whole_text word_token.text) < length texts
   unfolding is_known
-  whole_known word_token colon is_word is_colon all =
-      by (kind_of word_token.text) (sym (has-word word_token) ∙ is_word)
-      (all_left (next_texts (word_token ∷ colon ∷ [])) (given_texts (colon ∷ [])) all)
+  whole_known let_token word_token colon is_let is_word is_colon all =
+      by (kind_of text) (sym (has-word word_token) ∙ is_word)
+      (all_left (next_texts true after) (given_texts (is_binding text) (colon ∷ []))
+      (subst (λ bound. knows bound after ≡ true) is_let
+      (all_right (next_texts false (let_token ∷ after)) (given_texts (is_binding let_token.text) after)
+      all)))
     where
       text : List ℕ
       text = word_token.text
 
-      colon_text : colon.text ≡ codes ":"
-      colon_text = (bytes_eq-Decides colon.text (codes ":")).0
-          (sym (has-quoted (codes ":") colon refl) ∙ is_colon)
+      after : List Spelled
+      after = word_token ∷ colon ∷ []
 
       by : (kind : Kind) → is_name kind ≡ true
-          → list_all has_text (texts_by kind text (colon ∷ [])) ≡ true
+          → list_all has_text (texts_by true kind text (colon ∷ [])) ≡ true
           → id_in texts (whole_text text) < length texts
       by kinds.Word is named =
-          let made = (and_parts (has_text text) (list_all has_text (made_texts text (colon ∷ [])))
-          named).1 in
-          let both : list_all has_text (made_texts text (record colon { text = codes ":" } ∷ []))
-          ≡ true
-          = subst (λ (chars : List ℕ). list_all has_text (made_texts text
-          (record colon { text = chars } ∷ [])) ≡ true) colon_text made in
+          let made = (and_parts (has_text text)
+          (list_all has_text (made_texts true text (colon ∷ []))) named).1 in
+          let both
+          : list_all has_text (made_texts true text (record colon { text = codes ":" } ∷ [])) ≡ true
+          = subst (λ (chars : List ℕ). list_all has_text (made_texts true text
+          (record colon { text = chars } ∷ [])) ≡ true)
+          (seen_text (codes ":") (Some colon) refl is_colon) made in
           let later = (and_parts (has_text (text ++ codes "?")) (has_text (whole_text text) && true)
           both).1 in
           ltb-true (id_in texts (whole_text text)) (length texts)
@@ -225,7 +275,7 @@ module _ (texts : List (List ℕ)) where
   pub known_of : (tokens : List Spelled) → AreInterned texts tokens → IsTrue (is_known tokens)
   unfolding is_known
   known_of tokens interned =
-      all_tests (given_texts tokens)
+      all_tests (given_texts false tokens)
       (recursion_from_All (λ text. id_in texts text < length texts) (texts_in tokens) interned).1.1
     where
       all_tests : (xs : List (List ℕ)) → AllByRecursion (λ text. id_in texts text < length texts) xs

@@ -100,10 +100,11 @@ module _ (texts : List (List ℕ)) where
           (eq.fold_expr-Use scope_steps last)
 
   pub or_weighs : (binding : Binding) (word_token colon : Spelled)
-      → IsTyped (index_in texts) binding word_token colon → IsTrue (is_known texts (word_token ∷ colon ∷ []))
+      → (typed : IsTyped (index_in texts) binding word_token colon)
+      → IsTrue (is_known texts (typed.let_token ∷ word_token ∷ colon ∷ []))
       → (colon_at : ℕ) (ty : TypeTree) (eq_at : ℕ) (value : Expr) (or : Or) (k : ℕ)
-      → stmts texts (or_literal_stmts (or_literal_form (index_in texts) binding.word.text binding.mutable
-      binding.word.name binding.let_at colon_at eq_at or.op_at) ty value or.other) k
+      → stmts texts (or_literal_stmts (or_literal_form (index_in texts) binding.word.text
+      binding.mutable binding.word.name binding.let_at colon_at eq_at or.op_at) ty value or.other) k
       ≤ spread place 3 binding.let_at k + node texts binding.word.name k + place colon_at k
       + place eq_at k + expr texts value k + spread place 2 or.op_at k + expr texts or.other k
   unfolding spread
@@ -111,12 +112,13 @@ module _ (texts : List (List ℕ)) where
       let form = or_literal_form (index_in texts) binding.word.text binding.mutable binding.word.name
       binding.let_at colon_at eq_at or.op_at in
       let has = subst (λ (text : List ℕ). id_in texts (whole_text text) < length texts)
-      (sym typed.text) (whole_known texts word_token colon typed.is_word typed.is_colon known) in
+      (sym typed.text) (whole_known texts typed.let_token word_token colon typed.is_let
+      typed.is_word typed.is_colon known) in
       omega (
         arith,
         or_keys form ty value or.other k,
         same_scope texts (ap sequence (or_scopes form ty value or.other)) k,
-        weigh_or (is_whole texts) form.word.whole form.word.part or.op_at (suc or.op_at) (suc binding.let_at)
-            (suc (suc binding.let_at)) colon_at binding.word.name (fold_expr scope_steps value)
+        weigh_or (is_whole texts) form.word.whole form.word.part or.op_at (suc or.op_at)
+            (suc binding.let_at) (suc (suc binding.let_at)) colon_at binding.word.name (fold_expr scope_steps value)
             (fold_expr scope_steps or.other) (whole_is texts binding.word.text has) k,
       )
