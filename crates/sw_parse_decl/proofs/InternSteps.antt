@@ -1,7 +1,7 @@
 -- The names of tokens, interned text by text.
 use Rattle.std.proofs.Common.{◌≡◌, ℕ, suc, ◌+◌, ◌*◌, ◌<◌, ◌≤◌, Bool, true, false, if◌then◌else◌}
 use Rattle.std.proofs.Common.{List, [], ◌∷◌, ◌++◌, length, take, drop, codes, refl, sym, ◌∙◌, ap, subst}
-use Rattle.std.proofs.Common.{append_assoc, append-nil, length-append, arith}
+use Rattle.std.proofs.Common.{append_assoc, append-nil, length-append, ◌&&◌, ◌||◌, arith}
 use Rattle.std.proofs.lemmas.List.{take-append-le}
 use Rattle.std.specs.Prelude.{Some, bytes_eq}
 use Rattle.sw_token.specs.declared.Kind.{Kind}
@@ -10,15 +10,16 @@ use Rattle.sw_token.specs.Kinds.{kind_of}
 use Rattle.sw_token.specs.Spelling.{Spelled}
 use Rattle.sw_grammar_forms.specs.Outcome.{Takes, text_of}
 use Rattle.sw_grammar_forms.specs.Relations.{head}
-use Rattle.sw_grammar_forms.specs.Sets.{starts, quoted, word, attribute, is_name, is_at}
+use Rattle.sw_grammar_forms.specs.Sets.{Set, starts, quoted, apart, word, attribute, is_name, is_at}
 use Rattle.sw_grammar_forms.proofs.CursorSteps.{sees_quoted}
-use Rattle.sw_grammar_forms.proofs.KindSets.{has-attribute}
+use Rattle.sw_grammar_forms.proofs.KindSets.{has-attribute, has-one_of}
 use Rattle.sw_grammar_forms.proofs.SetLaws.{has-word}
+use Rattle.sw_grammar_forms.proofs.SetLemmas.{has-apart}
 use Rattle.sw_tree.proofs.NamesLemmas.{length-with_text}
 use Rattle.sw_tree.specs.Names.{with_text, with_texts, predeclared}
 use Rattle.sw_sugar.specs.Calls.{declared_texts}
-use Rattle.sw_grammar.specs.Tokens.{optional_text}
-use Rattle.sw_grammar_facts.specs.Interned.{made_texts, texts_by, next_texts, given_texts}
+use Rattle.sw_grammar.specs.Tokens.{binding_first, optional_text}
+use Rattle.sw_grammar_facts.specs.Interned.{is_binding, made_texts, texts_by, next_texts, given_texts}
 use Rattle.sw_parse_decl.specs.Texts.{ArePartlyInterned}
 
 -- Several texts, interned in turn.
@@ -73,92 +74,108 @@ length-with_texts texts (text ∷ more) = omega (
   length-with_texts (with_text texts text) more,
 )
 
--- What rules may make of a word, by the token after it.
+-- What rules may make of a word, by the tokens beside it.
 
 abbrev made_by : Bool → Bool → List ℕ → List (List ℕ)
 made_by marked typed text =
     if marked then optional_text text ∷ [] else (if typed then declared_texts text else [])
 
-made_is : (text : List ℕ) (ts : List Spelled) → made_texts text ts ≡ made_by
-    (starts (quoted (codes "?")) (head ts)) (starts (quoted (codes ":")) (head ts)) text
-made_is text [] = refl
-made_is text (next ∷ after) =
-    ap (λ b. made_by b (bytes_eq next.text (codes ":")) text)
+made_is : (bound : Bool) (text : List ℕ) (ts : List Spelled) → made_texts bound text ts ≡ made_by
+    (starts (quoted (codes "?")) (head ts)) (bound && starts (quoted (codes ":")) (head ts)) text
+made_is true text [] = refl
+made_is false text [] = refl
+made_is bound text (next ∷ after) =
+    ap (λ b. made_by b (bound && bytes_eq next.text (codes ":")) text)
     (sees_quoted (codes "?") (Some next) refl)
-    ∙ ap (λ b. made_by (starts (quoted (codes "?")) (Some next)) b text)
+    ∙ ap (λ b. made_by (starts (quoted (codes "?")) (Some next)) (bound && b) text)
     (sees_quoted (codes ":") (Some next) refl)
 
-pub made_of_optional : (text : List ℕ) (ts : List Spelled)
-    → starts (quoted (codes "?")) (head ts) ≡ true → optional_text text ∷ [] ≡ made_texts text ts
-made_of_optional text ts is =
-    sym (made_is text ts
-    ∙ ap (λ b. made_by b (starts (quoted (codes ":")) (head ts)) text) is)
+pub made_of_optional : (bound : Bool) (text : List ℕ) (ts : List Spelled)
+    → starts (quoted (codes "?")) (head ts) ≡ true
+    → optional_text text ∷ [] ≡ made_texts bound text ts
+made_of_optional bound text ts is =
+    sym (made_is bound text ts
+    ∙ ap (λ b. made_by b (bound && starts (quoted (codes ":")) (head ts)) text) is)
 
-pub made_of_declared : (text : List ℕ) (ts : List Spelled)
-    → starts (quoted (codes "?")) (head ts) ≡ false → starts (quoted (codes ":")) (head ts) ≡ true
-    → declared_texts text ≡ made_texts text ts
-made_of_declared text ts is is' =
-    sym (made_is text ts
-    ∙ (ap (λ b. made_by b (starts (quoted (codes ":")) (head ts)) text) is
-    ∙ ap (λ b. made_by false b text) is'))
-
-pub made_of_nothing : (text : List ℕ) (ts : List Spelled)
+made_otherwise : (bound typed : Bool) (text : List ℕ) (ts : List Spelled)
     → starts (quoted (codes "?")) (head ts) ≡ false
-    → starts (quoted (codes ":")) (head ts) ≡ false → [] ≡ made_texts text ts
-made_of_nothing text ts is is' =
-    sym (made_is text ts
-    ∙ (ap (λ b. made_by b (starts (quoted (codes ":")) (head ts)) text) is
+    → (bound && starts (quoted (codes ":")) (head ts)) ≡ typed
+    → made_by false typed text ≡ made_texts bound text ts
+made_otherwise bound typed text ts is is' =
+    sym (made_is bound text ts
+    ∙ (ap (λ b. made_by b (bound && starts (quoted (codes ":")) (head ts)) text) is
     ∙ ap (λ b. made_by false b text) is'))
+
+pub made_of_declared : (bound : Bool) (text : List ℕ) (ts : List Spelled)
+    → starts (quoted (codes "?")) (head ts) ≡ false → bound ≡ true
+    → starts (quoted (codes ":")) (head ts) ≡ true → declared_texts text ≡ made_texts bound text ts
+made_of_declared bound text ts is is_bound is' =
+    made_otherwise bound true text ts is (λ j. is_bound j && is' j)
+
+pub made_of_nothing : (bound : Bool) (text : List ℕ) (ts : List Spelled)
+    → starts (quoted (codes "?")) (head ts) ≡ false
+    → starts (quoted (codes ":")) (head ts) ≡ false → [] ≡ made_texts bound text ts
+made_of_nothing bound text ts is is' = made_otherwise bound false text ts is (never bound is')
+  where
+    never : (b : Bool) {c : Bool} → c ≡ false → (b && c) ≡ false
+    never true is = is
+    never false is = refl
+
+pub made_unbound : (bound : Bool) (text : List ℕ) (ts : List Spelled)
+    → starts (quoted (codes "?")) (head ts) ≡ false → bound ≡ false
+    → [] ≡ made_texts bound text ts
+made_unbound bound text ts is unbound =
+    made_otherwise bound false text ts is (ap (λ b. b && starts (quoted (codes ":")) (head ts)) unbound)
 
 -- What the next token gives.
 
-word_kind : (kind : Kind) (text : List ℕ) (after : List Spelled) → is_name kind ≡ true
-    → text ∷ made_texts text after ≡ texts_by kind text after
-word_kind kinds.Word text after is = refl
-word_kind kinds.At text after is = absurd (cc)
-word_kind kinds.Underscore text after is = absurd (cc)
-word_kind (kinds.Key _) text after is = absurd (cc)
-word_kind (kinds.Int _) text after is = absurd (cc)
-word_kind (kinds.Op _) text after is = absurd (cc)
-word_kind (kinds.Mark _) text after is = absurd (cc)
+word_kind : (bound : Bool) (kind : Kind) (text : List ℕ) (after : List Spelled) → is_name kind ≡ true
+    → text ∷ made_texts bound text after ≡ texts_by bound kind text after
+word_kind bound kinds.Word text after is = refl
+word_kind bound kinds.At text after is = absurd (cc)
+word_kind bound kinds.Underscore text after is = absurd (cc)
+word_kind bound (kinds.Key _) text after is = absurd (cc)
+word_kind bound (kinds.Int _) text after is = absurd (cc)
+word_kind bound (kinds.Op _) text after is = absurd (cc)
+word_kind bound (kinds.Mark _) text after is = absurd (cc)
 
-at_kind : (kind : Kind) (text : List ℕ) (after : List Spelled) → is_at kind ≡ true
-    → drop 1 text ∷ [] ≡ texts_by kind text after
-at_kind kinds.Word text after is = absurd (cc)
-at_kind kinds.At text after is = refl
-at_kind kinds.Underscore text after is = absurd (cc)
-at_kind (kinds.Key _) text after is = absurd (cc)
-at_kind (kinds.Int _) text after is = absurd (cc)
-at_kind (kinds.Op _) text after is = absurd (cc)
-at_kind (kinds.Mark _) text after is = absurd (cc)
+at_kind : (bound : Bool) (kind : Kind) (text : List ℕ) (after : List Spelled) → is_at kind ≡ true
+    → drop 1 text ∷ [] ≡ texts_by bound kind text after
+at_kind bound kinds.Word text after is = absurd (cc)
+at_kind bound kinds.At text after is = refl
+at_kind bound kinds.Underscore text after is = absurd (cc)
+at_kind bound (kinds.Key _) text after is = absurd (cc)
+at_kind bound (kinds.Int _) text after is = absurd (cc)
+at_kind bound (kinds.Op _) text after is = absurd (cc)
+at_kind bound (kinds.Mark _) text after is = absurd (cc)
 
-other_kind : (kind : Kind) (text : List ℕ) (after : List Spelled) → is_name kind ≡ false
-    → is_at kind ≡ false → [] ≡ texts_by kind text after
-other_kind kinds.Word text after is is' = absurd (cc)
-other_kind kinds.At text after is is' = absurd (cc)
-other_kind kinds.Underscore text after is is' = refl
-other_kind (kinds.Key _) text after is is' = refl
-other_kind (kinds.Int _) text after is is' = refl
-other_kind (kinds.Op _) text after is is' = refl
-other_kind (kinds.Mark _) text after is is' = refl
+other_kind : (bound : Bool) (kind : Kind) (text : List ℕ) (after : List Spelled) → is_name kind ≡ false
+    → is_at kind ≡ false → [] ≡ texts_by bound kind text after
+other_kind bound kinds.Word text after is is' = absurd (cc)
+other_kind bound kinds.At text after is is' = absurd (cc)
+other_kind bound kinds.Underscore text after is is' = refl
+other_kind bound (kinds.Key _) text after is is' = refl
+other_kind bound (kinds.Int _) text after is is' = refl
+other_kind bound (kinds.Op _) text after is is' = refl
+other_kind bound (kinds.Mark _) text after is is' = refl
 
-word_gives : (ts : List Spelled) → starts word (head ts) ≡ true
-    → text_of (head ts) ∷ made_texts (text_of (head ts)) (drop 1 ts) ≡ next_texts ts
-word_gives [] is = absurd (cc)
-word_gives (token ∷ after) is =
-    word_kind (kind_of token.text) token.text after (sym (has-word token) ∙ is)
+word_gives : (bound : Bool) (ts : List Spelled) → starts word (head ts) ≡ true
+    → text_of (head ts) ∷ made_texts bound (text_of (head ts)) (drop 1 ts) ≡ next_texts bound ts
+word_gives bound [] is = absurd (cc)
+word_gives bound (token ∷ after) is =
+    word_kind bound (kind_of token.text) token.text after (sym (has-word token) ∙ is)
 
-attribute_gives : (ts : List Spelled) → starts attribute (head ts) ≡ true
-    → drop 1 (text_of (head ts)) ∷ [] ≡ next_texts ts
-attribute_gives [] is = absurd (cc)
-attribute_gives (token ∷ after) is =
-    at_kind (kind_of token.text) token.text after (sym (has-attribute token) ∙ is)
+attribute_gives : (bound : Bool) (ts : List Spelled) → starts attribute (head ts) ≡ true
+    → drop 1 (text_of (head ts)) ∷ [] ≡ next_texts bound ts
+attribute_gives bound [] is = absurd (cc)
+attribute_gives bound (token ∷ after) is =
+    at_kind bound (kind_of token.text) token.text after (sym (has-attribute token) ∙ is)
 
-pub other_gives : (ts : List Spelled) → starts word (head ts) ≡ false
-    → starts attribute (head ts) ≡ false → [] ≡ next_texts ts
-other_gives [] is is' = refl
-other_gives (token ∷ after) is is' =
-    other_kind (kind_of token.text) token.text after (sym (has-word token) ∙ is)
+pub other_gives : (bound : Bool) (ts : List Spelled) → starts word (head ts) ≡ false
+    → starts attribute (head ts) ≡ false → [] ≡ next_texts bound ts
+other_gives bound [] is is' = refl
+other_gives bound (token ∷ after) is is' =
+    other_kind bound (kind_of token.text) token.text after (sym (has-word token) ∙ is)
     (sym (has-attribute token) ∙ is')
 
 pub rest_of : (ts left : List Spelled) (at : ℕ) → Takes ts at left → left ≡ drop 1 ts
@@ -166,85 +183,115 @@ rest_of [] left at takes = absurd takes
 rest_of (token ∷ after) left at takes = takes.1
 
 -- the next token is a word
-module _ (old : List (List ℕ)) (ts : List Spelled) (is : starts word (head ts) ≡ true) where
-  pub word_fails : (new : List (List ℕ)) → new ≡ old → ArePartlyInterned old (next_texts ts) new
+module _ (bound : Bool) (old : List (List ℕ)) (ts : List Spelled) (is : starts word (head ts) ≡ true) where
+  pub word_fails : (new : List (List ℕ)) → new ≡ old → ArePartlyInterned old (next_texts bound ts) new
   word_fails new same =
-      subst (λ texts. ArePartlyInterned old texts new) (word_gives ts is)
-      (none_interned old new (text_of (head ts)) (made_texts (text_of (head ts)) (drop 1 ts)) same)
+      subst (λ texts. ArePartlyInterned old texts new) (word_gives bound ts is)
+      (none_interned old new (text_of (head ts)) (made_texts bound (text_of (head ts)) (drop 1 ts)) same)
 
   module _ (middle : List (List ℕ)) (text : List ℕ) (left : List Spelled)
       (text-is : text ≡ text_of (head ts)) (left-is : left ≡ drop 1 ts)
       (one : middle ≡ with_text old text) where
-    all_texts : text ∷ made_texts text left ≡ next_texts ts
-    all_texts = (λ j. text-is j ∷ made_texts (text-is j) (left-is j)) ∙ word_gives ts is
+    all_texts : text ∷ made_texts bound text left ≡ next_texts bound ts
+    all_texts = (λ j. text-is j ∷ made_texts bound (text-is j) (left-is j)) ∙ word_gives bound ts is
 
-    pub word_texts : (new : List (List ℕ)) → new ≡ with_texts middle (made_texts text left)
-        → new ≡ with_texts old (next_texts ts)
+    pub word_texts : (new : List (List ℕ)) → new ≡ with_texts middle (made_texts bound text left)
+        → new ≡ with_texts old (next_texts bound ts)
     unfolding with_texts
     word_texts new more =
-        more ∙ (ap (λ texts. with_texts texts (made_texts text left)) one
+        more ∙ (ap (λ texts. with_texts texts (made_texts bound text left)) one
         ∙ ap (with_texts old) all_texts)
 
-    pub word_partly : (new : List (List ℕ)) → ArePartlyInterned middle (made_texts text left) new
-        → ArePartlyInterned old (next_texts ts) new
+    pub word_partly : (new : List (List ℕ)) → ArePartlyInterned middle (made_texts bound text left) new
+        → ArePartlyInterned old (next_texts bound ts) new
     word_partly new part =
         subst (λ texts. ArePartlyInterned old texts new) all_texts
-        (first_interned old middle new text (made_texts text left) one part)
+        (first_interned old middle new text (made_texts bound text left) one part)
 
 -- the next token is an `@` with a word
-module _ (old : List (List ℕ)) (ts : List Spelled) (is : starts attribute (head ts) ≡ true) where
+module _ (bound : Bool) (old : List (List ℕ)) (ts : List Spelled) (is : starts attribute (head ts) ≡ true) where
   pub attribute_fails : (new : List (List ℕ)) → new ≡ old
-      → ArePartlyInterned old (next_texts ts) new
+      → ArePartlyInterned old (next_texts bound ts) new
   attribute_fails new same =
-      subst (λ texts. ArePartlyInterned old texts new) (attribute_gives ts is)
+      subst (λ texts. ArePartlyInterned old texts new) (attribute_gives bound ts is)
       (none_interned old new (drop 1 (text_of (head ts))) [] same)
 
   pub attribute_texts : (new : List (List ℕ)) (text : List ℕ) → text ≡ drop 1 (text_of (head ts))
-      → new ≡ with_text old text → new ≡ with_texts old (next_texts ts)
+      → new ≡ with_text old text → new ≡ with_texts old (next_texts bound ts)
   unfolding with_texts
   attribute_texts new text text-is one =
-      one ∙ (ap (with_text old) text-is ∙ ap (with_texts old) (attribute_gives ts is))
+      one ∙ (ap (with_text old) text-is ∙ ap (with_texts old) (attribute_gives bound ts is))
+
+-- Whether it is `let` or `var`.
+
+pub binds_is : (ts : List Spelled)
+    → starts binding_first (head ts) ≡ is_binding (text_of (head ts))
+binds_is [] = refl
+binds_is (token ∷ after) =
+    has-one_of (codes "let" ∷ codes "var" ∷ []) token refl
+    ∙ no_more (bytes_eq token.text (codes "let")) (bytes_eq token.text (codes "var"))
+  where
+    no_more : (a b : Bool) → (a || (b || false)) ≡ (a || b)
+    no_more true b = refl
+    no_more false true = refl
+    no_more false false = refl
+
+-- a token of a set that has neither isn't
+binds_nothing : (set : Set) → apart set binding_first ≡ true → (ts : List Spelled)
+    → starts set (head ts) ≡ true → false ≡ is_binding (text_of (head ts))
+binds_nothing set neither [] is = refl
+binds_nothing set neither (token ∷ after) is =
+    sym (has-apart set binding_first token neither is) ∙ binds_is (token ∷ after)
+
+pub word_binds_nothing : (ts : List Spelled) → starts word (head ts) ≡ true
+    → false ≡ is_binding (text_of (head ts))
+word_binds_nothing = binds_nothing word refl
+
+pub attribute_binds_nothing : (ts : List Spelled) → starts attribute (head ts) ≡ true
+    → false ≡ is_binding (text_of (head ts))
+attribute_binds_nothing = binds_nothing attribute refl
 
 -- The texts of all tokens.
 
-made_few : (text : List ℕ) (ts : List Spelled) → length (made_texts text ts) ≤ 2
-made_few text [] = omega arith
-made_few text (next ∷ after) = by (bytes_eq next.text (codes "?")) (bytes_eq next.text (codes ":"))
+made_few : (bound : Bool) (text : List ℕ) (ts : List Spelled) → length (made_texts bound text ts) ≤ 2
+made_few bound text [] = omega arith
+made_few bound text (next ∷ after) =
+    by (bytes_eq next.text (codes "?")) (bound && bytes_eq next.text (codes ":"))
   where
     by : (b c : Bool) → length (made_by b c text) ≤ 2
     by true c = omega arith
     by false true = omega arith
     by false false = omega arith
 
-few_by : (kind : Kind) (text : List ℕ) (after : List Spelled)
-    → length (texts_by kind text after) ≤ 3
-few_by kinds.Word text after = omega (arith, made_few text after)
-few_by kinds.At text after = omega arith
-few_by kinds.Underscore text after = omega arith
-few_by (kinds.Key _) text after = omega arith
-few_by (kinds.Int _) text after = omega arith
-few_by (kinds.Op _) text after = omega arith
-few_by (kinds.Mark _) text after = omega arith
+few_by : (bound : Bool) (kind : Kind) (text : List ℕ) (after : List Spelled)
+    → length (texts_by bound kind text after) ≤ 3
+few_by bound kinds.Word text after = omega (arith, made_few bound text after)
+few_by bound kinds.At text after = omega arith
+few_by bound kinds.Underscore text after = omega arith
+few_by bound (kinds.Key _) text after = omega arith
+few_by bound (kinds.Int _) text after = omega arith
+few_by bound (kinds.Op _) text after = omega arith
+few_by bound (kinds.Mark _) text after = omega arith
 
-next_few : (ts : List Spelled) → length (next_texts ts) ≤ 3
-next_few [] = omega arith
-next_few (token ∷ after) = few_by (kind_of token.text) token.text after
+next_few : (bound : Bool) (ts : List Spelled) → length (next_texts bound ts) ≤ 3
+next_few bound [] = omega arith
+next_few bound (token ∷ after) = few_by bound (kind_of token.text) token.text after
 
-given_split : (ts : List Spelled) → 0 < length ts
-    → given_texts ts ≡ next_texts ts ++ given_texts (drop 1 ts)
-given_split [] some = absurd (omega arith)
-given_split (token ∷ after) some = refl
+given_split : (bound : Bool) (ts : List Spelled) → 0 < length ts → given_texts bound ts
+    ≡ next_texts bound ts ++ given_texts (is_binding (text_of (head ts))) (drop 1 ts)
+given_split bound [] some = absurd (omega arith)
+given_split bound (token ∷ after) some = refl
 
 -- Of all texts the first are interned, those that the tokens left don't give.
 pub record IsInterned (old : List (List ℕ)) (all : List (List ℕ)) (new : List (List ℕ))
-    (left : List Spelled) : Type 0 where
+    (bound : Bool) (left : List Spelled) : Type 0 where
   pub first : List (List ℕ)
-  pub rest : all ≡ first ++ given_texts left
+  pub rest : all ≡ first ++ given_texts bound left
   pub texts : new ≡ with_texts old first
 
 pub cases_interned : (old middle new : List (List ℕ)) (none some : List ℕ) (ts : List Spelled)
     → middle ≡ with_text old none → new ≡ with_text middle some
-    → IsInterned old ((none ∷ some ∷ []) ++ given_texts ts) new ts
+    → IsInterned old ((none ∷ some ∷ []) ++ given_texts false ts) new false ts
 unfolding with_texts
 cases_interned old middle new none some ts is is' = record {
   first = none ∷ some ∷ [];
@@ -252,35 +299,40 @@ cases_interned old middle new none some ts is is' = record {
   texts = is' ∙ ap (λ texts. with_text texts some) is;
 }
 
-module _ (old all middle : List (List ℕ)) (ts : List Spelled) (some : 0 < length ts)
-    (so_far : IsInterned old all middle ts) where
-  split : all ≡ so_far.first ++ (next_texts ts ++ given_texts (drop 1 ts))
-  split = so_far.rest ∙ ap (λ texts. so_far.first ++ texts) (given_split ts some)
+module _ (old all middle : List (List ℕ)) (bound : Bool) (ts : List Spelled) (some : 0 < length ts)
+    (so_far : IsInterned old all middle bound ts) where
+  abbrev more : List (List ℕ)
+  more = given_texts (is_binding (text_of (head ts))) (drop 1 ts)
 
-  pub one_more : (new : List (List ℕ)) (left : List Spelled) → left ≡ drop 1 ts
-      → new ≡ with_texts middle (next_texts ts) → IsInterned old all new left
-  one_more new left is texts = record {
-    first = so_far.first ++ next_texts ts;
+  split : all ≡ so_far.first ++ (next_texts bound ts ++ more)
+  split = so_far.rest ∙ ap (λ texts. so_far.first ++ texts) (given_split bound ts some)
+
+  pub one_more : (new : List (List ℕ)) (binds : Bool) (left : List Spelled)
+      → binds ≡ is_binding (text_of (head ts)) → left ≡ drop 1 ts
+      → new ≡ with_texts middle (next_texts bound ts) → IsInterned old all new binds left
+  one_more new binds left binds-is left-is texts = record {
+    first = so_far.first ++ next_texts bound ts;
     rest =
-        split ∙ (sym (append_assoc so_far.first (next_texts ts) (given_texts (drop 1 ts)))
-        ∙ ap (λ us. (so_far.first ++ next_texts ts) ++ given_texts us) (sym is));
+        split ∙ (sym (append_assoc so_far.first (next_texts bound ts) more)
+        ∙ (λ j. (so_far.first ++ next_texts bound ts)
+        ++ given_texts (sym binds-is j) (sym left-is j)));
     texts =
-        texts ∙ (ap (λ it. with_texts it (next_texts ts)) so_far.texts
-        ∙ sym (with_both old so_far.first (next_texts ts)));
+        texts ∙ (ap (λ it. with_texts it (next_texts bound ts)) so_far.texts
+        ∙ sym (with_both old so_far.first (next_texts bound ts)));
   }
 
-  pub partly_of_all : (new : List (List ℕ)) → ArePartlyInterned middle (next_texts ts) new
+  pub partly_of_all : (new : List (List ℕ)) → ArePartlyInterned middle (next_texts bound ts) new
       → ArePartlyInterned old all new
   partly_of_all new part =
       subst (λ texts. ArePartlyInterned old texts new) (sym split)
-      (then_partly old middle new so_far.first (next_texts ts ++ given_texts (drop 1 ts))
-      so_far.texts (partly_of_more middle new (next_texts ts) (given_texts (drop 1 ts)) part))
+      (then_partly old middle new so_far.first (next_texts bound ts ++ more) so_far.texts
+      (partly_of_more middle new (next_texts bound ts) more part))
 
-pub all_interned : (old all new : List (List ℕ)) (left : List Spelled) → length left ≤ 0
-    → IsInterned old all new left → new ≡ with_texts old all
-all_interned old all new [] none so_far =
+pub all_interned : (old all new : List (List ℕ)) (bound : Bool) (left : List Spelled)
+    → length left ≤ 0 → IsInterned old all new bound left → new ≡ with_texts old all
+all_interned old all new bound [] none so_far =
     so_far.texts ∙ ap (with_texts old) (sym (so_far.rest ∙ append-nil so_far.first))
-all_interned old all new (token ∷ left) none so_far = absurd (omega arith)
+all_interned old all new bound (token ∷ left) none so_far = absurd (omega arith)
 
 shorter : (ts left : List Spelled) → 0 < length ts → left ≡ drop 1 ts
     → length ts ≡ length left + 1
@@ -292,15 +344,15 @@ pub takes_one : (ts left : List Spelled) → 0 < length ts → left ≡ drop 1 t
 takes_one ts left some is = omega (arith, shorter ts left some is)
 
 -- a token gives three texts at most
-pub room_left : (most : ℕ) (texts new : List (List ℕ)) (ts left : List Spelled) → 0 < length ts
-    → left ≡ drop 1 ts → new ≡ with_texts texts (next_texts ts)
+pub room_left : (most : ℕ) (bound : Bool) (texts new : List (List ℕ)) (ts left : List Spelled)
+    → 0 < length ts → left ≡ drop 1 ts → new ≡ with_texts texts (next_texts bound ts)
     → length texts + 3 * length ts < most → length new + 3 * length left < most
-room_left most texts new ts left some is texts-are less = omega (
+room_left most bound texts new ts left some is texts-are less = omega (
   arith,
   shorter ts left some is,
   ap length texts-are,
-  length-with_texts texts (next_texts ts),
-  next_few ts,
+  length-with_texts texts (next_texts bound ts),
+  next_few bound ts,
 )
 
 pub predeclared_few : length predeclared ≡ 13

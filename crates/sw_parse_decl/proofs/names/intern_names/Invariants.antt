@@ -6,7 +6,7 @@ use Rattle.sw_parse_decl.proofs.names.intern_names.Given as goal
 
 abbrev pub invariant-loop-alloc : goal.invariant-loop-alloc
 invariant-loop-alloc l =
-    IsInterned l.fn.names (texts_in l.fn.tokens) l.names l.tokens
+    IsInterned l.fn.names (texts_in l.fn.tokens) l.names l.bound l.tokens
     × (length l.names + 3 * length l.tokens < 4294967293)
 
 abbrev pub decreases-loop-alloc : goal.decreases-loop-alloc
