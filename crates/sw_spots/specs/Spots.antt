@@ -269,11 +269,11 @@ abbrev pub GoesTo : List CaseShape → List ℕ → ℕ → ℕ → Type 0
 GoesTo cases to name block = (i : ℕ) × (one : CaseShape) × (slice_get cases i ≡ Some one)
     × (one.name ≡ name) × (slice_get to i ≡ Some block)
 
--- the function with a number begins with this
+-- the function with a number takes these, and begins with this
 abbrev pub BeginsAt : Program → ℕ → List Capture → List ℕ → (Function → Type 0)
     → (Function → Next) → Type 0
 BeginsAt p number captures takes Is K = (g : Function) × (slice_get p.functions number ≡ Some g)
-    × Is g × (length (taken_bounds 0 captures takes) ≤ length g.regs)
+    × Is g × (g.takes ≡ length (taken_bounds 0 captures takes))
     × Enters g 0 (taken_bounds 0 captures takes) [] (K g)
 
 abbrev pub AnyFunction : Function → Type 0

@@ -1,5 +1,5 @@
 -- The function of a body that is made begins with the body's work.
-use Rattle.std.proofs.Common.{◌≡◌, ℕ, suc, ◌≤◌, Bool, true, false, Option, Some, List}
+use Rattle.std.proofs.Common.{◌≡◌, ℕ, suc, Bool, true, false, Option, Some, List}
 use Rattle.std.proofs.Common.{[], ◌∷◌, ◌++◌, length, map, refl, ap, sym, ◌∙◌, subst, arith}
 use Rattle.std.specs.Prelude.{Result, Ok, Err, IsOk, nat_lt, slice_get, ◌||◌, if◌then◌else◌}
 use Rattle.sw_tree.specs.declared.expr.ClosureParam.{ClosureParam}
@@ -29,9 +29,9 @@ use Rattle.sw_spots_body.proofs.Ending.{Ends, HasMade}
 use Rattle.sw_spots_body.proofs.Entering.{bounds_of, entered, ready_entered}
 
 module _ (p : Program) (numbers : Numbers) where
-  -- the function begins with the work
+  -- the function takes what the body does, and begins with the work
   pub record Begins (body : Body) (whole : Work) (f : Function) : Type 0 where
-    pub room : length body.takes ≤ length f.regs
+    pub takes : f.takes ≡ length body.takes
     pub enters : Enters f 0 (bounds_of 0 body.takes) [] (λ next. Stands p whole f [] next)
     pub iso : f.iso ≡ body.iso
 
@@ -41,25 +41,22 @@ module _ (p : Program) (numbers : Numbers) where
     abbrev start : Making
     start = at_start numbers body.key body.iso body.is_async
 
-    begun_run : (t : Making) (f : Function) → HasMade f t → f.iso ≡ t.made.iso → t.over ≡ false
-        → (code_of body).run start ≡ Ok (tt, t) → Begins body whole f
+    begun_run : (t : Making) (f : Function) → HasMade f t → f.iso ≡ t.made.iso
+        → f.takes ≡ length body.takes → t.over ≡ false → (code_of body).run start ≡ Ok (tt, t)
+        → Begins body whole f
     unfolding code_of instrs_at
-    begun_run t f has iso fits ran =
+    begun_run t f has iso takes fits ran =
         let going : IsGoing start = omega arith in
         let both = ran_both (all enter body.takes) (λ done. body.code) start t tt ran in
         let s = both.1 in
         let is = entered body.takes start s going both.2 in
         let ready = ready_entered numbers body.takes start s refl refl refl going is in
         let made = (made_of (code_of body) start t tt going ran).1 in
-        let regs = is.regs in
-        let more = (grew body.code s t tt ready.going both.3) in
-        let grown = more.regs in
-        let blocks = more.blocks in
+        let blocks = (grew body.code s t tt ready.going both.3).blocks in
         let one = ap length is.blocks in
-        let all = has.regs in
         let count = ap length has.blocks in
         record {
-          room = omega (arith, regs, grown, all);
+          takes = takes;
           enters = (
             omega (arith, blocks, one, count),
             subst (Stands p whole f [])
@@ -84,7 +81,8 @@ module _ (p : Program) (numbers : Numbers) where
         (record {
           regs = ap (λ (x : Function). length x.regs) (sym same);
           blocks = ap (λ (x : Function). x.blocks) (sym same);
-        }) (ap (λ (x : Function). x.iso) (sym same)) is ran
+        }) (ap (λ (x : Function). x.iso) (sym same)) (ap (λ (x : Function). x.takes) (sym same))
+        is ran
 
     of_run : (result : Result (Unit {0} × Making) CodeFault) (f : Function)
         → (code_of body).run start ≡ result → ended_by body result ≡ Ok f → Begins body whole f
@@ -129,8 +127,7 @@ module _ (p : Program) (numbers : Numbers) where
         f,
         made.there number named,
         is f b.iso,
-        subst (λ bounds. length bounds ≤ length f.regs) same
-            (let long = as_long 0 body.takes in let room = b.room in omega (arith, long, room)),
+        b.takes ∙ sym (as_long 0 body.takes) ∙ ap length same,
         subst (λ bounds. Enters f 0 bounds [] (λ next. Stands p whole f [] next)) same b.enters,
       ) where
         as_long : (r : ℕ) (takes : List Taken) → length (bounds_of r takes) ≡ length takes
