@@ -1,5 +1,5 @@
 -- What a tree after `async let` is, by what its parts are.
-use Rattle.std.proofs.Common.{◌≡◌, ◌∙◌, ℕ, ℤ, Bool, List, map, Option, None, option_map, ap, sym}
+use Rattle.std.proofs.Common.{◌≡◌, ◌∙◌, ℕ, ℤ, Bool, List, map, Option, option_map}
 use Rattle.sw_tree.proofs.FoldEquations as eq
 use Rattle.sw_tree.specs.declared.expr.Arg.{Arg, roll-Arg, out-Arg}
 use Rattle.sw_tree.specs.declared.expr.Closure.{Closure, roll-Closure, out-Closure}
@@ -12,156 +12,150 @@ use Rattle.sw_tree.specs.declared.operator.PrefixOp.{PrefixOp}
 use Rattle.sw_tree.specs.declared.stmt.Block.{Block, roll-Block, out-Block}
 use Rattle.sw_tree.specs.declared.stmt.CaseArm.{CaseArm, roll-CaseArm, out-CaseArm}
 use Rattle.sw_tree.specs.declared.stmt.IfArm.{IfArm, roll-IfArm, out-IfArm}
-use Rattle.sw_tree.specs.declared.stmt.Stmt.{Stmt}
 use Rattle.sw_tree.specs.declared.stmt.Stmt.TheVariants as stmts
 use Rattle.sw_tree.specs.declared.type_tree.TypeTree.{TypeTree}
-use Rattle.sw_sugar.specs.Rewritten.{Primary, behind, returned, rewriting, rewritten, use_layer}
+use Rattle.sw_sugar.specs.Rewritten.{awaiting, rewriting, rewritten}
 use Rattle.sw_sugar.specs.Rewritten.{rewritten_arg, rewritten_block, rewritten_case_arm}
 use Rattle.sw_sugar.specs.Rewritten.{rewritten_closure, rewritten_expr, rewritten_if_arm}
 use Rattle.sw_sugar.specs.Rewritten.{rewritten_link}
 
 module _ (word : ℕ) where
-  pub int_is : (at : ℕ) (value : ℤ) (place : Option ℕ)
-      → rewritten_expr word (exprs.Int at value) place ≡ exprs.Int at value
+  pub int_is : (at : ℕ) (value : ℤ)
+      → rewritten_expr word (exprs.Int at value) ≡ exprs.Int at value
   unfolding rewritten_expr
-  int_is at value place = ap (λ (f : Primary). f place) (eq.fold_expr-Int (rewriting word) at value)
+  int_is at value = eq.fold_expr-Int (rewriting word) at value
 
-  pub bool_is : (at : ℕ) (value : Bool) (place : Option ℕ)
-      → rewritten_expr word (exprs.Bool at value) place ≡ exprs.Bool at value
+  pub bool_is : (at : ℕ) (value : Bool)
+      → rewritten_expr word (exprs.Bool at value) ≡ exprs.Bool at value
   unfolding rewritten_expr
-  bool_is at value place =
-      ap (λ (f : Primary). f place) (eq.fold_expr-Bool (rewriting word) at value)
+  bool_is at value = eq.fold_expr-Bool (rewriting word) at value
 
-  pub use_is : (name : Name) (place : Option ℕ)
-      → rewritten_expr word (exprs.Use name) place ≡ use_layer word name place
+  pub use_is : (name : Name)
+      → rewritten_expr word (exprs.Use name) ≡ exprs.Use name
   unfolding rewritten_expr
-  use_is name place = ap (λ (f : Primary). f place) (eq.fold_expr-Use (rewriting word) name)
+  use_is name = eq.fold_expr-Use (rewriting word) name
 
-  pub me_is : (at : ℕ) (place : Option ℕ)
-      → rewritten_expr word (exprs.Me at) place ≡ exprs.Me at
+  pub me_is : (at : ℕ)
+      → rewritten_expr word (exprs.Me at) ≡ exprs.Me at
   unfolding rewritten_expr
-  me_is at place = ap (λ (f : Primary). f place) (eq.fold_expr-Me (rewriting word) at)
+  me_is at = eq.fold_expr-Me (rewriting word) at
 
-  pub member_is : (base : Expr) (name : Name) (place : Option ℕ)
-      → rewritten_expr word (exprs.Member base name) place
-      ≡ exprs.Member (rewritten_expr word base place) name
+  pub member_is : (base : Expr) (name : Name)
+      → rewritten_expr word (exprs.Member base name) ≡ exprs.Member (rewritten_expr word base) name
   unfolding rewritten_expr
-  member_is base name place =
-      ap (λ (f : Primary). f place) (eq.fold_expr-Member (rewriting word) base name)
+  member_is base name = eq.fold_expr-Member (rewriting word) base name
 
-  pub call_is : (name : Name) (args : List Arg) (place : Option ℕ)
-      → rewritten_expr word (exprs.Call name args) place
-      ≡ exprs.Call name (map (rewritten_arg word) args)
+  pub call_is : (name : Name) (args : List Arg)
+      → rewritten_expr word (exprs.Call name args) ≡ exprs.Call name (map (rewritten_arg word) args)
   unfolding rewritten_expr rewritten_arg
-  call_is name args place =
-      ap (λ (f : Primary). f place) (eq.fold_expr-Call (rewriting word) name args)
+  call_is name args = eq.fold_expr-Call (rewriting word) name args
 
-  pub method_is : (base : Expr) (name : Name) (args : List Arg) (place : Option ℕ)
-      → rewritten_expr word (exprs.Method base name args) place
-      ≡ exprs.Method (rewritten_expr word base place) name (map (rewritten_arg word) args)
+  pub method_is : (base : Expr) (name : Name) (args : List Arg)
+      → rewritten_expr word (exprs.Method base name args) ≡ exprs.Method (rewritten_expr word base) name (map (rewritten_arg word) args)
   unfolding rewritten_expr rewritten_arg
-  method_is base name args place =
-      ap (λ (f : Primary). f place) (eq.fold_expr-Method (rewriting word) base name args)
+  method_is base name args = eq.fold_expr-Method (rewriting word) base name args
 
-  pub chain_is : (first : Expr) (rest : List Link) (place : Option ℕ)
-      → rewritten_expr word (exprs.Chain first rest) place
-      ≡ exprs.Chain (rewritten_expr word first place) (map (rewritten_link word) rest)
+  pub chain_is : (first : Expr) (rest : List Link)
+      → rewritten_expr word (exprs.Chain first rest) ≡ exprs.Chain (rewritten_expr word first) (map (rewritten_link word) rest)
   unfolding rewritten_expr rewritten_link
-  chain_is first rest place =
-      ap (λ (f : Primary). f place) (eq.fold_expr-Chain (rewriting word) first rest)
+  chain_is first rest = eq.fold_expr-Chain (rewriting word) first rest
 
-  pub prefix_is : (op : PrefixOp) (at : ℕ) (inner : Expr) (place : Option ℕ)
-      → rewritten_expr word (exprs.Prefix op at inner) place
-      ≡ exprs.Prefix op at (rewritten_expr word inner place)
+  pub prefix_is : (op : PrefixOp) (at : ℕ) (inner : Expr)
+      → rewritten_expr word (exprs.Prefix op at inner) ≡ exprs.Prefix op at (rewritten_expr word inner)
   unfolding rewritten_expr
-  prefix_is op at inner place =
-      ap (λ (f : Primary). f place) (eq.fold_expr-Prefix (rewriting word) op at inner)
+  prefix_is op at inner = eq.fold_expr-Prefix (rewriting word) op at inner
 
-  pub await_is : (at : ℕ) (inner : Expr) (place : Option ℕ)
-      → rewritten_expr word (exprs.Await at inner) place
-      ≡ exprs.Await at (rewritten_expr word inner (behind at))
+  pub await_is : (at : ℕ) (inner : Expr)
+      → rewritten_expr word (exprs.Await at inner) ≡ awaiting word at (rewritten_expr word inner)
   unfolding rewritten_expr
-  await_is at inner place =
-      ap (λ (f : Primary). f place) (eq.fold_expr-Await (rewriting word) at inner)
+  await_is at inner = eq.fold_expr-Await (rewriting word) at inner
 
-  pub fun_is : (closure : Closure) (place : Option ℕ)
-      → rewritten_expr word (exprs.Fun closure) place ≡ exprs.Fun (rewritten_closure word closure)
+  pub fun_is : (closure : Closure)
+      → rewritten_expr word (exprs.Fun closure) ≡ exprs.Fun (rewritten_closure word closure)
   unfolding rewritten_expr rewritten_closure
-  fun_is closure place = ap (λ (f : Primary). f place) (eq.fold_expr-Fun (rewriting word) closure)
+  fun_is closure = eq.fold_expr-Fun (rewriting word) closure
 
-  pub spawn_is : (at : ℕ) (detached : Bool) (body : Closure) (place : Option ℕ)
-      → rewritten_expr word (exprs.Spawn at detached body) place
-      ≡ exprs.Spawn at detached (rewritten_closure word body)
+  pub spawn_is : (at : ℕ) (detached : Bool) (body : Closure)
+      → rewritten_expr word (exprs.Spawn at detached body) ≡ exprs.Spawn at detached (rewritten_closure word body)
   unfolding rewritten_expr rewritten_closure
-  spawn_is at detached body place =
-      ap (λ (f : Primary). f place) (eq.fold_expr-Spawn (rewriting word) at detached body)
+  spawn_is at detached body = eq.fold_expr-Spawn (rewriting word) at detached body
 
-  pub yield_is : (at : ℕ) (place : Option ℕ)
-      → rewritten_expr word (exprs.Yield at) place ≡ exprs.Yield at
+  pub yield_is : (at : ℕ)
+      → rewritten_expr word (exprs.Yield at) ≡ exprs.Yield at
   unfolding rewritten_expr
-  yield_is at place = ap (λ (f : Primary). f place) (eq.fold_expr-Yield (rewriting word) at)
+  yield_is at = eq.fold_expr-Yield (rewriting word) at
 
   pub bind_is : (mutable : Bool) (name : Name) (ty : Option TypeTree) (value : Expr)
       → rewritten word (stmts.Bind mutable name ty value)
-      ≡ stmts.Bind mutable name ty (rewritten_expr word value None)
+      ≡ stmts.Bind mutable name ty (rewritten_expr word value)
   unfolding rewritten rewritten_expr
   bind_is mutable name ty value = eq.fold_stmt-Bind (rewriting word) mutable name ty value
+      ∙ stmts.rolls-Bind mutable name ty (rewritten_expr word value)
 
   pub assign_is : (at : ℕ) (op : AssignOp) (place value : Expr)
       → rewritten word (stmts.Assign at op place value)
-      ≡ stmts.Assign at op (rewritten_expr word place None) (rewritten_expr word value None)
+      ≡ stmts.Assign at op (rewritten_expr word place) (rewritten_expr word value)
   unfolding rewritten rewritten_expr
   assign_is at op place value = eq.fold_stmt-Assign (rewriting word) at op place value
+      ∙ stmts.rolls-Assign at op (rewritten_expr word place) (rewritten_expr word value)
 
   pub discard_is : (at : ℕ) (value : Expr)
       → rewritten word (stmts.Discard at value)
-      ≡ stmts.Discard at (rewritten_expr word value None)
+      ≡ stmts.Discard at (rewritten_expr word value)
   unfolding rewritten rewritten_expr
   discard_is at value = eq.fold_stmt-Discard (rewriting word) at value
+      ∙ stmts.rolls-Discard at (rewritten_expr word value)
 
   pub if_is : (arms : List IfArm) (otherwise : Option Block)
       → rewritten word (stmts.If arms otherwise)
       ≡ stmts.If (map (rewritten_if_arm word) arms) (option_map (rewritten_block word) otherwise)
   unfolding rewritten rewritten_if_arm rewritten_block
   if_is arms otherwise = eq.fold_stmt-If (rewriting word) arms otherwise
+      ∙ stmts.rolls-If (map (rewritten_if_arm word) arms) (option_map (rewritten_block word) otherwise)
 
   pub while_is : (at : ℕ) (cond : Expr) (body : Block)
       → rewritten word (stmts.While at cond body)
-      ≡ stmts.While at (rewritten_expr word cond None) (rewritten_block word body)
+      ≡ stmts.While at (rewritten_expr word cond) (rewritten_block word body)
   unfolding rewritten rewritten_expr rewritten_block
   while_is at cond body = eq.fold_stmt-While (rewriting word) at cond body
+      ∙ stmts.rolls-While at (rewritten_expr word cond) (rewritten_block word body)
 
   pub switch_is : (at : ℕ) (subject : Expr) (arms : List CaseArm) (otherwise : Option Block)
       → rewritten word (stmts.Switch at subject arms otherwise)
-      ≡ stmts.Switch at (rewritten_expr word subject None) (map (rewritten_case_arm word) arms)
+      ≡ stmts.Switch at (rewritten_expr word subject) (map (rewritten_case_arm word) arms)
       (option_map (rewritten_block word) otherwise)
   unfolding rewritten rewritten_expr rewritten_case_arm rewritten_block
   switch_is at subject arms otherwise =
       eq.fold_stmt-Switch (rewriting word) at subject arms otherwise
+      ∙ stmts.rolls-Switch at (rewritten_expr word subject) (map (rewritten_case_arm word) arms) (option_map (rewritten_block word) otherwise)
 
   pub return_is : (at : ℕ) (value : Option Expr)
-      → rewritten word (stmts.Return at value) ≡ stmts.Return at (returned word value)
+      → rewritten word (stmts.Return at value) ≡ stmts.Return at (option_map (rewritten_expr word) value)
   unfolding rewritten rewritten_expr
   return_is at value = eq.fold_stmt-Return (rewriting word) at value
+      ∙ stmts.rolls-Return at (option_map (rewritten_expr word) value)
 
   pub break_is : (at : ℕ) → rewritten word (stmts.Break at) ≡ stmts.Break at
   unfolding rewritten
   break_is at = eq.fold_stmt-Break (rewriting word) at
+      ∙ stmts.rolls-Break at
 
   pub continue_is : (at : ℕ) → rewritten word (stmts.Continue at) ≡ stmts.Continue at
   unfolding rewritten
   continue_is at = eq.fold_stmt-Continue (rewriting word) at
+      ∙ stmts.rolls-Continue at
 
   pub plain_is : (value : Expr)
-      → rewritten word (stmts.Plain value) ≡ stmts.Plain (rewritten_expr word value None)
+      → rewritten word (stmts.Plain value) ≡ stmts.Plain (rewritten_expr word value)
   unfolding rewritten rewritten_expr
   plain_is value = eq.fold_stmt-Plain (rewriting word) value
+      ∙ stmts.rolls-Plain (rewritten_expr word value)
 
   pub arg_is : (arg : Arg)
       → rewritten_arg word arg
       ≡ roll-Arg (record {
         label = (out-Arg arg).label;
-        value = rewritten_expr word (out-Arg arg).value None;
+        value = rewritten_expr word (out-Arg arg).value;
       })
   unfolding rewritten_arg rewritten_expr
   arg_is arg = eq.fold_arg-out (rewriting word) arg
@@ -184,7 +178,7 @@ module _ (word : ℕ) where
       ≡ roll-Link (record {
         op = (out-Link link).op;
         at = (out-Link link).at;
-        operand = rewritten_expr word (out-Link link).operand None;
+        operand = rewritten_expr word (out-Link link).operand;
       })
   unfolding rewritten_link rewritten_expr
   link_is link = eq.fold_link-out (rewriting word) link
@@ -209,29 +203,11 @@ module _ (word : ℕ) where
       → rewritten_if_arm word arm
       ≡ roll-IfArm (record {
         at = (out-IfArm arm).at;
-        cond = rewritten_expr word (out-IfArm arm).cond None;
+        cond = rewritten_expr word (out-IfArm arm).cond;
         body = rewritten_block word (out-IfArm arm).body;
       })
   unfolding rewritten_if_arm rewritten_expr rewritten_block
   if_arm_is arm = eq.fold_if_arm-out (rewriting word) arm
-
--- a `switch` that is made of such parts
-pub switch_made : (word : ℕ) (tree : Stmt) (at : ℕ) (subject made_subject : Expr)
-    (arms given made_arms : List CaseArm) (otherwise made_otherwise : Option Block)
-    → tree ≡ stmts.Switch at subject arms otherwise
-    → made_subject ≡ rewritten_expr word subject None → given ≡ arms
-    → made_arms ≡ map (rewritten_case_arm word) given
-    → made_otherwise ≡ option_map (rewritten_block word) otherwise
-    → stmts.Switch at made_subject made_arms made_otherwise ≡ rewritten word tree
-switch_made word tree at subject made_subject arms given made_arms otherwise made_otherwise is
-    subject_is same arms_are otherwise_is =
-    let all_arms : made_arms ≡ map (rewritten_case_arm word) arms =
-    arms_are ∙ ap (map (rewritten_case_arm word)) same in
-    let made : stmts.Switch at made_subject made_arms made_otherwise
-    ≡ stmts.Switch at (rewritten_expr word subject None) (map (rewritten_case_arm word) arms)
-    (option_map (rewritten_block word) otherwise) =
-    λ j. stmts.Switch at (subject_is j) (all_arms j) (otherwise_is j) in
-    made ∙ sym (switch_is word at subject arms otherwise) ∙ ap (rewritten word) (sym is)
 
 pub ruleset forms = (
   int_is,

@@ -1,3 +1,3 @@
 pub mod Forms
-pub mod KeptForms
 pub mod NameTexts
+pub mod TaskForms

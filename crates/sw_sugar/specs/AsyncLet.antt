@@ -20,8 +20,12 @@ task_body eq_at await_at value = roll-Closure (record {
   body = roll-Block (record { stmts = stmts.Plain (exprs.Await await_at value) ∷ [] });
 })
 
+-- the variable that stands for the task, with the places of `async` and `=`
+abbrev pub task_bind : ℕ → Name → ℕ → Expr → Stmt
+task_bind at name eq_at value =
+    stmts.Bind false name None (exprs.Spawn at true (task_body eq_at (suc at) value))
+
 -- `async let name = value` with the statements after it, with the places of `async` and `=`
 abbrev pub async_let_stmts : ℕ → Name → ℕ → Expr → List Stmt → List Stmt
 async_let_stmts at name eq_at value rest =
-    stmts.Bind false name None (exprs.Spawn at true (task_body eq_at (suc at) value))
-    ∷ map (rewritten name.id) rest
+    task_bind at name eq_at value ∷ map (rewritten name.id) rest

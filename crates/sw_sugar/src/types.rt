@@ -5,7 +5,7 @@ ghost use Rattle.sw_tree.specs.declared.type_tree.TypeTree.TheVariants as types;
 
 use std::alloc::{AllocError, Global};
 use sw_list::{Boxed, ListOf};
-use sw_tree::{ClosureParam, ClosureParamList, Name, TypeTree, TypeTreeList};
+use sw_tree::{Name, TypeTree, TypeTreeList};
 
 /// A copy of a written type.
 #[cycle(types)]
@@ -63,38 +63,4 @@ fn arrow(
         params,
         result: Boxed::new(alloc, answer)?,
     })
-}
-
-/// A copy of a written type, where there is one.
-pub fn copied_type_if(
-    alloc: Global,
-    tree: &Option<TypeTree>,
-) -> Result<Option<TypeTree>, AllocError>
-    ensures { IfOk result (λ made. made ≡ tree.now) }
-{
-    match tree {
-        Some(tree) => Ok(Some(copied_type(alloc, tree)?)),
-        None => Ok(None),
-    }
-}
-
-/// A copy of a closure's parameter.
-fn copied_param(alloc: Global, tree: &ClosureParam) -> Result<ClosureParam, AllocError>
-    ensures { IfOk result (λ made. made ≡ tree.now) }
-{
-    Ok(ClosureParam {
-        name: tree.name,
-        ty: copied_type(alloc, &tree.ty)?,
-    })
-}
-
-/// Copies of a closure's parameters.
-pub fn copied_params(alloc: Global, trees: &[ClosureParam]) -> Result<ClosureParamList, AllocError>
-    ensures { IfOk result (λ made. made ≡ trees.now) }
-{
-    let mut made = ListOf::new(alloc);
-    for tree in trees {
-        made.push(copied_param(alloc, tree)?)?;
-    }
-    Ok(made)
 }
