@@ -141,13 +141,19 @@ module _ {N : Type 0} {El : N → Type 0} {shape_of : N → Shape} {depth : ℕ}
       → Same {shape_of = shape_of} depth F G Any (forms.terminal t) (forms.terminal t)
   same_token t = record { answers = alike_next Any t t refl (λ _. tt) }
 
-  -- a word that is none of some texts, with other values
+  -- a word that is none of some texts, with other values of which something holds
+  pub same_word_that : {A : Type 0} (P : A → A → Type 0) (texts : List (List ℕ))
+      (v w : Spelled → A) → ((token : Spelled) → P (v token) (w token))
+      → Same {shape_of = shape_of} depth F G P (forms.word_but texts v) (forms.word_but texts w)
+  same_word_that P texts v w values = record {
+    answers = alike_checked P (is_none_of texts) (is_none_of texts) (next (a_word v))
+        (next (a_word w)) (λ _. refl) (alike_next P (a_word v) (a_word w) refl values);
+  }
+
+  -- the same word, with other values
   pub same_word_but : {A : Type 0} (texts : List (List ℕ)) (v w : Spelled → A)
       → Same {shape_of = shape_of} depth F G Any (forms.word_but texts v) (forms.word_but texts w)
-  same_word_but texts v w = record {
-    answers = alike_checked Any (is_none_of texts) (is_none_of texts) (next (a_word v))
-        (next (a_word w)) (λ _. refl) (alike_next Any (a_word v) (a_word w) refl (λ _. tt));
-  }
+  same_word_but texts v w = same_word_that Any texts v w (λ _. tt)
 
   pub same_then : {A B : Type 0} {s t : Shape} {P : A → A → Type 0} {Q : B → B → Type 0}
       {p q : Form El shape_of s A} {f g : A → Form El shape_of t B}

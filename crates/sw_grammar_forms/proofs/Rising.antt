@@ -1,5 +1,6 @@
 -- Tokens that stand apart, along a list, and spellings that go on with new tokens.
-use Rattle.std.proofs.Common.{ℕ, ◌+◌, ◌≤◌, List, [], ◌∷◌, ◌++◌, length, sym, subst, arith}
+use Rattle.std.proofs.Common.{◌≡◌, ℕ, ◌+◌, ◌≤◌, List, [], ◌∷◌, ◌++◌, length, refl, sym, subst}
+use Rattle.std.proofs.Common.{arith}
 use Rattle.std.specs.List.{AllByRecursion}
 use Rattle.std.proofs.lemmas.List.Elements.{All-from_recursion, recursion_from_All}
 use Rattle.sw_token.specs.Spelling.{Spelled, IsTokenText, StandApart, IsSpelling}
@@ -10,12 +11,17 @@ abbrev pub end_of : ℕ → List Spelled → ℕ
 end_of from [] = from
 end_of from (t ∷ ts) = end_of (t.at + length t.text) ts
 
+pub end_of-append : (from : ℕ) (us vs : List Spelled)
+    → end_of from (us ++ vs) ≡ end_of (end_of from us) vs
+end_of-append from [] vs = refl
+end_of-append from (u ∷ us) vs = end_of-append (u.at + length u.text) us vs
+
 pub StandApart-earlier : (to from : ℕ) (ts : List Spelled) → to ≤ from → StandApart from ts
     → StandApart to ts
 StandApart-earlier to from [] early h = tt
 StandApart-earlier to from (t ∷ ts) early h = (omega (arith, h.0), h.1)
 
-StandApart-append : (from : ℕ) (us vs : List Spelled) → StandApart from us
+pub StandApart-append : (from : ℕ) (us vs : List Spelled) → StandApart from us
     → StandApart (end_of from us) vs → StandApart from (us ++ vs)
 StandApart-append from [] vs h k = k
 StandApart-append from (u ∷ us) vs h k =
@@ -43,7 +49,7 @@ StandApart-fills from (t ∷ ts) h = (
 abbrev pub HasTokenText : Spelled → Type 0
 HasTokenText token = IsTokenText token.text
 
-texts_append : (us vs : List Spelled) → AllByRecursion HasTokenText us
+pub texts_append : (us vs : List Spelled) → AllByRecursion HasTokenText us
     → AllByRecursion HasTokenText vs → AllByRecursion HasTokenText (us ++ vs)
 texts_append [] vs h k = k
 texts_append (u ∷ us) vs h k = (h.0, texts_append us vs h.1 k)
