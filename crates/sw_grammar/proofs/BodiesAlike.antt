@@ -37,13 +37,14 @@ module _ (f g : List ℕ → ℕ) where
   same_bodies depth F G nests (in_member here) of_body = same_member f g here depth F G nests
   same_bodies depth F G nests in_empty of_body = same_nothing f g nowhere depth F G
   same_bodies depth F G nests in_captures of_body = same_captured_words f g nowhere depth F G
-  same_bodies depth F G nests in_closure_params of_body = same_closure_params f g nowhere depth F G nests
+  same_bodies depth F G nests (in_closure_params here) of_body =
+      same_closure_params f g here depth F G nests
   same_bodies depth F G nests (in_closure here) of_body = same_closure_inside f g here depth F G nests
   same_bodies depth F G nests (in_task here) of_body = same_task_inside f g here depth F G nests
   same_bodies depth F G nests (in_block here) of_body = same_statements f g here depth F G nests
   same_bodies depth F G nests (in_switch here) of_body = same_switch_inside f g here depth F G nests
   same_bodies depth F G nests (in_if_let here) of_body = same_if_let_inside f g here depth F G nests
-  same_bodies depth F G nests in_patterns of_body = same_patterns_inside f g nowhere depth F G
+  same_bodies depth F G nests (in_patterns here) of_body = same_patterns_inside f g here depth F G
   same_bodies depth F G nests in_params of_body = absurd of_body
   same_bodies depth F G nests in_isolation of_body = absurd of_body
   same_bodies depth F G nests in_entry of_body = absurd of_body

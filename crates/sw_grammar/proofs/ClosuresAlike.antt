@@ -17,7 +17,7 @@ use Rattle.sw_grammar.specs.Closures.{closure_param, closure_params, result_if, 
 use Rattle.sw_grammar.specs.Closures.{signature_if, header, task_signature, task_signature_if}
 use Rattle.sw_grammar.specs.Closures.{task_header}
 use Rattle.sw_grammar.proofs.TypesAlike.{NestAlike, OfBody, SameForm, same_quote, same_name}
-use Rattle.sw_grammar.proofs.TypesAlike.{same_at, same_some_of, same_list_of, same_opened}
+use Rattle.sw_grammar.proofs.TypesAlike.{same_at, same_new_name, same_some_of, same_list_of, same_opened}
 use Rattle.sw_grammar.proofs.TypesAlike.{ResultsAlike, same_skip, same_type, same_written_type}
 
 -- the same word is wanted of a `return`
@@ -74,8 +74,8 @@ module _ (f g : List ℕ → ℕ) (here : Here) (depth : ℕ) (F G : (n : Nest) 
     same_closure_param : Alike-form Any (closure_param one) (closure_param two)
     unfolding closure_param
     same_closure_param =
-        same_rule (same_then word_alike (λ _ _ _. same_then (text_alike (codes ":")) (λ _ _ _.
-        same_then (same_type f g here depth F G nests) (λ _ _ _. same_done tt))))
+        same_rule (same_then (same_new_name f g here depth F G) (λ _ _ _.
+        same_then (text_alike (codes ":")) (λ _ _ _. same_then (same_type f g here depth F G nests) (λ _ _ _. same_done tt))))
 
     pub same_closure_params : Alike-form Any (closure_params one) (closure_params two)
     unfolding closure_params
@@ -93,7 +93,7 @@ module _ (f g : List ℕ → ℕ) (here : Here) (depth : ℕ) (F G : (n : Nest) 
     same_signature : Alike-form SignaturesAlike (signature one) (signature two)
     unfolding signature
     same_signature =
-        same_rule (same_then (opened_alike (codes "(") in_closure_params tt) (λ _ _ _.
+        same_rule (same_then (opened_alike (codes "(") (in_closure_params here) tt) (λ _ _ _.
         same_then same_result_if (λ _ _ is. same_done is)))
 
     same_signature_if : Alike-form SignaturesAlike (signature_if one) (signature_if two)

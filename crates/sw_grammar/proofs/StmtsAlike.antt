@@ -1,8 +1,7 @@
 -- Which tokens a statement has doesn't depend on the indices of names.
-use Rattle.std.proofs.Common.{◌≡◌, ℕ, Bool, true, false, not, List, [], codes, refl, sym}
+use Rattle.std.proofs.Common.{◌≡◌, ℕ, Bool, true, false, not, List, [], ◌∷◌, ◌++◌, codes, refl, sym}
 use Rattle.std.proofs.Common.{ap, ◌∙◌, subst}
 use Rattle.std.specs.Prelude.{Option}
-use Rattle.sw_token.specs.declared.Fixity.TheVariants as fixities
 use Rattle.sw_grammar_forms.specs.Sets.{Set, word}
 use Rattle.sw_grammar_forms.specs.Form.{Shape}
 use Rattle.sw_grammar_forms.specs.Form.Form.{terminal, nest, until}
@@ -10,7 +9,7 @@ use Rattle.sw_grammar_forms.specs.Quotes.{quote}
 use Rattle.sw_grammar_forms.specs.Reader.{Reader}
 use Rattle.sw_grammar_forms.specs.Terminals.{expect, items}
 use Rattle.sw_grammar_forms.proofs.Alike.{Alike, Any, EndAlike, same_done, same_token, same_then}
-use Rattle.sw_grammar_forms.proofs.Alike.{alike_until, same_token_of}
+use Rattle.sw_grammar_forms.proofs.Alike.{alike_until, same_word_that}
 use Rattle.sw_grammar_forms.proofs.Alike.{same_either, same_when, same_turns, same_more_items}
 use Rattle.sw_grammar_forms.proofs.Alike.{same_some_items, same_line_start, same_same_line, same_rule}
 use Rattle.sw_tree.specs.declared.expr.Expr.{Expr}
@@ -18,14 +17,15 @@ use Rattle.sw_tree.specs.declared.stmt.IfArm.{IfArm}
 use Rattle.sw_tree.specs.declared.expr.Expr.TheVariants as exprs
 use Rattle.sw_tree.specs.Place.{is_place, place_steps}
 use Rattle.sw_tree.proofs.FoldEquations.{fold_expr-Me}
-use Rattle.sw_grammar.specs.Around.{Around, Here, around_in, returning}
+use Rattle.sw_grammar.specs.Around.{Around, Here, after_tasks, around_in, returning}
 use Rattle.sw_grammar.specs.Around.{with_break, without_break}
 use Rattle.sw_grammar.specs.Nests.{Nest, El, Form}
 use Rattle.sw_grammar.specs.Nests.Nest.{in_block, in_switch, in_if_let, in_patterns}
 use Rattle.sw_grammar.specs.Tokens.{name_in, value_word, an_assignment, an_equals}
 use Rattle.sw_grammar.specs.Types.{Typed, wanted_of}
+use Rattle.sw_grammar.specs.Words.{declared_as, new_word}
 use Rattle.sw_grammar.specs.Exprs.{expr, more_operands}
-use Rattle.sw_grammar.specs.Stmts.{Arms, arm_at, Binding, Cases, has_next, place_of, word_in, block, value}
+use Rattle.sw_grammar.specs.Stmts.{Arms, arm_at, Binding, Body, Cases, begun, has_next, place_of, block, value}
 use Rattle.sw_grammar.specs.Stmts.{literal_if, typed_binding, after_binding, binding, bind}
 use Rattle.sw_grammar.specs.Stmts.{discard}
 use Rattle.sw_grammar.specs.Stmts.{after_place, word_stmt, self_stmt, task_stmt, plain_stmt}
@@ -33,9 +33,10 @@ use Rattle.sw_grammar.specs.Stmts.{if_let, after_arm, next_arm, last_arm, if_stm
 use Rattle.sw_grammar.specs.Stmts.{switch_stmt, return_stmt, later_arms, if_let_inside}
 use Rattle.sw_grammar.specs.Stmts.{break_stmt, continue_stmt, other_stmt, stmt, statements}
 use Rattle.sw_grammar.specs.Stmts.{closure_inside, task_inside, pattern, patterns_inside, patterns_if, arm_body}
+use Rattle.sw_grammar.specs.Stmts.{async_let, async_part, async_parts}
 use Rattle.sw_grammar.specs.Stmts.{case_part, default_part, switch_inside}
 use Rattle.sw_grammar.proofs.TypesAlike.{NestAlike, OfBody, SameForm, same_quote, same_name}
-use Rattle.sw_grammar.proofs.TypesAlike.{TypesAlike, same_some_of, same_opened}
+use Rattle.sw_grammar.proofs.TypesAlike.{TypesAlike, same_new_name, same_skip, same_some_of, same_opened}
 use Rattle.sw_grammar.proofs.TypesAlike.{same_written_type}
 use Rattle.sw_grammar.proofs.ExprsAlike.{PlacesAlike, same_a_literal, same_after_word}
 use Rattle.sw_grammar.proofs.ExprsAlike.{same_after_operand, same_after_any, same_after_task}
@@ -50,6 +51,10 @@ ArmsAlike a b = has_next a ≡ has_next b
 -- a `;` ends both or none
 abbrev CasesAlike : Cases → Cases → Type 0
 CasesAlike a b = a.1 ≡ b.1
+
+-- a `;` ends both or none, and the same words stand for tasks
+abbrev BodiesAlike : Body → Body → Type 0
+BodiesAlike a b = (a.ended ≡ b.ended) × (a.tasks ≡ b.tasks)
 
 self_place : (at other : ℕ) → PlacesAlike (exprs.Me at) (exprs.Me other)
 unfolding is_place
@@ -72,8 +77,11 @@ module _ (f g : List ℕ → ℕ) (here : Here) (depth : ℕ) (F G : (n : Nest) 
       (terminal (name_in two set (codes "print")))
   word_alike set = same_name f g here depth F G set (codes "print")
 
-  declared_alike : Alike-form Any (terminal (word_in one)) (terminal (word_in two))
-  declared_alike = same_token_of word (codes "print") fixities.None _ _
+  -- the same word is declared
+  declared_alike : Alike-form (λ a b. a.text ≡ b.text) (new_word one) (new_word two)
+  declared_alike =
+      same_word_that (λ a b. a.text ≡ b.text) here.tasks (declared_as one) (declared_as two)
+      (λ _. refl)
 
   same_break : Alike-form Any (break_stmt one) (break_stmt two)
   unfolding break_stmt
@@ -87,8 +95,8 @@ module _ (f g : List ℕ → ℕ) (here : Here) (depth : ℕ) (F G : (n : Nest) 
   unfolding pattern
   same_pattern =
       same_rule (same_either (same_then (text_alike (codes "_")) (λ _ _ _. same_done tt))
-      (same_then (text_alike (codes "let")) (λ _ _ _. same_then (word_alike word)
-      (λ _ _ _. same_done tt))))
+      (same_then (text_alike (codes "let")) (λ _ _ _.
+      same_then (same_new_name f g here depth F G) (λ _ _ _. same_done tt))))
 
   pub same_patterns_inside : Alike-form Any (patterns_inside one) (patterns_inside two)
   unfolding patterns_inside
@@ -284,45 +292,110 @@ module _ (f g : List ℕ → ℕ) (here : Here) (depth : ℕ) (F G : (n : Nest) 
     same_items : Alike-form EndAlike (items (stmt one)) (items (stmt two))
     same_items = same_more_items refl same_stmt
 
-    pub same_statements : Alike-form Any (statements one) (statements two)
-    unfolding statements
-    same_statements =
-        same_rule (same_then same_items (λ _ _ _. same_then (text_alike (codes "}"))
-        (λ _ _ _. same_done tt)))
-
     same_patterns_if : Alike-form Any (patterns_if one) (patterns_if two)
     unfolding patterns_if
     same_patterns_if =
-        same_rule (same_either (same_then (opened_alike (codes "(") in_patterns tt)
+        same_rule (same_either (same_then (opened_alike (codes "(") (in_patterns here) tt)
         (λ _ _ _. same_done tt)) (same_done tt))
 
-    same_arm_body : Alike-form EndAlike (arm_body one) (arm_body two)
-    unfolding arm_body
-    same_arm_body = same_rule (same_then (same_some_items same_stmt) (λ _ _ is. same_done is))
+-- Blocks: after each `async let` the words are the same.
+module _ (f g : List ℕ → ℕ) (here : Here) (depth : ℕ) (F G : (n : Nest) → Reader (El n))
+    (nests : (n : Nest) → OfBody n → Alike (NestAlike n) (F n) (G n)) where
+  -- a statement after `async let`s
+  stmt_alike : (v w : List (List ℕ)) → v ≡ w → SameForm depth F G Any
+      (stmt (after_tasks (around_in f here) v)) (stmt (after_tasks (around_in g here) w))
+  stmt_alike v w same =
+      subst (λ x. SameForm depth F G Any (stmt (after_tasks (around_in f here) v))
+      (stmt (after_tasks (around_in g here) x))) same
+      (same_stmt f g (after_tasks (around_in f here) v).here depth F G nests)
 
-    same_case_part : (cases others : Cases)
-        → Alike-form CasesAlike (case_part one cases) (case_part two others)
-    unfolding case_part
-    same_case_part cases others =
-        same_rule (same_then (text_alike (codes "case")) (λ _ _ _.
-        same_then (text_alike (codes ".")) (λ _ _ _. same_then (word_alike word) (λ _ _ _.
-        same_then same_patterns_if (λ _ _ _. same_then (text_alike (codes ":")) (λ _ _ _.
-        same_then same_arm_body (λ _ _ is. same_done is)))))))
+  same_async_let : SameForm depth F G (λ a b. a.text ≡ b.text) (async_let (around_in f here))
+      (async_let (around_in g here))
+  unfolding async_let
+  same_async_let =
+      same_rule (same_then (same_quote f g here depth F G (codes "async")) (λ _ _ _.
+      same_then (same_quote f g here depth F G (codes "let")) (λ _ _ _.
+      same_then (declared_alike f g here depth F G) (λ _ _ text.
+      same_then (same_token an_equals) (λ _ _ _.
+      same_then (same_expr f g here depth F G nests true) (λ _ _ _. same_done text))))))
 
-    same_default_part : Alike-form Any (default_part one) (default_part two)
-    unfolding default_part
-    same_default_part =
-        same_rule (same_then (text_alike (codes "default")) (λ _ _ _.
-        same_then (text_alike (codes ":")) (λ _ _ _.
-        same_then same_arm_body (λ _ _ _. same_done tt))))
+  same_async_part : SameForm depth F G BodiesAlike (async_part (around_in f here))
+      (async_part (around_in g here))
+  unfolding async_part
+  same_async_part =
+      same_rule (same_then same_async_let (λ a b text.
+      same_then (same_skip f g here depth F G (codes ";")) (λ _ _ ended.
+      let tasks = ap (λ x. here.tasks ++ x ∷ []) text in
+      same_then (same_more_items ended (stmt_alike (here.tasks ++ a.text ∷ [])
+      (here.tasks ++ b.text ∷ []) tasks)) (λ _ _ is. same_done (is, tasks)))))
 
-    pub same_switch_inside : Alike-form Any (switch_inside one) (switch_inside two)
-    unfolding switch_inside
-    same_switch_inside =
-        same_rule (same_then (same_turns CasesAlike (λ _ _ _. refl) refl (λ a b is.
-        same_line_start (ap not is) (same_case_part a b))) (λ _ _ is.
-        same_then (same_either (same_line_start (ap not is) same_default_part) (same_done tt))
-        (λ _ _ _. same_then (text_alike (codes "}")) (λ _ _ _. same_done tt))))
+-- The blocks.
+module _ (f g : List ℕ → ℕ) (here : Here) (depth : ℕ) (F G : (n : Nest) → Reader (El n))
+    (nests : (n : Nest) → OfBody n → Alike (NestAlike n) (F n) (G n)) where
+  abbrev first : Around
+  first = around_in f here
+
+  abbrev second : Around
+  second = around_in g here
+
+  text_same : (text : List ℕ) → SameForm depth F G Any (expect text) (expect text)
+  text_same text = same_quote f g here depth F G text
+
+  -- an `async let` after others
+  part_alike : (v w : List (List ℕ)) → v ≡ w → SameForm depth F G BodiesAlike
+      (async_part (after_tasks first v)) (async_part (after_tasks second w))
+  part_alike v w same =
+      subst (λ x. SameForm depth F G BodiesAlike (async_part (after_tasks first v))
+      (async_part (after_tasks second x))) same
+      (same_async_part f g (after_tasks first v).here depth F G nests)
+
+  same_async_parts : (a b : Body) → BodiesAlike a b
+      → SameForm depth F G BodiesAlike (async_parts first a) (async_parts second b)
+  unfolding async_parts
+  same_async_parts a b alike =
+      same_rule (same_turns BodiesAlike (λ _ _ _. refl) alike (λ c d is.
+      same_then (same_line_start (ap not is.0) (part_alike c.tasks d.tasks is.1)) (λ _ _ next.
+      same_done next)))
+
+  pub same_statements : SameForm depth F G Any (statements first) (statements second)
+  unfolding statements
+  same_statements =
+      same_rule (same_then (same_items f g here depth F G nests) (λ a b is.
+      same_then (same_async_parts (begun first a) (begun second b) (is, refl)) (λ _ _ _.
+      same_then (text_same (codes "}")) (λ _ _ _. same_done tt))))
+
+  same_arm_body : SameForm depth F G BodiesAlike (arm_body first) (arm_body second)
+  unfolding arm_body
+  same_arm_body =
+      same_rule (same_then (same_either (same_then
+      (same_some_items (same_stmt f g here depth F G nests))
+      (λ _ _ is. same_done (is, refl)))
+      (same_async_part f g here depth F G nests))
+      (λ a b is. same_async_parts a b is))
+
+  same_case_part : (cases others : Cases)
+      → SameForm depth F G CasesAlike (case_part first cases) (case_part second others)
+  unfolding case_part
+  same_case_part cases others =
+      same_rule (same_then (text_same (codes "case")) (λ _ _ _.
+      same_then (text_same (codes ".")) (λ _ _ _. same_then (same_name f g here depth F G word (codes "print")) (λ _ _ _.
+      same_then (same_patterns_if f g here depth F G nests) (λ _ _ _. same_then (text_same (codes ":")) (λ _ _ _.
+      same_then same_arm_body (λ _ _ is. same_done is.0)))))))
+
+  same_default_part : SameForm depth F G Any (default_part first) (default_part second)
+  unfolding default_part
+  same_default_part =
+      same_rule (same_then (text_same (codes "default")) (λ _ _ _.
+      same_then (text_same (codes ":")) (λ _ _ _.
+      same_then same_arm_body (λ _ _ _. same_done tt))))
+
+  pub same_switch_inside : SameForm depth F G Any (switch_inside first) (switch_inside second)
+  unfolding switch_inside
+  same_switch_inside =
+      same_rule (same_then (same_turns CasesAlike (λ _ _ _. refl) refl (λ a b is.
+      same_line_start (ap not is) (same_case_part a b))) (λ _ _ is.
+      same_then (same_either (same_line_start (ap not is) same_default_part) (same_done tt))
+      (λ _ _ _. same_then (text_same (codes "}")) (λ _ _ _. same_done tt))))
 
 -- What stands in an `if` after the `let` of an arm.
 module _ (f g : List ℕ → ℕ) (here : Here) (depth : ℕ) (F G : (n : Nest) → Reader (El n))
@@ -347,7 +420,7 @@ module _ (f g : List ℕ → ℕ) (here : Here) (depth : ℕ) (F G : (n : Nest) 
       (if_let_inside (around_in g here))
   unfolding if_let_inside
   same_if_let_inside =
-      same_rule (same_then (same_name f g here depth F G word (codes "print")) (λ _ _ _.
+      same_rule (same_then (same_new_name f g here depth F G) (λ _ _ _.
       same_then (same_token an_equals) (λ _ _ _.
       same_then (same_expr f g here depth F G nests false) (λ _ _ _.
       same_then block_alike (λ _ _ _. same_then same_later_arms (λ _ _ _. same_done tt))))))

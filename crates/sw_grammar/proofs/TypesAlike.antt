@@ -9,7 +9,7 @@ use Rattle.sw_grammar_forms.specs.Quotes.{quote}
 use Rattle.sw_grammar_forms.specs.Reader.{Reader}
 use Rattle.sw_grammar_forms.specs.Terminals.{expect, skip}
 use Rattle.sw_grammar_forms.proofs.Alike.{Alike, Any, Same, same_done, same_token, same_token_of}
-use Rattle.sw_grammar_forms.proofs.Alike.{same_token_that}
+use Rattle.sw_grammar_forms.proofs.Alike.{same_token_that, same_word_but}
 use Rattle.sw_grammar_forms.proofs.Alike.{same_then, same_either, same_unless, same_turns, same_nest}
 use Rattle.sw_grammar_forms.proofs.Alike.{same_rule}
 use Rattle.sw_tree.specs.declared.expr.Expr.{Expr}
@@ -23,6 +23,7 @@ use Rattle.sw_grammar.specs.Nests.Nest.{in_closure_params, in_closure, in_task, 
 use Rattle.sw_grammar.specs.Nests.Nest.{in_if_let, in_patterns, in_params, in_isolation, in_entry}
 use Rattle.sw_grammar.specs.Nests.Nest.{in_global_actor, in_struct, in_enum, in_class}
 use Rattle.sw_grammar.specs.Tokens.{name_in, at_in, name_of, at_name, value_word}
+use Rattle.sw_grammar.specs.Words.{new_name}
 use Rattle.sw_grammar.specs.Exprs.{with_members}
 use Rattle.sw_grammar.specs.Types.{Typed, TypeWord, named, wanted_of, type_word_of, type_word}
 use Rattle.sw_grammar.specs.Types.{is_empty, round_type, marked_type, task_type, named_type}
@@ -46,13 +47,13 @@ NestAlike (in_args here) a b = Unit {0}
 NestAlike (in_member here) a b = LinksAlike a b
 NestAlike in_empty a b = Unit {0}
 NestAlike in_captures a b = Unit {0}
-NestAlike in_closure_params a b = Unit {0}
+NestAlike (in_closure_params here) a b = Unit {0}
 NestAlike (in_closure here) a b = Unit {0}
 NestAlike (in_task here) a b = Unit {0}
 NestAlike (in_block here) a b = Unit {0}
 NestAlike (in_switch here) a b = Unit {0}
 NestAlike (in_if_let here) a b = Unit {0}
-NestAlike in_patterns a b = Unit {0}
+NestAlike (in_patterns here) a b = Unit {0}
 NestAlike in_params a b = Unit {0}
 NestAlike in_isolation a b = Unit {0}
 NestAlike in_entry a b = Unit {0}
@@ -72,13 +73,13 @@ OfBody (in_args here) = Unit {0}
 OfBody (in_member here) = Unit {0}
 OfBody in_empty = Unit {0}
 OfBody in_captures = Unit {0}
-OfBody in_closure_params = Unit {0}
+OfBody (in_closure_params here) = Unit {0}
 OfBody (in_closure here) = Unit {0}
 OfBody (in_task here) = Unit {0}
 OfBody (in_block here) = Unit {0}
 OfBody (in_switch here) = Unit {0}
 OfBody (in_if_let here) = Unit {0}
-OfBody in_patterns = Unit {0}
+OfBody (in_patterns here) = Unit {0}
 OfBody in_params = ⊥
 OfBody in_isolation = ⊥
 OfBody in_entry = ⊥
@@ -125,6 +126,9 @@ module _ (f g : List ℕ → ℕ) (here : Here) (depth : ℕ) (F G : (n : Nest) 
   pub same_name : (set : Set) (text : List ℕ)
       → Alike-form Any (terminal (name_in one set text)) (terminal (name_in two set text))
   same_name set text = same_token_of set text fixities.None (name_of f) (name_of g)
+
+  pub same_new_name : Alike-form Any (new_name one) (new_name two)
+  same_new_name = same_word_but here.tasks (name_of f) (name_of g)
 
   pub same_at : (set : Set) (text : List ℕ)
       → Alike-form Any (terminal (at_in one set text)) (terminal (at_in two set text))

@@ -1,5 +1,6 @@
 -- What a rule knows of what stands around it, whatever it reads itself.
-use Rattle.std.specs.Prelude.{ℕ, Bool, true, false, nat_lt, if◌then◌else◌, List, length, Option, None}
+use Rattle.std.specs.Prelude.{ℕ, Bool, true, false, nat_lt, if◌then◌else◌, List, [], length, map}
+use Rattle.std.specs.Prelude.{Option, None}
 use Rattle.sw_tree.specs.Names.{id_in}
 
 -- the part that a nest passes on to what stands in it
@@ -8,6 +9,8 @@ pub record Here : Type 0 where
   pub wanted : Option (List ℕ)
   -- whether a `break` would leave an `if let`, which is none that it may leave
   pub no_break : Bool
+  -- the words of the `async let`s after which it stands, in their order
+  pub tasks : List (List ℕ)
 
 pub record Around : Type 0 where
   -- the index of a text among the texts of names
@@ -19,7 +22,7 @@ around_in id_of here = record { id_of = id_of; here = here }
 
 -- around which nothing stands
 abbrev pub nowhere : Here
-nowhere = record { wanted = None; no_break = false }
+nowhere = record { wanted = None; no_break = false; tasks = [] }
 
 -- what a rule knows around which nothing stands
 abbrev pub outermost : (List ℕ → ℕ) → Around
@@ -37,6 +40,14 @@ without_break around = record around { here = record around.here { no_break = tr
 -- the same in a statement that a `break` may leave
 abbrev pub with_break : Around → Around
 with_break around = record around { here = record around.here { no_break = false } }
+
+-- the same after the `async let`s of these words
+abbrev pub after_tasks : Around → List (List ℕ) → Around
+after_tasks around tasks = record around { here = record around.here { tasks = tasks } }
+
+-- the ids of the words that stand for tasks
+abbrev pub task_ids : Around → List ℕ
+task_ids around = map around.id_of around.here.tasks
 
 -- the index of a text among the texts of names, or the first where it isn't there: so the name that
 -- a rule makes has a text, whatever stands in the text

@@ -13,6 +13,7 @@ use Rattle.sw_grammar.specs.Tokens.{at_word, type_ext, name_in, at_in}
 use Rattle.sw_grammar.specs.Nests.{in_captures, in_closure_params, in_empty, shape_of, Form}
 use Rattle.sw_grammar.specs.Nests.{ClosureInside}
 use Rattle.sw_grammar.specs.Types.{Typed, tree_of, written_type, type, some_of, list_of}
+use Rattle.sw_grammar.specs.Words.{new_name}
 use Rattle.sw_grammar.specs.Exprs.{loose}
 
 -- what a closure has before its statements
@@ -68,12 +69,12 @@ module _ (around : Around) where
   -- Word ":" type
   unfoldable pub closure_param : Form (solid word type_ext 0) ClosureParam
   closure_param = shaped _ (do
-    name ← terminal (name_in around word (codes "print"))
+    name ← new_name around
     _ ← expect (codes ":")
     written ← type around
     done (record { name = name; ty = written }))
 
-  unfoldable pub closure_params : Form (shape_of in_closure_params) (List ClosureParam)
+  unfoldable pub closure_params : Form (shape_of (in_closure_params around.here)) (List ClosureParam)
   closure_params = shaped _ (list_of around (codes ")") closure_param)
 
   -- ["->" type]
@@ -87,7 +88,7 @@ module _ (around : Around) where
   -- "(" parameters ")" ["->" type]
   unfoldable pub signature : Form (solid (quoted (codes "(")) signature_ext 1) Signature
   signature = shaped _ (do
-    params ← nest (quote (codes "(")) in_closure_params
+    params ← nest (quote (codes "(")) (in_closure_params around.here)
     result ← result_if
     done (params.1, result))
 

@@ -1,5 +1,6 @@
 -- Expressions. Where closures stand outside brackets is said by `closures`: not in a condition.
-use Rattle.std.specs.Prelude.{ℕ, Bool, true, false, Option, Some, None, List, [], ◌∷◌, ◌++◌, codes}
+use Rattle.std.specs.Prelude.{ℕ, suc, Bool, true, false, Option, Some, None, List, [], ◌∷◌, ◌++◌}
+use Rattle.std.specs.Prelude.{codes}
 use Rattle.sw_grammar_forms.specs.Sets.{Set, quoted, word, not_first}
 use Rattle.sw_grammar_forms.specs.Form.{Shape, solid}
 use Rattle.sw_grammar_forms.specs.Form.Form.{done, terminal, either, when, nest, turns, shaped}
@@ -13,7 +14,8 @@ use Rattle.sw_tree.specs.declared.expr.Arg.{Arg, roll-Arg}
 use Rattle.sw_tree.specs.declared.expr.Link.{Link as Operand, roll-Link}
 use Rattle.sw_tree.specs.declared.expr.Closure.{Closure, roll-Closure}
 use Rattle.sw_tree.specs.declared.stmt.Block.{roll-Block}
-use Rattle.sw_grammar.specs.Around.{Around}
+use Rattle.sw_sugar.specs.Tasks.{of_task}
+use Rattle.sw_grammar.specs.Around.{Around, task_ids}
 use Rattle.sw_grammar.specs.Tokens.{value_word, literal_first, expr_first, expr_ext, postfix_ext}
 use Rattle.sw_grammar.specs.Tokens.{times, plus, compares, infix_op, prefix_ops, infix_in, a_prefix}
 use Rattle.sw_grammar.specs.Tokens.{name_in}
@@ -258,13 +260,13 @@ module _ (around : Around) where
     conjunction ← more_and closures comparison
     more_or closures conjunction)
 
-  -- "await" or
+  -- "await" or. Of a word that stands for a task it awaits the task's value.
   unfoldable pub awaited : Bool → Form (solid (quoted (codes "await")) expr_ext 0) Expr
   awaited closures = shaped _ (do
     at ← expect (codes "await")
     first ← unary closures
     inner ← more_operands closures first
-    done (exprs.Await at inner))
+    done (exprs.Await at (of_task (task_ids around) (suc at) inner)))
 
   -- ["await"] or
   unfoldable pub expr : Bool → Form (solid expr_first expr_ext 0) Expr

@@ -2,6 +2,7 @@ pub mod Around
 pub mod Tokens
 pub mod Nests
 pub mod Types
+pub mod Words
 pub mod Exprs
 pub mod Closures
 pub mod Values

@@ -19,7 +19,7 @@ use Rattle.sw_tree.specs.declared.decl.InitTree.{InitTree}
 use Rattle.sw_tree.specs.declared.decl.FuncTree.{FuncTree}
 use Rattle.sw_tree.specs.declared.decl.CaseTree.{CaseTree}
 use Rattle.sw_grammar.specs.Around.{Here}
-use Rattle.sw_grammar.specs.Tokens.{type_first, type_ext, expr_first, stmt_first, postfix_ext}
+use Rattle.sw_grammar.specs.Tokens.{type_first, type_ext, expr_first, item_first, postfix_ext}
 use Rattle.sw_grammar.specs.Tokens.{at_word, binding_first}
 
 pub data Nest : Type 0 where
@@ -42,7 +42,7 @@ pub data Nest : Type 0 where
   -- after `[`: the words of a capture list and `]`
   in_captures : Nest
   -- after `(` of a closure: its parameters and `)`
-  in_closure_params : Nest
+  in_closure_params : Here → Nest
   -- after `{` of a closure, or of a task
   in_closure : Here → Nest
   in_task : Here → Nest
@@ -53,7 +53,7 @@ pub data Nest : Type 0 where
   -- after the `let` of an `if`: its word and value, its block, and all later arms of the `if`
   in_if_let : Here → Nest
   -- after the `(` of a `case`: patterns and `)`
-  in_patterns : Nest
+  in_patterns : Here → Nest
   -- after `(` of a function: its parameters and `)`
   in_params : Nest
   -- after `(` of `nonisolated`: `nonsending )`
@@ -109,13 +109,13 @@ El (in_args here) = List Arg
 El (in_member here) = List Link
 El in_empty = ℕ
 El in_captures = List Name
-El in_closure_params = List ClosureParam
+El (in_closure_params here) = List ClosureParam
 El (in_closure here) = ClosureInside
 El (in_task here) = ClosureInside
 El (in_block here) = List Stmt
 El (in_switch here) = List CaseArm × Option Block
 El (in_if_let here) = IfLet
-El in_patterns = List Pattern
+El (in_patterns here) = List Pattern
 El in_params = List ParamTree
 El in_isolation = ℕ
 El in_entry = Main
@@ -142,15 +142,15 @@ shape_of (in_args here) = closed_by (codes ")") expr_first
 shape_of (in_member here) = solid word postfix_ext 0
 shape_of in_empty = solid (quoted (codes ")")) [] 0
 shape_of in_captures = solid word [] 0
-shape_of in_closure_params = closed_by (codes ")") word
+shape_of (in_closure_params here) = closed_by (codes ")") word
 shape_of (in_closure here) =
-    solid (one_of (codes "}" ∷ codes "@Sendable" ∷ codes "[" ∷ codes "(" ∷ []) ++ stmt_first) [] 0
+    solid (one_of (codes "}" ∷ codes "@Sendable" ∷ codes "[" ∷ codes "(" ∷ []) ++ item_first) [] 0
 shape_of (in_task here) =
-    solid (at_word ++ one_of (codes "}" ∷ codes "[" ∷ codes "(" ∷ []) ++ stmt_first) [] 0
-shape_of (in_block here) = closed_by (codes "}") stmt_first
+    solid (at_word ++ one_of (codes "}" ∷ codes "[" ∷ codes "(" ∷ []) ++ item_first) [] 0
+shape_of (in_block here) = closed_by (codes "}") item_first
 shape_of (in_switch here) = solid (one_of (codes "case" ∷ codes "default" ∷ codes "}" ∷ [])) [] 0
 shape_of (in_if_let here) = solid word (quoted (codes "else")) 1
-shape_of in_patterns = solid (one_of (codes "_" ∷ codes "let" ∷ [])) [] 0
+shape_of (in_patterns here) = solid (one_of (codes "_" ∷ codes "let" ∷ [])) [] 0
 shape_of in_params = closed_by (codes ")") (word ++ quoted (codes "_"))
 shape_of in_isolation = solid (quoted (codes "nonsending")) [] 0
 shape_of in_entry = solid (at_word ++ one_of (codes "nonisolated" ∷ codes "static" ∷ [])) [] 1

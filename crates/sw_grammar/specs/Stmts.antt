@@ -1,12 +1,11 @@
 -- Statements.
-use Rattle.std.specs.Prelude.{ℕ, Bool, true, false, not, Option, Some, None, List, [], ◌∷◌, ◌++◌}
+use Rattle.std.specs.Prelude.{ℕ, suc, Bool, true, false, not, Option, Some, None, List, [], ◌∷◌, ◌++◌}
 use Rattle.std.specs.Prelude.{flat_map, codes}
-use Rattle.sw_token.specs.declared.Fixity.TheVariants as fixities
 use Rattle.sw_grammar_forms.specs.Sets.{Set, quoted, one_of, word, not_first}
-use Rattle.sw_grammar_forms.specs.Form.{Terminal, solid}
+use Rattle.sw_grammar_forms.specs.Form.{solid}
 use Rattle.sw_grammar_forms.specs.Form.Form.{done, terminal, either, when, nest, turns, until}
-use Rattle.sw_grammar_forms.specs.Form.Form.{line_start, same_line, some_items, shaped}
-use Rattle.sw_grammar_forms.specs.Terminals.{◌>>=◌, expect, items}
+use Rattle.sw_grammar_forms.specs.Form.Form.{line_start, same_line, more_items, some_items, shaped}
+use Rattle.sw_grammar_forms.specs.Terminals.{◌>>=◌, expect, skip, items}
 use Rattle.sw_grammar_forms.specs.Quotes.{quote}
 use Rattle.sw_tree.specs.Place.{is_place}
 use Rattle.sw_tree.specs.declared.name.Name.{Name}
@@ -20,16 +19,20 @@ use Rattle.sw_tree.specs.declared.stmt.IfArm.{IfArm, roll-IfArm}
 use Rattle.sw_tree.specs.declared.stmt.CaseArm.{CaseArm, roll-CaseArm}
 use Rattle.sw_tree.specs.declared.stmt.Pattern.{Pattern}
 use Rattle.sw_tree.specs.declared.stmt.Pattern.TheVariants as patterns
+use Rattle.sw_sugar.specs.AsyncLet.{task_bind}
 use Rattle.sw_sugar.specs.Calls.{or_literal_form}
 use Rattle.sw_sugar.specs.Optionals.{if_let_tree, or_literal_stmts}
-use Rattle.sw_grammar.specs.Around.{Around, returning, with_break, without_break}
+use Rattle.sw_sugar.specs.Tasks.{of_task}
+use Rattle.sw_grammar.specs.Around.{Around, after_tasks, returning, task_ids, with_break}
+use Rattle.sw_grammar.specs.Around.{without_break}
 use Rattle.sw_grammar.specs.Tokens.{value_word, type_ext, plain_first, expr_first, expr_ext}
-use Rattle.sw_grammar.specs.Tokens.{value_first, value_ext, bind_ext, stmt_first, stmt_ext}
+use Rattle.sw_grammar.specs.Tokens.{value_first, value_ext, bind_ext, stmt_first, stmt_ext, item_first}
 use Rattle.sw_grammar.specs.Tokens.{assign_ops, an_assignment, an_equals, infix_op, binding_first}
-use Rattle.sw_grammar.specs.Tokens.{name_in, name_of}
+use Rattle.sw_grammar.specs.Tokens.{name_in}
 use Rattle.sw_grammar.specs.Nests.{in_block, in_switch, in_if_let, in_patterns, in_closure, in_task}
 use Rattle.sw_grammar.specs.Nests.{shape_of, Form, ClosureInside, IfLet}
 use Rattle.sw_grammar.specs.Types.{Typed, wanted_of, written_type, some_of}
+use Rattle.sw_grammar.specs.Words.{DeclaredWord, new_name, new_word}
 use Rattle.sw_grammar.specs.Exprs.{loose, operators, after_word, after_operand, after_task}
 use Rattle.sw_grammar.specs.Exprs.{a_literal, negated, more_operands, awaited, expr}
 use Rattle.sw_grammar.specs.Values.{value_in}
@@ -56,8 +59,12 @@ other_stmt_first =
     ++ one_of (codes "_" ∷ codes "if" ∷ codes "while" ∷ codes "switch" ∷ codes "return"
     ∷ codes "break" ∷ codes "continue" ∷ [])
 
+-- statements, where they could end
+abbrev pub items_ext : Set
+items_ext = stmt_ext ++ quoted (codes ";") ++ stmt_first
+
 abbrev pub arm_ext : Set
-arm_ext = stmt_ext ++ quoted (codes ";") ++ stmt_first
+arm_ext = items_ext ++ quoted (codes "async")
 
 -- what comes after the arms of an `if` that are read
 pub data Next : Type 0 where
@@ -100,11 +107,6 @@ if_with arms (other_block body) = stmts.If arms (Some body)
 abbrev pub if_of : Arms → Stmt
 if_of arms = if_with arms.arms arms.next
 
--- a word that is declared, and its text
-pub record DeclaredWord : Type 0 where
-  pub name : Name
-  pub text : List ℕ
-
 -- `let` or `var` and its word
 pub record Binding : Type 0 where
   pub mutable : Bool
@@ -116,19 +118,23 @@ pub record Or : Type 0 where
   pub op_at : ℕ
   pub other : Expr
 
+-- What is read of a block: its statements so far, whether a `;` ends the last, and the words of the
+-- `async let`s that what comes next stands after.
+pub record Body : Type 0 where
+  pub stmts : List Stmt
+  pub ended : Bool
+  pub tasks : List (List ℕ)
+
+-- the variable of an `async let`, and the text of its word
+pub record Task : Type 0 where
+  pub stmt : Stmt
+  pub text : List ℕ
+
 -- the arms read so far, and whether a `;` ends the last statement
 abbrev pub Cases : Type 0
 Cases = List CaseArm × Bool
 
 module _ (around : Around) where
-  abbrev pub word_in : Terminal DeclaredWord
-  word_in = record {
-    set = word;
-    value = λ token. record { name = name_of around.id_of token; text = token.text };
-    text = codes "print";
-    fixity = fixities.None;
-  }
-
   -- the statements of a variable with a type
   abbrev pub bound : Binding → ℕ → TypeTree → ℕ → Expr → Option Or → List Stmt
   bound binding colon_at ty eq_at value None =
@@ -194,7 +200,7 @@ module _ (around : Around) where
   -- a word and what comes after it, after "let" or "var"
   unfoldable pub binding : Bool → ℕ → Form (solid word bind_ext 0) (List Stmt)
   binding mutable let_at = shaped _ (do
-    word ← terminal word_in
+    word ← new_word around
     after_binding (record { mutable = mutable; let_at = let_at; word = word }))
 
   unfoldable pub bind : Form (solid binding_first bind_ext 0) (List Stmt)
@@ -339,56 +345,100 @@ module _ (around : Around) where
     other ← other_stmt
     done (other ∷ [])))
 
-  -- { stmt } "}"
-  unfoldable pub statements : Form (solid (quoted (codes "}") ++ stmt_first) [] 0) (List Stmt)
-  statements = shaped _ (do
-    read ← items stmt
-    _ ← expect (codes "}")
-    done (joined read.0))
-
   -- "_" | "let" Word
   unfoldable pub pattern : Form (solid (one_of (codes "_" ∷ codes "let" ∷ [])) [] 0) Pattern
   pattern = shaped _ (either (do
     at ← expect (codes "_")
     done (patterns.Skip at)) (do
       _ ← expect (codes "let")
-      name ← terminal (name_in around word (codes "print"))
+      name ← new_name around
       done (patterns.Let name)))
 
   -- pat {"," pat} ")"
-  unfoldable pub patterns_inside : Form (shape_of in_patterns) (List Pattern)
+  unfoldable pub patterns_inside : Form (shape_of (in_patterns around.here)) (List Pattern)
   patterns_inside = shaped _ (some_of around (codes ")") pattern)
 
   -- ["(" pat {"," pat} ")"]
   unfoldable pub patterns_if : Form (loose (quoted (codes "(")) (quoted (codes "("))) (List Pattern)
   patterns_if = shaped _ (either (do
-    inside ← nest (quote (codes "(")) in_patterns
+    inside ← nest (quote (codes "(")) (in_patterns around.here)
     done inside.1) (done []))
 
-  -- stmt {stmt} of an arm, and whether a `;` ends the last
-  unfoldable pub arm_body : Form (solid stmt_first arm_ext 0) (List Stmt × Bool)
-  arm_body = shaped _ (do
-    read ← some_items stmt
-    done (joined read.0, read.1))
+-- Blocks. After an `async let` its word stands for a task.
+module _ (around : Around) where
+  -- the statements at the beginning of a block
+  abbrev pub begun : List (List Stmt) × Bool → Body
+  begun read = record { stmts = joined read.0; ended = read.1; tasks = around.here.tasks }
 
-  -- "case" "." Word [..] ":" stmt {stmt}
+  -- the variable of an `async let`, with the places of `async` and `=`
+  abbrev pub task_of : ℕ → Name → ℕ → Expr → Stmt
+  task_of at name eq_at value =
+      task_bind at name eq_at (of_task (task_ids around) (suc (suc at)) value)
+
+  -- "async" "let" Word "=" expr
+  unfoldable pub async_let : Form (solid (quoted (codes "async")) expr_ext 0) Task
+  async_let = shaped _ (do
+    at ← expect (codes "async")
+    _ ← expect (codes "let")
+    word ← new_word around
+    eq_at ← terminal an_equals
+    given ← expr around true
+    done (record { stmt = task_of at word.name eq_at given; text = word.text }))
+
+  -- the same [";"], and the statements after it
+  unfoldable pub async_part : Form (solid (quoted (codes "async")) items_ext 0) Body
+  async_part = shaped _ (do
+    task ← async_let
+    ended ← skip (codes ";")
+    more ← more_items ([], ended) (stmt (after_tasks around (around.here.tasks ++ task.text ∷ [])))
+    done (record {
+      stmts = task.stmt ∷ joined more.0;
+      ended = more.1;
+      tasks = around.here.tasks ++ task.text ∷ [];
+    }))
+
+-- Each `async let` of a block stands after those before it.
+module _ (around : Around) where
+  -- any number of these, after the statements at the beginning
+  unfoldable pub async_parts : Body → Form (loose (quoted (codes "async")) arm_ext) Body
+  async_parts first = shaped _ (turns (λ _. true) first (λ body. do
+    part ← line_start (not body.ended) (async_part (after_tasks around body.tasks))
+    done (record part { stmts = body.stmts ++ part.stmts })))
+
+  -- { stmt | "async" "let" Word "=" expr } "}"
+  unfoldable pub statements : Form (solid (quoted (codes "}") ++ item_first) [] 0) (List Stmt)
+  statements = shaped _ (do
+    read ← items (stmt around)
+    body ← async_parts (begun around read)
+    _ ← expect (codes "}")
+    done body.stmts)
+
+  -- the same of an arm, one at least
+  unfoldable pub arm_body : Form (solid item_first arm_ext 0) Body
+  arm_body = shaped _ (do
+    first ← either (do
+      read ← some_items (stmt around)
+      done (begun around read)) (async_part around)
+    async_parts first)
+
+  -- "case" "." Word [..] ":" and what it does
   unfoldable pub case_part : Cases → Form (solid (quoted (codes "case")) arm_ext 0) Cases
   case_part cases = shaped _ (do
     _ ← expect (codes "case")
     _ ← expect (codes ".")
     name ← terminal (name_in around word (codes "print"))
-    pats ← patterns_if
+    pats ← patterns_if around
     _ ← expect (codes ":")
     body ← arm_body
-    done (cases.0 ++ case_arm name pats body.0 ∷ [], body.1))
+    done (cases.0 ++ case_arm name pats body.stmts ∷ [], body.ended))
 
-  -- "default" ":" stmt {stmt}
+  -- "default" ":" and what it does
   unfoldable pub default_part : Form (solid (quoted (codes "default")) arm_ext 0) (Option Block)
   default_part = shaped _ (do
     _ ← expect (codes "default")
     _ ← expect (codes ":")
     body ← arm_body
-    done (Some (block_of body.0)))
+    done (Some (block_of body.stmts)))
 
   -- {arm} ["default" ..] "}"; each is the first on its line, or follows `;`
   unfoldable pub switch_inside : Form (shape_of (in_switch around.here)) (List CaseArm × Option Block)
@@ -411,7 +461,7 @@ module _ (around : Around) where
   -- Word "=" cond block, and the later arms
   unfoldable pub if_let_inside : Form (shape_of (in_if_let around.here)) IfLet
   if_let_inside = shaped _ (do
-    name ← terminal (name_in around word (codes "print"))
+    name ← new_name around
     _ ← terminal an_equals
     subject ← expr around false
     chosen ← block (without_break around)

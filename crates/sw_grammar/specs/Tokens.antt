@@ -93,6 +93,10 @@ stmt_first =
     ++ one_of (codes "let" ∷ codes "var" ∷ codes "_" ∷ codes "if" ∷ codes "while" ∷ codes "switch"
     ∷ codes "return" ∷ codes "break" ∷ codes "continue" ∷ [])
 
+-- a statement in a block, or an `async let`
+abbrev pub item_first : Set
+item_first = stmt_first ++ quoted (codes "async")
+
 -- What parts go on with where they could end.
 
 abbrev pub type_ext : Set
