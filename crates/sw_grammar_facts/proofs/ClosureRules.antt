@@ -16,7 +16,7 @@ use Rattle.sw_grammar_facts.proofs.Weighing.{Weighing}
 use Rattle.sw_grammar_facts.proofs.NestWeights.{weight, of_typed_if, signed, headed, task_signed}
 use Rattle.sw_grammar_facts.proofs.NestWeights.{task_headed}
 use Rattle.sw_grammar_facts.proofs.TypeRules.{Keeps, own_list_of, own_some_of, own_name, own_mark}
-use Rattle.sw_grammar_facts.proofs.TypeRules.{own_opened, own_type, own_written_type}
+use Rattle.sw_grammar_facts.proofs.TypeRules.{own_new_name, own_opened, own_type, own_written_type}
 use Rattle.sw_grammar_facts.proofs.Unmarked.{fits}
 
 module _ (around : Around) (w : Weighing around.id_of) (table : (n : Nest) → Relation (El n))
@@ -44,7 +44,7 @@ module _ (around : Around) (w : Weighing around.id_of) (table : (n : Nest) → R
   own_closure_param : Keeps w table (closure_param around) none w.closure_param
   unfolding closure_param
   own_closure_param =
-      own_then _ _ (own_name around w table word (codes "print") refl) (λ name. own_past _ (λ _.
+      own_then _ _ (own_new_name around w table) (λ name. own_past _ (λ _.
       own_then _ _ (own_type around w table nests) (λ written. own_done _ (λ k.
       omega (arith, w.closure_param-is (record { name = name; ty = written }) k)))))
 
@@ -62,7 +62,7 @@ module _ (around : Around) (w : Weighing around.id_of) (table : (n : Nest) → R
   own_signature : Keeps w table (signature around) none (signed w)
   unfolding signature
   own_signature =
-      own_then _ _ (own_opened w table nests (codes "(") refl in_closure_params refl) (λ params.
+      own_then _ _ (own_opened w table nests (codes "(") refl (in_closure_params around.here) refl) (λ params.
       own_then _ _ own_result_if (λ result. own_done _ (λ k. omega arith)))
 
   own_signature_if : Keeps w table (signature_if around) none (signed w)

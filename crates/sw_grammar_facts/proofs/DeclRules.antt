@@ -11,7 +11,7 @@ use Rattle.sw_tree.specs.declared.decl.PropTree.{PropTree}
 use Rattle.sw_tree.specs.declared.decl.Written.{Written}
 use Rattle.sw_tree.specs.declared.decl.Written.TheVariants as writtens
 use Rattle.sw_grammar_facts.proofs.Owning.{none, Owns, own_done, own_token, own_then, own_either}
-use Rattle.sw_grammar_facts.proofs.Owning.{own_anywhere, own_at, own_from, own_items, own_part}
+use Rattle.sw_grammar_facts.proofs.Owning.{own_anywhere, own_at, own_from, own_part}
 use Rattle.sw_grammar_facts.proofs.Owning.{own_past, own_past_at, own_with, in_turn, part_of_less}
 use Rattle.sw_grammar_facts.proofs.Owning.{part_rises}
 use Rattle.sw_grammar.specs.Around.{Around, returning}
@@ -31,6 +31,7 @@ use Rattle.sw_grammar.specs.Decls.{entry, global_actor, struct_decl, enum_decl, 
 use Rattle.sw_grammar.specs.Decls.{class_after, func_decl, global_value, global_after, annotated}
 use Rattle.sw_grammar.specs.Decls.{decl, program}
 use Rattle.sw_grammar_facts.proofs.Weighing.{Weighing}
+use Rattle.sw_grammar_facts.proofs.Items.{own_items}
 use Rattle.sw_grammar_facts.proofs.NestWeights.{weight, of_typed_if, member, entered}
 use Rattle.sw_grammar_facts.proofs.Questions.{other_of}
 use Rattle.sw_grammar_facts.proofs.TypeRules.{Keeps, own_list_of, own_more_of, own_quote, own_name}

@@ -1,5 +1,5 @@
 -- What expressions weigh.
-use Rattle.std.proofs.Common.{◌≡◌, ℕ, ◌+◌, ◌≤◌, Bool, true, false, List, [], ◌∷◌, ◌++◌}
+use Rattle.std.proofs.Common.{◌≡◌, ℕ, suc, ◌+◌, ◌≤◌, Bool, true, false, List, [], ◌∷◌, ◌++◌}
 use Rattle.std.proofs.Common.{None, Some, Option, IsTrue, codes, refl, arith}
 use Rattle.sw_grammar_forms.specs.Sets.{Set, integer, quoted, word}
 use Rattle.sw_grammar_forms.specs.Form.{Shape}
@@ -16,7 +16,8 @@ use Rattle.sw_tree.specs.declared.expr.Link.{Link as Operand}
 use Rattle.sw_grammar_facts.proofs.Owning.{none, Owns, own_done, own_token, own_then, own_either}
 use Rattle.sw_grammar_facts.proofs.Owning.{own_only, own_past, own_turns, own_with, own_from}
 use Rattle.sw_grammar_facts.proofs.Owning.{own_when, own_opened_nest, paid_after_less}
-use Rattle.sw_grammar.specs.Around.{Around}
+use Rattle.sw_sugar.specs.Tasks.{of_task}
+use Rattle.sw_grammar.specs.Around.{Around, task_ids}
 use Rattle.sw_grammar.specs.Nests.{Nest, El, Form, Link}
 use Rattle.sw_grammar.specs.Nests.Nest.{in_round, in_args, in_member, in_closure, in_task}
 use Rattle.sw_grammar.specs.Tokens.{value_word, times, plus, compares, infix_op, infix_in}
@@ -32,7 +33,8 @@ use Rattle.sw_grammar_facts.proofs.NestWeights.{weight, dotted, tasked}
 use Rattle.sw_grammar_facts.proofs.Questions.{is_paid, other_of}
 use Rattle.sw_grammar_facts.proofs.Unmarked.{fits, wants_word}
 use Rattle.sw_grammar_facts.proofs.TypeRules.{Keeps, own_list_of, own_quote, own_name, own_infix}
-use Rattle.sw_grammar_facts.proofs.TypeRules.{own_prefix, own_opened, own_opened_on_line}
+use Rattle.sw_grammar_facts.proofs.Spread.{spread}
+use Rattle.sw_grammar_facts.proofs.TypeRules.{own_prefix, own_opened, own_opened_on_line, own_whole}
 
 module _ {id_of : List ℕ → ℕ} (w : Weighing id_of) where
   pub with_members_weigh : (base : Expr) (links : List Link) (k : ℕ)
@@ -299,12 +301,18 @@ module _ (around : Around) (w : Weighing around.id_of) where
           own_with _ (λ k. omega arith) (own_more_or closures both)))))
 
       pub own_awaited : (closures : Bool) → Keeps w table (awaited around closures) none w.expr
-      unfolding awaited
+      unfolding awaited spread
       own_awaited closures =
-          own_then _ _ (own_quote w table (codes "await") refl) (λ at.
+          own_then _ _ (own_whole w table (codes "await") refl refl) (λ at.
           own_then _ _ (own_unary closures) (λ first.
-          own_from _ (w.place at) w.expr (λ k. omega arith) (own_more_operands closures first)
-          (λ inner. own_done _ (λ k. omega (arith, w.expr-Await at inner k)))))
+          own_from _ (spread w.place 5 at) w.expr (λ k. omega arith)
+          (own_more_operands closures first) (λ inner. own_done _ (λ k.
+          let tasks = task_ids around in
+          omega (
+            arith,
+            w.expr-Await at (of_task tasks (suc at) inner) k,
+            w.expr-Task tasks (suc at) inner k,
+          )))))
 
       pub own_expr : (closures : Bool) → Keeps w table (expr around closures) none w.expr
       unfolding expr

@@ -23,10 +23,13 @@ use Rattle.sw_tree.specs.declared.name.Name.{Name}
 use Rattle.sw_tree.specs.declared.operator.AssignOp.TheVariants as assigns
 use Rattle.sw_tree.specs.declared.stmt.Block.{Block, roll-Block}
 use Rattle.sw_tree.specs.declared.stmt.Pattern.TheVariants as patterns
+use Rattle.sw_tree.specs.declared.stmt.Stmt.TheVariants as statements
 use Rattle.sw_tree.specs.declared.type_tree.TypeTree.{TypeTree}
+use Rattle.sw_sugar.specs.AsyncLet.{task_body}
 use Rattle.sw_sugar.specs.Calls.{or_literal_form}
 use Rattle.sw_sugar.specs.Optionals.{block_of, name_at, or_literal_stmts, some_arm, some_tree}
 use Rattle.sw_sugar.specs.Optionals.{taken, use_at}
+use Rattle.sw_sugar.specs.Tasks.{of_task}
 use Rattle.sw_sugar.specs.declared.words.OrLiteral.{OrLiteral}
 use Rattle.sw_grammar.specs.Enums.{Marked, enum_of}
 use Rattle.sw_grammar.specs.Exprs.{closure_at}
@@ -36,6 +39,7 @@ use Rattle.sw_grammar.specs.Tokens.{optional_text}
 use Rattle.sw_grammar_facts.proofs.Owning.{none, tally_of}
 use Rattle.sw_grammar_facts.proofs.Questions.{besides, besides_is}
 use Rattle.sw_grammar_facts.proofs.Spread.{spread, spread_within}
+use Rattle.sw_grammar_facts.proofs.TaskWeights.{Summed, summed_task}
 use Rattle.sw_grammar_facts.proofs.Weighing.{Weighing}
 use Rattle.sw_grammar_facts.proofs.ProgramRules.{owned}
 
@@ -118,6 +122,41 @@ or_keys form ty value literal k =
       counts.in_expr-Use last k,
     )
 
+unfoldable keys_summed : Summed counts.in_expr
+keys_summed = record {
+  name = λ it. hits it.at;
+  operator = hits;
+  arg = counts.in_arg;
+  link = counts.in_link;
+  expr-Use = counts.in_expr-Use;
+  expr-Member = counts.in_expr-Member;
+  expr-Method = counts.in_expr-Method;
+  expr-Chain = counts.in_expr-Chain;
+  expr-Prefix = counts.in_expr-Prefix;
+}
+
+-- what an `await` awaits has the key of a use of a word more at most
+pub task_keys : (tasks : List ℕ) (at : ℕ) (tree : Expr) (k : ℕ)
+    → counts.in_expr (of_task tasks at tree) k ≤ hits at k + counts.in_expr tree k
+unfolding keys_summed
+task_keys tasks at tree k =
+    summed_task counts.in_expr keys_summed (hits at) tasks at (λ it j. omega arith) tree k
+
+-- the keys in the body of a task that awaits a value
+pub task_body_keys : (eq_at await_at : ℕ) (value : Expr) (k : ℕ)
+    → counts.in_closure (task_body eq_at await_at value) k
+    ≤ hits eq_at k + hits await_at k + counts.in_expr value k
+unfolding in_all in_option
+task_body_keys eq_at await_at value k =
+    let stmt = statements.Plain (exprs.Await await_at value) in
+    omega (
+      arith,
+      counts.in_closure-roll eq_at None [] [] None (block_of (stmt ∷ [])) k,
+      counts.in_block-roll (stmt ∷ []) k,
+      counts.in_stmt-Plain (exprs.Await await_at value) k,
+      counts.in_expr-Await await_at value k,
+    )
+
 module _ (id_of : List ℕ → ℕ) where
   keys : Weighing id_of
   keys = record {
@@ -187,6 +226,7 @@ module _ (id_of : List ℕ → ℕ) where
     expr-Some = λ at text value _ k. some_keys (id_of (codes "some")) (id_of (optional_text text))
         at value k;
     expr-Optional = λ at k. omega (arith, counts.in_expr-Use (name_at at (id_of (codes "Optional"))) k);
+    expr-Task = task_keys;
     arg-roll = λ name value k. omega (arith, counts.in_arg-roll name value k);
     closure_param-is = λ given k. omega arith;
     inside-is = λ it _ k. omega arith;
@@ -196,6 +236,12 @@ module _ (id_of : List ℕ → ℕ) where
           arith,
           counts.in_closure-roll at it.mark it.captures it.params it.result body k,
           counts.in_block-roll it.body k,
+        );
+    closure-Task = λ eq_at await_at tasks value _ k.
+        omega (
+          arith,
+          task_body_keys eq_at await_at (of_task tasks (suc await_at) value) k,
+          task_keys tasks (suc await_at) value k,
         );
     link-roll = λ op at operand k. omega (arith, counts.in_link-roll op at operand k);
     block-roll = λ body k. omega (arith, counts.in_block-roll body k);
@@ -213,7 +259,7 @@ module _ (id_of : List ℕ → ℕ) where
         );
     stmt-Assign = λ at op first value _ k. omega (arith, counts.in_stmt-Assign at op first value k);
     stmt-Discard = λ at value k. omega (arith, counts.in_stmt-Discard at value k);
-    stmt-If = λ arms otherwise k. omega (arith, counts.in_stmt-If arms otherwise k);
+    stmt-If = λ arm arms otherwise k. omega (arith, counts.in_stmt-If (arm ∷ arms) otherwise k);
     stmt-While = λ at cond body k. omega (arith, counts.in_stmt-While at cond body k);
     stmt-Switch = λ at subject arms otherwise k.
         omega (arith, counts.in_stmt-Switch at subject arms otherwise k);

@@ -1,5 +1,6 @@
 pub mod Spread
 pub mod Owning
+pub mod Items
 pub mod Questions
 pub mod Unmarked
 pub mod WordTexts
@@ -11,9 +12,11 @@ pub mod ExprRules
 pub mod ClosureRules
 pub mod ValueRules
 pub mod StmtRules
+pub mod BlockRules
 pub mod DeclRules
 pub mod ProgramRules
 pub mod DeclWeights
+pub mod TaskWeights
 pub mod DeclsFew
 pub mod Sizes
 pub mod KeysDiffer

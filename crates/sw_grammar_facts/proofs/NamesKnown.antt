@@ -9,7 +9,7 @@ use Rattle.sw_tree.proofs.Counting.{Weight, in_all, in_option, in_all-append, in
 use Rattle.sw_tree.proofs.NameCounts as counts
 use Rattle.sw_tree.proofs.NameCounts.{misses, All-known}
 use Rattle.sw_tree.specs.Contents.{AreNamed}
-use Rattle.sw_tree.specs.Names.{id_in}
+use Rattle.sw_tree.specs.Names.{id_in, value_id}
 use Rattle.sw_tree.specs.NamesIn.{names_in}
 use Rattle.sw_tree.specs.declared.decl.CaseTree.{CaseTree}
 use Rattle.sw_tree.specs.declared.decl.Decl.{Decl}
@@ -20,11 +20,14 @@ use Rattle.sw_tree.specs.declared.name.Name.{Name}
 use Rattle.sw_tree.specs.declared.operator.AssignOp.TheVariants as assigns
 use Rattle.sw_tree.specs.declared.stmt.Block.{Block, roll-Block}
 use Rattle.sw_tree.specs.declared.stmt.Pattern.TheVariants as patterns
+use Rattle.sw_tree.specs.declared.stmt.Stmt.TheVariants as statements
 use Rattle.sw_tree.specs.declared.type_tree.TypeTree.{TypeTree}
 use Rattle.sw_tree.specs.declared.type_tree.TypeTree.TheVariants as types
+use Rattle.sw_sugar.specs.AsyncLet.{task_body}
 use Rattle.sw_sugar.specs.Calls.{or_literal_form, part_text, whole_text}
 use Rattle.sw_sugar.specs.Optionals.{block_of, name_at, or_literal_stmts, some_arm, some_tree}
 use Rattle.sw_sugar.specs.Optionals.{taken, use_at}
+use Rattle.sw_sugar.specs.Tasks.{of_task}
 use Rattle.sw_sugar.specs.declared.words.OrLiteral.{OrLiteral}
 use Rattle.sw_grammar.specs.Around.{index_in}
 use Rattle.sw_grammar.specs.Enums.{Marked, enum_of}
@@ -37,6 +40,7 @@ use Rattle.sw_grammar_facts.proofs.Owning.{none, tally_of}
 use Rattle.sw_grammar_facts.proofs.ProgramRules.{owned}
 use Rattle.sw_grammar_facts.proofs.Questions.{besides, besides_is}
 use Rattle.sw_grammar_facts.proofs.Spread.{spread}
+use Rattle.sw_grammar_facts.proofs.TaskWeights.{Summed, summed_task}
 use Rattle.sw_grammar_facts.proofs.Weighing.{Weighing}
 
 -- The names in the forms that name more than their tokens do.
@@ -96,12 +100,27 @@ or_form_names form ty value literal k =
       counts.unknown_expr-Use last k,
     )
 
+-- the names in the body of a task that awaits a value
+task_body_names : (eq_at await_at : ℕ) (value : Expr) (k : ℕ)
+    → counts.unknown_closure (task_body eq_at await_at value) k ≡ counts.unknown_expr value k
+unfolding in_all in_option
+task_body_names eq_at await_at value k =
+    let stmt = statements.Plain (exprs.Await await_at value) in
+    omega (
+      arith,
+      counts.unknown_closure-roll eq_at None [] [] None (block_of (stmt ∷ [])) k,
+      counts.unknown_block-roll (stmt ∷ []) k,
+      counts.unknown_stmt-Plain (exprs.Await await_at value) k,
+      counts.unknown_expr-Await await_at value k,
+    )
+
 -- Ids that are below a number. A weight counts what isn't, and elsewhere than at that number it
 -- says nothing.
 abbrev one_unless : Bool → ℕ
 one_unless b = if b then 0 else 1
 
-module _ (id_of : List ℕ → ℕ) (n : ℕ) (within : (text : List ℕ) → id_of text < n) where
+module _ (id_of : List ℕ → ℕ) (n : ℕ) (within : (text : List ℕ) → id_of text < n)
+    (above : value_id < n) where
   unfoldable off : Weight
   off k = one_unless (nat_eq k n)
 
@@ -111,6 +130,10 @@ module _ (id_of : List ℕ → ℕ) (n : ℕ) (within : (text : List ℕ) → id
   made : (at : ℕ) (text : List ℕ) (k : ℕ) → misses (name_at at (id_of text)) k ≤ off k
   unfolding misses off
   made at text k = let less = within text in grind (arith, common_steps)
+
+  made_value : (at k : ℕ) → misses (name_at at value_id) k ≤ off k
+  unfolding misses off
+  made_value at k = grind (arith, common_steps, above)
 
   off_some : (k : ℕ) → (off k ≡ 0) ⊎ (off k ≡ 1)
   unfolding off
@@ -196,6 +219,27 @@ module _ (id_of : List ℕ → ℕ) (n : ℕ) (within : (text : List ℕ) → id
         made (suc binding.let_at) part k,
         made colon_at (codes "some") k,
       )
+
+  unfoldable names_summed : Summed counts.unknown_expr
+  names_summed = record {
+    name = misses;
+    operator = λ at. none;
+    arg = counts.unknown_arg;
+    link = counts.unknown_link;
+    expr-Use = counts.unknown_expr-Use;
+    expr-Member = counts.unknown_expr-Member;
+    expr-Method = counts.unknown_expr-Method;
+    expr-Chain = counts.unknown_expr-Chain;
+    expr-Prefix = λ op at inner k. omega (arith, counts.unknown_expr-Prefix op at inner k);
+  }
+
+  -- what an `await` awaits has the name `value` more at most
+  task_names : (tasks : List ℕ) (at : ℕ) (tree : Expr) (k : ℕ)
+      → counts.unknown_expr (of_task tasks at tree) k ≤ off k + counts.unknown_expr tree k
+  unfolding names_summed misses
+  task_names tasks at tree k =
+      summed_task counts.unknown_expr names_summed off tasks at
+      (λ it j. omega (arith, made_value it.at j)) tree k
 
   names : Weighing id_of
   names = record {
@@ -294,6 +338,7 @@ module _ (id_of : List ℕ → ℕ) (n : ℕ) (within : (text : List ℕ) → id
           counts.unknown_expr-Use (name_at at (id_of (codes "Optional"))) k,
           made at (codes "Optional") k,
         );
+    expr-Task = task_names;
     arg-roll = λ name value k.
         omega (arith, counts.unknown_arg-roll name value k, mark_label name k);
     closure_param-is = λ given k. omega (arith, counts.unknown_closure_param-is given k);
@@ -310,6 +355,12 @@ module _ (id_of : List ℕ → ℕ) (n : ℕ) (within : (text : List ℕ) → id
           arith,
           counts.unknown_closure-roll at it.mark it.captures it.params it.result body k,
           counts.unknown_block-roll it.body k,
+        );
+    closure-Task = λ eq_at await_at tasks value _ k.
+        omega (
+          arith,
+          task_body_names eq_at await_at (of_task tasks (suc await_at) value) k,
+          task_names tasks (suc await_at) value k,
         );
     link-roll = λ op at operand k. omega (arith, counts.unknown_link-roll op at operand k);
     block-roll = λ body k. omega (arith, counts.unknown_block-roll body k);
@@ -328,7 +379,7 @@ module _ (id_of : List ℕ → ℕ) (n : ℕ) (within : (text : List ℕ) → id
     stmt-Assign = λ at op first value _ k.
         omega (arith, counts.unknown_stmt-Assign at op first value k);
     stmt-Discard = λ at value k. omega (arith, counts.unknown_stmt-Discard at value k);
-    stmt-If = λ arms otherwise k. omega (arith, counts.unknown_stmt-If arms otherwise k);
+    stmt-If = λ arm arms otherwise k. omega (arith, counts.unknown_stmt-If (arm ∷ arms) otherwise k);
     stmt-While = λ at cond body k. omega (arith, counts.unknown_stmt-While at cond body k);
     stmt-Switch = λ at subject arms otherwise k.
         omega (arith, counts.unknown_stmt-Switch at subject arms otherwise k);
@@ -428,7 +479,8 @@ index_within texts some text = by (nat_lt (id_in texts text) (length texts)) ref
   by false is = some
 
 pub spelled_are_named : (texts : List (List ℕ)) (decls : List Decl) (tokens : List Spelled)
-    → 0 < length texts → Spells (index_in texts) decls tokens → AreNamed texts decls
-spelled_are_named texts decls tokens some given =
+    → value_id < length texts → Spells (index_in texts) decls tokens → AreNamed texts decls
+spelled_are_named texts decls tokens above given =
     All-known (length texts) (names_in decls)
-    (names_known (index_in texts) (length texts) (index_within texts some) decls tokens given)
+    (names_known (index_in texts) (length texts) (index_within texts (omega (arith, above))) above
+    decls tokens given)

@@ -77,13 +77,13 @@ module _ {id_of : List ℕ → ℕ} (w : Weighing id_of) where
   weight (in_member here) = in_all dotted
   weight in_empty = λ at. none
   weight in_captures = in_all w.node
-  weight in_closure_params = in_all w.closure_param
+  weight (in_closure_params here) = in_all w.closure_param
   weight (in_closure here) = w.inside
   weight (in_task here) = tasked
   weight (in_block here) = w.stmts
   weight (in_switch here) = cased
   weight (in_if_let here) = if_let_weight
-  weight in_patterns = in_all w.pattern
+  weight (in_patterns here) = in_all w.pattern
   weight in_params = in_all w.param
   weight in_isolation = λ at. none
   weight in_entry = entered

@@ -2,23 +2,22 @@
 -- offset how often it stands somewhere, so a value owns what it holds where it weighs no more than
 -- its tokens and what earlier tokens have left over. The tokens stand as those of a text do; so it
 -- is also known which part of a value is paid by earlier tokens than another.
-use Rattle.std.proofs.Common.{◌≡◌, ℕ, zero, suc, ◌+◌, ◌≤◌, ◌<◌, Bool, true, false, not, IsTrue, Option, List}
+use Rattle.std.proofs.Common.{◌≡◌, ℕ, zero, suc, ◌+◌, ◌≤◌, ◌<◌, Bool, true, false, IsTrue, Option, List}
 use Rattle.std.proofs.Common.{[], ◌∷◌, ◌++◌, length, ⊎_elim, append_assoc, refl}
 use Rattle.std.proofs.Common.{◌∙◌, sym, ap, subst, arith}
 use Rattle.std.specs.List.{AllByRecursion}
 use Rattle.sw_token.proofs.Steps.{some_token}
 use Rattle.sw_token.specs.Spelling.{Spelled, StandApart}
 use Rattle.sw_tree.proofs.Counting.{Weight, in_all, in_all-nil, in_all-cons, in_all-append}
-use Rattle.sw_grammar_forms.proofs.Rising.{HasTokenText, StandApart-prefix, StandApart-rest, end_of}
+use Rattle.sw_grammar_forms.proofs.Rising.{HasTokenText, StandApart-append, StandApart-prefix}
+use Rattle.sw_grammar_forms.proofs.Rising.{StandApart-rest, end_of, end_of-append, texts_append}
 use Rattle.sw_grammar_forms.proofs.Rising.{texts_prefix, texts_rest}
 use Rattle.sw_grammar_forms.specs.Form.{Shape, Terminal, Form}
-use Rattle.sw_grammar_forms.specs.Form.Form.{some_items}
 use Rattle.sw_grammar_forms.specs.Relations.{Relation, NoToken, One, FollowedBy, Either, Only, Turns, stop}
 use Rattle.sw_grammar_forms.specs.Relations.{turn, Chosen}
-use Rattle.sw_grammar_forms.specs.Relations.{Passing, may_start, OneMore, spelled}
+use Rattle.sw_grammar_forms.specs.Relations.{Passing, spelled}
 use Rattle.sw_grammar_forms.specs.Sets.{has}
 use Rattle.sw_grammar_forms.specs.Spells.{inside}
-use Rattle.sw_grammar_forms.specs.Terminals.{items}
 
 abbrev pub none : Weight
 none k = 0
@@ -46,14 +45,14 @@ module _ (tally : Tally) where
     pub apart : StandApart from tokens
     pub known : IsTrue (tally.known tokens)
 
-  stands_left : (from : ℕ) (us vs : List Spelled) → Stands from (us ++ vs) → Stands from us
+  pub stands_left : (from : ℕ) (us vs : List Spelled) → Stands from (us ++ vs) → Stands from us
   stands_left from us vs all = record {
     texts = texts_prefix us vs all.texts;
     apart = StandApart-prefix from us vs all.apart;
     known = tally.known_left us vs all.known;
   }
 
-  stands_right : (from : ℕ) (us vs : List Spelled) → Stands from (us ++ vs)
+  pub stands_right : (from : ℕ) (us vs : List Spelled) → Stands from (us ++ vs)
       → Stands (end_of from us) vs
   stands_right from us vs all = record {
     texts = texts_rest us vs all.texts;
@@ -64,7 +63,8 @@ module _ (tally : Tally) where
   -- a weight that tokens between two offsets pay
   pub record Part (from to : ℕ) (weight : Weight) : Type 0 where
     pub tokens : List Spelled
-    pub stands : Stands from tokens
+    pub texts : AllByRecursion HasTokenText tokens
+    pub apart : StandApart from tokens
     pub end : end_of from tokens ≡ to
     pub paid : (k : ℕ) → weight k ≤ in_all tally.of_token tokens k
 
@@ -95,7 +95,7 @@ module _ (tally : Tally) where
 
   pub part_rises : {from to : ℕ} {weight : Weight} → Part from to weight → from ≤ to
   part_rises {from} part =
-      subst (λ end. from ≤ end) part.end (ends_after from part.tokens part.stands.apart)
+      subst (λ end. from ≤ end) part.end (ends_after from part.tokens part.apart)
 
   pub in_turn : {from middle next to : ℕ} {first second : Weight} → Part from middle first
       → middle ≤ next → Part next to second → InTurn first second
@@ -114,7 +114,8 @@ module _ (tally : Tally) where
       → Part from to weight → Part from to less
   part_of_less lighter part = record {
     tokens = part.tokens;
-    stands = part.stands;
+    texts = part.texts;
+    apart = part.apart;
     end = part.end;
     paid = λ k. let one = part.paid k in let two = lighter k in omega arith;
   }
@@ -152,9 +153,37 @@ module _ (tally : Tally) where
       → Part from (end_of from tokens) (w a)
   part_of own from a tokens stands given = record {
     tokens = tokens;
-    stands = stands;
+    texts = stands.texts;
+    apart = stands.apart;
     end = refl;
     paid = λ k. let one = own.owns from a tokens stands given k in omega arith;
+  }
+
+  -- no tokens
+  pub part_empty : (from : ℕ) {weight : Weight} → ((k : ℕ) → weight k ≤ 0) → Part from from weight
+  part_empty from none = record {
+    tokens = [];
+    texts = tt;
+    apart = tt;
+    end = refl;
+    paid = λ k. let one = none k in omega (arith, in_all-nil tally.of_token k);
+  }
+
+  -- what weighs no more than a part and the tokens after it
+  pub part_more : {from middle : ℕ} {weight more : Weight} → Part from middle weight
+      → (tokens : List Spelled) → Stands middle tokens
+      → ((k : ℕ) → more k ≤ weight k + in_all tally.of_token tokens k)
+      → Part from (end_of middle tokens) more
+  part_more {from} {middle} part tokens stands less = record {
+    tokens = part.tokens ++ tokens;
+    texts = texts_append part.tokens tokens part.texts stands.texts;
+    apart = StandApart-append from part.tokens tokens part.apart
+        (subst (λ at. StandApart at tokens) (sym part.end) stands.apart);
+    end = end_of-append from part.tokens tokens ∙ ap (λ at. end_of at tokens) part.end;
+    paid = λ k.
+        let one = part.paid k in
+        let two = less k in
+        omega (arith, in_all-append tally.of_token part.tokens tokens k);
   }
 
   module _ {A : Type 0} where
@@ -217,6 +246,21 @@ module _ (tally : Tally) where
     own_then u first second =
         own_anywhere (λ from. own_part u first (λ a to part. own_at to (second a)))
 
+    -- one after another from an offset on, where the first takes all that is left over
+    pub own_at_then : {B : Type 0} {base : Weight} {P : Relation A} {Q : A → Relation B}
+        {w : B → Weight} {from : ℕ} (u : A → Weight) → OwnsAt from base P u
+        → ((a : A) → Owns (u a) (Q a) w) → OwnsAt from base (FollowedBy P Q) w
+    own_at_then {base = base} {w = w} {from = from} u first second = record {
+      owns_at = λ b tokens stands both k.
+          let halves = subst (Stands from) both.whole stands in
+          let one = first.owns_at both.value both.left
+          (stands_left from both.left both.right halves) both.first k in
+          let two = (second both.value).owns (end_of from both.left) b both.right
+          (stands_right from both.left both.right halves) both.second k in
+          let all = ap (λ ts. in_all tally.of_token ts k) both.whole in
+          omega (arith, all, in_all-append tally.of_token both.left both.right k);
+    }
+
     module _ {base : Weight} {P Q : Relation A} {w : A → Weight} where
       -- one of two
       pub own_either : Owns base P w → Owns base Q w → Owns base (Either P Q) w
@@ -243,10 +287,10 @@ module _ (tally : Tally) where
       }
 
       -- one or the other by a condition
-      pub own_chosen : (is_so : Bool) → (IsTrue is_so → Owns base P w) → Owns base Q w
-          → Owns base (Chosen is_so P Q) w
+      pub own_chosen : (is_so : Bool) → (IsTrue is_so → Owns base P w)
+          → (is_so ≡ false → Owns base Q w) → Owns base (Chosen is_so P Q) w
       own_chosen true first second = first refl
-      own_chosen false first second = second
+      own_chosen false first second = second refl
 
     module _ {base : Weight} {P : Relation A} {w : A → Weight} where
       -- spellings whose first token passes a test
@@ -280,6 +324,20 @@ module _ (tally : Tally) where
     pub own_with : {base more : Weight} {P : Relation A} {w : A → Weight}
         → ((k : ℕ) → base k ≤ more k) → Owns base P w → Owns more P w
     own_with left first = own_more left (λ a k. omega arith) first
+
+    pub own_at_only : {base : Weight} {P : Relation A} {w : A → Weight} {from : ℕ} (is_so : Bool)
+        → (IsTrue is_so → OwnsAt from base P w) → OwnsAt from base (Only is_so P) w
+    own_at_only is_so first =
+        record { owns_at = λ a tokens stands one. (first one.0).owns_at a tokens stands one.1 }
+
+    pub own_at_with : {base more : Weight} {P : Relation A} {w : A → Weight} {from : ℕ}
+        → ((k : ℕ) → base k ≤ more k) → OwnsAt from base P w → OwnsAt from more P w
+    own_at_with left first = record {
+      owns_at = λ a tokens stands given k.
+          let here = first.owns_at a tokens stands given k in
+          let more = left k in
+          omega arith;
+    }
 
   -- one after another, where the first takes from what is left over, and leaves the rest
   pub own_from : {A B : Type 0} {base start : Weight} {P : Relation A} {Q : A → Relation B}
@@ -347,6 +405,22 @@ module _ (tally : Tally) where
         (λ q. second.owns_after from a tokens stands q k) one;
   }
 
+  -- spellings whose first token passes a test, and what comes after them
+  pub own_after_test : {A B : Type 0} {before : List Spelled} {base : Weight} {P : Relation A}
+      {Q : A → Relation B} {w : B → Weight} (test : Option Spelled → Bool)
+      → OwnsAfter before base (FollowedBy P Q) w
+      → OwnsAfter before base (FollowedBy (Passing test P) Q) w
+  own_after_test test own = record {
+    owns_after = λ from b tokens stands both. own.owns_after from b tokens stands (record {
+      value = both.value;
+      left = both.left;
+      right = both.right;
+      first = both.first.0;
+      second = both.second;
+      whole = both.whole;
+    });
+  }
+
   module _ {A B : Type 0} {base : Weight} (t : Terminal A) {Q : A → Relation B} {w : B → Weight}
       (u : A → Weight)
       (less : (token : Spelled) → HasTokenText token → IsTrue (has t.set token) → (k : ℕ)
@@ -404,130 +478,56 @@ module _ (tally : Tally) where
       own_then u first (λ a. own_then v (own_more (λ k. omega arith) (λ b k. omega arith) second)
       (λ b. own_done (λ k. let one = less a b k in omega arith)))
 
-  -- a nest, where what stands in it is paid by the tokens after its first
-  pub own_opened_nest : {B : Type 0} {base : Weight} (t : Terminal ℕ) {Q : Relation B}
-      {w : ℕ × B → Weight} (u : ℕ → Weight) (v : B → Weight)
+  -- a token and what comes after it, of which it is known that later tokens pay it
+  pub own_later : {A B : Type 0} {base : Weight} (t : Terminal ℕ) {Q : Relation A}
+      {R : ℕ → A → Relation B} {w : B → Weight} (u : ℕ → Weight) (v : A → Weight)
       → ((token : Spelled) → t.value token ≡ token.at) → Owns none (One t) u → Owns none Q v
-      → ((a : ℕ) (b : B) → PaidAfter a (v b) → (k : ℕ) → w (a, b) k ≤ base k + u a k + v b k)
-      → Owns base (FollowedBy (One t) (λ a. FollowedBy Q (λ b. NoToken (a, b)))) w
-  own_opened_nest {base = base} t {w = w} u v place first second less = record {
-    owns = λ from pair tokens stands both k.
+      → ((at : ℕ) (a : A) → PaidAfter at (v a) → Owns (λ k. base k + u at k + v a k) (R at a) w)
+      → Owns base (FollowedBy (One t) (λ at. FollowedBy Q (R at))) w
+  own_later {base = base} t {w = w} u v place first second last = record {
+    owns = λ from b tokens stands both k.
         let halves = subst (Stands from) both.whole stands in
         let opening = both.first in
         let opened = stands_left from both.left both.right halves in
         let one = first.owns from both.value both.left opened opening k in
         let middle = end_of from both.left in
         let rest = stands_right from both.left both.right halves in
-        let nest = both.second in
-        let inner = subst (Stands middle) nest.whole rest in
-        let part = part_of second middle nest.value nest.left
-        (stands_left middle nest.left nest.right inner) nest.first in
+        let after = both.second in
+        let inner = subst (Stands middle) after.whole rest in
+        let part = part_of second middle after.value after.left
+        (stands_left middle after.left after.right inner) after.first in
         let texts : AllByRecursion HasTokenText (opening.token ∷ [])
         = subst (AllByRecursion HasTokenText) opening.alone opened.texts in
         let at : both.value ≡ opening.token.at = opening.value ∙ place opening.token in
         let end : middle ≡ opening.token.at + length opening.token.text
         = ap (end_of from) opening.alone in
-        let here = less both.value nest.value (record {
+        let here = (last both.value after.value (record {
           from = middle;
-          to = end_of middle nest.left;
+          to = end_of middle after.left;
           later = omega (arith, some_token true opening.token.text [] texts.0);
           part = part;
-        }) k in
+        })).owns (end_of middle after.left) b after.right
+        (stands_right middle after.left after.right inner) after.second k in
         let two = part.paid k in
-        let is : w pair k ≡ w (both.value, nest.value) k = ap (λ x. w x k) nest.second.0 in
         let all = ap (λ ts. in_all tally.of_token ts k) both.whole in
-        let more = ap (λ ts. in_all tally.of_token ts k) nest.whole in
+        let more = ap (λ ts. in_all tally.of_token ts k) after.whole in
         omega (
           arith,
           all,
           more,
           in_all-append tally.of_token both.left both.right k,
-          in_all-append tally.of_token nest.left nest.right k,
+          in_all-append tally.of_token after.left after.right k,
         );
   }
 
-  -- Items, each of which a `;` or the end of a line ends. What those so far weigh is paid by the
-  -- tokens so far, and what the next weighs by the next tokens.
-  module _ {N : Type 0} (El : N → Type 0) (shape_of : N → Shape) (table : (n : N) → Relation (El n))
-      {A : Type 0} {s : Shape} (item : Form El shape_of s A) (u : A → Weight)
-      (each : Owns none (spelled El shape_of table item) u) (w : List A → Weight)
-      (empty : (k : ℕ) → w [] k ≤ 0)
-      (more : (xs : List A) (x : A) → InTurn (w xs) (u x) → (k : ℕ)
-      → w (xs ++ x ∷ []) k ≤ w xs k + u x k) where
-    one_more_item : (from middle : ℕ) (state : List A × Bool) → Part from middle (w state.0)
-        → OwnsAt middle (w state.0) (OneMore (spelled El shape_of table item) state)
-        (λ read. w read.0)
-    one_more_item from middle state so_far =
-        own_part u (own_passing (may_start (not state.1)) each) (λ x to part.
-        own_at to (own_past (λ ended. own_done (λ k.
-        more state.0 x (in_turn so_far (omega arith) part) k))))
-
-    -- the tokens so far, and those of the items after them
-    more_items_owned : (from : ℕ) (us : List Spelled) (state last : List A × Bool)
-        (tokens : List Spelled) → Stands from (us ++ tokens)
-        → ((k : ℕ) → w state.0 k ≤ in_all tally.of_token us k)
-        → Turns (OneMore (spelled El shape_of table item)) state last tokens
-        → (k : ℕ) → w last.0 k ≤ in_all tally.of_token (us ++ tokens) k
-    more_items_owned from us state last tokens stands so_far (stop s') k =
-        let one = so_far k in omega (arith, in_all-append tally.of_token us [] k)
-    more_items_owned from us state last tokens stands so_far (turn s' next last' xs ys one rest) k =
-        let regrouped = sym (append_assoc us xs ys) in
-        let grouped = subst (Stands from) regrouped stands in
-        let before = stands_left from (us ++ xs) ys grouped in
-        let part : Part from (end_of from us) (w s'.0) = record {
-          tokens = us;
-          stands = stands_left from us xs before;
-          end = refl;
-          paid = so_far;
-        } in
-        subst (λ ts. w last'.0 k ≤ in_all tally.of_token ts k) (sym regrouped)
-        (more_items_owned from (us ++ xs) next last' ys grouped (λ j.
-        let here = (one_more_item from (end_of from us) s' part).owns_at next xs
-        (stands_right from us xs before) one j in
-        let start = so_far j in
-        omega (arith, in_all-append tally.of_token us xs j)) rest k)
-
-    pub own_items_by : Owns none (spelled El shape_of table (items item)) (λ read. w read.0)
-    own_items_by = record {
-      owns = λ from last tokens stands all k.
-          let it = more_items_owned from [] ([], true) last tokens stands
-          (λ j. let one = empty j in omega (arith, in_all-nil tally.of_token j)) all k in
-          omega arith;
-    }
-
-    pub own_some_items_by : Owns none (spelled El shape_of table (some_items item))
-        (λ read. w read.0)
-    own_some_items_by = record {
-      owns = λ from last tokens stands both k.
-          let halves = subst (Stands from) both.whole stands in
-          let left = stands_left from both.left both.right halves in
-          let start : Part from from (w []) = record {
-            tokens = [];
-            stands = stands_left from [] both.left left;
-            end = refl;
-            paid = λ j. let one = empty j in omega (arith, in_all-nil tally.of_token j);
-          } in
-          let first = (one_more_item from from ([], true) start).owns_at both.value both.left left
-          both.first in
-          let it = more_items_owned from both.left both.value last both.right halves
-          (λ j. let one = empty j in let two = first j in omega arith) both.second k in
-          let all = ap (λ ts. in_all tally.of_token ts k) both.whole in
-          omega (arith, all);
-    }
-
-  -- the same, where items weigh what they weigh one by one
-  module _ {N : Type 0} (El : N → Type 0) (shape_of : N → Shape) (table : (n : N) → Relation (El n))
-      {A : Type 0} {s : Shape} (item : Form El shape_of s A) (w : A → Weight) where
-    pub own_items : Owns none (spelled El shape_of table item) w
-        → Owns none (spelled El shape_of table (items item)) (λ read. in_all w read.0)
-    own_items each =
-        own_items_by El shape_of table item w each (in_all w) (λ k. omega (arith, in_all-nil w k))
-        (λ xs x _ k. omega (
-          arith,
-          in_all-append w xs (x ∷ []) k,
-          in_all-cons w x [] k,
-          in_all-nil w k,
-        ))
+  -- a nest, where what stands in it is paid by the tokens after its first
+  pub own_opened_nest : {B : Type 0} {base : Weight} (t : Terminal ℕ) {Q : Relation B}
+      {w : ℕ × B → Weight} (u : ℕ → Weight) (v : B → Weight)
+      → ((token : Spelled) → t.value token ≡ token.at) → Owns none (One t) u → Owns none Q v
+      → ((a : ℕ) (b : B) → PaidAfter a (v b) → (k : ℕ) → w (a, b) k ≤ base k + u a k + v b k)
+      → Owns base (FollowedBy (One t) (λ a. FollowedBy Q (λ b. NoToken (a, b)))) w
+  own_opened_nest t u v place first second less =
+      own_later t u v place first second (λ a b after. own_done (less a b after))
 
   -- The nests of a grammar own what they weigh, at each depth, where their bodies do over nests
   -- that do.

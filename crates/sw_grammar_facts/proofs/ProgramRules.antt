@@ -26,9 +26,9 @@ use Rattle.sw_grammar_facts.proofs.ExprRules.{own_round, own_args, own_member, o
 use Rattle.sw_grammar_facts.proofs.NestWeights.{weight}
 use Rattle.sw_grammar_facts.proofs.Owning.{none, Owns, own_inside}
 use Rattle.sw_grammar_facts.proofs.Questions.{besides, in_all-less, optionals_weigh}
-use Rattle.sw_grammar_facts.proofs.StmtRules.{own_closure_inside, own_task_inside, own_statements}
-use Rattle.sw_grammar_facts.proofs.StmtRules.{own_if_let_inside, own_switch_inside}
-use Rattle.sw_grammar_facts.proofs.StmtRules.{own_patterns_inside}
+use Rattle.sw_grammar_facts.proofs.BlockRules.{own_closure_inside, own_task_inside, own_statements}
+use Rattle.sw_grammar_facts.proofs.BlockRules.{own_if_let_inside, own_switch_inside}
+use Rattle.sw_grammar_facts.proofs.BlockRules.{own_patterns_inside}
 use Rattle.sw_grammar_facts.proofs.TypeRules.{Keeps, own_types, own_payload, own_type}
 use Rattle.sw_grammar_facts.proofs.TypeRules.{own_task_inner}
 use Rattle.sw_grammar_facts.proofs.Unmarked.{fits}
@@ -52,8 +52,8 @@ module _ {id_of : List ℕ → ℕ} (w : Weighing id_of) where
       own_nothing_inside (outermost id_of) w table nests refl
   own_body table nests in_captures fit =
       own_captured_words (outermost id_of) w table nests
-  own_body table nests in_closure_params fit =
-      own_closure_params (outermost id_of) w table nests
+  own_body table nests (in_closure_params here) fit =
+      own_closure_params (around_in id_of here) w table nests
   own_body table nests (in_closure here) fit =
       own_closure_inside (around_in id_of here) w table nests fit
   own_body table nests (in_task here) fit =
@@ -64,8 +64,8 @@ module _ {id_of : List ℕ → ℕ} (w : Weighing id_of) where
       own_switch_inside (around_in id_of here) w table nests fit
   own_body table nests (in_if_let here) fit =
       own_if_let_inside (around_in id_of here) w table nests fit
-  own_body table nests in_patterns fit =
-      own_patterns_inside (outermost id_of) w table nests refl
+  own_body table nests (in_patterns here) fit =
+      own_patterns_inside (around_in id_of here) w table nests fit
   own_body table nests in_params fit =
       own_params_inside (outermost id_of) w table nests refl
   own_body table nests in_isolation fit =

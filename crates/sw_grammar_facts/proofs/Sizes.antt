@@ -6,6 +6,7 @@ use Rattle.std.specs.List.{sum, sum_by}
 use Rattle.sw_token.specs.Spelling.{Spelled}
 use Rattle.sw_tree.specs.Folds.{fold_arg, fold_block, fold_case_arm, fold_closure, fold_expr}
 use Rattle.sw_tree.specs.Folds.{fold_if_arm, fold_link, fold_stmt}
+use Rattle.sw_tree.specs.Names.{value_id}
 use Rattle.sw_tree.specs.Place.{is_place}
 use Rattle.sw_tree.specs.declared.decl.Decl.{Decl}
 use Rattle.sw_tree.specs.declared.expr.Arg.{roll-Arg}
@@ -14,6 +15,7 @@ use Rattle.sw_tree.specs.declared.expr.Expr.TheVariants as exprs
 use Rattle.sw_tree.specs.declared.operator.AssignOp.TheVariants as assigns
 use Rattle.sw_tree.specs.declared.stmt.Block.{roll-Block}
 use Rattle.sw_tree.specs.declared.stmt.Pattern.TheVariants as patterns
+use Rattle.sw_tree.specs.declared.stmt.Stmt.TheVariants as statements
 use Rattle.sw_tree.specs.declared.type_tree.TypeTree.{TypeTree}
 use Rattle.sw_tree.proofs.Counting.{Weight, in_all, in_all-append, in_option}
 use Rattle.sw_tree.proofs.FoldEquations as eq
@@ -21,9 +23,11 @@ use Rattle.sw_tree_facts.specs.Sizes.{ExprSize, block_size, decl_size, expr_size
 use Rattle.sw_tree_facts.specs.Sizes.{init_size, prop_size, read_alone, size_of, size_steps}
 use Rattle.sw_tree_facts.specs.Sizes.{some_read, some_size, value_size}
 use Rattle.sw_tree_facts.proofs.PlaceSizes.{places_have_no_size}
+use Rattle.sw_sugar.specs.AsyncLet.{task_body}
 use Rattle.sw_sugar.specs.Calls.{or_literal_form}
 use Rattle.sw_sugar.specs.Optionals.{begun, block_of, declared, name_at, or_literal_stmts, or_switch}
 use Rattle.sw_sugar.specs.Optionals.{some_arm, some_tree, taken, use_at}
+use Rattle.sw_sugar.specs.Tasks.{of_task}
 use Rattle.sw_sugar.specs.declared.words.OrLiteral.{OrLiteral}
 use Rattle.sw_grammar.specs.Enums.{Marked, enum_of}
 use Rattle.sw_grammar.specs.Exprs.{closure_at}
@@ -33,6 +37,7 @@ use Rattle.sw_grammar_facts.proofs.Owning.{none, tally_of}
 use Rattle.sw_grammar_facts.proofs.ProgramRules.{owned}
 use Rattle.sw_grammar_facts.proofs.Questions.{besides, besides_is}
 use Rattle.sw_grammar_facts.proofs.Spread.{spread}
+use Rattle.sw_grammar_facts.proofs.TaskWeights.{Carried, carried}
 use Rattle.sw_grammar_facts.proofs.Weighing.{Weighing}
 
 abbrev single : Weight
@@ -147,6 +152,70 @@ or_sizes form ty value literal =
           sum_one c,
         )
 
+-- what an `await` awaits is no larger
+task_carried : (at : ℕ)
+    → Carried at (λ made tree. (fold_expr size_steps made).read ≡ (fold_expr size_steps tree).read)
+task_carried at = record {
+  same = λ tree. refl;
+  task = λ name.
+      omega (
+        arith,
+        read_is (eq.fold_expr-Member size_steps (use_at at name.id) (name_at name.at value_id)),
+        read_is (eq.fold_expr-Use size_steps (name_at at name.id)),
+        read_is (eq.fold_expr-Use size_steps name),
+      );
+  member = λ made tree name is.
+      omega (
+        arith,
+        is,
+        read_is (eq.fold_expr-Member size_steps made name),
+        read_is (eq.fold_expr-Member size_steps tree name),
+      );
+  method = λ made tree name args is.
+      omega (
+        arith,
+        is,
+        read_is (eq.fold_expr-Method size_steps made name args),
+        read_is (eq.fold_expr-Method size_steps tree name args),
+      );
+  chain = λ made tree rest is.
+      omega (
+        arith,
+        is,
+        read_is (eq.fold_expr-Chain size_steps made rest),
+        read_is (eq.fold_expr-Chain size_steps tree rest),
+      );
+  prefix = λ op at made tree is.
+      omega (
+        arith,
+        is,
+        read_is (eq.fold_expr-Prefix size_steps op at made),
+        read_is (eq.fold_expr-Prefix size_steps op at tree),
+      );
+}
+
+task_size : (tasks : List ℕ) (at : ℕ) (tree : Expr)
+    → (fold_expr size_steps (of_task tasks at tree)).read ≡ (fold_expr size_steps tree).read
+task_size tasks at tree =
+    carried tasks at
+    (λ made tree. (fold_expr size_steps made).read ≡ (fold_expr size_steps tree).read)
+    (task_carried at) tree
+
+-- the body of a task that awaits a value
+task_body_size : (eq_at await_at : ℕ) (value : Expr)
+    → fold_closure size_steps (task_body eq_at await_at value)
+    ≡ 1 + (fold_expr size_steps value).read
+task_body_size eq_at await_at value =
+    let stmt = statements.Plain (exprs.Await await_at value) in
+    omega (
+      arith,
+      eq.fold_closure-roll size_steps eq_at None [] [] None (block_of (stmt ∷ [])),
+      eq.fold_block-roll size_steps (stmt ∷ []),
+      sum_one (fold_stmt size_steps stmt),
+      eq.fold_stmt-Plain size_steps (exprs.Await await_at value),
+      read_is (eq.fold_expr-Await size_steps await_at value),
+    )
+
 sizes : (id_of : List ℕ → ℕ) → Weighing id_of
 unfolding block_size
 sizes id_of = record {
@@ -240,6 +309,7 @@ sizes id_of = record {
       at value;
   expr-Optional = λ at k.
       omega (arith, read_is (eq.fold_expr-Use size_steps (name_at at (id_of (codes "Optional")))));
+  expr-Task = λ tasks at tree k. omega (arith, task_size tasks at tree);
   arg-roll = λ name value k. omega (arith, eq.fold_arg-roll size_steps name value);
   closure_param-is = λ given k. omega arith;
   inside-is = λ it _ k. omega arith;
@@ -249,6 +319,12 @@ sizes id_of = record {
         arith,
         eq.fold_closure-roll size_steps at it.mark it.captures it.params it.result body,
         eq.fold_block-roll size_steps it.body,
+      );
+  closure-Task = λ eq_at await_at tasks value _ k.
+      omega (
+        arith,
+        task_body_size eq_at await_at (of_task tasks (suc await_at) value),
+        task_size tasks (suc await_at) value,
       );
   link-roll = λ op at operand k. omega (arith, eq.fold_link-roll size_steps op at operand);
   block-roll = λ body k. omega (arith, eq.fold_block-roll size_steps body);
@@ -278,11 +354,11 @@ sizes id_of = record {
         ap (λ (size : ExprSize). size.write) (place_size first is),
       );
   stmt-Discard = λ at value k. omega (arith, eq.fold_stmt-Discard size_steps at value);
-  stmt-If = λ arms otherwise k.
+  stmt-If = λ arm arms otherwise k.
       omega (
         arith,
-        eq.fold_stmt-If size_steps arms otherwise,
-        in_sum (fold_if_arm size_steps) arms k,
+        eq.fold_stmt-If size_steps (arm ∷ arms) otherwise,
+        in_sum (fold_if_arm size_steps) (arm ∷ arms) k,
         in_some_size (fold_block size_steps) otherwise k,
       );
   stmt-While = λ at cond body k. omega (arith, eq.fold_stmt-While size_steps at cond body);

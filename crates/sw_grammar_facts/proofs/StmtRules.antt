@@ -1,59 +1,55 @@
 -- What statements weigh.
 use Rattle.std.proofs.Common.{◌≡◌, ℕ, ◌+◌, ◌≤◌, Bool, true, false, not, IsTrue, List, [], ◌∷◌, ◌++◌}
 use Rattle.std.proofs.Common.{Option, None, Some, codes, length, refl, sym, subst, arith}
-use Rattle.std.proofs.lemmas.List.{flat_map_more}
 use Rattle.sw_token.specs.Spelling.{Spelled}
 use Rattle.sw_grammar_forms.proofs.CursorSteps.{seen_text}
 use Rattle.sw_grammar_forms.proofs.Rising.{HasTokenText}
+use Rattle.sw_grammar_forms.specs.Form.{a_word}
 use Rattle.sw_grammar_forms.specs.Quotes.{quote}
-use Rattle.sw_grammar_forms.specs.Relations.{Relation, One, may_start, spelled, stays}
+use Rattle.sw_grammar_forms.specs.Relations.{Relation, One, is_none_of, spelled, stays}
 use Rattle.sw_grammar_forms.specs.Sets.{has, is_quoted, quoted, word}
-use Rattle.sw_grammar_forms.specs.Terminals.{expect, items, ◌>>=◌}
+use Rattle.sw_grammar_forms.specs.Terminals.{expect, ◌>>=◌}
 use Rattle.sw_tree.specs.Place.{is_place}
 use Rattle.sw_tree.proofs.Counting.{Weight, in_all, in_option, in_all-append}
 use Rattle.sw_tree.specs.declared.expr.Expr.{Expr}
 use Rattle.sw_tree.specs.declared.expr.Expr.TheVariants as exprs
 use Rattle.sw_tree.specs.declared.stmt.IfArm.{IfArm}
-use Rattle.sw_tree.specs.declared.stmt.Stmt.{Stmt}
 use Rattle.sw_tree.specs.declared.stmt.Stmt.TheVariants as stmts
 use Rattle.sw_tree.specs.declared.type_tree.TypeTree.{TypeTree}
 use Rattle.sw_sugar.specs.Optionals.{some_arm}
-use Rattle.sw_grammar.specs.Around.{Around, returning, with_break, without_break}
-use Rattle.sw_grammar.specs.Closures.{inside_of}
+use Rattle.sw_grammar.specs.Around.{Around, with_break}
 use Rattle.sw_grammar.specs.Nests.{Nest, El, IfLet, shape_of}
-use Rattle.sw_grammar.specs.Nests.Nest.{in_block, in_if_let, in_switch, in_patterns}
+use Rattle.sw_grammar.specs.Nests.Nest.{in_block, in_if_let, in_switch}
 use Rattle.sw_grammar.specs.Tokens.{name_of, value_word, an_assignment, assign_ops}
-use Rattle.sw_grammar.specs.Types.{Typed, wanted_of}
-use Rattle.sw_grammar.specs.Stmts.{joined, block_of, case_arm, if_arm, Arms, Binding, Cases, Next, Or}
+use Rattle.sw_grammar.specs.Types.{Typed}
+use Rattle.sw_grammar.specs.Words.{declared_as}
+use Rattle.sw_grammar.specs.Stmts.{block_of, if_arm, Arms, Binding, Next, Or}
 use Rattle.sw_grammar.specs.Stmts.Next.{arm_at, no_more, other_block, last_stmt}
-use Rattle.sw_grammar.specs.Stmts.{is_arm, has_next, place_of, if_with, if_let_of, bound, word_in}
+use Rattle.sw_grammar.specs.Stmts.{is_arm, has_next, place_of, if_of, if_with, if_let_of, bound}
 use Rattle.sw_grammar.specs.Stmts.{block, value, type_if, literal_if, typed_binding, after_binding}
 use Rattle.sw_grammar.specs.Stmts.{binding, bind, discard, after_place, word_stmt, self_stmt}
 use Rattle.sw_grammar.specs.Stmts.{task_stmt, plain_stmt, if_let, after_arm, next_arm, last_arm}
 use Rattle.sw_grammar.specs.Stmts.{if_stmt, while_stmt, switch_stmt, return_stmt, break_stmt}
-use Rattle.sw_grammar.specs.Stmts.{continue_stmt, other_stmt, stmt, statements, closure_inside}
-use Rattle.sw_grammar.specs.Stmts.{task_inside, pattern, patterns_inside, patterns_if, arm_body}
-use Rattle.sw_grammar.specs.Stmts.{case_part, default_part, switch_inside, later_arms, if_let_inside}
-use Rattle.sw_grammar_facts.proofs.ClosureRules.{own_header, own_task_header}
+use Rattle.sw_grammar.specs.Stmts.{continue_stmt, other_stmt, stmt}
 use Rattle.sw_grammar_facts.proofs.ExprRules.{own_after_word, own_after_operand, own_a_literal}
 use Rattle.sw_grammar_facts.proofs.ExprRules.{own_after_task, own_negated, own_more_operands}
 use Rattle.sw_grammar_facts.proofs.ExprRules.{own_awaited, own_expr}
-use Rattle.sw_grammar_facts.proofs.NestWeights.{weight, of_typed_if, tasked, cased, if_let_weight}
-use Rattle.sw_grammar_facts.proofs.Owning.{none, Owns, InTurn, OwnsAfter, in_turn, own_after_any}
-use Rattle.sw_grammar_facts.proofs.Owning.{own_after_either, own_anywhere, own_at, own_chosen}
-use Rattle.sw_grammar_facts.proofs.Owning.{own_done, own_either, own_from, own_items_by, own_only}
-use Rattle.sw_grammar_facts.proofs.Owning.{own_part, own_passing, own_past, own_past_at, own_read}
-use Rattle.sw_grammar_facts.proofs.Owning.{own_after_none, own_some_items_by, own_then, own_token}
-use Rattle.sw_grammar_facts.proofs.Owning.{own_turns, own_when, own_with, part_of_less, part_rises}
+use Rattle.sw_grammar_facts.proofs.NestWeights.{weight, of_typed_if, if_let_weight}
+use Rattle.sw_grammar_facts.proofs.Owning.{none, Owns, OwnsAfter, own_after_any}
+use Rattle.sw_grammar_facts.proofs.Owning.{own_after_either, own_after_test, own_chosen}
+use Rattle.sw_grammar_facts.proofs.Owning.{own_done, own_either, own_from, own_only}
+use Rattle.sw_grammar_facts.proofs.Owning.{own_passing, own_past, own_read}
+use Rattle.sw_grammar_facts.proofs.Owning.{own_after_none, own_then, own_token}
+use Rattle.sw_grammar_facts.proofs.Owning.{own_turns, own_when, own_with}
 use Rattle.sw_grammar_facts.specs.Interned.{is_binding}
 use Rattle.sw_grammar_facts.proofs.Questions.{is_paid, other_of}
 use Rattle.sw_grammar_facts.proofs.Spread.{spread}
-use Rattle.sw_grammar_facts.proofs.TypeRules.{Keeps, own_some_of, own_quote, own_name, own_opened}
+use Rattle.sw_grammar_facts.proofs.TypeRules.{Keeps, own_quote, own_name, own_opened}
 use Rattle.sw_grammar_facts.proofs.TypeRules.{own_whole, own_written_type, whole_weighs}
 use Rattle.sw_grammar_facts.proofs.Unmarked.{fits, wants_word}
 use Rattle.sw_grammar_facts.proofs.ValueRules.{own_equals, own_value_in}
-use Rattle.sw_grammar_facts.proofs.Wanted.{own_part_knowing, own_then_knowing, want_header}
-use Rattle.sw_grammar_facts.proofs.Wanted.{want_task_header, want_written_type}
+use Rattle.sw_grammar_facts.proofs.Wanted.{own_then_knowing}
+use Rattle.sw_grammar_facts.proofs.Wanted.{want_written_type}
 use Rattle.sw_grammar_facts.proofs.Weighing.{IsTyped, Weighing}
 
 -- What an optional's other value weighs, and the words of a variable with a type.
@@ -72,8 +68,25 @@ module _ {id_of : List ℕ → ℕ} (w : Weighing id_of) where
   next_weight (other_block body) = w.block body
   next_weight (last_stmt rest) = w.stmt rest
 
+  -- An `if` without arms weighs what it does. None is read.
+  abbrev bare_if : Next → List IfArm → Weight
+  bare_if no_more [] = w.stmt (stmts.If [] None)
+  bare_if (other_block body) [] = w.stmt (stmts.If [] (Some body))
+  bare_if next arms = none
+
   abbrev armed : Arms → Weight
-  armed arms k = in_all w.if_arm arms.arms k + next_weight arms.next k
+  armed arms k =
+      in_all w.if_arm arms.arms k + next_weight arms.next k + bare_if arms.next arms.arms k
+
+  -- with an arm there is nothing more
+  some_arms : (arms : List IfArm) (one : IfArm) (next : Next) (k : ℕ)
+      → bare_if next (arms ++ one ∷ []) k ≤ 0
+  some_arms arms one (arm_at at) k = omega arith
+  some_arms arms one (last_stmt rest) k = omega arith
+  some_arms [] one no_more k = omega arith
+  some_arms (arm ∷ arms) one no_more k = omega arith
+  some_arms [] one (other_block body) k = omega arith
+  some_arms (arm ∷ arms) one (other_block body) k = omega arith
 
   -- the place of the `if` of another arm
   place_paid : (next : Next) → IsTrue (is_arm next) → (k : ℕ)
@@ -83,21 +96,22 @@ module _ {id_of : List ℕ → ℕ} (w : Weighing id_of) where
   place_paid (other_block body) is k = absurd (cc)
   place_paid (last_stmt rest) is k = absurd (cc)
 
-  if_weighs : (arms : List IfArm) (next : Next) (k : ℕ)
-      → w.stmt (if_with arms next) k ≤ in_all w.if_arm arms k + next_weight next k
+  -- An `if` that another arm doesn't follow.
+  if_weighs : (arms : List IfArm) (next : Next) → is_arm next ≡ false → (k : ℕ)
+      → w.stmt (if_with arms next) k
+      ≤ in_all w.if_arm arms k + next_weight next k + bare_if next arms k
   unfolding in_option in_all
-  if_weighs [] (arm_at at) k = omega (arith, w.stmt-If [] None k)
-  if_weighs [] no_more k = omega (arith, w.stmt-If [] None k)
-  if_weighs [] (other_block body) k = omega (arith, w.stmt-If [] (Some body) k)
-  if_weighs [] (last_stmt rest) k = omega arith
-  if_weighs (arm ∷ arms) (arm_at at) k = omega (arith, w.stmt-If (arm ∷ arms) None k)
-  if_weighs (arm ∷ arms) no_more k = omega (arith, w.stmt-If (arm ∷ arms) None k)
-  if_weighs (arm ∷ arms) (other_block body) k =
-      omega (arith, w.stmt-If (arm ∷ arms) (Some body) k)
-  if_weighs (arm ∷ arms) (last_stmt rest) k =
+  if_weighs arms (arm_at at) ended k = absurd (cc)
+  if_weighs [] no_more ended k = omega arith
+  if_weighs [] (other_block body) ended k = omega arith
+  if_weighs [] (last_stmt rest) ended k = omega arith
+  if_weighs (arm ∷ arms) no_more ended k = omega (arith, w.stmt-If arm arms None k)
+  if_weighs (arm ∷ arms) (other_block body) ended k =
+      omega (arith, w.stmt-If arm arms (Some body) k)
+  if_weighs (arm ∷ arms) (last_stmt rest) ended k =
       omega (
         arith,
-        w.stmt-If (arm ∷ arms) (Some (block_of (rest ∷ []))) k,
+        w.stmt-If arm arms (Some (block_of (rest ∷ []))) k,
         w.block-roll (rest ∷ []) k,
         w.stmts-one rest k,
       )
@@ -218,14 +232,15 @@ module _ (around : Around) (w : Weighing around.id_of) (table : (n : Nest) → R
       (spelled El shape_of table (binding around mutable let_token.at)) w.stmts
   unfolding binding
   own_binding mutable let_token is_let =
-      own_read _ (word_in around) (λ found. w.node found.name)
+      own_after_test _ (is_none_of around.here.tasks)
+      (own_read _ (a_word (declared_as around)) (λ found. w.node found.name)
       (λ token whole member k.
       omega (arith, w.of_word token (other_of word token refl member) whole member k))
       (λ token whole member _. own_after_binding (record {
         mutable = mutable;
         let_at = let_token.at;
-        word = record { name = name_of around.id_of token; text = token.text };
-      }) let_token token is_let whole member refl refl)
+        word = declared_as around token;
+      }) let_token token is_let whole member refl refl))
 
   -- `let` or `var`, and what comes after it
   own_bound : (text : List ℕ) (mutable : Bool) → is_quoted text ≡ true
@@ -304,14 +319,16 @@ module _ (around : Around) (w : Weighing around.id_of) (table : (n : Nest) → R
       own_then _ _ (own_opened w table nests (codes "let") refl (in_if_let around.here) fit)
       (λ inside. own_done _ (λ k. omega (arith, if_let_weighs around w at inside.0 inside.1 k)))
 
-  own_after_arm : (arms : List IfArm)
-      → Keeps w table (after_arm around arms) (in_all w.if_arm arms) (armed w)
+  own_after_arm : (arms : List IfArm) (one : IfArm)
+      → Keeps w table (after_arm around (arms ++ one ∷ [])) (in_all w.if_arm (arms ++ one ∷ [])) (armed w)
   unfolding after_arm
-  own_after_arm arms =
+  own_after_arm arms one =
       own_either _ (own_past _ (λ _. own_either _
-      (own_then _ _ (own_quote w table (codes "if") refl) (λ at. own_done _ (λ k. omega arith)))
-      (own_then _ _ own_block (λ body. own_done _ (λ k. omega arith)))))
-      (own_done _ (λ k. omega arith))
+      (own_then _ _ (own_quote w table (codes "if") refl) (λ at. own_done _ (λ k.
+      omega (arith, some_arms w arms one (arm_at at) k))))
+      (own_then _ _ own_block (λ body. own_done _ (λ k.
+      omega (arith, some_arms w arms one (other_block body) k))))))
+      (own_done _ (λ k. omega (arith, some_arms w arms one no_more k)))
 
   own_next_arm : (arms : Arms) → IsTrue (has_next arms)
       → Keeps w table (next_arm around arms) (armed w arms) (armed w)
@@ -324,29 +341,29 @@ module _ (around : Around) (w : Weighing around.id_of) (table : (n : Nest) → R
         in_all-append w.if_arm arms.arms (one ∷ []) k,
         w.if_arm-roll (place_of arms.next) cond body k,
         place_paid w arms.next is k,
-      )) (own_after_arm (arms.arms ++ one ∷ []))))
+      )) (own_after_arm arms.arms one)))
 
   own_last_arm : (arms : Arms) → IsTrue (has_next arms)
-      → Keeps w table (last_arm around arms) (armed w arms) (armed w)
+      → Keeps w table (last_arm around arms) (armed w arms) (λ all. w.stmt (if_of all))
   unfolding last_arm
   own_last_arm arms is =
       own_from _ (in_all w.if_arm arms.arms) w.stmt
       (λ k. omega (arith, place_paid w arms.next is k)) (own_if_let (place_of arms.next)) (λ rest.
-      own_done _ (λ k. omega arith))
+      own_done _ (λ k. omega (arith, if_weighs w arms.arms (last_stmt rest) refl k)))
 
   pub own_if_stmt : Keeps w table (if_stmt around) none w.stmt
   unfolding if_stmt in_all
   own_if_stmt =
       own_then _ _ (own_quote w table (codes "if") refl) (λ at.
       let start : Arms = record { arms = []; next = arm_at at } in
-      own_from _ {start = armed w start} none (armed w) (λ k. omega arith)
+      own_from _ {start = armed w start} none (λ all. w.stmt (if_of all)) (λ k. omega arith)
       (own_from _ {start = armed w start} none (armed w) (λ k. omega arith)
       (own_turns _ {w = armed w} (λ arms. own_only _ (has_next arms) (own_next_arm arms))
       start)
       (λ arms. own_chosen _ (has_next arms)
       (λ is. own_with _ (λ k. omega arith) (own_last_arm arms is))
-      (own_done _ (λ k. omega arith))))
-      (λ arms. own_done _ (λ k. omega (arith, if_weighs w arms.arms arms.next k))))
+      (λ ended. own_done _ (λ k. omega (arith, if_weighs w arms.arms arms.next ended k)))))
+      (λ arms. own_done _ (λ k. omega arith)))
 
   own_while_stmt : Keeps w table (while_stmt around) none w.stmt
   unfolding while_stmt
@@ -399,143 +416,8 @@ module _ (around : Around) (w : Weighing around.id_of) (table : (n : Nest) → R
       (own_either _ own_return_stmt (own_either _ own_continue_stmt (own_either _ own_word_stmt
       (own_either _ own_self_stmt (own_either _ own_task_stmt own_plain_stmt)))))))))
 
-  own_stmt : Keeps w table (stmt around) none w.stmts
+  pub own_stmt : Keeps w table (stmt around) none w.stmts
   unfolding stmt
   own_stmt =
       own_either _ own_bind (own_then _ _ own_other_stmt (λ other. own_done _ (λ k.
       omega (arith, w.stmts-one other k))))
-
-  -- what the statements of the text stand for so far, and what the next one does
-  joined_more : (parts : List (List Stmt)) (part : List Stmt)
-      → InTurn w.tally (w.stmts (joined parts)) (w.stmts part) → (k : ℕ)
-      → w.stmts (joined (parts ++ part ∷ [])) k ≤ w.stmts (joined parts) k + w.stmts part k
-  joined_more parts part turn k =
-      subst (λ all. w.stmts all k ≤ w.stmts (joined parts) k + w.stmts part k)
-      (flat_map_more (λ (one : List Stmt). one) [] parts part)
-      (w.stmts-append (joined parts) part turn k)
-
-  own_stmts : Keeps w table (items (stmt around)) none (λ read. w.stmts (joined read.0))
-  own_stmts =
-      own_items_by _ El shape_of table (stmt around) w.stmts own_stmt
-      (λ parts. w.stmts (joined parts)) w.stmts-nil joined_more
-
-  pub own_statements : Keeps w table (statements around) none w.stmts
-  unfolding statements
-  own_statements =
-      own_then _ _ own_stmts (λ read. own_past _ (λ _. own_done _ (λ k. omega arith)))
-
-  own_pattern : Keeps w table (pattern around) none w.pattern
-  unfolding pattern
-  own_pattern =
-      own_either _ (own_then _ _ (own_quote w table (codes "_") refl) (λ at. own_done _ (λ k.
-      omega (arith, w.pattern-Skip at k))))
-      (own_past _ (λ _. own_then _ _ (own_name around w table word (codes "print") refl) (λ name.
-      own_done _ (λ k. omega (arith, w.pattern-Let name k)))))
-
-  pub own_patterns_inside : Keeps w table (patterns_inside around) none (in_all w.pattern)
-  unfolding patterns_inside
-  own_patterns_inside = own_some_of around w table (pattern around) w.pattern own_pattern (codes ")")
-
-  own_patterns_if : Keeps w table (patterns_if around) none (in_all w.pattern)
-  unfolding patterns_if in_all
-  own_patterns_if =
-      own_either _ (own_then _ _ (own_opened w table nests (codes "(") refl in_patterns refl) (λ given.
-      own_done _ (λ k. omega arith))) (own_done _ (λ k. omega arith))
-
-  own_arm_body : Keeps w table (arm_body around) none (λ read. w.stmts read.0)
-  unfolding arm_body
-  own_arm_body =
-      own_then _ _ (own_some_items_by _ El shape_of table (stmt around) w.stmts own_stmt
-      (λ parts. w.stmts (joined parts)) w.stmts-nil joined_more)
-      (λ read. own_done _ (λ k. omega arith))
-
-  own_case_part : (cases : Cases)
-      → Keeps w table (case_part around cases) (in_all w.case_arm cases.0)
-      (λ read. in_all w.case_arm read.0)
-  unfolding case_part in_all
-  own_case_part cases =
-      own_past _ (λ _. own_past _ (λ _.
-      own_then _ _ (own_name around w table word (codes "print") refl) (λ name.
-      own_anywhere _ (λ from. own_part _ _ own_patterns_if (λ pats middle before.
-      own_past_at _ (λ _ next less. own_part _ _ own_arm_body (λ body to after.
-      own_at _ to (own_done _ (λ k. omega (
-        arith,
-        in_all-append w.case_arm cases.0 (case_arm name pats body.0 ∷ []) k,
-        w.case_arm-roll name pats (block_of body.0)
-            (in_turn _ before less (part_of_less _ (w.block-roll body.0) after)) k,
-        w.block-roll body.0 k,
-      ))))))))))
-
-  own_default_part : Keeps w table (default_part around) none (in_option w.block)
-  unfolding default_part in_option
-  own_default_part =
-      own_past _ (λ _. own_past _ (λ _. own_then _ _ own_arm_body (λ body. own_done _ (λ k.
-      omega (arith, w.block-roll body.0 k)))))
-
-  pub own_switch_inside : Keeps w table (switch_inside around) none (cased w)
-  unfolding switch_inside in_all in_option
-  own_switch_inside =
-      own_from _ none (λ (read : Cases). in_all w.case_arm read.0) (λ k. omega arith)
-      (own_turns _ {w = λ (read : Cases). in_all w.case_arm read.0} (λ read.
-      own_only _ true (λ _. own_passing _ (may_start (not read.1)) (own_case_part read)))
-      ([], false)) (λ read.
-      own_then _ (in_option w.block) (own_either _
-      (own_passing _ (may_start (not read.1)) own_default_part)
-      (own_done _ (λ k. omega arith))) (λ otherwise. own_past _ (λ _.
-      own_done _ (λ k. omega arith))))
-
--- What stands after the `let` of an `if`, and in closures and tasks.
-module _ (around : Around) (w : Weighing around.id_of) (table : (n : Nest) → Relation (El n))
-    (nests : (n : Nest) → IsTrue (fits n) → Owns w.tally none (table n) (weight w n))
-    (fit : IsTrue (wants_word around.here.wanted)) where
-  own_later_arms : Keeps w table (later_arms around) none w.block
-  unfolding later_arms
-  own_later_arms =
-      own_either _ (own_past _ (λ _. own_either _
-      (own_then _ _ (own_if_stmt (without_break around) w table nests fit) (λ rest.
-      own_done _ (λ k. omega (arith, w.block-roll (rest ∷ []) k, w.stmts-one rest k))))
-      (own_block (without_break around) w table nests fit)))
-      (own_done _ (λ k. omega (arith, w.block-roll [] k, w.stmts-nil k)))
-
-  pub own_if_let_inside : Keeps w table (if_let_inside around) none (if_let_weight w)
-  unfolding if_let_inside
-  own_if_let_inside =
-      own_anywhere _ (λ from.
-      own_part _ _ (own_name around w table word (codes "print") refl) (λ name middle before.
-      own_past_at _ (λ _ past less.
-      own_part _ _ (own_expr around w table nests fit false) (λ subject next read.
-      own_part _ _ (own_block (without_break around) w table nests fit)
-      (λ chosen to after.
-      own_at _ to (own_then _ _ own_later_arms (λ otherwise. own_done _ (λ k. omega (
-        arith,
-        w.for_block-is name chosen (in_turn _ (part_of_less _ (λ j. omega arith) before)
-            (let rises = part_rises _ read in omega arith) after) k,
-      )))))))))
-
-  pub own_closure_inside : Keeps w table (closure_inside around) none w.inside
-  unfolding closure_inside
-  own_closure_inside =
-      own_anywhere _ (λ from. own_part_knowing w.tally _ (want_header around table)
-      (own_header around w table nests) (λ head wants middle before.
-      own_part _ _
-      (own_statements (returning around (wanted_of head.result)) w table nests wants)
-      (λ body to after.
-      own_at _ to (own_done _ (λ k. omega (
-        arith,
-        w.inside-is (inside_of head body) (in_turn _ (part_of_less _ (λ j. omega arith) before)
-            (omega arith) after) k,
-      ))))))
-
-  pub own_task_inside : Keeps w table (task_inside around) none (tasked w)
-  unfolding task_inside
-  own_task_inside =
-      own_anywhere _ (λ from. own_part_knowing w.tally _ (want_task_header around table)
-      (own_task_header around w table nests) (λ head wants middle before.
-      own_part _ _
-      (own_statements (returning around (wanted_of head.result)) w table nests wants)
-      (λ body to after.
-      own_at _ to (own_done _ (λ k. omega (
-        arith,
-        w.inside-is (inside_of head body) (in_turn _ (part_of_less _ (λ j. omega arith) before)
-            (omega arith) after) k,
-      ))))))

@@ -2,7 +2,7 @@
 -- has an operator, and a global variable has a first value. What breaks this weighs something, and
 -- tokens weigh nothing.
 use Rattle.std.proofs.Common.{◌≡◌, ℕ, ◌+◌, ◌≤◌, List, [], ◌∷◌, ◌++◌, map, flat_map, Option, None}
-use Rattle.std.proofs.Common.{Some, option_map, unwrap_or, IsSome, length, codes, suc, true, ap, refl}
+use Rattle.std.proofs.Common.{Some, option_map, unwrap_or, IsSome, length, codes, suc, true, ap, refl, sym, ◌∙◌}
 use Rattle.std.proofs.Common.{arith}
 use Rattle.std.proofs.lemmas.List.Elements.{All-contains, All-from_recursion}
 use Rattle.std.specs.List.{AllByRecursion}
@@ -11,6 +11,7 @@ use Rattle.sw_tree.proofs.Counting.{Weight, hits, hits_same, in_all, in_all-nil,
 use Rattle.sw_tree.proofs.Counting.{in_all-append, in_all-map, in_all-flat_map, in_all-joined}
 use Rattle.sw_tree.proofs.Counting.{in_all-option, in_option}
 use Rattle.sw_tree.specs.Keys.{Keys, joined}
+use Rattle.sw_tree.specs.Names.{value_id}
 use Rattle.sw_tree.specs.declared.decl.Decl.{Decl}
 use Rattle.sw_tree.specs.declared.decl.Decl.TheVariants.{Entry, Struct, Enum, Class, Actor}
 use Rattle.sw_tree.specs.declared.decl.Decl.TheVariants.{GlobalActor, Func, Global}
@@ -20,14 +21,17 @@ use Rattle.sw_tree.specs.declared.expr.Expr.TheVariants as exprs
 use Rattle.sw_tree.specs.declared.operator.AssignOp.TheVariants as assigns
 use Rattle.sw_tree.specs.declared.stmt.Block.{roll-Block}
 use Rattle.sw_tree.specs.declared.stmt.Pattern.TheVariants as patterns
+use Rattle.sw_tree.specs.declared.stmt.Stmt.TheVariants as statements
 use Rattle.sw_tree.specs.declared.type_tree.TypeTree.{TypeTree}
 use Rattle.sw_tree_facts.specs.Unwritten.{AreWritten, expr_unwritten, block_unwritten}
 use Rattle.sw_tree_facts.specs.Unwritten.{func_unwritten, init_unwritten, prop_unwritten}
-use Rattle.sw_tree_facts.specs.Unwritten.{decl_unwritten}
+use Rattle.sw_tree_facts.specs.Unwritten.{bare, decl_unwritten}
 use Rattle.sw_tree_facts.specs.Values.{AreValued}
+use Rattle.sw_sugar.specs.AsyncLet.{task_body}
 use Rattle.sw_sugar.specs.Calls.{or_literal_form}
 use Rattle.sw_sugar.specs.Optionals.{block_of, name_at, or_literal_stmts, some_arm, some_tree}
 use Rattle.sw_sugar.specs.Optionals.{taken, use_at}
+use Rattle.sw_sugar.specs.Tasks.{of_task}
 use Rattle.sw_sugar.specs.declared.words.OrLiteral.{OrLiteral}
 use Rattle.sw_grammar.specs.Enums.{Marked, enum_of}
 use Rattle.sw_grammar.specs.Exprs.{closure_at}
@@ -41,6 +45,7 @@ use Rattle.sw_tree_facts.proofs.UnwrittenEquations.{stmt_unwritten, arg_unwritte
 use Rattle.sw_tree_facts.proofs.UnwrittenEquations.{closure_unwritten, link_unwritten}
 use Rattle.sw_tree_facts.proofs.UnwrittenEquations.{case_arm_unwritten, if_arm_unwritten}
 use Rattle.sw_grammar_facts.proofs.Spread.{spread_none}
+use Rattle.sw_grammar_facts.proofs.TaskWeights.{Carried, carried}
 use Rattle.sw_grammar_facts.proofs.Weighing.{Weighing}
 
 -- one where the value is missing
@@ -125,6 +130,52 @@ or_unwritten form ty value literal k =
       same (unwritten.stmt_unwritten-Bind form.mutable form.word.name (Some ty)
           (exprs.Use last)) k,
       same (unwritten.expr_unwritten-Use last) k,
+    )
+
+-- what an `await` awaits is as a text can write it where its expression is
+task_carried : (at : ℕ) → Carried at (λ made tree. expr_unwritten made ≡ expr_unwritten tree)
+task_carried at = record {
+  same = λ tree. refl;
+  task = λ name.
+      unwritten.expr_unwritten-Member (use_at at name.id) (name_at name.at value_id)
+      ∙ unwritten.expr_unwritten-Use (name_at at name.id)
+      ∙ sym (unwritten.expr_unwritten-Use name);
+  member = λ made tree name is.
+      unwritten.expr_unwritten-Member made name ∙ is
+      ∙ sym (unwritten.expr_unwritten-Member tree name);
+  method = λ made tree name args is.
+      unwritten.expr_unwritten-Method made name args
+      ∙ ap (λ (keys : Keys). keys ++ joined (map arg_unwritten args)) is
+      ∙ sym (unwritten.expr_unwritten-Method tree name args);
+  chain = λ made tree rest is.
+      unwritten.expr_unwritten-Chain made rest
+      ∙ ap (λ (keys : Keys). keys ++ joined (map link_unwritten rest)
+      ++ bare (map link_unwritten rest)) is
+      ∙ sym (unwritten.expr_unwritten-Chain tree rest);
+  prefix = λ op at made tree is.
+      unwritten.expr_unwritten-Prefix op at made ∙ is
+      ∙ sym (unwritten.expr_unwritten-Prefix op at tree);
+}
+
+task_unwritten : (tasks : List ℕ) (at : ℕ) (tree : Expr)
+    → expr_unwritten (of_task tasks at tree) ≡ expr_unwritten tree
+task_unwritten tasks at tree =
+    carried tasks at (λ made tree. expr_unwritten made ≡ expr_unwritten tree) (task_carried at) tree
+
+-- the body of a task that awaits a value
+task_body_unwritten : (eq_at await_at : ℕ) (value : Expr) (k : ℕ)
+    → in_all hits (closure_unwritten (task_body eq_at await_at value)) k
+    ≡ in_all hits (expr_unwritten value) k
+unfolding in_all
+task_body_unwritten eq_at await_at value k =
+    let stmt = statements.Plain (exprs.Await await_at value) in
+    omega (
+      arith,
+      same (unwritten.closure_unwritten-roll eq_at None [] [] None (block_of (stmt ∷ []))) k,
+      same (unwritten.block_unwritten-roll (stmt ∷ [])) k,
+      in_all-joined hits stmt_unwritten (stmt ∷ []) k,
+      same (unwritten.stmt_unwritten-Plain (exprs.Await await_at value)) k,
+      same (unwritten.expr_unwritten-Await await_at value) k,
     )
 
 module _ (id_of : List ℕ → ℕ) where
@@ -234,6 +285,7 @@ module _ (id_of : List ℕ → ℕ) where
           same (unwritten.expr_unwritten-Use (name_at at (id_of (codes "Optional")))) k,
           in_all-nil hits k,
         );
+    expr-Task = λ tasks at tree k. omega (arith, same (task_unwritten tasks at tree) k);
     arg-roll = λ name value k. omega (arith, same (unwritten.arg_unwritten-roll name value) k);
     closure_param-is = λ given k. omega arith;
     inside-is = λ it _ k. omega arith;
@@ -244,6 +296,12 @@ module _ (id_of : List ℕ → ℕ) where
           same (unwritten.closure_unwritten-roll at it.mark it.captures it.params it.result body) k,
           same (unwritten.block_unwritten-roll it.body) k,
           in_all-joined hits stmt_unwritten it.body k,
+        );
+    closure-Task = λ eq_at await_at tasks value _ k.
+        omega (
+          arith,
+          task_body_unwritten eq_at await_at (of_task tasks (suc await_at) value) k,
+          same (task_unwritten tasks (suc await_at) value) k,
         );
     link-roll = λ op at operand k.
         omega (arith, same (unwritten.link_unwritten-roll op at operand) k);
@@ -277,13 +335,13 @@ module _ (id_of : List ℕ → ℕ) where
           in_all-append hits (expr_unwritten first) (expr_unwritten value) k,
         );
     stmt-Discard = λ at value k. omega (arith, same (unwritten.stmt_unwritten-Discard at value) k);
-    stmt-If = λ arms otherwise k.
+    stmt-If = λ arm arms otherwise k.
         omega (
           arith,
-          same (unwritten.stmt_unwritten-If arms otherwise) k,
-          in_all-append hits (joined (map if_arm_unwritten arms))
+          same (unwritten.stmt_unwritten-If (arm ∷ arms) otherwise) k,
+          in_all-append hits (joined (map if_arm_unwritten (arm ∷ arms)))
               (unwrap_or (option_map block_unwritten otherwise) []) k,
-          in_all-joined hits if_arm_unwritten arms k,
+          in_all-joined hits if_arm_unwritten (arm ∷ arms) k,
           in_all-option hits block_unwritten otherwise k,
         );
     stmt-While = λ at cond body k.

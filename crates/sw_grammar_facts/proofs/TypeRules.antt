@@ -11,16 +11,16 @@ use Rattle.sw_token.specs.Spelling.{Spelled}
 use Rattle.sw_grammar_forms.specs.Sets.{Set, has, word, attribute, within, quoted, quoted_texts}
 use Rattle.sw_grammar_forms.specs.Sets.{not_first}
 use Rattle.sw_grammar_forms.specs.Sets.{is_quoted}
-use Rattle.sw_grammar_forms.specs.Form.{Shape}
+use Rattle.sw_grammar_forms.specs.Form.{Shape, a_word}
 use Rattle.sw_grammar_forms.specs.Form.Form.{nest}
-use Rattle.sw_grammar_forms.specs.Relations.{Relation, One, spelled}
+use Rattle.sw_grammar_forms.specs.Relations.{Relation, One, is_none_of, spelled}
 use Rattle.sw_grammar_forms.specs.Quotes.{quote, quote_on_line}
 use Rattle.sw_grammar_forms.proofs.CursorSteps.{seen_text}
 use Rattle.sw_grammar_forms.proofs.SetLemmas.{has-within}
 use Rattle.sw_tree.proofs.Counting.{Weight, in_all, in_option, in_all-append}
 use Rattle.sw_grammar_facts.proofs.Owning.{none, Owns, own_done, own_text, own_token, own_then}
 use Rattle.sw_grammar_facts.proofs.Owning.{own_either, own_only, own_past, own_turns, own_nest}
-use Rattle.sw_grammar_facts.proofs.Owning.{own_from, own_unless}
+use Rattle.sw_grammar_facts.proofs.Owning.{own_from, own_passing, own_unless}
 use Rattle.sw_grammar.specs.Around.{Around}
 use Rattle.sw_grammar.specs.Nests.{Nest, El, shape_of, Form}
 use Rattle.sw_grammar.specs.Nests.Nest.{in_types, in_result, in_task_type}
@@ -28,6 +28,7 @@ use Rattle.sw_grammar.specs.Tokens.{name_of, name_in, at_in, value_word, infix_i
 use Rattle.sw_grammar.specs.Types.{TypeWord, is_empty, named, type_word, round_type, marked_type}
 use Rattle.sw_grammar.specs.Types.{task_type, named_type, written_type, type, more_of, some_of}
 use Rattle.sw_grammar.specs.Types.{list_of, types, payload, task_inner}
+use Rattle.sw_grammar.specs.Words.{declared_as, new_name, new_word}
 use Rattle.sw_grammar_facts.proofs.NestWeights.{weight, of_typed}
 use Rattle.sw_grammar_facts.proofs.Questions.{is_paid, other_of}
 use Rattle.sw_grammar_facts.proofs.Spread.{spread}
@@ -141,6 +142,16 @@ module _ (around : Around) (w : Weighing around.id_of) (table : (n : Nest) → R
       own_text _ (name_in around set text)
       (λ token whole member k. let is = has-within set word token less member in
       w.of_word token (other_of word token refl is) whole is k)
+
+  pub own_new_name : Keeps w table (new_name around) none (λ name k. w.node name k + w.label name k)
+  own_new_name =
+      own_passing _ (is_none_of around.here.tasks) (own_name word (codes "print") refl)
+
+  pub own_new_word : Keeps w table (new_word around) none (λ found. w.node found.name)
+  own_new_word =
+      own_passing _ (is_none_of around.here.tasks) (own_text _ (a_word (declared_as around))
+      (λ token whole member k.
+      omega (arith, w.of_word token (other_of word token refl member) whole member k)))
 
   pub own_mark : (set : Set) (text : List ℕ) → within set attribute ≡ true
       → Owns w.tally none (One (at_in around set text)) w.label

@@ -36,9 +36,11 @@ use Rattle.sw_tree.specs.declared.decl.ParamTree.{ParamTree}
 use Rattle.sw_tree.specs.declared.decl.PropTree.{PropTree}
 use Rattle.sw_tree.specs.declared.decl.Written.{Written}
 use Rattle.sw_tree.specs.declared.decl.Written.TheVariants as writtens
+use Rattle.sw_sugar.specs.AsyncLet.{task_body}
 use Rattle.sw_sugar.specs.Calls.{or_literal_form}
 use Rattle.sw_sugar.specs.Optionals.{name_at, none_tree, or_literal_stmts, some_arm, some_tree}
 use Rattle.sw_sugar.specs.Optionals.{use_at}
+use Rattle.sw_sugar.specs.Tasks.{of_task}
 use Rattle.sw_grammar.specs.Tokens.{name_of, at_name, optional_text}
 use Rattle.sw_grammar.specs.Nests.{ClosureInside}
 use Rattle.sw_grammar.specs.Exprs.{closure_at}
@@ -150,6 +152,9 @@ pub record Weighing (id_of : List ℕ → ℕ) : Type 0 where
       → expr (some_tree (id_of (codes "some")) (id_of (optional_text text)) at value) k
       ≤ place at k + place (suc at) k + expr value k
   pub expr-Optional : (at k : ℕ) → expr (use_at at (id_of (codes "Optional"))) k ≤ place at k
+  -- what an `await` awaits: of a word that stands for a task, a use of it besides
+  pub expr-Task : (tasks : List ℕ) (at : ℕ) (tree : Expr) (k : ℕ)
+      → expr (of_task tasks at tree) k ≤ place at k + expr tree k
   pub arg-roll : (name : Option Name) (value : Expr) (k : ℕ)
       → arg (roll-Arg (record { label = name; value = value })) k
       ≤ in_option label name k + expr value k
@@ -162,6 +167,11 @@ pub record Weighing (id_of : List ℕ → ℕ) : Type 0 where
       + in_all closure_param it.params k + in_option type it.result k + stmts it.body k
   pub closure-opened : (at : ℕ) (it : ClosureInside) → PaidAfter tally at (inside it) → (k : ℕ)
       → closure (closure_at at it) k ≤ place at k + inside it k
+  -- the body of a task that awaits a value, where later tokens pay the value
+  pub closure-Task : (eq_at await_at : ℕ) (tasks : List ℕ) (value : Expr)
+      → PaidAfter tally eq_at (expr value) → (k : ℕ)
+      → closure (task_body eq_at await_at (of_task tasks (suc await_at) value)) k
+      ≤ place eq_at k + place await_at k + place (suc await_at) k + expr value k
   pub link-roll : (op : InfixOp) (at : ℕ) (operand : Expr) (k : ℕ)
       → link (roll-Link (record { op = op; at = at; operand = operand })) k
       ≤ place at k + expr operand k
@@ -190,8 +200,10 @@ pub record Weighing (id_of : List ℕ → ℕ) : Type 0 where
       → stmt (statements.Assign at op first value) k ≤ place at k + expr first k + expr value k
   pub stmt-Discard : (at : ℕ) (value : Expr) (k : ℕ)
       → stmt (statements.Discard at value) k ≤ place at k + expr value k
-  pub stmt-If : (arms : List IfArm) (otherwise : Option Block) (k : ℕ)
-      → stmt (statements.If arms otherwise) k ≤ in_all if_arm arms k + in_option block otherwise k
+  -- an `if` has an arm
+  pub stmt-If : (arm : IfArm) (arms : List IfArm) (otherwise : Option Block) (k : ℕ)
+      → stmt (statements.If (arm ∷ arms) otherwise) k
+      ≤ in_all if_arm (arm ∷ arms) k + in_option block otherwise k
   pub stmt-While : (at : ℕ) (cond : Expr) (body : Block) (k : ℕ)
       → stmt (statements.While at cond body) k ≤ place at k + expr cond k + block body k
   pub stmt-Switch : (at : ℕ) (subject : Expr) (arms : List CaseArm) (otherwise : Option Block)

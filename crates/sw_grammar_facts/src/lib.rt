@@ -10,7 +10,7 @@ ghost use Rattle.std.specs.Prelude.{◌≡◌, ℕ, ◌*◌, ◌≤◌, ◌<◌,
 ghost use Rattle.sw_token.specs.Spelling.{Spelled};
 ghost use Rattle.sw_tree.specs.CasePlaces.{CasesApart};
 ghost use Rattle.sw_tree.specs.Contents.{AreKeyed, AreNamed};
-ghost use Rattle.sw_tree.specs.Names.{id_in, int_id};
+ghost use Rattle.sw_tree.specs.Names.{id_in, int_id, value_id};
 ghost use Rattle.sw_tree.specs.Scopes.{AreScoped};
 ghost use Rattle.sw_tree.specs.declared.decl.Decl.{Decl};
 ghost use Rattle.sw_tree_facts.specs.Sizes.{size_of};
@@ -22,10 +22,10 @@ ghost use Rattle.sw_grammar_facts.specs.Interned.{AreInterned};
 
 /// The declarations that a spelling spells have keys of their own. Each global variable has a value.
 /// No body of a task has a parameter, and each chain has an operator. Where ids are looked up in
-/// texts, of which there is one, each name of the declarations has a text. Where these have all names
-/// that a tree of the tokens may have, the words of the cases of an enum differ, in place or in name,
-/// and where `Int` is their first too, the keys tell for each variable that a closure uses whether it
-/// is declared around the closure or in it.
+/// texts, of which one has the id of `value`, each name of the declarations has a text. Where these
+/// have all names that a tree of the tokens may have, the words of the cases of an enum differ, in
+/// place or in name, and where `Int` is their first too, the keys tell for each variable that a
+/// closure uses whether it is declared around the closure or in it.
 pub fn spelled_declarations_are_programs()
     ensures keyed { (id_of : List ℕ → ℕ) (decls : List Decl) (tokens : List Spelled)
         → Spells id_of decls tokens → AreKeyed decls }
@@ -39,7 +39,7 @@ pub fn spelled_declarations_are_programs()
     ensures written { (id_of : List ℕ → ℕ) (decls : List Decl) (tokens : List Spelled)
         → Spells id_of decls tokens → AreWritten decls }
     ensures named { (texts : List (List ℕ)) (decls : List Decl) (tokens : List Spelled)
-        → 0 < length texts → Spells (index_in texts) decls tokens → AreNamed texts decls }
+        → value_id < length texts → Spells (index_in texts) decls tokens → AreNamed texts decls }
 {}
 
 /// Each declaration of a spelling has a token of its own.

@@ -1,31 +1,36 @@
 -- What closures, blocks and patterns weigh, whose variables are declared by tokens before those
 -- of all that they are declared for.
 use Rattle.std.proofs.Common.{◌≡◌, ℕ, ◌+◌, ◌≤◌, ◌⊎◌, inl, inr, Bool, true, false, not, List, []}
-use Rattle.std.proofs.Common.{◌∷◌, ◌++◌, flat_map, Contains, refl, ap, subst, ◌∙◌, arith}
+use Rattle.std.proofs.Common.{◌∷◌, ◌++◌, ◌<◌, flat_map, None, Contains, refl, ap, subst, ◌∙◌, arith}
 use Rattle.std.proofs.lemmas.List.{map-append}
 use Rattle.sw_list.proofs.Members.{first_or_later, none_in}
 use Rattle.sw_tree.proofs.Counting.{Weight, hits, in_all, in_all-append, in_all-cons}
 use Rattle.sw_tree.proofs.Counting.{in_all-flat_map, in_all-map}
 use Rattle.sw_tree.proofs.FoldEquations as eq
 use Rattle.sw_tree.proofs.KeyCounts as counts
-use Rattle.sw_tree.specs.Folds.{fold_block, fold_stmt}
+use Rattle.sw_tree.specs.Folds.{fold_block, fold_expr, fold_stmt}
 use Rattle.sw_tree.specs.Scopes.{closing, declaring, pattern_names, scope_steps, sequence}
 use Rattle.sw_tree.specs.declared.expr.ClosureParam.{ClosureParam}
+use Rattle.sw_tree.specs.declared.expr.Expr.{Expr}
+use Rattle.sw_tree.specs.declared.expr.Expr.TheVariants as exprs
 use Rattle.sw_tree.specs.declared.name.Name.{Name}
 use Rattle.sw_tree.specs.declared.stmt.Block.{Block, roll-Block}
 use Rattle.sw_tree.specs.declared.stmt.Pattern.{Pattern}
 use Rattle.sw_tree.specs.declared.stmt.Stmt.{Stmt}
+use Rattle.sw_tree.specs.declared.stmt.Stmt.TheVariants as statements
+use Rattle.sw_sugar.specs.AsyncLet.{task_body}
 use Rattle.sw_grammar.specs.Exprs.{closure_at}
 use Rattle.sw_grammar.specs.Nests.{ClosureInside}
 use Rattle.sw_grammar_facts.proofs.Owning.{InTurn, PaidAfter, none}
-use Rattle.sw_grammar_facts.proofs.Scopes.Weights.{names_hit, one_unless, weigh}
+use Rattle.sw_grammar_facts.proofs.Scopes.Weights.{Lies, names_hit, one_unless, weigh}
 use Rattle.sw_grammar_facts.proofs.Scopes.Weights as scopes
 use Rattle.sw_grammar_facts.proofs.Scopes.Sequences.{weigh_append}
 use Rattle.sw_grammar_facts.proofs.Scopes.Ids.{is_whole}
 use Rattle.sw_grammar_facts.proofs.Scopes.Parts.{in_all-sum, lies_of, names_before, part_none}
 use Rattle.sw_grammar_facts.proofs.Scopes.Parts.{tally}
+use Rattle.sw_grammar_facts.proofs.Scopes.Formed.{plain_weighs}
 use Rattle.sw_grammar_facts.proofs.Scopes.Nodes.{block, block_scope, closure, closure_param, inner}
-use Rattle.sw_grammar_facts.proofs.Scopes.Nodes.{inside, node, of_scope, params_names, pattern}
+use Rattle.sw_grammar_facts.proofs.Scopes.Nodes.{expr, expr_scope, inside, node, of_scope, params_names, pattern}
 use Rattle.sw_grammar_facts.proofs.Scopes.Nodes.{place, same_scope, stated_of, stmts, wrong}
 
 module _ (texts : List (List ℕ)) where
@@ -83,13 +88,14 @@ module _ (texts : List (List ℕ)) where
           subst (λ (it : Name). is_whole texts it.id ≡ false) here (fine (is_whole texts other.id) none)
       by (inr there) later none = later name there
 
-  pub closure_weighs : (at : ℕ) (it : ClosureInside) → PaidAfter (tally texts) at (inside texts it) → (k : ℕ)
+  -- a closure, all of whose scopes lies after it
+  closed_weighs : (at from to : ℕ) (it : ClosureInside) → at < from
+      → ((name : Name) → Contains it.captures name → is_whole texts name.id ≡ false)
+      → Lies (is_whole texts) from to (inner it) → (k : ℕ)
       → closure texts (closure_at at it) k ≤ place at k + inside texts it k
-  closure_weighs at it after k =
+  closed_weighs at from to it later fine lies k =
       let body = roll-Block (record { stmts = it.body }) in
       let names = params_names it.params in
-      let lies = lies_of texts (inner it) (λ j. omega arith) after.part in
-      let quiet = part_none texts after.part after.to (inr (omega arith)) in
       omega (
         arith,
         counts.in_closure-roll at it.mark it.captures it.params it.result body k,
@@ -97,8 +103,61 @@ module _ (texts : List (List ℕ)) where
         same_scope texts (eq.fold_closure-roll scope_steps at it.mark it.captures it.params it.result body
             ∙ ap (λ scoped. closing at it.captures (declaring names it.captures scoped))
             (eq.fold_block-roll scope_steps it.body)) k,
-        scopes.weigh_closing (is_whole texts) at it.captures (inner it) after.from after.to after.later
-            (fine_captures it.captures after.to (omega (arith, quiet))) lies k,
+        scopes.weigh_closing (is_whole texts) at it.captures (inner it) from to later fine lies k,
+      )
+
+  pub closure_weighs : (at : ℕ) (it : ClosureInside) → PaidAfter (tally texts) at (inside texts it) → (k : ℕ)
+      → closure texts (closure_at at it) k ≤ place at k + inside texts it k
+  closure_weighs at it after k =
+      let quiet = part_none texts after.part after.to (inr (omega arith)) in
+      closed_weighs at after.from after.to it after.later
+      (fine_captures it.captures after.to (omega (arith, quiet)))
+      (lies_of texts (inner it) (λ j. omega arith) after.part) k
+
+  -- what stands in the task of an `async let`
+  abbrev awaiting : ℕ → Expr → ClosureInside
+  awaiting await_at value = record {
+    mark = None;
+    captures = [];
+    params = [];
+    result = None;
+    body = statements.Plain (exprs.Await await_at value) ∷ [];
+  }
+
+  -- The scope of a task's body is that of its value, which later tokens pay.
+  pub task_body_weighs : (eq_at await_at : ℕ) (made value : Expr)
+      → fold_expr scope_steps made ≡ fold_expr scope_steps value
+      → PaidAfter (tally texts) eq_at (expr texts value) → (k : ℕ)
+      → closure texts (task_body eq_at await_at made) k
+      ≤ place eq_at k + hits await_at k + counts.in_expr made k + expr_scope texts value k
+  unfolding in_all
+  task_body_weighs eq_at await_at made value same after k =
+      let it = awaiting await_at made in
+      let stmt = statements.Plain (exprs.Await await_at made) in
+      let body = sequence (stated_of it.body) in
+      let less : (j : ℕ) → of_scope texts body j ≤ expr_scope texts value j =
+      λ j. omega (
+        arith,
+        plain_weighs texts stmt (fold_expr scope_steps (exprs.Await await_at made))
+            (eq.fold_stmt-Plain scope_steps (exprs.Await await_at made)) j,
+        same_scope texts (eq.fold_expr-Await scope_steps await_at made ∙ same) j,
+      ) in
+      let lies = lies_of texts body (λ j. let one = less j in omega arith) after.part in
+      let declared : (j : ℕ) → of_scope texts (inner it) j ≤ of_scope texts body j =
+      λ j. let one = scopes.weigh_declaring (is_whole texts) [] [] body after.from after.to
+      (λ name has. absurd (none_in name has)) lies j in omega arith in
+      let within = lies_of texts (inner it) (λ j.
+      let one = declared j in
+      let two = less j in
+      omega arith) after.part in
+      let one = declared k in
+      let two = less k in
+      omega (
+        arith,
+        closed_weighs eq_at after.from after.to it after.later
+            (λ name has. absurd (none_in name has)) within k,
+        counts.in_stmt-Plain (exprs.Await await_at made) k,
+        counts.in_expr-Await await_at made k,
       )
 
   pub append_weighs : (xs ys : List Stmt) → InTurn (tally texts) (stmts texts xs) (stmts texts ys) → (k : ℕ)

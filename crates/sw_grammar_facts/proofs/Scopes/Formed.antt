@@ -1,11 +1,12 @@
 -- What expressions weigh, and statements that declare nothing.
 use Rattle.std.proofs.Common.{◌≡◌, ℕ, ◌+◌, ◌≤◌, Bool, false, not, List, [], ◌∷◌, map, Option}
-use Rattle.std.proofs.Common.{option_map, ap, arith}
+use Rattle.std.proofs.Common.{option_map, refl, sym, ap, ◌∙◌, arith}
 use Rattle.sw_tree.proofs.Counting.{hits, in_all, in_all-nil, in_option}
 use Rattle.sw_tree.proofs.FoldEquations as eq
 use Rattle.sw_tree.proofs.KeyCounts as counts
 use Rattle.sw_tree.specs.Folds.{fold_arg, fold_block, fold_case_arm, fold_expr, fold_if_arm}
-use Rattle.sw_tree.specs.Folds.{fold_stmt}
+use Rattle.sw_tree.specs.Folds.{fold_link, fold_stmt}
+use Rattle.sw_tree.specs.Names.{value_id}
 use Rattle.sw_tree.specs.Scopes.{Scoped, Stated, both, each, maybe, scope_steps, sequence, stated}
 use Rattle.sw_tree.specs.declared.expr.Arg.{Arg, roll-Arg}
 use Rattle.sw_tree.specs.declared.expr.Expr.{Expr}
@@ -15,6 +16,9 @@ use Rattle.sw_tree.specs.declared.stmt.Block.{Block}
 use Rattle.sw_tree.specs.declared.stmt.CaseArm.{CaseArm}
 use Rattle.sw_tree.specs.declared.stmt.IfArm.{IfArm}
 use Rattle.sw_tree.specs.declared.stmt.Stmt.{Stmt}
+use Rattle.sw_sugar.specs.Optionals.{name_at, use_at}
+use Rattle.sw_sugar.specs.Tasks.{of_task}
+use Rattle.sw_grammar_facts.proofs.TaskWeights.{Carried, carried}
 use Rattle.sw_grammar_facts.proofs.Scopes.Weights.{one_unless, weigh}
 use Rattle.sw_grammar_facts.proofs.Scopes.Weights as scopes
 use Rattle.sw_grammar_facts.proofs.Scopes.Ids.{is_whole}
@@ -27,6 +31,37 @@ abbrev pub switch_scoped : Expr → List CaseArm → Option Block → Scoped
 switch_scoped subject arms otherwise =
     both (both (fold_expr scope_steps subject) (each (map (fold_case_arm scope_steps) arms)))
     (maybe (option_map (fold_block scope_steps) otherwise))
+
+-- what an `await` awaits has the scope of its expression
+task_carried : (at : ℕ)
+    → Carried at (λ made tree. fold_expr scope_steps made ≡ fold_expr scope_steps tree)
+task_carried at = record {
+  same = λ tree. refl;
+  task = λ name.
+      eq.fold_expr-Member scope_steps (use_at at name.id) (name_at name.at value_id)
+      ∙ eq.fold_expr-Use scope_steps (name_at at name.id)
+      ∙ sym (eq.fold_expr-Use scope_steps name);
+  member = λ made tree name is.
+      eq.fold_expr-Member scope_steps made name ∙ is
+      ∙ sym (eq.fold_expr-Member scope_steps tree name);
+  method = λ made tree name args is.
+      eq.fold_expr-Method scope_steps made name args
+      ∙ ap (λ scoped. both scoped (each (map (fold_arg scope_steps) args))) is
+      ∙ sym (eq.fold_expr-Method scope_steps tree name args);
+  chain = λ made tree rest is.
+      eq.fold_expr-Chain scope_steps made rest
+      ∙ ap (λ scoped. both scoped (each (map (fold_link scope_steps) rest))) is
+      ∙ sym (eq.fold_expr-Chain scope_steps tree rest);
+  prefix = λ op at made tree is.
+      eq.fold_expr-Prefix scope_steps op at made ∙ is
+      ∙ sym (eq.fold_expr-Prefix scope_steps op at tree);
+}
+
+pub task_scope : (tasks : List ℕ) (at : ℕ) (tree : Expr)
+    → fold_expr scope_steps (of_task tasks at tree) ≡ fold_expr scope_steps tree
+task_scope tasks at tree =
+    carried tasks at (λ made tree. fold_expr scope_steps made ≡ fold_expr scope_steps tree)
+    (task_carried at) tree
 
 module _ (texts : List (List ℕ)) where
   -- Laws of expressions.

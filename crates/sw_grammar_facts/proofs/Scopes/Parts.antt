@@ -121,12 +121,12 @@ module _ (texts : List (List ℕ)) where
 
     by : (k < from) ⊎ (to ≤ k) → w k ≡ 0
     by (inl early) =
-        omega (arith, less, paid_early from part.tokens k part.stands.texts part.stands.apart early)
+        omega (arith, less, paid_early from part.tokens k part.texts part.apart early)
     by (inr late) =
         omega (
           arith,
           less,
-          paid_late from part.tokens k part.stands.texts part.stands.apart
+          paid_late from part.tokens k part.texts part.apart
               (omega (arith, part.end)),
         )
 

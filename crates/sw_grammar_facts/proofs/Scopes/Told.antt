@@ -23,13 +23,14 @@ use Rattle.sw_tree.specs.declared.stmt.Pattern.{Pattern}
 use Rattle.sw_tree.specs.declared.stmt.Pattern.TheVariants as patterns
 use Rattle.sw_tree.specs.declared.stmt.Stmt.TheVariants as statements
 use Rattle.sw_sugar.specs.Optionals.{name_at}
+use Rattle.sw_sugar.specs.Tasks.{of_task}
 use Rattle.sw_grammar.specs.Around.{index_in}
 use Rattle.sw_grammar.specs.Enums.{Marked, enum_of}
 use Rattle.sw_grammar.specs.Exprs.{closure_at}
 use Rattle.sw_grammar.specs.Program.{Spells}
 use Rattle.sw_grammar.specs.Tokens.{name_of, optional_text}
 use Rattle.sw_grammar_facts.specs.Interned.{AreInterned}
-use Rattle.sw_grammar_facts.proofs.KeysDiffer.{enum_keys, hits_start, spread_span}
+use Rattle.sw_grammar_facts.proofs.KeysDiffer.{enum_keys, hits_start, spread_span, task_keys}
 use Rattle.sw_grammar_facts.proofs.Owning.{none}
 use Rattle.sw_grammar_facts.proofs.ProgramRules.{owned}
 use Rattle.sw_grammar_facts.proofs.Questions.{besides_is}
@@ -44,7 +45,7 @@ use Rattle.sw_grammar_facts.proofs.Scopes.Parts.{tally, two}
 use Rattle.sw_grammar_facts.proofs.Scopes.Members.{all_less, body_less, lighter, no_pairs}
 use Rattle.sw_grammar_facts.proofs.Scopes.Members.{type_less, value_pairs}
 use Rattle.sw_grammar_facts.proofs.Scopes.Declaring.{append_weighs, closure_weighs, declared_weigh}
-use Rattle.sw_grammar_facts.proofs.Scopes.Declaring.{inside_weighs, patterns_hit}
+use Rattle.sw_grammar_facts.proofs.Scopes.Declaring.{inside_weighs, patterns_hit, task_body_weighs}
 use Rattle.sw_grammar_facts.proofs.Scopes.Nodes.{arg, arg_scope, arm_scope, block, block_scope}
 use Rattle.sw_grammar_facts.proofs.Scopes.Nodes.{case_arm, closure, closure_param, decl, expr}
 use Rattle.sw_grammar_facts.proofs.Scopes.Nodes.{expr_scope, for_block, func, if_arm, if_arm_scope}
@@ -52,7 +53,7 @@ use Rattle.sw_grammar_facts.proofs.Scopes.Nodes.{init, inside, link, link_scope,
 use Rattle.sw_grammar_facts.proofs.Scopes.Nodes.{pattern, place, prop, same_scope, stmt, stmts}
 use Rattle.sw_grammar_facts.proofs.Scopes.Formed.{arg_weighs, args_weigh, if_parts, method_weighs}
 use Rattle.sw_grammar_facts.proofs.Scopes.Formed.{plain_weighs, switch_parts, switch_scoped}
-use Rattle.sw_grammar_facts.proofs.Scopes.Formed.{use_weighs, wrong_none}
+use Rattle.sw_grammar_facts.proofs.Scopes.Formed.{task_scope, use_weighs, wrong_none}
 use Rattle.sw_grammar_facts.proofs.Scopes.OrScopes.{or_weighs}
 
 module _ (texts : List (List ℕ)) (int : id_in texts (codes "Int") ≡ 0) where
@@ -223,10 +224,23 @@ module _ (texts : List (List ℕ)) (int : id_in texts (codes "Int") ≡ 0) where
           use_weighs texts name k,
           wrong_none texts name (unmarked_is texts int (codes "Optional") refl) k,
         );
+    expr-Task = λ tasks at tree k.
+        omega (
+          arith,
+          task_keys tasks at tree k,
+          same_scope texts (task_scope tasks at tree) k,
+        );
     arg-roll = λ label value k. omega (arith, arg_weighs texts label value k);
     closure_param-is = λ given k. omega arith;
     inside-is = λ it turn k. omega (arith, inside_weighs texts it turn k);
     closure-opened = closure_weighs texts;
+    closure-Task = λ eq_at await_at tasks value after k.
+        omega (
+          arith,
+          task_body_weighs texts eq_at await_at (of_task tasks (suc await_at) value) value
+              (task_scope tasks (suc await_at) value) after k,
+          task_keys tasks (suc await_at) value k,
+        );
     link-roll = λ op at operand k.
         omega (
           arith,
@@ -277,14 +291,14 @@ module _ (texts : List (List ℕ)) (int : id_in texts (codes "Int") ≡ 0) where
           plain_weighs texts (statements.Discard at value) (fold_expr scope_steps value)
               (eq.fold_stmt-Discard scope_steps at value) k,
         );
-    stmt-If = λ arms otherwise k.
+    stmt-If = λ arm arms otherwise k.
+        let all = arm ∷ arms in
         omega (
           arith,
-          counts.in_stmt-If arms otherwise k,
-          plain_weighs texts (statements.If arms otherwise) _ (eq.fold_stmt-If scope_steps arms otherwise)
-              k,
-          if_parts texts arms otherwise k,
-          in_all-sum counts.in_if_arm (if_arm_scope texts) arms k,
+          counts.in_stmt-If all otherwise k,
+          plain_weighs texts (statements.If all otherwise) _ (eq.fold_stmt-If scope_steps all otherwise) k,
+          if_parts texts all otherwise k,
+          in_all-sum counts.in_if_arm (if_arm_scope texts) all k,
           in_option-sum counts.in_block (block_scope texts) otherwise k,
         );
     stmt-While = λ at cond body k.
