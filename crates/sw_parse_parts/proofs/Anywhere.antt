@@ -3,9 +3,7 @@ use Rattle.std.proofs.Common.{◌≡◌, refl}
 use Rattle.sw_grammar.specs.Around.{Around, outermost}
 use Rattle.sw_grammar.specs.Types.{types, type, written_type, marked_type, round_type, task_type}
 use Rattle.sw_grammar.specs.Types.{named_type, task_inner}
-use Rattle.sw_grammar.specs.Exprs.{nothing}
-use Rattle.sw_grammar.specs.Closures.{captured, captured_words, closure_param, closure_params}
-use Rattle.sw_grammar.specs.Stmts.{pattern, patterns_inside}
+use Rattle.sw_grammar.specs.Closures.{captured, captured_words}
 
 module _ (around : Around) where
   pub same_type : type around ≡ type (outermost around.id_of)
@@ -20,19 +18,6 @@ module _ (around : Around) where
   unfolding task_inner type written_type marked_type round_type task_type named_type
   same_task_inner = refl
 
-  pub same_nothing : nothing around ≡ nothing (outermost around.id_of)
-  unfolding nothing
-  same_nothing = refl
-
   pub same_captured_words : captured_words around ≡ captured_words (outermost around.id_of)
   unfolding captured_words captured
   same_captured_words = refl
-
-  pub same_closure_params : closure_params around ≡ closure_params (outermost around.id_of)
-  unfolding closure_params closure_param type written_type marked_type round_type task_type
-      named_type
-  same_closure_params = refl
-
-  pub same_patterns : patterns_inside around ≡ patterns_inside (outermost around.id_of)
-  unfolding patterns_inside pattern
-  same_patterns = refl

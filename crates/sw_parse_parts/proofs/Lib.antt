@@ -3,3 +3,4 @@ pub mod BeginSets
 pub mod NestSteps
 pub mod Anywhere
 pub mod RuleNests
+pub mod TaskSteps

@@ -18,3 +18,12 @@ nothing_around texts = record { texts = texts; here = nowhere }
 -- the same names elsewhere
 abbrev pub with_here : Surroundings → Here → Surroundings
 with_here around here = record { texts = around.texts; here = here }
+
+-- words that stand for tasks, and the texts of names
+pub record TaskWords : Type 0 where
+  pub texts : List (List ℕ)
+  pub words : List (List ℕ)
+
+-- the words that stand for tasks here
+abbrev pub tasks_here : Surroundings → TaskWords
+tasks_here around = record { texts = around.texts; words = around.here.tasks }

@@ -1,10 +1,13 @@
 //! What stands around what is read.
 
-ghost use Rattle.std.specs.Prelude.{◌≡◌, option_map, IfOk};
-ghost use Rattle.sw_grammar.specs.Around.{index_in, returning, with_break, without_break};
+ghost use Rattle.std.specs.Prelude.{◌≡◌, option_map, bytes_eq, IfOk};
+ghost use Rattle.std.specs.List.{list_any};
+ghost use Rattle.sw_grammar.specs.Around.{after_tasks, index_in, returning, task_ids, with_break};
+ghost use Rattle.sw_grammar.specs.Around.{without_break};
 ghost use Rattle.sw_sugar.specs.Calls.{part_text, whole_text};
-ghost use Rattle.sw_parse_parts.specs.Around.{known, nothing_around, with_here};
+ghost use Rattle.sw_parse_parts.specs.Around.{known, nothing_around, tasks_here, with_here};
 
+use super::tasks::{Tasks, id_in, is_among};
 use std::alloc::{AllocError, Global};
 use std::marker::Model;
 use sw_sugar::{part_text, whole_text};
@@ -17,10 +20,14 @@ pub struct Around<'a> {
     names: &'a Names,
     wanted: Option<&'a str>,
     no_break: bool,
+    /// The words that stand for tasks, and their ids.
+    words: &'a [&'a str],
+    ids: &'a [u32],
 }
 
 impl<'a> Model for Around<'a> {
-    ghost use Rattle.std.specs.Prelude.{option_map};
+    ghost use Rattle.std.specs.Prelude.{◌≡◌, map, option_map};
+    ghost use Rattle.sw_grammar.specs.Around.{index_in};
     ghost use Rattle.sw_parse_parts.specs.Around.{Surroundings};
 
     ghost Value = { Surroundings };
@@ -30,8 +37,12 @@ impl<'a> Model for Around<'a> {
       here = record {
         wanted = option_map (λ text. text.now) a.wanted;
         no_break = a.no_break;
+        tasks = map (λ word. word.now) a.words.now;
       };
     } };
+
+    ghost invariant = { λ a. a.ids.now
+        ≡ map (index_in a.names.now) (map (λ word. word.now) a.words.now) };
 }
 
 impl<'a> Around<'a> {
@@ -43,6 +54,8 @@ impl<'a> Around<'a> {
             names,
             wanted: None,
             no_break: false,
+            words: &[],
+            ids: &[],
         }
     }
 
@@ -62,6 +75,8 @@ impl<'a> Around<'a> {
             names: self.names,
             wanted,
             no_break: false,
+            words: self.words,
+            ids: self.ids,
         }
     }
 
@@ -73,6 +88,8 @@ impl<'a> Around<'a> {
             names: self.names,
             wanted: self.wanted,
             no_break: false,
+            words: self.words,
+            ids: self.ids,
         }
     }
 
@@ -84,7 +101,50 @@ impl<'a> Around<'a> {
             names: self.names,
             wanted: self.wanted,
             no_break: true,
+            words: self.words,
+            ids: self.ids,
         }
+    }
+
+    /// The same after the `async let`s of these words.
+    pub fn after<'b>(&'b self, tasks: &'b Tasks<'_>) -> Around<'b>
+        requires { tasks.now.texts ≡ self.now.texts }
+        ensures { result ≡ with_here self.now (after_tasks (known self.now) tasks.now.words).here }
+    {
+        Around {
+            names: self.names,
+            wanted: self.wanted,
+            no_break: self.no_break,
+            words: tasks.words(),
+            ids: tasks.ids(),
+        }
+    }
+
+    /// The words of the `async let`s that this stands after.
+    pub fn tasks(&self, alloc: Global) -> Result<Tasks<'a>, AllocError>
+        ensures { IfOk result (λ tasks. tasks ≡ tasks_here self.now) }
+    {
+        Tasks::of(alloc, self.names, self.words, self.ids)
+    }
+
+    /// The ids of the words that stand for tasks.
+    pub fn task_ids(&self) -> &'a [u32]
+        ensures { result.now ≡ task_ids (known self.now) }
+    {
+        self.ids
+    }
+
+    /// Whether a text is that of a word that stands for a task.
+    pub fn is_task(&self, text: &str) -> bool
+        ensures { result ≡ list_any (λ task. bytes_eq text.now task) self.now.here.tasks }
+    {
+        if self.ids.is_empty() {
+            return false;
+        }
+        if !self.ids.contains(&self.id_of(text)) {
+            return false;
+        }
+        is_among(self.words, text)
     }
 
     /// Whether a `break` would leave an `if let`, so that none may stand here.
@@ -105,12 +165,7 @@ impl<'a> Around<'a> {
     pub fn id_of(&self, text: &str) -> u32
         ensures { result ≡ index_in self.now.texts text.now }
     {
-        let id = self.names.id_of(text);
-        if (id as usize) < self.names.count() {
-            id
-        } else {
-            0
-        }
+        id_in(self.names, text)
     }
 
     /// The id of a text with `?` after it.

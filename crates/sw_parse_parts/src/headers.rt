@@ -14,7 +14,7 @@ ghost use Rattle.sw_parse_parts.specs.Around.{known};
 
 use super::around::Around;
 use super::types::{Typed, type_tree, written_type};
-use super::words::word;
+use super::words::{new_name, word};
 use std::alloc::Global;
 use sw_grammar_forms::{Cursor, Stop};
 use sw_list::ListOf;
@@ -123,7 +123,7 @@ fn closure_param(
     ensures { Gives (read (known around.now) depth (closure_param (known around.now)) tokens.old)
         result tokens.new }
 {
-    let name = word(around, tokens)?;
+    let name = new_name(around, tokens)?;
     tokens.expect(":")?;
     let ty = type_tree(alloc, around, tokens, depth)?;
     Ok(ClosureParam { name, ty })
@@ -136,8 +136,8 @@ fn closure_params(
     tokens: &mut Cursor<'_>,
     depth: u32,
 ) -> Result<(u32, ClosureParamList), Stop>
-    ensures { Gives (read (known around.now) depth (nest (quote (codes "(")) in_closure_params)
-        tokens.old) result tokens.new }
+    ensures { Gives (read (known around.now) depth (nest (quote (codes "("))
+        (in_closure_params (known around.now).here)) tokens.old) result tokens.new }
 {
     let at = tokens.open("(", depth)?;
     let inside = params_inside(alloc, around, tokens, depth - 1)?;

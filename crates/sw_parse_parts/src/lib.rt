@@ -13,6 +13,7 @@ mod around;
 mod headers;
 mod operators;
 mod patterns;
+mod tasks;
 mod types;
 mod words;
 
@@ -26,8 +27,9 @@ pub use operators::{
     sees_prefix, sees_stmt, sees_times, sees_value_on_line,
 };
 pub use patterns::patterns_if;
+pub use tasks::Tasks;
 pub use types::{Typed, some_types, tree_of, type_if, type_tree, wanted_of, written_type};
 pub use words::{
-    DeclaredWord, attribute, declared_word, plain_word, sees_attribute, sees_plain_word,
+    DeclaredWord, attribute, new_name, new_word, plain_word, sees_attribute, sees_plain_word,
     sees_value_word, sendable, task_word, value_word, word,
 };

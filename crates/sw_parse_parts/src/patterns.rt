@@ -11,7 +11,7 @@ ghost use Rattle.sw_grammar.specs.Reading.{read};
 ghost use Rattle.sw_parse_parts.specs.Around.{known};
 
 use super::around::Around;
-use super::words::word;
+use super::words::new_name;
 use std::alloc::Global;
 use sw_grammar_forms::{Cursor, Stop};
 use sw_list::ListOf;
@@ -42,8 +42,8 @@ fn patterns(
     tokens: &mut Cursor<'_>,
     depth: u32,
 ) -> Result<(u32, PatternList), Stop>
-    ensures { Gives (read (known around.now) depth (nest (quote (codes "(")) in_patterns)
-        tokens.old) result tokens.new }
+    ensures { Gives (read (known around.now) depth (nest (quote (codes "("))
+        (in_patterns (known around.now).here)) tokens.old) result tokens.new }
 {
     let at = tokens.open("(", depth)?;
     let inside = patterns_inside(alloc, around, tokens, depth - 1)?;
@@ -99,6 +99,6 @@ fn pattern(around: &Around<'_>, tokens: &mut Cursor<'_>, depth: u32) -> Result<P
     }
     tokens.expect("let")?;
     Ok(Pattern::Let {
-        name: word(around, tokens)?,
+        name: new_name(around, tokens)?,
     })
 }

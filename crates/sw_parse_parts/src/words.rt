@@ -1,13 +1,14 @@
 //! The words that name something, and attributes.
 
-ghost use Rattle.std.specs.Prelude.{◌≡◌, ◌<◌, length, codes, IsTrue};
+ghost use Rattle.std.specs.Prelude.{◌≡◌, ◌<◌, ◌&&◌, length, codes, IsTrue};
 ghost use Rattle.sw_grammar_forms.specs.Outcome.{Gives};
-ghost use Rattle.sw_grammar_forms.specs.Reader.{next};
-ghost use Rattle.sw_grammar_forms.specs.Relations.{head};
+ghost use Rattle.sw_grammar_forms.specs.Form.{a_word};
+ghost use Rattle.sw_grammar_forms.specs.Reader.{checked, next};
+ghost use Rattle.sw_grammar_forms.specs.Relations.{head, is_none_of};
 ghost use Rattle.sw_grammar_forms.specs.Sets.{starts, word, quoted, attribute};
 ghost use Rattle.sw_grammar.specs.Tokens.{plain_word, value_word, at_word, name_of, at_name};
 ghost use Rattle.sw_grammar.specs.Tokens.{name_in, at_in};
-ghost use Rattle.sw_grammar.specs.Stmts.{word_in};
+ghost use Rattle.sw_grammar.specs.Words.{declared_as};
 ghost use Rattle.sw_parse_parts.specs.Around.{known};
 ghost use Rattle.sw_parse_parts.specs.Taking.{TakesAs};
 
@@ -24,7 +25,7 @@ pub struct DeclaredWord<'a> {
 }
 
 impl<'a> Model for DeclaredWord<'a> {
-    ghost use Rattle.sw_grammar.specs.Stmts.{DeclaredWord};
+    ghost use Rattle.sw_grammar.specs.Words.{DeclaredWord};
 
     ghost Value = { DeclaredWord };
 
@@ -76,14 +77,31 @@ pub fn word(around: &Around<'_>, tokens: &mut Cursor<'_>) -> Result<Name, Stop>
     Ok(take_name(around, tokens))
 }
 
-/// Takes a word that is declared.
-pub fn declared_word<'a>(
-    around: &Around<'_>,
-    tokens: &mut Cursor<'a>,
-) -> Result<DeclaredWord<'a>, Stop>
-    ensures { Gives (next (word_in (known around.now)) tokens.old) result tokens.new }
+/// Whether the next token is a word that names something, and stands for no task.
+fn sees_new_word(around: &Around<'_>, tokens: &Cursor<'_>) -> bool
+    ensures { result ≡ (starts word (head tokens.now)
+        && is_none_of around.now.here.tasks (head tokens.now)) }
 {
-    if !tokens.sees_word() {
+    tokens.sees_word() && !around.is_task(tokens.text())
+}
+
+/// Takes a word that is declared.
+pub fn new_name(around: &Around<'_>, tokens: &mut Cursor<'_>) -> Result<Name, Stop>
+    ensures { Gives (checked (is_none_of around.now.here.tasks)
+        (next (a_word (name_of (known around.now).id_of))) tokens.old) result tokens.new }
+{
+    if !sees_new_word(around, tokens) {
+        return Err(tokens.stop());
+    }
+    Ok(take_name(around, tokens))
+}
+
+/// The same, with its text.
+pub fn new_word<'a>(around: &Around<'_>, tokens: &mut Cursor<'a>) -> Result<DeclaredWord<'a>, Stop>
+    ensures { Gives (checked (is_none_of around.now.here.tasks)
+        (next (a_word (declared_as (known around.now)))) tokens.old) result tokens.new }
+{
+    if !sees_new_word(around, tokens) {
         return Err(tokens.stop());
     }
     let text = tokens.text();
