@@ -5,3 +5,7 @@ pub mod PlacedNests
 pub mod StmtTurns
 pub mod ClosureSteps
 pub mod OptionalSteps
+pub mod TurnLoops
+pub mod PartSteps
+pub mod PartLoops
+pub mod BlockSteps

@@ -5,28 +5,20 @@ use Rattle.sw_grammar_forms.specs.Form.{Shape, Terminal, solid, alt, one, seq, s
 use Rattle.sw_grammar_forms.specs.Form.Form.{done, terminal, either, turns}
 use Rattle.sw_grammar_forms.specs.Quotes.{quote}
 use Rattle.sw_grammar_forms.specs.Reader.{Reader, then_read, pure, next}
-use Rattle.sw_grammar_forms.specs.Terminals.{◌>>=◌, expect, items}
+use Rattle.sw_grammar_forms.specs.Terminals.{◌>>=◌, expect}
 use Rattle.sw_tree.specs.declared.name.Name.{Name}
 use Rattle.sw_tree.specs.declared.operator.InfixOp.{InfixOp}
 use Rattle.sw_tree.specs.declared.expr.Expr.{Expr}
 use Rattle.sw_tree.specs.declared.expr.Expr.TheVariants as exprs
 use Rattle.sw_tree.specs.declared.expr.Arg.{Arg}
 use Rattle.sw_tree.specs.declared.expr.Link.{Link as Operand}
-use Rattle.sw_tree.specs.declared.stmt.Stmt.{Stmt}
 use Rattle.sw_grammar.specs.Around.{Around}
 use Rattle.sw_grammar.specs.Nests.{Form, Link}
 use Rattle.sw_grammar.specs.Tokens.{name_in, prefix_ops, postfix_ext, expr_ext}
 use Rattle.sw_grammar.specs.Exprs.{loose, argument, linked, labelled, after_word, after_operand}
 use Rattle.sw_grammar.specs.Exprs.{after_task, more_operands, call, negated, other_primary}
 use Rattle.sw_grammar.specs.Exprs.{operators, other_first}
-use Rattle.sw_grammar.specs.Stmts.{joined, stmt}
 use Rattle.sw_grammar.specs.Reading.{read}
-use Rattle.sw_parse_parts.specs.Nested.{made}
-
--- reads statements, up to a token that begins none
-abbrev pub stmts_of : Around → ℕ → Reader (List Stmt)
-stmts_of around depth =
-    made (λ state. joined state.0) (read around depth (items (stmt around)))
 
 -- an expression with one member after it
 abbrev pub with_member : Expr → Link → Expr

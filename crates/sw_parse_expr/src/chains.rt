@@ -19,6 +19,7 @@ use sw_parse_parts::{
     Around, infix_and, infix_compare, infix_or, infix_plus, infix_times, sees_compare, sees_plus,
     sees_prefix, sees_times,
 };
+use sw_sugar::of_task;
 use sw_token::Fixity;
 use sw_tree::{Expr, Link, LinkList};
 
@@ -219,7 +220,7 @@ pub fn more_operands<I: Inner>(
     more_or(alloc, inner, around, tokens, depth, closures, conjunction)
 }
 
-/// `await` and what it covers.
+/// `await` and what it covers. Of a word that stands for a task it awaits the value.
 #[tactic(auto, unfolding(sw_grammar::specs::Exprs::awaited))]
 pub fn awaited<I: Inner>(
     alloc: Global,
@@ -233,12 +234,13 @@ pub fn awaited<I: Inner>(
     ensures { Gives (read (known around.now) depth (exprs.awaited (known around.now) closures)
         tokens.old) result tokens.new }
 {
-    let at = tokens.expect("await")?;
+    let at = tokens.expect_whole("await")?;
     let first = unary(alloc, inner, around, tokens, depth, closures)?;
     let whole = more_operands(alloc, inner, around, tokens, depth, closures, first)?;
+    let awaited = of_task(alloc, around.task_ids(), at + 1, whole)?;
     Ok(Expr::Await {
         at,
-        inner: Boxed::new(alloc, whole)?,
+        inner: Boxed::new(alloc, awaited)?,
     })
 }
 

@@ -1,4 +1,4 @@
-//! Closures, the bodies of tasks, and statements in order.
+//! Closures, and the bodies of tasks.
 
 ghost use Rattle.std.specs.Prelude.{◌≡◌, codes};
 ghost use Rattle.sw_grammar_forms.specs.Outcome.{Gives};
@@ -13,20 +13,20 @@ ghost use Rattle.sw_grammar.specs.Reading.{read};
 ghost use Rattle.sw_parse_parts.specs.Around.{known};
 ghost use Rattle.sw_parse_parts.specs.Nested.{made};
 ghost use Rattle.sw_parse_expr.specs.Below.{Below};
-ghost use Rattle.sw_parse_expr.specs.Parts.{stmts_of};
 ghost use Rattle.sw_parse_expr.specs.Headers.{header_value, closure_of, result_stmts};
 ghost use Rattle.sw_parse_expr.specs.Headers.{marked_header};
 ghost use Rattle.sw_parse_expr.specs.Headers.{captured_header, signed_header};
 ghost use Rattle.sw_parse_expr.specs.Headers.{marked_task_header, captured_task_header};
 ghost use Rattle.sw_parse_expr.specs.Headers.{signed_task_header};
 
+use super::blocks::stmts_inside;
 use super::inner::Inner;
 use std::alloc::Global;
 use sw_grammar_forms::{Cursor, Stop};
 use sw_list::ListOf;
 use sw_parse_parts::{
-    Around, Typed, attribute, captures, captures_if, sees_attribute, sees_stmt, sendable,
-    signature, signature_if, task_signature, task_signature_if, tree_of, wanted_of,
+    Around, Typed, attribute, captures, captures_if, sees_attribute, sendable, signature,
+    signature_if, task_signature, task_signature_if, tree_of, wanted_of,
 };
 use sw_tree::{Block, Closure, ClosureParamList, Name, NameList, StmtList};
 
@@ -84,47 +84,6 @@ fn task_header<'a>(
         return signed_task_header(alloc, around, tokens, depth);
     }
     Ok(no_header(alloc))
-}
-
-/// Statements, up to a token that begins none. Each but the first is the first on its line or after
-/// the `;` of the one before it. They stand inside a nest, so the `Inner` reads at this very depth.
-pub fn statements<I: Inner>(
-    alloc: Global,
-    inner: &I,
-    around: &Around<'_>,
-    tokens: &mut Cursor<'_>,
-    depth: u32,
-) -> Result<StmtList, Stop>
-    requires { I.reads inner.now depth }
-    ensures { Gives (stmts_of (known around.now) depth tokens.old) result tokens.new }
-{
-    let mut stmts = Vec::new(alloc);
-    let mut ended = true;
-    while sees_stmt(tokens) {
-        tokens.start(!ended)?;
-        let mut more = inner.stmt(alloc, around, tokens, depth)?.into_vec();
-        stmts.append(&mut more)?;
-        ended = tokens.skip(";");
-    }
-    Ok(ListOf::from_vec(stmts))
-}
-
-/// Statements up to their `}`.
-#[tactic(auto, unfolding(sw_grammar::specs::Stmts::statements))]
-pub fn stmts_inside<I: Inner>(
-    alloc: Global,
-    inner: &I,
-    around: &Around<'_>,
-    tokens: &mut Cursor<'_>,
-    depth: u32,
-) -> Result<StmtList, Stop>
-    requires { I.reads inner.now depth }
-    ensures { Gives (read (known around.now) depth (stmts.statements (known around.now)) tokens.old)
-        result tokens.new }
-{
-    let stmts = statements(alloc, inner, around, tokens, depth)?;
-    tokens.expect("}")?;
-    Ok(stmts)
 }
 
 /// The statements of a body with this result type, up to their `}`.

@@ -11,6 +11,7 @@
 //! of the tokens that are left.
 #![tactic(auto)]
 
+mod blocks;
 mod calls;
 mod chains;
 mod closures;
@@ -18,9 +19,9 @@ mod inner;
 mod operands;
 mod values;
 
+pub use blocks::{block_items, stmts_inside};
 pub use calls::{after_operand, after_word, arg};
 pub use chains::{awaited, expr, more_operands};
-pub use closures::{statements, stmts_inside};
 pub use inner::Inner;
 pub use operands::{after_task, negated};
 pub use values::{Given, value_for, value_in};

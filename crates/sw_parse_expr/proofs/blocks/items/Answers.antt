@@ -6,11 +6,11 @@ use Rattle.sw_grammar_forms.proofs.ItemLoops.{refuses}
 use Rattle.sw_parse_parts.specs.Around.{known}
 use Rattle.sw_parse_expr.proofs.StmtTurns.{begun, stops_at_start, stops_at_stmt, one_turn, shorter}
 use Rattle.sw_parse_expr.proofs.StmtTurns.{all_read}
-use Rattle.sw_parse_expr.proofs.closures.statements.Goals as goal
+use Rattle.sw_parse_expr.proofs.blocks.items.Goals as goal
 
--- the statements alone
-abbrev all : List Stmt → Bool → List Stmt
-all stmts ended = stmts
+-- the statements, and whether a `;` ends the last
+abbrev all : List Stmt → Bool → List Stmt × Bool
+all stmts ended = (stmts, ended)
 
 pub loop-alloc-init : goal.loop-alloc-init
 loop-alloc-init g c =
@@ -47,4 +47,4 @@ pub returns : goal.returns
 returns g c =
     all_read (known c.args.around.now) c.args.depth _ _ _ _ c.loop-alloc.invariant all
     (sym c.sees_stmt.ensures ∙ c.loop-alloc-test.false)
-    ∙ ap (λ xs. Ok (xs, c.loop-alloc.tokens)) (sym c.from_vec.ensures)
+    ∙ ap (λ xs. Ok ((xs, c.loop-alloc.ended), c.loop-alloc.tokens)) (sym c.from_vec.ensures)
