@@ -12,8 +12,8 @@ use Rattle.sw_grammar.specs.Stmts.{Arms, has_next, next_arm}
 use Rattle.sw_grammar.specs.Tokens.{expr_first}
 use Rattle.sw_grammar.specs.Reading.{read}
 use Rattle.sw_parse_stmt.specs.Parts.{more_arms}
-use Rattle.sw_parse_stmt.proofs.TurnLoops as loops
-use Rattle.sw_parse_stmt.proofs.TurnLoops.{open_starts, open_ends, closed_ends}
+use Rattle.sw_parse_expr.proofs.TurnLoops as loops
+use Rattle.sw_parse_expr.proofs.TurnLoops.{open_starts, open_ends, closed_ends}
 
 module _ (around : Around) (depth : ℕ) where
   -- the answer of all arms from some on

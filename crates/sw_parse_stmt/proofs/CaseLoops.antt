@@ -1,5 +1,5 @@
 -- The arms of a `switch`, one by one as the code's loop reads them.
-use Rattle.std.proofs.Common.{◌≡◌, ℕ, ◌<◌, Bool, true, false, not, List, length, codes, refl}
+use Rattle.std.proofs.Common.{◌≡◌, ℕ, ◌<◌, Bool, true, not, List, length, codes, refl, ◌∙◌}
 use Rattle.std.specs.Prelude.{Ok}
 use Rattle.sw_token.specs.Spelling.{Spelled}
 use Rattle.sw_grammar_forms.specs.Sets.{starts, quoted}
@@ -15,8 +15,9 @@ use Rattle.sw_grammar.specs.Nests.{El, shape_of, Form}
 use Rattle.sw_grammar.specs.Grammar.{body, good}
 use Rattle.sw_grammar.specs.Stmts.{Cases, arm_ext, case_part}
 use Rattle.sw_grammar.specs.Reading.{read}
-use Rattle.sw_parse_stmt.specs.Parts.{more_cases}
-use Rattle.sw_parse_stmt.proofs.TurnLoops as loops
+use Rattle.sw_parse_stmt.specs.Parts.{more_cases, one_case}
+use Rattle.sw_parse_stmt.proofs.ArmSteps.{case_is}
+use Rattle.sw_parse_expr.proofs.TurnLoops as loops
 
 module _ (around : Around) (depth : ℕ) where
   -- the answer of all arms from some on
@@ -27,14 +28,14 @@ module _ (around : Around) (depth : ℕ) where
   turn cases = line_start (not cases.1) (case_part around cases)
 
   abbrev one : List CaseArm → Reader Cases
-  one cases = read around depth (case_part around (cases, false))
+  one cases = one_case around depth cases
 
   begun : (ts us vs : List Spelled) (cases : List CaseArm) (ended : Bool) (value : Unit {0})
       (next : Cases) → check (may_start (not ended)) ts ≡ Ok (value, us)
       → one cases us ≡ Ok (next, vs) → read around depth (turn (cases, ended)) ts ≡ Ok (next, vs)
-  unfolding case_part
   begun ts us vs cases ended value next a b =
-      bind_step (check (may_start (not ended)) ts) _ (value, us) _ a b
+      bind_step (check (may_start (not ended)) ts) _ (value, us) _ a
+      ((λ j. case_is around depth cases ended j us) ∙ b)
 
   pub one_turn : (start : Answer Cases) (ts us vs : List Spelled) (cases : List CaseArm)
       (ended : Bool) (value : Unit {0}) (next : Cases)
@@ -49,11 +50,11 @@ module _ (around : Around) (depth : ℕ) where
       (ended : Bool) (value : Unit {0}) → starts (quoted (codes "case")) (head ts) ≡ true
       → Rest (cases, ended) ts ≡ start → check (may_start (not ended)) ts ≡ Ok (value, us)
       → Refuses (one cases us) start
-  unfolding case_part
   stops_at_case start ts us cases ended value goes same a fault e =
       loops.stops_at_turn El shape_of (body around.id_of) good depth (λ _. true) turn refl start ts
       (cases, ended) goes same fault
-      (bind_step (check (may_start (not ended)) ts) _ (value, us) _ a e)
+      (bind_step (check (may_start (not ended)) ts) _ (value, us) _ a
+      ((λ j. case_is around depth cases ended j us) ∙ e))
 
   pub shorter : (ts us vs : List Spelled) (cases : List CaseArm) (ended : Bool)
       (value : Unit {0}) (next : Cases) → check (may_start (not ended)) ts ≡ Ok (value, us)

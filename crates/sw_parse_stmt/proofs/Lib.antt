@@ -1,4 +1,4 @@
-pub mod TurnLoops
 pub mod ArmLoops
 pub mod CaseLoops
 pub mod ReturnSteps
+pub mod ArmSteps

@@ -17,7 +17,7 @@ use std::marker::Model;
 use sw_grammar_forms::{Cursor, Stop};
 use sw_list::ListOf;
 use sw_parse_expr::{Inner, expr};
-use sw_parse_parts::{Around, equals, word};
+use sw_parse_parts::{Around, equals, new_name};
 use sw_sugar::{LetArm, if_let_tree};
 use sw_tree::{Block, Expr, Name, Stmt};
 
@@ -124,7 +124,7 @@ fn if_let_inside<I: Inner>(
     ensures { Gives (read (known around.now) depth (stmts.if_let_inside (known around.now))
         tokens.old) result tokens.new }
 {
-    let name = word(around, tokens)?;
+    let name = new_name(around, tokens)?;
     equals(tokens)?;
     let subject = expr(alloc, inner, around, tokens, depth, false)?;
     let chosen = closed_block(alloc, inner, around, tokens, depth)?;

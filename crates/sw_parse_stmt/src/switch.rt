@@ -1,21 +1,25 @@
 //! `switch` and its arms.
 
-ghost use Rattle.std.specs.Prelude.{[], false, codes};
+ghost use Rattle.std.specs.Prelude.{◌≡◌, ◌||◌, [], false, codes};
 ghost use Rattle.sw_grammar_forms.specs.Outcome.{Gives};
 ghost use Rattle.sw_grammar_forms.specs.Quotes.{quote};
+ghost use Rattle.sw_grammar_forms.specs.Relations.{head};
+ghost use Rattle.sw_grammar_forms.specs.Sets.{quoted, starts};
 ghost use Rattle.sw_grammar.specs.Around.{with_break};
 ghost use Rattle.sw_grammar.specs.Stmts as stmts;
 ghost use Rattle.sw_grammar.specs.Nests.Nest.{in_switch};
 ghost use Rattle.sw_grammar.specs.Reading.{read};
+ghost use Rattle.sw_grammar.specs.Tokens.{stmt_first};
 ghost use Rattle.sw_parse_parts.specs.Around.{known};
 ghost use Rattle.sw_parse_parts.specs.Nested.{nested};
 ghost use Rattle.sw_parse_expr.specs.Below.{Below};
-ghost use Rattle.sw_parse_stmt.specs.Parts.{more_cases, default_if, more_stmts};
+ghost use Rattle.sw_parse_stmt.specs.Parts.{arm_items, default_if, more_cases, one_case};
+ghost use Rattle.sw_parse_stmt.specs.Parts.{one_default};
 
 use std::alloc::Global;
 use sw_grammar_forms::{Cursor, Stop};
 use sw_list::ListOf;
-use sw_parse_expr::{Inner, expr};
+use sw_parse_expr::{Inner, block_items, expr};
 use sw_parse_parts::{Around, patterns_if, sees_stmt, word};
 use sw_tree::{Block, CaseArm, CaseArmList, Stmt, StmtList};
 
@@ -102,7 +106,6 @@ fn cases<I: Inner>(
 }
 
 /// One more arm after these, and whether a `;` ends it.
-#[tactic(auto, unfolding(sw_grammar::specs::Stmts::case_part))]
 fn case_part<I: Inner>(
     alloc: Global,
     inner: &I,
@@ -112,8 +115,7 @@ fn case_part<I: Inner>(
     cases: CaseArmList,
 ) -> Result<(CaseArmList, bool), Stop>
     requires { I.reads inner.now depth }
-    ensures { Gives (read (known around.now) depth
-        (stmts.case_part (known around.now) (cases, false)) tokens.old) result tokens.new }
+    ensures { Gives (one_case (known around.now) depth cases tokens.old) result tokens.new }
 {
     tokens.expect("case")?;
     tokens.expect(".")?;
@@ -151,7 +153,6 @@ fn default_if<I: Inner>(
 }
 
 /// The `default`.
-#[tactic(auto, unfolding(sw_grammar::specs::Stmts::default_part))]
 fn default_part<I: Inner>(
     alloc: Global,
     inner: &I,
@@ -160,9 +161,7 @@ fn default_part<I: Inner>(
     depth: u32,
 ) -> Result<Option<Block>, Stop>
     requires { I.reads inner.now depth }
-    ensures { Gives (read (known around.now) depth (stmts.default_part (known around.now))
-        tokens.old)
-        result tokens.new }
+    ensures { Gives (one_default (known around.now) depth tokens.old) result tokens.new }
 {
     tokens.expect("default")?;
     tokens.expect(":")?;
@@ -170,8 +169,15 @@ fn default_part<I: Inner>(
     Ok(Some(Block { stmts }))
 }
 
-/// The statements of an arm, and whether a `;` ends the last.
-#[tactic(auto, unfolding(sw_grammar::specs::Stmts::arm_body))]
+/// Whether the next token begins a statement of a block, or an `async let`.
+fn sees_item(tokens: &Cursor<'_>) -> bool
+    ensures { result ≡ (starts stmt_first (head tokens.now)
+        || starts (quoted (codes "async")) (head tokens.now)) }
+{
+    sees_stmt(tokens) || tokens.sees("async")
+}
+
+/// What an arm does, one statement or `async let` at least, and whether a `;` ends the last.
 fn arm_body<I: Inner>(
     alloc: Global,
     inner: &I,
@@ -180,34 +186,10 @@ fn arm_body<I: Inner>(
     depth: u32,
 ) -> Result<(StmtList, bool), Stop>
     requires { I.reads inner.now depth }
-    ensures { Gives (read (known around.now) depth (stmts.arm_body (known around.now)) tokens.old)
-        result tokens.new }
+    ensures { Gives (arm_items (known around.now) depth tokens.old) result tokens.new }
 {
-    let first = inner.stmt(alloc, around, tokens, depth)?;
-    let ended = tokens.skip(";");
-    more_stmts(alloc, inner, around, tokens, depth, first, ended)
-}
-
-/// The statements of an arm after the first, and whether a `;` ends the last.
-fn more_stmts<I: Inner>(
-    alloc: Global,
-    inner: &I,
-    around: &Around<'_>,
-    tokens: &mut Cursor<'_>,
-    depth: u32,
-    first: StmtList,
-    ended: bool,
-) -> Result<(StmtList, bool), Stop>
-    requires { I.reads inner.now depth }
-    ensures { Gives (more_stmts (known around.now) depth first ended tokens.old) result tokens.new }
-{
-    let mut stmts = first.into_vec();
-    let mut ended = ended;
-    while sees_stmt(tokens) {
-        tokens.start(!ended)?;
-        let mut more = inner.stmt(alloc, around, tokens, depth)?.into_vec();
-        stmts.append(&mut more)?;
-        ended = tokens.skip(";");
+    if !sees_item(tokens) {
+        return Err(tokens.stop());
     }
-    Ok((ListOf::from_vec(stmts), ended))
+    block_items(alloc, inner, around, tokens, depth)
 }

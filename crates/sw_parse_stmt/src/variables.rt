@@ -16,7 +16,7 @@ use std::marker::Model;
 use sw_grammar_forms::{Cursor, Stop};
 use sw_list::ListOf;
 use sw_parse_expr::{Inner, value_in};
-use sw_parse_parts::{Around, DeclaredWord, a_literal, declared_word, equals, written_type};
+use sw_parse_parts::{Around, DeclaredWord, a_literal, equals, new_word, written_type};
 use sw_sugar::{Declared, OrLiteral, or_literal_stmts};
 use sw_tree::{Stmt, StmtList};
 
@@ -147,7 +147,7 @@ fn variable<I: Inner>(
     ensures { Gives (read (known around.now) depth
         (stmts.binding (known around.now) mutable let_at) tokens.old) result tokens.new }
 {
-    let word = declared_word(around, tokens)?;
+    let word = new_word(around, tokens)?;
     let binding = Binding {
         mutable,
         let_at,
