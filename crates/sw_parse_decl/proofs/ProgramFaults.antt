@@ -31,7 +31,7 @@ use Rattle.sw_parse_decl.specs.Programs.{most_nests, texts_of, IsProgramOf, whol
 use Rattle.sw_parse_decl.specs.Programs.{whole_program, IsSyntaxFault}
 use Rattle.sw_parse_decl.specs.declared.fault.ParseFault.{ParseFault}
 use Rattle.sw_parse_decl.specs.declared.fault.ParseFault.TheVariants as faults
-use Rattle.sw_parse_decl.proofs.ProgramTexts.{some_texts}
+use Rattle.sw_parse_decl.proofs.ProgramTexts.{value_known}
 
 -- Reading the tokens from left to right stops with this fault.
 abbrev pub Stops : List Spelled → Fault → Type 0
@@ -181,7 +181,7 @@ few_program tokens decls given =
 pub named_program : (tokens : List Spelled) (decls : List Decl) → IsProgramOf decls tokens
     → AreNamed (texts_of tokens) decls
 named_program tokens decls given =
-    spelled_are_named (texts_of tokens) decls tokens (some_texts tokens)
+    spelled_are_named (texts_of tokens) decls tokens (value_known tokens)
     (wide tokens decls given)
 
 -- What the code reads with the names that it has interned.

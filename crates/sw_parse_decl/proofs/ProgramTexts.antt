@@ -6,7 +6,7 @@ use Rattle.std.proofs.lemmas.List.Elements.{All-from_recursion, All-weaker}
 use Rattle.std.specs.Prelude.{All, Some}
 use Rattle.sw_token.specs.Spelling.{Spelled}
 use Rattle.sw_tree.proofs.NamesLemmas.{ids_of_interned, ids_stay, text_at_id}
-use Rattle.sw_tree.specs.Names.{id_in, predeclared, with_texts}
+use Rattle.sw_tree.specs.Names.{id_in, predeclared, value_id, with_texts}
 use Rattle.sw_grammar.specs.Around.{index_in}
 use Rattle.sw_grammar_facts.specs.Interned.{texts_in, AreInterned}
 use Rattle.sw_parse_decl.specs.Programs.{texts_of}
@@ -24,19 +24,23 @@ int_first : id_in predeclared (codes "Int") ≡ 0
 unfolding predeclared id_in
 int_first = refl
 
-int_stays : (tokens : List Spelled) → (id_in (texts_of tokens) (codes "Int") ≡ 0)
-    × (id_in predeclared (codes "Int") < length (texts_of tokens))
-unfolding texts_of
-int_stays tokens =
-    let kept = ids_stay predeclared (texts_in tokens) (codes "Int")
-    (omega (arith, int_first, predeclared_few)) in
-    (kept.0 ∙ int_first, kept.1)
-
 pub int_is_first : (tokens : List Spelled) → id_in (texts_of tokens) (codes "Int") ≡ 0
-int_is_first tokens = (int_stays tokens).0
+unfolding texts_of
+int_is_first tokens =
+    (ids_stay predeclared (texts_in tokens) (codes "Int") (omega (arith, int_first, predeclared_few))).0
+    ∙ int_first
 
-pub some_texts : (tokens : List Spelled) → 0 < length (texts_of tokens)
-some_texts tokens = omega (arith, int_first, (int_stays tokens).1)
+-- `value` is one of them
+value_there : id_in predeclared (codes "value") ≡ value_id
+unfolding predeclared id_in
+value_there = refl
+
+pub value_known : (tokens : List Spelled) → value_id < length (texts_of tokens)
+unfolding texts_of
+value_known tokens =
+    let within : id_in predeclared (codes "value") < length predeclared
+    = omega (arith, value_there, predeclared_few) in
+    omega (arith, value_there, (ids_stay predeclared (texts_in tokens) (codes "value") within).1)
 
 -- a text that is there stands at its id
 stands_there : (texts : List (List ℕ)) (text : List ℕ) → id_in texts text < length texts
