@@ -7,4 +7,4 @@ column_x column = 70 + 14 * column
 
 -- the middle of the lane of a job
 abbrev pub lane_y : ℕ → ℕ
-lane_y job = 44 + 56 * job
+lane_y job = 44 + 72 * job

@@ -9,7 +9,7 @@ use Rattle.sw_see_steps.specs.Words.{word_of}
 use Rattle.sw_see_draw.specs.Layout.{column_x, lane_y}
 use Rattle.sw_see_draw.specs.Markup.{escaped}
 use Rattle.sw_see_draw.specs.Paints.{paint}
-use Rattle.sw_see_draw.specs.Shapes.{rect, circle, label, line}
+use Rattle.sw_see_draw.specs.Shapes.{rect, circle, line, slanted}
 use Rattle.sw_see_draw.specs.declared.marks.Link.{Link}
 use Rattle.sw_see_draw.specs.declared.marks.Link.TheVariants.{From, To}
 use Rattle.sw_see_draw.specs.declared.marks.Mark.{Mark}
@@ -44,7 +44,7 @@ title text names mark (Some event) =
 
 -- the name of what is accessed, below a mark
 unfoldable pub name_below : List ℕ → Bool → ℕ → ℕ → ℕ → List ℕ
-name_below text true x y at = label x (y + 24) (codes "font-size=\"9\"") (word_of text (Some at))
+name_below text true x y at = slanted x (y + 18) (word_of text (Some at))
 name_below text false x y at = []
 
 unfoldable pub access_drawn : List ℕ → Bool → ℕ → ℕ → Option Access → List ℕ

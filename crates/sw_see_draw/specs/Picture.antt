@@ -1,5 +1,5 @@
 -- The picture of a replay, as SVG.
-use Rattle.std.specs.Prelude.{ℕ, zero, ◌+◌, ◌*◌, ◌-◌, suc, nat_lt, max, List, [], ◌∷◌, ◌++◌, length, fold}
+use Rattle.std.specs.Prelude.{ℕ, zero, ◌+◌, ◌*◌, ◌-◌, suc, nat_lt, max, min, List, [], ◌∷◌, ◌++◌, length, fold}
 use Rattle.std.specs.Prelude.{Option, Some, None, codes, if◌then◌else◌}
 use Rattle.std.specs.List.{list_any}
 use Rattle.std.specs.Fmt.{decimal}
@@ -57,8 +57,8 @@ executors marks = fold (λ all mark. with_executor all mark.executor) [] marks
 
 -- what the colour of an executor means, in words
 unfoldable pub key_text : List (List ℕ) → Option Executor → List ℕ
-key_text names None = codes "none"
-key_text names (Some executor) = executor_text names executor
+key_text names None = codes "on no executor"
+key_text names (Some executor) = codes "on " ++ executor_text names executor
 
 -- the colour of an executor, and what it means
 unfoldable pub key_drawn : List (List ℕ) → ℕ → Option Executor → List ℕ
@@ -70,18 +70,38 @@ keys_drawn names y [] = []
 keys_drawn names y (executor ∷ executors) =
     key_drawn names y executor ++ keys_drawn names (y + 16) executors
 
+-- what the shapes mean, at y
+unfoldable pub shapes_told : ℕ → List ℕ
+shapes_told y =
+    codes "<g transform=\"translate(70," ++ (decimal y ++ codes ")\">\n<circle cx=\"6\" cy=\"-4\" r=\"4\" fill=\"white\" stroke=\"black\"/>\n<text x=\"18\">reads</text>\n<circle cx=\"66\" cy=\"-4\" r=\"4\"/>\n<text x=\"78\">writes</text>\n<line x1=\"126\" y1=\"-4\" x2=\"142\" y2=\"-4\" stroke=\"black\" marker-end=\"url(#arrow)\"/>\n<text x=\"148\">starts a job, or hands its result on</text>\n</g>\n")
+
+-- what the shapes and the colours mean, from y on
+unfoldable pub legend : List (List ℕ) → ℕ → List (Option Executor) → List ℕ
+legend names y executors = shapes_told y ++ keys_drawn names (y + 20) executors
+
 -- an access of a race in words, with its line of the source
 unfoldable pub racing_text : List ℕ → Access → List ℕ
 racing_text text access = codes "race: job " ++ (decimal access.job
     ++ ((if access.writes then codes " writes, " else codes " reads, ")
     ++ source_line text access.at))
 
+-- the room for a text, with what is left of it; at most 1000 bytes of it count
+abbrev pub room_for : List ℕ → ℕ
+room_for text = 110 + 7 * min (length text) 1000
+
+-- the room for both lines of a race
+unfoldable pub race_width : List ℕ → Option Race → ℕ
+race_width text None = 0
+race_width text (Some race) =
+    max (room_for (racing_text text race.first)) (room_for (racing_text text race.second))
+
 -- a red ring in the lane of a job, and a red line between two lanes
 unfoldable pub ring : ℕ → ℕ → List ℕ
-ring x job = circle x (lane_y job) 8 (codes "fill=\"none\" stroke=\"red\"")
+ring x job = circle x (lane_y job) 8 (codes "fill=\"none\" stroke=\"red\" stroke-width=\"2\"")
 
 unfoldable pub between : ℕ → ℕ → ℕ → List ℕ
-between x job other = line x (lane_y job) x (lane_y other) (codes "stroke=\"red\"")
+between x job other =
+    line x (lane_y job) x (lane_y other) (codes "stroke=\"red\" stroke-width=\"2\"")
 
 -- a race, red, in the column x
 unfoldable pub race_marked : ℕ → Race → List ℕ
@@ -113,22 +133,24 @@ left_out_drawn n =
 unfoldable pub head : ℕ → ℕ → List ℕ
 head width height =
     codes "<svg xmlns=\"http://www.w3.org/2000/svg\" width=\"" ++ (decimal width ++ (codes "\" height=\""
-    ++ (decimal height ++ codes "\" font-family=\"sans-serif\" font-size=\"11\">\n<defs><marker id=\"arrow\" viewBox=\"0 0 6 6\" refX=\"6\" refY=\"3\" markerWidth=\"6\" markerHeight=\"6\" orient=\"auto\"><path d=\"M0 0L6 3L0 6z\"/></marker></defs>\n<rect width=\"100%\" height=\"100%\" fill=\"white\"/>\n")))
+    ++ (decimal height ++ codes "\" font-family=\"sans-serif\" font-size=\"11\" xml:space=\"preserve\">\n<defs><marker id=\"arrow\" viewBox=\"0 0 6 6\" refX=\"6\" refY=\"3\" markerWidth=\"6\" markerHeight=\"6\" orient=\"auto\"><path d=\"M0 0L6 3L0 6z\"/></marker></defs>\n<rect width=\"100%\" height=\"100%\" fill=\"white\"/>\n")))
 
--- the width of a picture with so many columns: there is room for a line of the source
-abbrev pub width_of : ℕ → ℕ
-width_of columns = max 720 (column_x columns + 40)
+-- the width of a picture with so many columns: there is room for the lines of the race
+unfoldable pub width_of : List ℕ → ℕ → Option Race → ℕ
+width_of text columns race = max (max (column_x columns + 40) 720) (race_width text race)
 
--- The picture of these marks: the lanes, the marks in order, the race, and what the colours mean.
+-- The picture of these marks: the lanes, the marks in order, the race, and what the shapes and the
+-- colours mean.
 unfoldable pub drawing : KnownScene → Option Race → List Mark → List ℕ
 drawing scene race marks =
-    let columns = length marks in let width = width_of columns in let count = lanes race marks in
+    let columns = length marks in let count = lanes race marks in
+    let width = width_of scene.text columns race in
     let bottom = lane_y count in let keys = executors marks in
-    head width (bottom + 16 * length keys + 60) ++ (left_out_drawn (left_out marks)
+    head width (bottom + 16 * length keys + 80) ++ (left_out_drawn (left_out marks)
     ++ (lanes_drawn width count
     ++ (marks_drawn scene 0 marks
     ++ (race_drawn scene.text (column_x columns + 6) bottom race
-    ++ (keys_drawn scene.names (bottom + 40) keys ++ codes "</svg>\n")))))
+    ++ (legend scene.names (bottom + 40) keys ++ codes "</svg>\n")))))
 
 -- the picture of these events, which end with this race where there is one
 unfoldable pub picture : List ℕ → List (List ℕ) → List Happening → Option Race → List ℕ

@@ -28,3 +28,12 @@ unfoldable pub label : ℕ → ℕ → List ℕ → List ℕ → List ℕ
 label x y more text =
     codes "<text x=\"" ++ (decimal x ++ (codes "\" y=\"" ++ (decimal y
     ++ (codes "\" " ++ (more ++ (codes ">" ++ (escaped text ++ codes "</text>\n")))))))
+
+-- what makes a text small, and turns it around a point
+unfoldable pub turned : ℕ → ℕ → List ℕ
+turned x y = codes "font-size=\"9\" transform=\"rotate(45 "
+    ++ (decimal x ++ (codes " " ++ (decimal y ++ codes ")\"")))
+
+-- a small text that runs down to the right from a point
+abbrev pub slanted : ℕ → ℕ → List ℕ → List ℕ
+slanted x y text = label x y (turned x y) text

@@ -1,9 +1,10 @@
-//! What the colours of executors mean.
+//! What the shapes and the colours of executors mean.
 
 ghost use Rattle.std.specs.Prelude.{◌≡◌, ◌≤◌, ◌<◌, ◌^◌, ◌+◌, ◌++◌, IfOk, OnOk, length, map, string_bytes};
 ghost use Rattle.std.specs.List.{list_any};
 ghost use Rattle.sw_see_draw.specs.Marks.{same_executor};
-ghost use Rattle.sw_see_draw.specs.Picture.{executors, key_drawn, key_text, keys_drawn, with_executor};
+ghost use Rattle.sw_see_draw.specs.Picture.{executors, key_drawn, key_text, keys_drawn};
+ghost use Rattle.sw_see_draw.specs.Picture.{legend, shapes_told, with_executor};
 
 use crate::marks::{Mark, same_executor};
 use crate::paints::paint;
@@ -45,6 +46,16 @@ pub fn executors(alloc: Global, marks: &[Mark]) -> Result<Vec<Option<Executor>>,
     Ok(all)
 }
 
+/// What the shapes mean, at y.
+#[tactic(auto, unfolding(crate::specs::Picture::shapes_told))]
+fn shapes_told(alloc: Global, y: u64) -> Result<String, AllocError>
+    ensures { IfOk result (λ tags. string_bytes tags ≡ shapes_told y) }
+{
+    format!(in alloc;
+        "<g transform=\"translate(70,{y})\">\n<circle cx=\"6\" cy=\"-4\" r=\"4\" fill=\"white\" stroke=\"black\"/>\n<text x=\"18\">reads</text>\n<circle cx=\"66\" cy=\"-4\" r=\"4\"/>\n<text x=\"78\">writes</text>\n<line x1=\"126\" y1=\"-4\" x2=\"142\" y2=\"-4\" stroke=\"black\" marker-end=\"url(#arrow)\"/>\n<text x=\"148\">starts a job, or hands its result on</text>\n</g>\n"
+    )
+}
+
 /// What the colour of an executor means.
 #[tactic(auto, unfolding(crate::specs::Picture::key_text))]
 fn key_text(
@@ -56,8 +67,11 @@ fn key_text(
         string_bytes text ≡ key_text (map string_bytes names.now) executor) }
 {
     match executor {
-        None => String::from_str(alloc, "none"),
-        Some(executor) => executor_text(alloc, names, executor),
+        None => String::from_str(alloc, "on no executor"),
+        Some(executor) => {
+            let executor = executor_text(alloc, names, executor)?;
+            format!(in alloc; "on {executor}")
+        }
     }
 }
 
@@ -81,7 +95,7 @@ fn key_drawn(
 }
 
 /// Adds what the colours of executors mean, line by line from y on.
-pub fn add_keys(
+fn add_keys(
     alloc: Global,
     names: &[String],
     y: u64,
@@ -101,4 +115,23 @@ pub fn add_keys(
         line += 16;
     }
     Ok(())
+}
+
+/// Adds what the shapes and the colours of executors mean, from y on.
+#[tactic(auto, unfolding(crate::specs::Picture::legend))]
+pub fn add_legend(
+    alloc: Global,
+    names: &[String],
+    y: u64,
+    all: &[Option<Executor>],
+    made: &mut Vec<u8>,
+) -> Result<(), AllocError>
+    requires high { y < 2 ^ 39 }
+    requires few { length all.now < 2 ^ 31 }
+    ensures { OnOk result (made.new.items
+        ≡ made.old.items ++ legend (map string_bytes names.now) y all.now) }
+{
+    let shapes = shapes_told(alloc, y)?;
+    made.extend_from_slice(shapes.as_bytes())?;
+    add_keys(alloc, names, y + 20, all, made)
 }

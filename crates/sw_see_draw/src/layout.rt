@@ -16,7 +16,7 @@ pub fn lane_y(job: u64) -> u64
     requires { job ≤ 4294967296 }
     ensures value { result ≡ lane_y job }
     ensures low { 44 ≤ result }
-    ensures small { result ≤ 240518168620 }
+    ensures small { result ≤ 309237645356 }
 {
-    44 + 56 * job
+    44 + 72 * job
 }

@@ -16,7 +16,7 @@ mod picture;
 mod races;
 mod shapes;
 
-pub use laws::marks_cover_events;
+pub use laws::{drawn_marks_cover_last_events, marks_cover_events};
 pub use marks::{Link, MOST_MARKS, Mark};
 pub use markup::escaped;
 pub use picture::{MOST_NAMED, draw};

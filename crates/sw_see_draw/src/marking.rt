@@ -10,7 +10,7 @@ use crate::layout::{column_x, lane_y};
 use crate::marks::{Link, Mark};
 use crate::markup::escaped;
 use crate::paints::paint;
-use crate::shapes::{circle, label, line, rectangle};
+use crate::shapes::{circle, line, rectangle, slanted};
 use std::alloc::{AllocError, Global};
 use std::marker::Model;
 use sw_see_events::Happening;
@@ -121,7 +121,7 @@ impl Scene<'_> {
             return Ok(String::new(self.alloc));
         }
         let word = word_of(self.alloc, self.text.bytes(), Some(at))?;
-        label(self.alloc, x, y + 24, "font-size=\"9\"", word.as_str())
+        slanted(self.alloc, x, y + 18, word.as_str())
     }
 }
 

@@ -2,13 +2,14 @@
 
 ghost use Rattle.std.specs.Prelude.{◌≡◌, ◌≤◌, ◌<◌, ◌^◌, IfOk, length, map, nat_lt, string_bytes};
 ghost use Rattle.sw_see_draw.specs.Picture.{drawing, head, left_out, left_out_drawn, picture};
+ghost use Rattle.sw_see_draw.specs.Picture.{width_of};
 
-use crate::keys::{add_keys, executors};
+use crate::keys::{add_legend, executors};
 use crate::lanes::{add_lanes, lanes};
 use crate::layout::{column_x, lane_y};
 use crate::marking::Scene;
 use crate::marks::{MOST_MARKS, Mark, drawn, marks};
-use crate::races::race_drawn;
+use crate::races::{race_drawn, race_width};
 use crate::shapes::label;
 use std::alloc::{AllocError, Global};
 use sw_see_events::Happening;
@@ -47,8 +48,22 @@ fn head(alloc: Global, width: u64, height: u64) -> Result<String, AllocError>
     ensures { IfOk result (λ tags. string_bytes tags ≡ head width height) }
 {
     format!(in alloc;
-        "<svg xmlns=\"http://www.w3.org/2000/svg\" width=\"{width}\" height=\"{height}\" font-family=\"sans-serif\" font-size=\"11\">\n<defs><marker id=\"arrow\" viewBox=\"0 0 6 6\" refX=\"6\" refY=\"3\" markerWidth=\"6\" markerHeight=\"6\" orient=\"auto\"><path d=\"M0 0L6 3L0 6z\"/></marker></defs>\n<rect width=\"100%\" height=\"100%\" fill=\"white\"/>\n"
+        "<svg xmlns=\"http://www.w3.org/2000/svg\" width=\"{width}\" height=\"{height}\" font-family=\"sans-serif\" font-size=\"11\" xml:space=\"preserve\">\n<defs><marker id=\"arrow\" viewBox=\"0 0 6 6\" refX=\"6\" refY=\"3\" markerWidth=\"6\" markerHeight=\"6\" orient=\"auto\"><path d=\"M0 0L6 3L0 6z\"/></marker></defs>\n<rect width=\"100%\" height=\"100%\" fill=\"white\"/>\n"
     )
+}
+
+/// The width of a picture with so many columns.
+#[tactic(auto, unfolding(crate::specs::Picture::width_of))]
+fn width_of(
+    alloc: Global,
+    text: &LineTable,
+    columns: u32,
+    race: Option<Race>,
+) -> Result<u64, AllocError>
+    ensures { IfOk result (λ width. width ≡ width_of text.now columns race) }
+{
+    let room = race_width(alloc, text, race)?;
+    Ok((column_x(columns) + 40).max(720).max(room))
 }
 
 impl Scene<'_> {
@@ -58,12 +73,13 @@ impl Scene<'_> {
         requires { length marks.now ≤ MOST_MARKS }
         ensures { IfOk result (λ made. made.items ≡ drawing self.now race marks.now) }
     {
-        let end = column_x(marks.len() as u32);
-        let width = (end + 40).max(720);
+        let columns = marks.len() as u32;
+        let end = column_x(columns);
+        let width = width_of(self.alloc, self.text, columns, race)?;
         let count = lanes(race, marks);
         let bottom = lane_y(count);
         let keys = executors(self.alloc, marks)?;
-        let height = bottom + 16 * keys.len() as u64 + 60;
+        let height = bottom + 16 * keys.len() as u64 + 80;
         let head = head(self.alloc, width, height)?;
         let left_out = left_out_drawn(self.alloc, left_out(marks))?;
         let mut made = Vec::new(self.alloc);
@@ -73,13 +89,8 @@ impl Scene<'_> {
         self.add_marks(marks, &mut made)?;
         let race = race_drawn(self.alloc, self.text, end + 6, bottom, race)?;
         made.extend_from_slice(race.as_bytes())?;
-        add_keys(
-            self.alloc,
-            self.names,
-            bottom + 40,
-            keys.as_slice(),
-            &mut made,
-        )?;
+        let keys = keys.as_slice();
+        add_legend(self.alloc, self.names, bottom + 40, keys, &mut made)?;
         made.extend_from_slice(b"</svg>\n")?;
         Ok(made)
     }

@@ -1,7 +1,8 @@
 //! The race at which a replay stopped.
 
-ghost use Rattle.std.specs.Prelude.{◌≡◌, ◌<◌, ◌^◌, IfOk, string_bytes};
-ghost use Rattle.sw_see_draw.specs.Picture.{between, race_drawn, race_marked, race_told, racing_text, ring};
+ghost use Rattle.std.specs.Prelude.{◌≡◌, ◌≤◌, ◌<◌, ◌^◌, IfOk, string_bytes};
+ghost use Rattle.sw_see_draw.specs.Picture.{between, race_drawn, race_marked, race_told, race_width};
+ghost use Rattle.sw_see_draw.specs.Picture.{racing_text, ring, room_for};
 
 use crate::layout::lane_y;
 use crate::shapes::{circle, label, line};
@@ -24,6 +25,29 @@ fn racing_text(alloc: Global, text: &LineTable, access: Access) -> Result<String
     format!(in alloc; "race: job {job}{does}{line}")
 }
 
+/// The room for a text, with what is left of it.
+fn room_for(text: &str) -> u64
+    ensures value { result ≡ room_for text.now }
+    ensures small { result ≤ 7110 }
+{
+    110 + 7 * text.len().min(1000) as u64
+}
+
+/// The room for both lines of a race.
+#[tactic(auto, unfolding(crate::specs::Picture::race_width))]
+pub fn race_width(alloc: Global, text: &LineTable, race: Option<Race>) -> Result<u64, AllocError>
+    ensures { IfOk result (λ width. width ≡ race_width text.now race) }
+{
+    match race {
+        None => Ok(0),
+        Some(race) => {
+            let upper = racing_text(alloc, text, race.first)?;
+            let lower = racing_text(alloc, text, race.second)?;
+            Ok(room_for(upper.as_str()).max(room_for(lower.as_str())))
+        }
+    }
+}
+
 /// A red ring in the lane of a job.
 #[tactic(auto, unfolding(crate::specs::Picture::ring))]
 fn ring(alloc: Global, x: u64, job: u32) -> Result<String, AllocError>
@@ -34,7 +58,7 @@ fn ring(alloc: Global, x: u64, job: u32) -> Result<String, AllocError>
         x,
         lane_y(u64::from(job)),
         8,
-        "fill=\"none\" stroke=\"red\"",
+        "fill=\"none\" stroke=\"red\" stroke-width=\"2\"",
     )
 }
 
@@ -50,7 +74,7 @@ fn between(alloc: Global, x: u64, job: u32, other: u32) -> Result<String, AllocE
         from,
         x,
         lane_y(u64::from(other)),
-        "stroke=\"red\"",
+        "stroke=\"red\" stroke-width=\"2\"",
     )
 }
 

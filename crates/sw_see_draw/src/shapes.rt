@@ -54,3 +54,19 @@ pub fn label(alloc: Global, x: u64, y: u64, more: &str, text: &str) -> Result<St
     let shown = escaped(alloc, text)?;
     format!(in alloc; "<text x=\"{x}\" y=\"{y}\" {more}>{shown}</text>\n")
 }
+
+/// What makes a text small, and turns it around a point.
+#[tactic(auto, unfolding(crate::specs::Shapes::turned))]
+fn turned(alloc: Global, x: u64, y: u64) -> Result<String, AllocError>
+    ensures { IfOk result (λ more. string_bytes more ≡ shapes.turned x y) }
+{
+    format!(in alloc; "font-size=\"9\" transform=\"rotate(45 {x} {y})\"")
+}
+
+/// A small text that runs down to the right from a point.
+pub fn slanted(alloc: Global, x: u64, y: u64, text: &str) -> Result<String, AllocError>
+    ensures { IfOk result (λ tag. string_bytes tag ≡ shapes.slanted x y text.now) }
+{
+    let more = turned(alloc, x, y)?;
+    label(alloc, x, y, more.as_str(), text)
+}

@@ -15,6 +15,10 @@ abbrev pub find_app : App
 find_app = with_rule (with_rule (with_rule (new_app (codes "find")) default_rule)
     (required (codes "file"))) (new_rule (codes "seed"))
 
+abbrev pub draw_app : App
+draw_app = with_rule (with_rule (with_rule (with_rule (new_app (codes "draw")) default_rule)
+    (flag (codes "page") (codes "page"))) (required (codes "file"))) (required (codes "schedule"))
+
 -- no word is read as a request for help
 abbrev pub bare_app : App
 bare_app = record (new_app (codes "swiftcheck_see")) {
@@ -26,5 +30,5 @@ bare_app = record (new_app (codes "swiftcheck_see")) {
 }
 
 abbrev pub tool : App
-tool = with_subcommand (with_subcommand (with_subcommand bare_app breaches_app.top) steps_app.top)
-    find_app.top
+tool = with_subcommand (with_subcommand (with_subcommand (with_subcommand bare_app breaches_app.top)
+    steps_app.top) find_app.top) draw_app.top

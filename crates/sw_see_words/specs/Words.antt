@@ -18,6 +18,8 @@ pub data Action : Type 0 where
   Steps : (schedule_file : List ℕ) → Action
   -- look for a schedule under which it races; the seed decides which one is found, if one is
   Find : Action
+  -- draw its replay by the schedule in the other file, alone or in a page with the program
+  Draw : (schedule_file : List ℕ) (page : Bool) → Action
 
 -- What the words ask for.
 pub data Command : Type 0 where
@@ -39,12 +41,19 @@ abbrev pub steps_by : List Row → Option Command
 steps_by rows = option_and_then (λ schedule_file. on_file rows (Steps schedule_file))
     (first_of (codes "schedule") rows)
 
+-- `draw FILE SCHEDULE`, alone or in a page
+abbrev pub draw_by : List Row → Option Command
+draw_by rows =
+    option_and_then (λ schedule_file. on_file rows (Draw schedule_file (is_set (codes "page") rows)))
+    (first_of (codes "schedule") rows)
+
 -- the command of this name
 abbrev pub command_by : Text → List Row → Option Command
 command_by name rows =
     if bytes_eq name (codes "breaches") then breaches_by rows
     else if bytes_eq name (codes "steps") then steps_by rows
     else if bytes_eq name (codes "find") then on_file rows Find
+    else if bytes_eq name (codes "draw") then draw_by rows
     else None
 
 abbrev pub read_rows : Option (Text × List Row) → Option Command

@@ -9,6 +9,8 @@ pub enum Action<'a> {
     Steps { schedule_file: &'a str },
     /// Look for a schedule under which it races, by the chance of a seed, which may be any text.
     Find { seed: &'a str },
+    /// Draw its replay by a schedule, alone or in a page with the program.
+    Draw { schedule_file: &'a str, page: bool },
 }
 
 /// What the words ask for.

@@ -3,7 +3,7 @@ ghost use Rattle.clap.specs.Words.{first_of, found_of, rows_of};
 ghost use Rattle.sw_check_words.specs.Read.{default_in, is_set};
 ghost use Rattle.sw_see_words.specs.Given.{lent_action, lent_command};
 ghost use Rattle.sw_see_words.specs.Words.{Find, Parses, breaches_by, command_by, command_of};
-ghost use Rattle.sw_see_words.specs.Words.{on_file};
+ghost use Rattle.sw_see_words.specs.Words.{draw_by, on_file, steps_by};
 
 use crate::command::{Action, Command};
 use crate::tool::tool;
@@ -72,6 +72,29 @@ fn find<'a>(found: &ArgMatches<'a>) -> Option<Command<'a>>
     on_file(found, Action::Find { seed })
 }
 
+/// `steps FILE SCHEDULE`.
+fn steps<'a>(found: &ArgMatches<'a>) -> Option<Command<'a>>
+    ensures { option_map lent_command result ≡ steps_by (rows_of (found_of found.now)) }
+{
+    let schedule_file = text_of(found, "schedule")?;
+    on_file(found, Action::Steps { schedule_file })
+}
+
+/// `draw FILE SCHEDULE`, and `draw FILE SCHEDULE --page`.
+fn draw<'a>(found: &ArgMatches<'a>) -> Option<Command<'a>>
+    ensures { option_map lent_command result ≡ draw_by (rows_of (found_of found.now)) }
+{
+    let schedule_file = text_of(found, "schedule")?;
+    let page = is_set(found, "page");
+    on_file(
+        found,
+        Action::Draw {
+            schedule_file,
+            page,
+        },
+    )
+}
+
 /// The command of this name, with the arguments that were found.
 fn command<'a>(name: &str, found: &ArgMatches<'a>) -> Option<Command<'a>>
     ensures { option_map lent_command result
@@ -79,11 +102,9 @@ fn command<'a>(name: &str, found: &ArgMatches<'a>) -> Option<Command<'a>>
 {
     match name {
         "breaches" => breaches(found),
-        "steps" => {
-            let schedule_file = text_of(found, "schedule")?;
-            on_file(found, Action::Steps { schedule_file })
-        }
+        "steps" => steps(found),
         "find" => find(found),
+        "draw" => draw(found),
         _ => None,
     }
 }

@@ -4,7 +4,8 @@ ghost use Rattle.std.specs.Prelude.{◌≡◌, IfOk, false};
 ghost use Rattle.clap.specs.Words.{app_of, new_rule, rule_of};
 ghost use Rattle.clap.specs.declared.builder.command.Command.TheViews.{out-Command};
 ghost use Rattle.sw_check_words.specs.Tool.{default_rule, flag, required};
-ghost use Rattle.sw_see_words.specs.Tool.{bare_app, breaches_app, find_app, steps_app, tool};
+ghost use Rattle.sw_see_words.specs.Tool.{bare_app, breaches_app, draw_app, find_app};
+ghost use Rattle.sw_see_words.specs.Tool.{steps_app, tool};
 
 use clap::{Arg, ArgAction, Command};
 use std::alloc::{AllocError, Global};
@@ -74,6 +75,18 @@ fn find<'a>(alloc: Global) -> Result<Command<'a>, AllocError>
         .arg(optional(alloc, "seed"))
 }
 
+/// `draw FILE SCHEDULE`, and `draw FILE SCHEDULE --page`.
+fn draw<'a>(alloc: Global) -> Result<Command<'a>, AllocError>
+    ensures { IfOk result (λ command. (app_of command ≡ draw_app)
+        × ((out-Command command).has_globals ≡ false)) }
+{
+    Command::new(alloc, "draw")
+        .arg(default(alloc))?
+        .arg(flag(alloc, "page", "page"))?
+        .arg(required(alloc, "file"))?
+        .arg(required(alloc, "schedule"))
+}
+
 /// The tool without its commands. No word asks for help.
 fn bare<'a>(alloc: Global) -> Command<'a>
     ensures app { app_of result ≡ bare_app }
@@ -92,5 +105,6 @@ pub fn tool<'a>(alloc: Global) -> Result<Command<'a>, AllocError>
     bare(alloc)
         .subcommand(breaches(alloc)?)?
         .subcommand(steps(alloc)?)?
-        .subcommand(find(alloc)?)
+        .subcommand(find(alloc)?)?
+        .subcommand(draw(alloc)?)
 }

@@ -10,7 +10,9 @@ returns c =
     (ap (λ (a : App). a.top) c.in_ok-breaches.ensures.0) in
     let second = c.in_ok-subcommand-2.ensures.shape c.in_ok-steps.ensures.1
     ∙ ap₂ with_subcommand first (ap (λ (a : App). a.top) c.in_ok-steps.ensures.0) in
-    IfOk-weaker c.subcommand-3.result _ _
-    (λ command added. added.shape c.in_ok-find.ensures.1
-    ∙ ap₂ with_subcommand second (ap (λ (a : App). a.top) c.in_ok-find.ensures.0))
-    c.subcommand-3.ensures
+    let third = c.in_ok-subcommand-3.ensures.shape c.in_ok-find.ensures.1
+    ∙ ap₂ with_subcommand second (ap (λ (a : App). a.top) c.in_ok-find.ensures.0) in
+    IfOk-weaker c.subcommand-4.result _ _
+    (λ command added. added.shape c.in_ok-draw.ensures.1
+    ∙ ap₂ with_subcommand third (ap (λ (a : App). a.top) c.in_ok-draw.ensures.0))
+    c.subcommand-4.ensures
