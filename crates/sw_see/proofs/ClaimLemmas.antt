@@ -7,7 +7,7 @@ use Rattle.sw_check_parts.specs.declared.TheConstants.{PROGRAM_LIMIT}
 use Rattle.sw_check_parts.specs.declared.exit.Exit.{Exit}
 use Rattle.sw_check_parts.specs.declared.exit.Exit.TheVariants.{Breached, Done, Raced, Trapped}
 use Rattle.sw_check_parts.specs.declared.outcome.Outcome.{Outcome}
-use Rattle.sw_check_parts.specs.Course.{Alone, AreOf, Part, Read, ◌>>=◌}
+use Rattle.sw_check_parts.specs.Course.{Alone, AreOf, Ended, Part, Read, ◌>>=◌}
 use Rattle.sw_check_parts.specs.Exit.{IsOneOf}
 use Rattle.sw_check_parts.specs.Written.{Appended}
 use Rattle.sw_check_parts.proofs.Inversions.{EndsAfterFetch, EndsAfterRule, after_fetch, after_rule}
@@ -23,22 +23,33 @@ use Rattle.sw_check.proofs.Pieces.{outcome_of}
 use Rattle.sw_see_find.specs.declared.finding.Found.{Found}
 use Rattle.sw_see_find.specs.declared.finding.Found.TheVariants.{Nothing, Race}
 use Rattle.sw_see_find.specs.Found.{IsFound}
-use Rattle.sw_see_words.specs.Words.{Breaches, Command, Find, OnFile, Steps}
+use Rattle.sw_see_draw.proofs.DrawnLemmas.{drawn_covers}
+use Rattle.sw_see_draw.proofs.MarkLemmas.{covers}
+use Rattle.sw_see_words.specs.Words.{Breaches, Command, Draw, Find, OnFile, Steps}
 use Rattle.sw_see.specs.Call.{Answered}
-use Rattle.sw_see.specs.Claims.{BreachesAreShown, EventsAreTold, IsProgramOf, RaceIsShown, Written}
-use Rattle.sw_see.specs.Reply.{Finds, Reply, Shows, Tells, accepts, at_end, before_end}
-use Rattle.sw_see.specs.Reply.{finds, found_outcome, paint_of, refuses, tells}
+use Rattle.sw_see.specs.Claims.{BreachesAreShown, EventsAreDrawn, EventsAreTold, IsProgramOf}
+use Rattle.sw_see.specs.Claims.{RaceIsShown, Replayed, Written}
+use Rattle.sw_see.specs.Reply.{Finds, Reply, Shows, accepts, at_end, before_end}
+use Rattle.sw_see.specs.Reply.{finds, found_outcome, paint_of, refuses, replay_course}
+use Rattle.sw_see.specs.View.{InSteps, IsViewOf, View, Views, as_steps, drawn_view, views}
 
--- the exits with which the events of a replay are told
-abbrev pub told_exits : List Exit
-told_exits = Done ∷ Trapped ∷ Raced ∷ []
+-- the exits with which a replay is shown
+abbrev pub shown_exits : List Exit
+shown_exits = Done ∷ Trapped ∷ Raced ∷ []
 
 -- no other exit is one of them
-untold : (exit : Exit) → exit ≢ Done → exit ≢ Trapped → exit ≢ Raced → IsOneOf told_exits exit → ⊥
-untold exit not_done not_trapped not_raced (inl is) = not_done is
-untold exit not_done not_trapped not_raced (inr (inl is)) = not_trapped is
-untold exit not_done not_trapped not_raced (inr (inr (inl is))) = not_raced is
-untold exit not_done not_trapped not_raced (inr (inr (inr is))) = is
+unshown : (exit : Exit) → exit ≢ Done → exit ≢ Trapped → exit ≢ Raced → IsOneOf shown_exits exit
+    → ⊥
+unshown exit not_done not_trapped not_raced (inl is) = not_done is
+unshown exit not_done not_trapped not_raced (inr (inl is)) = not_trapped is
+unshown exit not_done not_trapped not_raced (inr (inr (inl is))) = not_raced is
+unshown exit not_done not_trapped not_raced (inr (inr (inr is))) = is
+
+-- a replay was watched, and this is shown of it
+record IsViewed (rule : AsyncDefault) (view : View) (text schedule : List ℕ) (outcome : Outcome)
+    : Type 0 where
+  replayed : Replayed rule text schedule
+  is_view : IsViewOf text replayed.passed replayed.watched view outcome
 
 -- the reply was written
 abbrev IsWritten : Written → Written → Result Outcome Outcome → Type 0
@@ -83,76 +94,129 @@ module _ (files : List ℕ → List ℕ) (rule : AsyncDefault) (file : List ℕ)
   program_of text _ (passes passed verdict named) =
       record { of_text = verdict.1; named = named }
 
-  -- `steps`
-  module _ (schedule_file : List ℕ) where
-    abbrev Claim : Type 0
-    Claim = EventsAreTold rule (files file) (files schedule_file) before after
+  -- a command that shows a replay
+  module _ (schedule_file : List ℕ) (view : View) where
+    abbrev viewed_of : List ℕ → Passed → Part Outcome
+    viewed_of text passed = by_items schedule_file (Views view text passed)
 
-    abbrev told_of : List ℕ → Passed → Part Outcome
-    told_of text passed = by_items schedule_file (Tells text passed)
+    abbrev replay_of : List ℕ → Part Outcome
+    replay_of text = Alone (IsJudgement rule phases_to_size text) >>= viewed_of text
 
-    abbrev steps_of : List ℕ → Part Outcome
-    steps_of text = Alone (IsJudgement rule phases_to_size text) >>= told_of text
+    abbrev Viewed : Outcome → Type 0
+    Viewed outcome = IsViewed rule view (files file) (files schedule_file) outcome
 
     module _ (passed : Passed) (is_program : IsProgramOf rule (files file) passed) where
-      by_tells : (items : List ℕ) → IsItems (files schedule_file) items
-          → (result : Result Outcome Outcome)
-          → Tells (files file) passed items result → IsWritten before after result → Claim
-      by_tells items are _ (tells watched is) bytes = record {
-        passed = passed;
-        is_program = is_program;
-        items = items;
-        are_items = are;
-        watched = watched;
-        is_watched = is;
-        bytes = bytes;
+      by_views : (items : List ℕ) → IsItems (files schedule_file) items
+          → (result : Result Outcome Outcome) → Views view (files file) passed items result
+          → Viewed (outcome_of result)
+      by_views items are _ (views watched outcome is shown) = record {
+        replayed = record {
+          passed = passed;
+          is_program = is_program;
+          items = items;
+          are_items = are;
+          watched = watched;
+          is_watched = is;
+        };
+        is_view = shown;
       }
 
       items_end : (result : Result Outcome Outcome)
-          → EndsAfterItems files schedule_file (λ items. Alone (Tells (files file) passed items))
-          result → IsOneOf told_exits (outcome_of result).exit → IsWritten before after result
-          → Claim
-      items_end _ (long_schedule long) exit bytes =
-          absurd (untold _ (λ e. cc) (λ e. cc) (λ e. cc) exit)
-      items_end _ (bad_schedule short fault is) exit bytes =
-          absurd (untold _ (λ e. cc) (λ e. cc) (λ e. cc) exit)
-      items_end _ (has_schedule others result items short are ended) exit bytes =
-          by_tells items are result (by_rule (Tells (files file) passed items) others result ended)
-          bytes
+          → EndsAfterItems files schedule_file
+          (λ items. Alone (Views view (files file) passed items)) result
+          → IsOneOf shown_exits (outcome_of result).exit → Viewed (outcome_of result)
+      items_end _ (long_schedule long) exit =
+          absurd (unshown _ (λ e. cc) (λ e. cc) (λ e. cc) exit)
+      items_end _ (bad_schedule short fault is) exit =
+          absurd (unshown _ (λ e. cc) (λ e. cc) (λ e. cc) exit)
+      items_end _ (has_schedule others result items short are ended) exit =
+          by_views items are result
+          (by_rule (Views view (files file) passed items) others result ended)
 
     judged_ends : (reads : List Read) → AreOf files reads → (result : Result Outcome Outcome)
-        → EndsAfterRule (IsJudgement rule phases_to_size (files file)) (told_of (files file)) reads
-        result → IsOneOf told_exits (outcome_of result).exit → IsWritten before after result → Claim
-    judged_ends reads of_files _ (refuses_first outcome judged) exit bytes =
-        absurd (not_told outcome judged exit) where
-          not_told : (outcome : Outcome)
+        → EndsAfterRule (IsJudgement rule phases_to_size (files file)) (viewed_of (files file))
+        reads result → IsOneOf shown_exits (outcome_of result).exit → Viewed (outcome_of result)
+    judged_ends reads of_files _ (refuses_first outcome judged) exit =
+        absurd (not_shown outcome judged exit) where
+          not_shown : (outcome : Outcome)
               → IsJudgement rule phases_to_size (files file) (Err outcome)
-              → IsOneOf told_exits outcome.exit → ⊥
-          not_told _ (breached list is) exit = untold _ (λ e. cc) (λ e. cc) (λ e. cc) exit
-    judged_ends reads of_files _ (gives passed result judged ended) exit bytes =
+              → IsOneOf shown_exits outcome.exit → ⊥
+          not_shown _ (breached list is) exit = unshown _ (λ e. cc) (λ e. cc) (λ e. cc) exit
+    judged_ends reads of_files _ (gives passed result judged ended) exit =
         items_end passed (program_of (files file) passed judged) result
-        (after_items files schedule_file (λ items. Alone (Tells (files file) passed items)) reads
-        result of_files ended) exit bytes
+        (after_items files schedule_file (λ items. Alone (Views view (files file) passed items))
+        reads result of_files ended) exit
 
-    told_ends : (result : Result Outcome Outcome)
-        → EndsAfterFetch files file PROGRAM_LIMIT steps_of result
-        → IsOneOf told_exits (outcome_of result).exit → IsWritten before after result → Claim
-    told_ends _ (too_long long) exit bytes =
-        absurd (untold _ (λ e. cc) (λ e. cc) (λ e. cc) exit)
-    told_ends _ (fetched others result short of_files ended) exit bytes =
+    viewed_ends : (result : Result Outcome Outcome)
+        → EndsAfterFetch files file PROGRAM_LIMIT replay_of result
+        → IsOneOf shown_exits (outcome_of result).exit → Viewed (outcome_of result)
+    viewed_ends _ (too_long long) exit =
+        absurd (unshown _ (λ e. cc) (λ e. cc) (λ e. cc) exit)
+    viewed_ends _ (fetched others result short of_files ended) exit =
         judged_ends others of_files result
-        (after_rule (IsJudgement rule phases_to_size (files file)) (told_of (files file)) others
-        result ended) exit bytes
+        (after_rule (IsJudgement rule phases_to_size (files file)) (viewed_of (files file)) others
+        result ended) exit
+
+    course_views : (reads : List Read) (result : Result Outcome Outcome) → AreOf files reads
+        → replay_course rule file schedule_file view reads (Ended result)
+        → IsOneOf shown_exits (outcome_of result).exit → Viewed (outcome_of result)
+    course_views reads result of_files ended exit =
+        viewed_ends result
+        (after_fetch files file PROGRAM_LIMIT replay_of reads result of_files ended) exit
+
+  -- `steps`
+  module _ (schedule_file : List ℕ) where
+    told : (replayed : Replayed rule (files file) (files schedule_file)) (outcome : Outcome)
+        → IsViewOf (files file) replayed.passed replayed.watched InSteps outcome
+        → Appended outcome.bytes before after
+        → EventsAreTold rule (files file) (files schedule_file) before after
+    told replayed _ as_steps bytes = record { replayed = replayed; bytes = bytes }
+
+    steps_viewed : (reads : List Read) (outcome : Outcome) → AreOf files reads
+        → Reply (Some (OnFile rule file (Steps schedule_file))) reads outcome
+        → IsOneOf shown_exits outcome.exit → Viewed schedule_file InSteps outcome
+    steps_viewed reads outcome of_files (at_end ended) exit =
+        course_views schedule_file InSteps reads (Ok outcome) of_files ended exit
+    steps_viewed reads outcome of_files (before_end ended) exit =
+        course_views schedule_file InSteps reads (Err outcome) of_files ended exit
 
     pub reply_tells : (reads : List Read) (outcome : Outcome) → AreOf files reads
         → Reply (Some (OnFile rule file (Steps schedule_file))) reads outcome
-        → IsOneOf told_exits outcome.exit → Appended outcome.bytes before after → Claim
-    reply_tells reads outcome of_files (at_end ended) exit bytes =
-        told_ends (Ok outcome) (after_fetch files file PROGRAM_LIMIT steps_of reads (Ok outcome)
-        of_files ended) exit bytes
-    reply_tells reads outcome of_files (before_end ended) exit bytes =
-        told_ends (Err outcome) (after_fetch files file PROGRAM_LIMIT steps_of reads (Err outcome)
-        of_files ended) exit bytes
+        → IsOneOf shown_exits outcome.exit → Appended outcome.bytes before after
+        → EventsAreTold rule (files file) (files schedule_file) before after
+    reply_tells reads outcome of_files reply exit bytes =
+        let viewed = steps_viewed reads outcome of_files reply exit in
+        told viewed.replayed outcome viewed.is_view bytes
+
+  -- `draw`
+  module _ (schedule_file : List ℕ) (in_page : Bool) where
+    abbrev drawn : View
+    drawn = drawn_view in_page rule file
+
+    draw_viewed : (reads : List Read) (outcome : Outcome) → AreOf files reads
+        → Reply (Some (OnFile rule file (Draw schedule_file in_page))) reads outcome
+        → IsOneOf shown_exits outcome.exit → Viewed schedule_file drawn outcome
+    draw_viewed reads outcome of_files (at_end ended) exit =
+        course_views schedule_file drawn reads (Ok outcome) of_files ended exit
+    draw_viewed reads outcome of_files (before_end ended) exit =
+        course_views schedule_file drawn reads (Err outcome) of_files ended exit
+
+    pub reply_draws : (reads : List Read) (outcome : Outcome) → AreOf files reads
+        → Reply (Some (OnFile rule file (Draw schedule_file in_page))) reads outcome
+        → outcome.exit ≡ Done → Appended outcome.bytes before after
+        → EventsAreDrawn rule in_page file (files file) (files schedule_file) before after
+    reply_draws reads outcome of_files reply done bytes =
+        let viewed = draw_viewed reads outcome of_files reply (inl done) in
+        record {
+          replayed = viewed.replayed;
+          marked = record {
+            all = covers viewed.replayed.watched.happenings;
+            last = drawn_covers viewed.replayed.watched.happenings;
+          };
+          outcome = outcome;
+          is_view = viewed.is_view;
+          bytes = bytes;
+        }
 
   -- `find`
   abbrev Shown : Type 0

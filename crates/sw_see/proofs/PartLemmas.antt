@@ -21,18 +21,27 @@ use Rattle.sw_see_events.specs.Watches.{IsWatched}
 use Rattle.sw_see_events.specs.declared.watching.Watched.{Watched}
 use Rattle.sw_see_find.specs.Found.{IsFound}
 use Rattle.sw_see_find.specs.declared.finding.Found.{Found}
-use Rattle.sw_see_words.specs.Words.{Breaches, Command, Find, OnFile, Steps, command_in, command_of}
+use Rattle.sw_see_words.specs.Words.{Breaches, Command, Draw, Find, OnFile, Steps, command_in}
+use Rattle.sw_see_words.specs.Words.{command_of}
 use Rattle.sw_see.specs.Call.{Answered}
-use Rattle.sw_see.specs.Reply.{Finds, Tells, course_of, exits_of, finds, found_outcome}
-use Rattle.sw_see.specs.Reply.{steps_outcome, tells, usage}
+use Rattle.sw_see.specs.Reply.{Finds, course_of, exits_of, finds, found_outcome, usage}
+use Rattle.sw_see.specs.View.{IsViewOf, View, Views, views}
 
-pub told : (text : List ℕ) (passed : Passed) (items : List ℕ) (watched : Watched)
+pub viewed : (view : View) (text : List ℕ) (passed : Passed) (items : List ℕ) (watched : Watched)
     (result : Result Outcome AllocError) → IsWatched passed.graph items watched
-    → IfOk result (λ outcome. outcome ≡ steps_outcome text passed watched)
-    → IfOk result (λ outcome. Tells text passed items (Ok outcome))
-told text passed items watched (Ok outcome) is same =
-    subst (λ outcome. Tells text passed items (Ok outcome)) (sym same) (tells watched is)
-told text passed items watched (Err error) is same = tt
+    → IfOk result (IsViewOf text passed watched view)
+    → IfOk result (λ outcome. Views view text passed items (Ok outcome))
+viewed view text passed items watched (Ok outcome) is shown = views watched outcome is shown
+viewed view text passed items watched (Err error) is shown = tt
+
+-- what is known to be a view, if there is a reply
+pub shown_as : (text : List ℕ) (passed : Passed) (watched : Watched) (view : View)
+    (known : Outcome) (result : Result Outcome AllocError)
+    → IsViewOf text passed watched view known → IfOk result (λ outcome. outcome ≡ known)
+    → IfOk result (IsViewOf text passed watched view)
+shown_as text passed watched view known (Ok outcome) is same =
+    subst (IsViewOf text passed watched view) (sym same) is
+shown_as text passed watched view known (Err error) is same = tt
 
 pub searched : (graph : Graph) (found : Found) (result : Result Outcome AllocError)
     → IsFound graph found → IfOk result (λ outcome. outcome ≡ found_outcome found)
@@ -54,6 +63,7 @@ begins None = deciding
 begins (Some (OnFile rule file (Breaches color))) = in_first [] to_fetch
 begins (Some (OnFile rule file (Steps schedule_file))) = in_first [] to_fetch
 begins (Some (OnFile rule file Find)) = in_first [] to_fetch
+begins (Some (OnFile rule file (Draw schedule_file in_page))) = in_first [] to_fetch
 
 -- Memory ran out before the command was known.
 pub not_begun : (command : Option Command) {shelf : SeenShelf}

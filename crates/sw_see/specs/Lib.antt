@@ -1,3 +1,4 @@
 pub mod Call
 pub mod Claims
 pub mod Reply
+pub mod View

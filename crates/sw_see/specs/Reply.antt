@@ -4,7 +4,6 @@ use Rattle.std.specs.Prelude.{◌≢◌, ℕ, Bool, List, [], ◌∷◌, ◌++�
 use Rattle.std.specs.Prelude.{None, Result, Ok, Err, codes, if◌then◌else◌}
 use Rattle.std.specs.Fmt.{decimal}
 use Rattle.sw_graph.specs.declared.graph.Graph.{Graph}
-use Rattle.sw_replay.specs.declared.output.Replay.{Replay}
 use Rattle.sw_breach.specs.declared.Breach.{Breach}
 use Rattle.sw_breach.specs.Lines.{line_feed}
 use Rattle.sw_check_parts.specs.declared.exit.Exit.{Exit}
@@ -15,19 +14,16 @@ use Rattle.sw_check_parts.specs.Course.{Read, Ended, Part, Alone, Fetched, ◌>>
 use Rattle.sw_decls.specs.declared.signature.AsyncDefault.{AsyncDefault}
 use Rattle.sw_verdict.specs.Phases.{all_phases, phases_to_size}
 use Rattle.sw_verdict.specs.Verdict.{Accepts, Breaches}
-use Rattle.sw_check.specs.Programs.{Passed}
-use Rattle.sw_check.specs.Reply.{EndsWithReply, IsJudgement, accepted, by_items, replay_outcome}
+use Rattle.sw_check.specs.Reply.{EndsWithReply, IsJudgement, accepted, by_items}
 use Rattle.sw_see_breaches.specs.Shown.{shown_verdict}
 use Rattle.sw_see_breaches.specs.declared.painting.Paint.{Paint}
 use Rattle.sw_see_breaches.specs.declared.painting.Paint.TheVariants.{Colored, Plain}
-use Rattle.sw_see_events.specs.Watches.{IsWatched}
-use Rattle.sw_see_events.specs.declared.watching.Watched.{Watched}
 use Rattle.sw_see_find.specs.Found.{IsFound}
 use Rattle.sw_see_find.specs.declared.finding.Found.{Found}
 use Rattle.sw_see_find.specs.declared.finding.Found.TheVariants.{Nothing, Race}
-use Rattle.sw_see_steps.specs.Steps.{joined, step_lines}
-use Rattle.sw_see_words.specs.Words.{Action, Command, Find, OnFile, Steps}
+use Rattle.sw_see_words.specs.Words.{Action, Command, Draw, Find, OnFile, Steps}
 use Rattle.sw_see_words.specs.Words.{Breaches as ShowBreaches}
+use Rattle.sw_see.specs.View.{InSteps, View, Views, drawn_view}
 
 -- the one line about words that have no form
 abbrev pub usage : Outcome
@@ -40,18 +36,6 @@ usage = record {
 abbrev pub shown_outcome : Paint → List ℕ → List ℕ → List Breach → Outcome
 shown_outcome paint file text breaches =
     record { exit = exits.Breached; bytes = shown_verdict paint file text breaches }
-
--- a replay that was watched, with the lines of its events in the place of the printed lines
-abbrev pub steps_replay : List ℕ → Passed → Watched → Replay
-steps_replay text passed watched = record watched.replay {
-  output = record watched.replay.output {
-    lines = joined (step_lines text passed.actors watched.happenings);
-  };
-}
-
--- it is answered as a trace is
-abbrev pub steps_outcome : List ℕ → Passed → Watched → Outcome
-steps_outcome text passed watched = replay_outcome text (steps_replay text passed watched)
 
 -- a schedule that shows a race, or how many showed none
 abbrev pub found_outcome : Found → Outcome
@@ -68,13 +52,6 @@ pub data Shows (paint : Paint) (rule : AsyncDefault) (file text : List ℕ)
   refuses : (breaches : List Breach) → breaches ≢ [] → Breaches rule all_phases text breaches
       → Shows paint rule file text (Ok (shown_outcome paint file text breaches))
 
--- The machine of a program's graph takes the items up to the first state that is racing, and each
--- event of these is told.
-pub data Tells (text : List ℕ) (passed : Passed) (items : List ℕ)
-    : Result Outcome Outcome → Type 0 where
-  tells : (watched : Watched) → IsWatched passed.graph items watched
-      → Tells text passed items (Ok (steps_outcome text passed watched))
-
 -- A schedule that shows a race of a program's graph is looked for.
 pub data Finds (graph : Graph) : Result Outcome Outcome → Type 0 where
   finds : (found : Found) → IsFound graph found → Finds graph (Ok (found_outcome found))
@@ -89,13 +66,13 @@ breaches_course rule file color = do
   text ← Fetched file PROGRAM_LIMIT
   Alone (Shows (paint_of color) rule file text)
 
--- `steps FILE SCHEDULE`: A program is fetched and judged up to the size of its functions. Then a
--- schedule is fetched, and the events of its replay are told.
-abbrev pub steps_course : AsyncDefault → List ℕ → List ℕ → Part Outcome
-steps_course rule file schedule_file = do
+-- `steps FILE SCHEDULE` and `draw FILE SCHEDULE`: A program is fetched and judged up to the size of
+-- its functions. Then a schedule is fetched, and its replay is shown.
+abbrev pub replay_course : AsyncDefault → List ℕ → List ℕ → View → Part Outcome
+replay_course rule file schedule_file view = do
   text ← Fetched file PROGRAM_LIMIT
   passed ← Alone (IsJudgement rule phases_to_size text)
-  by_items schedule_file (Tells text passed)
+  by_items schedule_file (Views view text passed)
 
 -- `find FILE`: A program is fetched and judged so, and then a race of it is looked for.
 abbrev pub find_course : AsyncDefault → List ℕ → Part Outcome
@@ -106,8 +83,10 @@ find_course rule file = do
 
 abbrev pub file_course : AsyncDefault → List ℕ → Action → Part Outcome
 file_course rule file (ShowBreaches color) = breaches_course rule file color
-file_course rule file (Steps schedule_file) = steps_course rule file schedule_file
+file_course rule file (Steps schedule_file) = replay_course rule file schedule_file InSteps
 file_course rule file Find = find_course rule file
+file_course rule file (Draw schedule_file in_page) =
+    replay_course rule file schedule_file (drawn_view in_page rule file)
 
 -- the parts of each command
 abbrev pub course_of : Option Command → Part Outcome
@@ -127,6 +106,8 @@ file_exits (Steps schedule_file) =
     exits.TooLong ∷ exits.Breached ∷ exits.BadSchedule ∷ exits.Done ∷ exits.Trapped ∷ exits.Raced
     ∷ []
 file_exits Find = exits.TooLong ∷ exits.Breached ∷ exits.Done ∷ exits.Raced ∷ []
+file_exits (Draw schedule_file in_page) =
+    exits.TooLong ∷ exits.Breached ∷ exits.BadSchedule ∷ exits.Done ∷ []
 
 -- the exits of the replies to a command
 abbrev pub exits_of : Option Command → List Exit

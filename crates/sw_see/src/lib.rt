@@ -11,13 +11,15 @@ ghost use Rattle.sw_check_parts.specs.declared.exit.Exit.{Exit};
 ghost use Rattle.sw_check_parts.specs.Exit.{IsOneOf, is_failure, is_silent};
 ghost use Rattle.sw_see.specs.Call.{Interrupted, Replied, Unanswered};
 ghost use Rattle.sw_decls.specs.declared.signature.AsyncDefault.{AsyncDefault};
-ghost use Rattle.sw_see.specs.Claims.{BreachesAreShown, EventsAreTold, RaceIsShown};
+ghost use Rattle.sw_see.specs.Claims.{BreachesAreShown, EventsAreDrawn, EventsAreTold};
+ghost use Rattle.sw_see.specs.Claims.{RaceIsShown};
 ghost use Rattle.sw_see.specs.Reply.{exits_of};
-ghost use Rattle.sw_see_words.specs.Words.{Breaches, Find, OnFile, Steps, command_in};
+ghost use Rattle.sw_see_words.specs.Words.{Breaches, Draw, Find, OnFile, Steps, command_in};
 
 mod commands;
 mod parts;
 mod reply;
+mod view;
 
 use reply::{NoReply, reply};
 use std::alloc::Global;
@@ -35,8 +37,8 @@ pub fn run_words<S: Shelf, K: Sink>(
 ) -> Exit
     // An exit that reports no failure is that of a reply to the words, over files that were read in
     // its order. No others were read, and the whole reply was written and nothing else. `Reply`
-    // says what the replies are: all breaches, a line for each event of a replay, or the text of a
-    // schedule whose replay meets a race.
+    // says what the replies are: all breaches, a line for each event of a replay, a picture of one,
+    // or the text of a schedule whose replay meets a race.
     ensures replied { IsFalse (is_failure result) → Replied (command_in words.now.items) result
         (S.known shelf.old) (S.known shelf.new) (K.written out.old) (K.written out.new) }
     // Where neither the outside nor memory failed, the exit reports no failure.
@@ -69,6 +71,16 @@ pub fn run_words<S: Shelf, K: Sink>(
         → S.known shelf.old ≡ Some known
         → command_in words.now.items ≡ Some (OnFile rule file Find) → result ≡ Exit.Raced
         → RaceIsShown rule (file_of known.files file) (K.written out.old) (K.written out.new) }
+
+    // What `draw` writes of a program and a schedule in which it finds no fault is a picture of the
+    // replay, with a mark for each event in order, in the lane of its job; or a page with the lines
+    // of the program, its breaches and the picture.
+    ensures drawn { (known : KnownShelf) (rule : AsyncDefault) (file schedule_file : List ℕ)
+        (in_page : Bool) → S.known shelf.old ≡ Some known
+        → command_in words.now.items ≡ Some (OnFile rule file (Draw schedule_file in_page))
+        → result ≡ Exit.Done
+        → EventsAreDrawn rule in_page file (file_of known.files file)
+        (file_of known.files schedule_file) (K.written out.old) (K.written out.new) }
 
     // After a failed fetch the command is under way, and the file whose fetch failed was requested.
     ensures not_read { result ≡ Exit.NotRead

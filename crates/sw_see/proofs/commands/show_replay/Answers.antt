@@ -6,8 +6,8 @@ use Rattle.sw_check_parts.proofs.Doing.{decides_on, decides_stop, does_alone, do
 use Rattle.sw_verdict.specs.Phases.{phases_to_size}
 use Rattle.sw_check.specs.Programs.{Passed, seen_graph}
 use Rattle.sw_check.specs.Reply.{IsJudgement}
-use Rattle.sw_see.specs.Reply.{Tells}
-use Rattle.sw_see.proofs.commands.tell_file.Goals as goal
+use Rattle.sw_see.specs.View.{Views, lent_view}
+use Rattle.sw_see.proofs.commands.show_replay.Goals as goal
 
 pub returns-in_err-text : goal.returns-in_err-text
 returns-in_err-text g c =
@@ -35,27 +35,29 @@ returns-in_err-items g c =
     c.in_ok-made.ensures)
     (does_stop _ c.in_err-items.field-0.0 c.in_err-items.ensures)))
 
-pub returns-in_err-tell : goal.returns-in_err-tell
-returns-in_err-tell g c =
-    let p = err_from_is_err_and c.from_residual-in_err-tell.result
-    c.from_residual-in_err-tell.ensures.1 in
+pub returns-in_err-view_replay : goal.returns-in_err-view_replay
+returns-in_err-view_replay g c =
+    let p = err_from_is_err_and c.from_residual-in_err-view_replay.result
+    c.from_residual-in_err-view_replay.ensures.1 in
+    let view = lent_view c.args.view in
     let passed = seen_graph c.in_ok-made.made in
     rw (p.1, p.2) (does_on c.in_ok-text.ensures.done
     (decides_on (IsJudgement c.args.default phases_to_size c.in_ok-text.text)
     (subst (λ text. IsJudgement c.args.default phases_to_size text (Ok passed)) c.as_slice.ensures
     c.in_ok-made.ensures)
     (does_on c.in_ok-items.ensures
-    (does_alone (Tells c.in_ok-text.text passed c.in_ok-items.items) (Err Memory) tt))))
+    (does_alone (Views view c.in_ok-text.text passed c.in_ok-items.items) (Err Memory) tt))))
 
 pub returns : goal.returns
 returns g c =
     let passed = seen_graph c.in_ok-made.made in
-    let outcome = c.in_ok-tell.field-0 in
+    let outcome = c.in_ok-view_replay.field-0 in
+    let view = lent_view c.args.view in
     does_on c.in_ok-text.ensures.done
     (decides_on (IsJudgement c.args.default phases_to_size c.in_ok-text.text)
     (subst (λ text. IsJudgement c.args.default phases_to_size text (Ok passed)) c.as_slice.ensures
     c.in_ok-made.ensures)
     (does_on c.in_ok-items.ensures
-    (does_alone (Tells c.in_ok-text.text passed c.in_ok-items.items) (Ok outcome)
-    (subst (λ text. Tells text passed c.in_ok-items.items (Ok outcome)) c.as_slice-2.ensures
-    c.in_ok-tell.ensures))))
+    (does_alone (Views view c.in_ok-text.text passed c.in_ok-items.items) (Ok outcome)
+    (subst (λ text. Views view text passed c.in_ok-items.items (Ok outcome)) c.as_slice-2.ensures
+    c.in_ok-view_replay.ensures))))
