@@ -1,9 +1,11 @@
 -- What is said of the code and the work of each type of tree.
-use Rattle.std.specs.Prelude.{◌≡◌, ℕ, List, [], ◌∷◌, Option, Some, None, slice_get}
+use Rattle.std.specs.Prelude.{◌≡◌, ℕ, ◌==◌, ◌||◌, Bool, false, List, [], ◌∷◌, Option, Some, None}
+use Rattle.std.specs.Prelude.{slice_get, if◌then◌else◌}
 use Rattle.std.specs.Option.{option_map}
 use Rattle.sw_graph.specs.declared.function.Function.{Function}
 use Rattle.sw_graph.specs.declared.instr.Operand.{Operand}
 use Rattle.sw_decls.specs.declared.signature.GlobalVar.{GlobalVar}
+use Rattle.sw_decls.specs.declared.signature.Signature.{Signature}
 use Rattle.sw_typing_rules.specs.Worlds.{and_then}
 use Rattle.sw_lower_plans.specs.Plan.{Numbers}
 use Rattle.sw_lower_plans.specs.declared.name.FunctionName.{FunctionName}
@@ -31,9 +33,16 @@ facts_of tables = record {
   is_boxed = tables.isolation.is_boxed;
 }
 
--- The function of a body has a name by the key of what stands for it in the program.
+-- whether a function is declared that has the key
+abbrev pub is_declared : List Signature → ℕ → Bool
+is_declared [] key = false
+is_declared (func ∷ funcs) key = (func.key.at == key) || is_declared funcs key
+
+-- The function of a body has a name by the key of what stands for it in the program. A closure, a task
+-- and a first value have keys too, but no function that is declared has these.
 abbrev pub function_name : Tables → BodyName → Option FunctionName
-function_name tables (FunctionAt key) = Some (plain key)
+function_name tables (FunctionAt key) =
+    if is_declared tables.world.funcs key then Some (plain key) else None
 function_name tables (PartGetter shape part) = option_map getter_of (tables.part_key shape part)
 function_name tables (GlobalGetter number) = option_map
     (λ (global : GlobalVar). getter_of global.key.at) (slice_get tables.world.globals number)

@@ -1,7 +1,9 @@
 -- The work of calls stands where their code is.
-use Rattle.std.proofs.Common.{◌≡◌, ℕ, suc, ◌+◌, Option, Some, None, List, [], ◌∷◌, ◌++◌, length, refl}
-use Rattle.std.proofs.Common.{ap, ◌∙◌, subst, arith}
-use Rattle.std.specs.Prelude.{slice_get}
+use Rattle.std.proofs.Common.{◌≡◌, ◌⊎◌, inl, inr, ℕ, zero, suc, ◌+◌, Bool, true, false, Option, Some, None, List, []}
+use Rattle.std.proofs.Common.{◌∷◌, ◌++◌, length, refl, ap, sym, ◌∙◌, subst, arith}
+use Rattle.std.proofs.lemmas.Bool.Decides.{eqb_tells}
+use Rattle.std.proofs.lemmas.Option.{same_Some}
+use Rattle.std.specs.Prelude.{◌==◌, ◌≢◌, ◌||◌, slice_get, if◌then◌else◌}
 use Rattle.sw_types.specs.declared.isolation.CallKind.TheVariants as kinds
 use Rattle.sw_types.specs.declared.shape.ShapeKind.{ShapeKind}
 use Rattle.sw_types.specs.declared.shape.ShapeKind.TheVariants as shapes
@@ -10,6 +12,7 @@ use Rattle.sw_graph.specs.declared.function.Function.{Function}
 use Rattle.sw_graph.specs.declared.instr.Instr.TheVariants as instr
 use Rattle.sw_graph.specs.declared.instr.Operand.{Operand}
 use Rattle.sw_decls.specs.declared.signature.Signature.{Signature}
+use Rattle.sw_typing_rules.specs.Worlds.{World, and_then, item}
 use Rattle.sw_typing_rules.specs.declared.row.Meaning.{Meaning}
 use Rattle.sw_typing_rules.specs.declared.row.Meaning.TheVariants as means
 use Rattle.sw_isolation_rules.specs.Uses.{maker_at}
@@ -27,7 +30,7 @@ use Rattle.sw_tree_work.specs.Meanings as works
 use Rattle.sw_tree_work.specs.Work as work
 use Rattle.sw_tree_work.specs.Work.{Before}
 use Rattle.sw_spots.specs.Doing.{Does, used}
-use Rattle.sw_spots.specs.Forms.{ExprStands, ValueStands, facts_of, program}
+use Rattle.sw_spots.specs.Forms.{ExprStands, ValueStands, facts_of, is_declared, program}
 use Rattle.sw_spots.specs.Making.{spot_of}
 use Rattle.sw_spots.specs.Spots.{ClosureCallAt, PrintAt, Program, Stands}
 use Rattle.sw_spots.proofs.Going.{below_rest}
@@ -37,6 +40,39 @@ use Rattle.sw_spots.proofs.Writing.{does_give}
 use Rattle.sw_spots_expr.proofs.Members.{does_make, reads_of_base}
 use Rattle.sw_spots_expr.proofs.Words.{does_call, does_unknown, reads_global, reads_own, reads_self}
 use Rattle.sw_spots_expr.proofs.Words.{reads_var}
+
+same_key : (key : ℕ) → (key == key) ≡ true
+same_key key = by (eqb_tells key key) where
+  by : (((key == key) ≡ true) × (key ≡ key)) ⊎ (((key == key) ≡ false) × (key ≢ key))
+      → (key == key) ≡ true
+  by (inl tells) = tells.0
+  by (inr tells) = absurd (tells.1 refl)
+
+-- The key of a function by its number is that of one that is declared.
+or_true : (one : Bool) → one || true ≡ true
+or_true true = refl
+or_true false = refl
+
+pub declared_at : (funcs : List Signature) (number : ℕ) (func : Signature)
+    → slice_get funcs number ≡ Some func → is_declared funcs func.key.at ≡ true
+declared_at [] number func found = absurd (let c : ⊥ = cc in c)
+declared_at (one ∷ funcs) zero func found =
+    ap (λ key. (one.key.at == key) || is_declared funcs key)
+    (ap (λ (other : Signature). other.key.at) (sym (same_Some one func found)))
+    ∙ ap (λ is. is || is_declared funcs one.key.at) (same_key one.key.at)
+declared_at (one ∷ funcs) (suc number) func found =
+    ap (λ is. (one.key.at == func.key.at) || is) (declared_at funcs number func found)
+    ∙ or_true (one.key.at == func.key.at)
+
+maker_declared : (world : World) (shape : ℕ) (func : Signature) → maker_at world shape ≡ Some func
+    → is_declared world.funcs func.key.at ≡ true
+unfolding maker_at
+maker_declared world shape func found =
+    by (and_then (slice_get world.makers shape) world.numbers) found where
+      by : (number : Option ℕ) → item number world.funcs ≡ Some func
+          → is_declared world.funcs func.key.at ≡ true
+      by None found = absurd (let c : ⊥ = cc in c)
+      by (Some number) found = declared_at world.funcs number func found
 
 module _ (tables : Tables) (numbers : Numbers) (functions : List Function) where
   abbrev p : Program
@@ -91,10 +127,10 @@ module _ (tables : Tables) (numbers : Numbers) (functions : List Function) where
 
   -- functions
   does_signature : (at count : ℕ) (func : Signature) (os : List Operand) (temps : List ℕ)
-      → length os ≡ count
+      → length os ≡ count → is_declared tables.world.funcs func.key.at ≡ true
       → Does p numbers (used os ++ temps) (call_signature tables at os func)
       (works.call_signature (facts_of tables) at count func) (λ o. o.reg ∷ temps)
-  does_signature at count func os temps many =
+  does_signature at count func os temps many is =
       does_number p numbers (used os ++ temps) (plain func.key.at) _
       (works.call_signature (facts_of tables) at count func) (λ o. o.reg ∷ temps)
       (λ f found. does_for_known p numbers (used os ++ temps) kinds.Plain
@@ -102,8 +138,9 @@ module _ (tables : Tables) (numbers : Numbers) (functions : List Function) where
       (λ kind. give at func.result (λ r. instr.Call at r kind f os))
       (λ kind. work.Then (work.Call at kind (work.Function func.key.at) count))
       (λ o. o.reg ∷ temps)
-      (λ kind is. does_call tables numbers functions os temps count at kind
-      (work.Function func.key.at) f func.result many found))
+      (λ kind given. does_call tables numbers functions os temps count at kind
+      (work.Function func.key.at) f func.result many
+      (ap (λ is. and_then (if is then Some (plain func.key.at) else None) numbers) is ∙ found)))
 
   does_func : (at number count : ℕ) (os : List Operand) (temps : List ℕ) → length os ≡ count
       → Does p numbers (used os ++ temps) (call_func tables at number os)
@@ -112,7 +149,9 @@ module _ (tables : Tables) (numbers : Numbers) (functions : List Function) where
   does_func at number count os temps many =
       does_for_known p numbers (used os ++ temps) no_func (slice_get tables.world.funcs number)
       (call_signature tables at os) (works.call_signature (facts_of tables) at count)
-      (λ o. o.reg ∷ temps) (λ func found. does_signature at count func os temps many)
+      (λ o. o.reg ∷ temps)
+      (λ func found. does_signature at count func os temps many
+      (declared_at tables.world.funcs number func found))
 
   -- the receiver lies below the arguments
   does_method : (at number count : ℕ) (me : Operand) (os : List Operand) (temps : List ℕ)
@@ -137,11 +176,15 @@ module _ (tables : Tables) (numbers : Numbers) (functions : List Function) where
   does_maker shapes.Class at shape count os temps many =
       does_for_known p numbers (used os ++ temps) no_func (maker_at tables.world shape)
       (call_signature tables at os) (works.call_signature (facts_of tables) at count)
-      (λ o. o.reg ∷ temps) (λ func found. does_signature at count func os temps many)
+      (λ o. o.reg ∷ temps)
+      (λ func found. does_signature at count func os temps many
+      (maker_declared tables.world shape func found))
   does_maker shapes.Actor at shape count os temps many =
       does_for_known p numbers (used os ++ temps) no_func (maker_at tables.world shape)
       (call_signature tables at os) (works.call_signature (facts_of tables) at count)
-      (λ o. o.reg ∷ temps) (λ func found. does_signature at count func os temps many)
+      (λ o. o.reg ∷ temps)
+      (λ func found. does_signature at count func os temps many
+      (maker_declared tables.world shape func found))
 
   does_made : (at shape count : ℕ) (os : List Operand) (temps : List ℕ) → length os ≡ count
       → Does p numbers (used os ++ temps) (make tables at shape os)

@@ -4,7 +4,6 @@ use Rattle.std.proofs.Common.{◌∷◌, ◌++◌, map, refl, ap, ◌∙◌}
 use Rattle.std.proofs.lemmas.Bool.Decides.{eqb_tells}
 use Rattle.std.specs.List.{AllByRecursion}
 use Rattle.std.specs.Prelude.{◌==◌, ◌≢◌, slice_get, if◌then◌else◌}
-use Rattle.sw_tree.specs.Keys.{block_keys}
 use Rattle.sw_tree.specs.declared.decl.ParamTree.{ParamTree}
 use Rattle.sw_tree.specs.declared.decl.PropTree.{PropTree}
 use Rattle.sw_tree.specs.declared.expr.Expr.{Expr}
@@ -39,6 +38,7 @@ use Rattle.sw_spots_body.proofs.Begun.{IsMade, begins_at}
 use Rattle.sw_spots_body.proofs.Ending.{ends_body}
 use Rattle.sw_spots_body.proofs.Entering.{bounds_of}
 use Rattle.sw_spots_body.proofs.Makers.{HasSelf, ends_first, ends_global, ends_init, ends_part}
+use Rattle.sw_spots_tree.specs.Declared.{block_declared}
 
 -- what is in no box, by its keys
 abbrev pub keys_taken : List Taken → List ℕ
@@ -90,9 +90,9 @@ module _ (tables : Tables) (numbers : Numbers) (functions : List Function) where
 
   -- A function, a method or the entry, if it declares nothing that it takes.
   pub func_stands : (func : Signature) (params : List ParamTree) (block : Block) (number : ℕ)
-      → BlockStands tables numbers functions (IsOne (block_keys block))
+      → BlockStands tables numbers functions (IsOne (block_declared block))
       (block_code tables func.owner block) (block_work (facts_of tables) func.owner block)
-      → ((key : ℕ) → IsOne (block_keys block) key → var_in key (taken_bounds 0 []
+      → ((key : ℕ) → IsOne (block_declared block) key → var_in key (taken_bounds 0 []
       (self_of (facts_of tables) func.owner ++ params_of (facts_of tables) params)) ≡ None)
       → IsMade p numbers (signed tables func (self_taken tables func.owner
       ++ map (param_taken tables) params)
@@ -108,11 +108,11 @@ module _ (tables : Tables) (numbers : Numbers) (functions : List Function) where
       ∙ ap (taken_bounds 0 []) (self_keys func.owner params) in
       begins_at p numbers (signed tables func takes
       (body_code func.result (block_code tables func.owner block)))
-      (AreUnseen p numbers (IsOne (block_keys block)))
+      (AreUnseen p numbers (IsOne (block_declared block)))
       (body_work (Some func.result) (block_work (facts_of tables) func.owner block)) []
       (self_of (facts_of tables) func.owner ++ params_of (facts_of tables) params) (HasIso func.iso)
       number made
-      (ends_body tables numbers functions (IsOne (block_keys block)) func.result (Some func.result)
+      (ends_body tables numbers functions (IsOne (block_declared block)) func.result (Some func.result)
       (block_code tables func.owner block) (block_work (facts_of tables) func.owner block) refl is.work
       is.only)
       (λ s vars key one. ap (var_in key) (vars ∙ bounds) ∙ apart key one) bounds (λ f same. same) named

@@ -1,12 +1,12 @@
 -- The work of each expression, of each statement and of each block stands where its code is.
-use Rattle.std.proofs.Common.{◌≡◌, ℕ, ℤ, inr, inl, Bool, false, Option, Some, None, option_map}
+use Rattle.std.proofs.Common.{◌≡◌, ℕ, ℤ, inl, Bool, false, Option, Some, None, option_map}
 use Rattle.std.proofs.Common.{List, [], ◌∷◌, ◌++◌, map, flat_map, Contains, refl, ap, sym, ◌∙◌, subst}
 use Rattle.std.proofs.Common.{unwrap_or}
 use Rattle.std.specs.List.{AllByRecursion}
 use Rattle.std.specs.Prelude.{not}
 use Rattle.sw_tree.specs.Folds.{Steps, fold_arg, fold_block, fold_case_arm, fold_expr}
 use Rattle.sw_tree.specs.Folds.{fold_if_arm, fold_link, fold_stmt}
-use Rattle.sw_tree.specs.Keys.{Keys, block_keys, expr_keys, joined, key_steps, pattern_keys}
+use Rattle.sw_tree.specs.Keys.{Keys, joined, pattern_keys}
 use Rattle.sw_tree.specs.declared.expr.Arg.{Arg, roll-Arg}
 use Rattle.sw_tree.specs.declared.expr.Closure.{Closure, out-Closure, out-roll-Closure}
 use Rattle.sw_tree.specs.declared.expr.Closure.{roll-out-Closure}
@@ -76,9 +76,10 @@ use Rattle.sw_spots_stmt.proofs.Stating.{passes_joined}
 use Rattle.sw_spots_stmt.proofs.Switching.{CaseStands, DefaultStands, joins_switch}
 use Rattle.sw_spots_body.proofs.Begun.{IsMade, begins_at, closure_bounds}
 use Rattle.sw_spots_body.proofs.Ending.{ends_body}
+use Rattle.sw_spots_tree.specs.Declared.{block_declared, declared_steps, expr_declared}
 use Rattle.sw_spots_tree.specs.Needs.{Needs, params_of}
 use Rattle.sw_spots_tree.proofs.Keys.{down, each_first, each_rest, once_apart, once_first, once_rest}
-use Rattle.sw_spots_tree.proofs.Keys.{one_first, one_rest}
+use Rattle.sw_spots_tree.proofs.Keys.{one_first, one_rest, unseen_held}
 use Rattle.sw_spots_tree.proofs.Lists.{all_so, args_stand, arms_stand, binds_one, cases_stand, leaves_more}
 use Rattle.sw_spots_tree.proofs.Lists.{links_stand, passes_more, patterns_apart, stmts_pass}
 
@@ -116,7 +117,7 @@ module _ (tables : Tables) (numbers : Numbers) (functions : List Function) (owne
   p = program tables numbers functions
 
   abbrev keys : Steps
-  keys = key_steps
+  keys = declared_steps
 
   abbrev codes : Steps
   codes = code_steps tables owner
@@ -205,6 +206,8 @@ module _ (tables : Tables) (numbers : Numbers) (functions : List Function) (owne
       (result : Ty) (given : Option Ty) → StandsIn (of_closure closure) whole
       → map (λ (param : ClosureParam). param.name.at) params ≡ params_of closure
       → gives_value given ≡ not (is_unit result)
+      → ((key : ℕ) → IsOne (fold_block keys (out-Closure closure).body) key
+      → IsOne (params_of closure) key → ⊥)
       → BlockStands tables numbers functions (IsOne (fold_block keys (out-Closure closure).body))
       (fold_block codes (out-Closure closure).body) (fold_block works (out-Closure closure).body)
       → IsMade p numbers (closure_body tables owner (record {
@@ -216,8 +219,8 @@ module _ (tables : Tables) (numbers : Numbers) (functions : List Function) (owne
       → BodyThere tables numbers functions tables.isolation.captures_of (out-Closure closure).at
       (map (λ (param : ClosureParam). param.name.at) params) Is
       (body_work given (fold_block works (out-Closure closure).body))
-  unfolding closure_body block_keys
-  body_there closure params Is result given stands same gives block made is number named =
+  unfolding closure_body block_declared
+  body_there closure params Is result given stands same gives apart block made is number named =
       let out = out-Closure closure in
       let captures = tables.isolation.captures_of out.at in
       let keys_of = map (λ (param : ClosureParam). param.name.at) params in
@@ -231,7 +234,9 @@ module _ (tables : Tables) (numbers : Numbers) (functions : List Function) (owne
       (ends_body tables numbers functions (IsOne (fold_block keys out.body)) result given (fold_block codes out.body)
       (fold_block works out.body) gives block.work block.only)
       (λ s vars key one. ap (var_in key) (vars ∙ bounds
-      ∙ ap (taken_bounds 0 captures) same) ∙ needs.closures closure stands key one) bounds is named
+      ∙ ap (taken_bounds 0 captures) same)
+      ∙ unseen_held 0 captures (params_of closure) key (needs.closures closure stands key one)
+      (apart key one)) bounds is named
 
   -- expressions with bodies in them
   fun_rel : (closure : Closure) → claims.closure closure → StandsIn (of_closure closure) whole
@@ -259,10 +264,8 @@ module _ (tables : Tables) (numbers : Numbers) (functions : List Function) (owne
       }))))
   fun_rel closure goes stands once are =
       let out = out-Closure closure in
-      let block = closure_block closure goes stands
-      (once_rest (map (λ (word : Name). word.at) out.captures
-      ++ map (λ (param : ClosureParam). param.name.at) out.params) (fold_block keys out.body) once.1)
-      are.1 in
+      let own = fold_block keys out.body in
+      let block = closure_block closure goes stands (once_rest (params_of closure) own once) are.1 in
       value_stands tables numbers functions owner out.at _ _ _
       (reads_fun tables numbers functions owner (record {
         at = out.at;
@@ -272,7 +275,9 @@ module _ (tables : Tables) (numbers : Numbers) (functions : List Function) (owne
       (body_work (facts.func_result (tables.answers.type_at out.at)) (fold_block works out.body))
       (body_there closure out.params AnyFunction (fun_result tables owner out.at)
       (facts.func_result (tables.answers.type_at out.at)) stands refl
-      (fun_gives (tables.answers.type_at out.at)) block are.0 (λ f same. tt)))
+      (fun_gives (tables.answers.type_at out.at))
+      (λ key one param. once_apart (params_of closure) own once key param one) block are.0
+      (λ f same. tt)))
 
   spawn_rel : (at : ℕ) (detached : Bool) (closure : Closure) → claims.closure closure
       → StandsIn (of_expr (exprs.Spawn at detached closure)) whole
@@ -302,10 +307,8 @@ module _ (tables : Tables) (numbers : Numbers) (functions : List Function) (owne
       let out = out-Closure closure in
       let here = down (of_closure closure) (of_expr (exprs.Spawn at detached closure)) whole
       (parts.spawn_body at detached closure) stands in
-      let block = closure_block closure goes here
-      (once_rest (map (λ (word : Name). word.at) out.captures
-      ++ map (λ (param : ClosureParam). param.name.at) out.params) (fold_block keys out.body) once.1.1)
-      are.1 in
+      let own = fold_block keys out.body in
+      let block = closure_block closure goes here (once_rest (params_of closure) own once) are.1 in
       value_stands tables numbers functions owner at _ _ _
       (reads_spawn tables numbers functions owner at (record {
         at = out.at;
@@ -316,7 +319,9 @@ module _ (tables : Tables) (numbers : Numbers) (functions : List Function) (owne
       (body_there closure [] (HasIso ((facts_of tables).iso_at out.at)) (spawn_result tables owner at)
       (task_result (tables.answers.type_at at)) here
       (ap (map (λ (param : ClosureParam). param.name.at)) (sym (needs.tasks at detached closure stands)))
-      (task_gives (task_result (tables.answers.type_at at))) block are.0 (λ f same. same)))
+      (task_gives (task_result (tables.answers.type_at at)))
+      (λ key one param. once_apart (params_of closure) own once key param one) block are.0
+      (λ f same. same)))
 
   -- expressions
   int_case : (at : ℕ) (value : ℤ) → claims.expr (exprs.Int at value)
@@ -352,7 +357,7 @@ module _ (tables : Tables) (numbers : Numbers) (functions : List Function) (owne
       (eq.fold_expr-Member codes base name) (eq.fold_expr-Member works base name)
       (λ once are. member_stands tables numbers functions owner (fold_expr codes base)
       (fold_expr works base) name
-      (goes (down _ _ whole (parts.member_base base name) stands) once.1 are))
+      (goes (down _ _ whole (parts.member_base base name) stands) once are))
 
   call_case : (name : Name) (args : List Arg) → AllByRecursion claims.arg args
       → claims.expr (exprs.Call name args)
@@ -363,7 +368,7 @@ module _ (tables : Tables) (numbers : Numbers) (functions : List Function) (owne
       (call_stands tables numbers functions owner name.at (map (fold_arg codes) args)
       (map (fold_arg works) args) []
       (args_so args goes (λ one has. down (of_arg one) _ whole (parts.call_arg name args one has) stands)
-      once.1 are)))
+      once are)))
 
   method_case : (base : Expr) (name : Name) (args : List Arg) → claims.expr base
       → AllByRecursion claims.arg args → claims.expr (exprs.Method base name args)
@@ -378,10 +383,10 @@ module _ (tables : Tables) (numbers : Numbers) (functions : List Function) (owne
       (method_stands tables numbers functions owner name.at (fold_expr codes base) (fold_expr works base)
       (map (fold_arg codes) args) (map (fold_arg works) args)
       (of_base (down _ _ whole (parts.method_base base name args) stands)
-      (once_first own more once.1) (each_first _ inside others are))
+      (once_first own more once) (each_first _ inside others are))
       (args_so args goes
       (λ one has. down (of_arg one) _ whole (parts.method_arg base name args one has) stands)
-      (once_rest own more once.1) (each_rest _ inside others are))))
+      (once_rest own more once) (each_rest _ inside others are))))
 
   chain_case : (first : Expr) (rest : List Link) → claims.expr first
       → AllByRecursion claims.link rest → claims.expr (exprs.Chain first rest)
@@ -411,7 +416,7 @@ module _ (tables : Tables) (numbers : Numbers) (functions : List Function) (owne
       (λ once are. value_stands tables numbers functions owner at _ _ _
       (reads_prefix tables numbers functions op at (fold_expr codes inner).read
       (fold_expr works inner).read
-      (goes (down _ _ whole (parts.prefix_inner op at inner) stands) once.1 are).read))
+      (goes (down _ _ whole (parts.prefix_inner op at inner) stands) once are).read))
 
   await_case : (at : ℕ) (inner : Expr) → claims.expr inner → claims.expr (exprs.Await at inner)
   await_case at inner goes stands =
@@ -420,7 +425,7 @@ module _ (tables : Tables) (numbers : Numbers) (functions : List Function) (owne
       (λ once are. value_stands tables numbers functions owner at _ _ _
       (reads_await tables numbers functions at (fold_expr codes inner).read
       (fold_expr works inner).read
-      (goes (down _ _ whole (parts.await_inner at inner) stands) once.1 are).read))
+      (goes (down _ _ whole (parts.await_inner at inner) stands) once are).read))
 
   fun_case : (closure : Closure) → claims.closure closure → claims.expr (exprs.Fun closure)
   fun_case closure goes stands =
@@ -495,10 +500,10 @@ module _ (tables : Tables) (numbers : Numbers) (functions : List Function) (owne
       (eq.fold_stmt-Assign codes at op place value) (eq.fold_stmt-Assign works at op place value)
       (λ once are.
       let to = of_place (down _ _ whole (parts.assign_place at op place value) stands)
-      (once_first (fold_expr keys place) (fold_expr keys value) once.1) (each_first _ inside others are)
+      (once_first (fold_expr keys place) (fold_expr keys value) once) (each_first _ inside others are)
       in
       let from = of_value (down _ _ whole (parts.assign_value at op place value) stands)
-      (once_rest (fold_expr keys place) (fold_expr keys value) once.1) (each_rest _ inside others are) in
+      (once_rest (fold_expr keys place) (fold_expr keys value) once) (each_rest _ inside others are) in
       joined_so _ (codes.stmt (layer.Assign at op (fold_expr codes place) (fold_expr codes value)))
       (works.stmt (layer.Assign at op (fold_expr works place) (fold_expr works value)))
       (joins_assign p numbers _ op at (fold_expr codes place) (fold_expr works place)
@@ -514,7 +519,7 @@ module _ (tables : Tables) (numbers : Numbers) (functions : List Function) (owne
       (λ once are. joined_so _ (codes.stmt (layer.Discard at (fold_expr codes value)))
       (works.stmt (layer.Discard at (fold_expr works value)))
       (joins_unused p numbers _ (fold_expr codes value).read (fold_expr works value).read
-      (goes (down _ _ whole (parts.discard_value at value) stands) once.1 are).read) tt tt)
+      (goes (down _ _ whole (parts.discard_value at value) stands) once are).read) tt tt)
 
   plain_case : (value : Expr) → claims.expr value → claims.stmt (stmts.Plain value)
   plain_case value goes stands =
@@ -540,7 +545,7 @@ module _ (tables : Tables) (numbers : Numbers) (functions : List Function) (owne
       (λ once are. joined_so _ (codes.stmt (layer.Return at (Some (fold_expr codes value))))
       (works.stmt (layer.Return at (Some (fold_expr works value))))
       (joins_return_value p numbers tables _ (fold_expr codes value).read (fold_expr works value).read
-      (goes (down _ _ whole (parts.return_value at value) stands) once.1 are).read) tt tt)
+      (goes (down _ _ whole (parts.return_value at value) stands) once are).read) tt tt)
 
   break_case : (at : ℕ) → claims.stmt (stmts.Break at)
   break_case at stands =
@@ -625,13 +630,13 @@ module _ (tables : Tables) (numbers : Numbers) (functions : List Function) (owne
       (λ once are. joined_so _
       (codes.stmt (layer.While at (fold_expr codes cond) (fold_block codes body)))
       (works.stmt (layer.While at (fold_expr works cond) (fold_block works body)))
-      (joins_loop p numbers (IsOne (at ∷ front ++ back)) (fold_expr codes cond).read
+      (joins_loop p numbers (IsOne (front ++ back)) (fold_expr codes cond).read
       (fold_block codes body) (fold_expr works cond).read (fold_block works body).work
-      (of_cond (down _ _ whole (parts.while_cond at cond body) stands) (once_first front back once.1)
+      (of_cond (down _ _ whole (parts.while_cond at cond body) stands) (once_first front back once)
       (each_first _ inside others are)).read
-      (leaves_more p numbers (IsOne back) (IsOne (at ∷ front ++ back)) (fold_block codes body).code
-      (fold_block works body).work (λ key one. inr (one_rest front back key one))
-      (of_body (down _ _ whole (parts.while_body at cond body) stands) (once_rest front back once.1)
+      (leaves_more p numbers (IsOne back) (IsOne (front ++ back)) (fold_block codes body).code
+      (fold_block works body).work (λ key one. one_rest front back key one)
+      (of_body (down _ _ whole (parts.while_body at cond body) stands) (once_rest front back once)
       (each_rest _ inside others are)).work)) tt tt)
 
   switch_case : (at : ℕ) (subject : Expr) (arms : List CaseArm) (otherwise : Option Block)
@@ -641,7 +646,7 @@ module _ (tables : Tables) (numbers : Numbers) (functions : List Function) (owne
       let one_keys = fold_expr keys subject in
       let arm_keys = joined (map (fold_case_arm keys) arms) in
       let back = unwrap_or (option_map (fold_block keys) otherwise) [] in
-      let all = at ∷ one_keys ++ arm_keys ++ back in
+      let all = one_keys ++ arm_keys ++ back in
       let inside = (fold_expr codes subject).inside in
       let arm_inside = flat_map (λ (arm : CaseCode). arm.body.inside) (map (fold_case_arm codes) arms) in
       let others = stmt_code.inside_of (option_map (fold_block codes) otherwise) in
@@ -650,7 +655,7 @@ module _ (tables : Tables) (numbers : Numbers) (functions : List Function) (owne
       (eq.fold_stmt-Switch codes at subject arms otherwise)
       (eq.fold_stmt-Switch works at subject arms otherwise)
       (λ once are.
-      let front = once_first (one_keys ++ arm_keys) back once.1 in
+      let front = once_first (one_keys ++ arm_keys) back once in
       let before = each_first (λ body. IsMade p numbers body) (inside ++ arm_inside) others are in
       let one = of_subject (down _ _ whole (parts.switch_subject at subject arms otherwise) stands)
       (once_first one_keys arm_keys front)
@@ -666,7 +671,7 @@ module _ (tables : Tables) (numbers : Numbers) (functions : List Function) (owne
       (cases_stand tables numbers functions (fold_case_arm keys) (fold_case_arm codes)
       (fold_case_arm works) (IsOne all) arms
       (λ key has.
-      inr (one_first (one_keys ++ arm_keys) back key (one_rest one_keys arm_keys key has)))
+      one_first (one_keys ++ arm_keys) back key (one_rest one_keys arm_keys key has))
       (all_so whole (λ body. IsMade p numbers body) of_case_arm (fold_case_arm keys)
       (fold_case_arm codes) (λ (arm : CaseCode). arm.body.inside)
       (λ x. CaseStands p numbers tables (IsOne (fold_case_arm keys x)) (fold_case_arm codes x)
@@ -679,9 +684,9 @@ module _ (tables : Tables) (numbers : Numbers) (functions : List Function) (owne
       (λ block same. down (of_block block) node whole
       (subst (λ o. IsPart (of_block block) (of_stmt (stmts.Switch at subject arms o))) (sym same)
       (parts.switch_otherwise at subject arms block)) stands)
-      (once_rest (one_keys ++ arm_keys) back once.1)
+      (once_rest (one_keys ++ arm_keys) back once)
       (each_rest (λ body. IsMade p numbers body) (inside ++ arm_inside) others are)
-      (λ key has. inr (one_rest (one_keys ++ arm_keys) back key has))))) tt tt)
+      (λ key has. one_rest (one_keys ++ arm_keys) back key has)))) tt tt)
 
   -- the other types of tree
   arg_case : (label : Option Name) (value : Expr) → claims.expr value
@@ -699,7 +704,7 @@ module _ (tables : Tables) (numbers : Numbers) (functions : List Function) (owne
       (λ once are. record {
         op = refl;
         at = refl;
-        read = (goes (down _ _ whole (parts.link_operand op at operand) stands) once.1 are).read;
+        read = (goes (down _ _ whole (parts.link_operand op at operand) stands) once are).read;
       })
 
   if_arm_case : (at : ℕ) (cond : Expr) (body : Block) → claims.expr cond → claims.block body
@@ -713,12 +718,12 @@ module _ (tables : Tables) (numbers : Numbers) (functions : List Function) (owne
       (eq.fold_if_arm-roll codes at cond body) (eq.fold_if_arm-roll works at cond body)
       (λ once are. record {
         cond = (of_cond (down _ _ whole (parts.if_arm_cond at cond body) stands)
-            (once_first front back once.1) (each_first _ inside others are)).read;
-        body = leaves_more p numbers (IsOne back) (IsOne (at ∷ front ++ back))
+            (once_first front back once) (each_first _ inside others are)).read;
+        body = leaves_more p numbers (IsOne back) (IsOne (front ++ back))
             (fold_block codes body).code (fold_block works body).work
-            (λ key one. inr (one_rest front back key one))
+            (λ key one. one_rest front back key one)
             (of_body (down _ _ whole (parts.if_arm_body at cond body) stands)
-            (once_rest front back once.1) (each_rest _ inside others are)).work;
+            (once_rest front back once) (each_rest _ inside others are)).work;
       })
 
   case_arm_case : (name : Name) (patterns : List Pattern) (body : Block) → claims.block body
@@ -831,15 +836,15 @@ module _ (tables : Tables) (numbers : Numbers) (functions : List Function) (owne
   }
 
   -- So it is of each expression and of each block in the tree.
-  pub every_expr_stands : (expr : Expr) → StandsIn (of_expr expr) whole → AreOnce (expr_keys expr)
+  pub every_expr_stands : (expr : Expr) → StandsIn (of_expr expr) whole → AreOnce (expr_declared expr)
       → In (expr_code tables owner expr).inside → ExprStands tables numbers functions
       (expr_code tables owner expr) (expr_work (facts_of tables) owner expr)
-  unfolding expr_keys expr_code expr_work
+  unfolding expr_declared expr_code expr_work
   every_expr_stands expr = every_expr claims cases expr
 
   pub every_block_stands : (block : Block) → StandsIn (of_block block) whole
-      → AreOnce (block_keys block) → In (block_code tables owner block).inside
-      → BlockStands tables numbers functions (IsOne (block_keys block))
+      → AreOnce (block_declared block) → In (block_code tables owner block).inside
+      → BlockStands tables numbers functions (IsOne (block_declared block))
       (block_code tables owner block) (block_work (facts_of tables) owner block)
-  unfolding block_keys block_code block_work
+  unfolding block_declared block_code block_work
   every_block_stands block = every_block claims cases block

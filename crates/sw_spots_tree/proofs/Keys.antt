@@ -4,11 +4,13 @@ use Rattle.std.proofs.Common.{List, [], ◌∷◌, ◌++◌, refl, sym, ◌∙�
 use Rattle.std.proofs.lemmas.Bool.Decides.{eqb_tells}
 use Rattle.std.specs.List.{AllByRecursion, IsDistinct}
 use Rattle.std.specs.Prelude.{◌==◌, ◌≢◌, nat_eq, if◌then◌else◌}
+use Rattle.sw_isolation_rules.specs.declared.note.Capture.{Capture}
 use Rattle.sw_lower_plans.specs.Plan.{var_in}
 use Rattle.sw_tree_facts.specs.Parts.{IsPart, StandsIn, Tree}
 use Rattle.sw_tree_facts.specs.Parts as parts
 use Rattle.sw_spots.specs.Making.{AreOnce, IsOne}
 use Rattle.sw_spots.specs.Spots.{bound_of, taken_bounds}
+use Rattle.sw_spots_tree.specs.Needs.{captured_by}
 
 pub one_first : (xs ys : List ℕ) (key : ℕ) → IsOne xs key → IsOne (xs ++ ys) key
 one_first [] ys key one = absurd one
@@ -62,6 +64,23 @@ unseen_taken r (one ∷ more) key none =
           → var_in key (taken_bounds (suc r) [] more) ≡ None
           → (if is then Some (bound_of one r false) else var_in key (taken_bounds (suc r) [] more))
           ≡ None
+      by true (inl tells) rest = absurd (none (inl (sym tells.1)))
+      by true (inr tells) rest = absurd (let c : ⊥ = (let wrong : true ≡ false = tells.0 in cc) in c)
+      by false tells rest = rest
+
+-- nor is one that isn't captured
+pub unseen_held : (r : ℕ) (captures : List Capture) (takes : List ℕ) (key : ℕ)
+    → (IsOne (captured_by captures) key → ⊥) → (IsOne takes key → ⊥)
+    → var_in key (taken_bounds r captures takes) ≡ None
+unseen_held r [] takes key none taken = unseen_taken r takes key taken
+unseen_held r (one ∷ more) takes key none taken =
+    by (one.variable == key) (eqb_tells one.variable key)
+    (unseen_held (suc r) more takes key (λ other. none (inr other)) taken) where
+      by : (is : Bool)
+          → ((is ≡ true) × (one.variable ≡ key)) ⊎ ((is ≡ false) × (one.variable ≢ key))
+          → var_in key (taken_bounds (suc r) more takes) ≡ None
+          → (if is then Some (bound_of one.variable r one.by_ref)
+          else var_in key (taken_bounds (suc r) more takes)) ≡ None
       by true (inl tells) rest = absurd (none (inl (sym tells.1)))
       by true (inr tells) rest = absurd (let c : ⊥ = (let wrong : true ≡ false = tells.0 in cc) in c)
       by false tells rest = rest
