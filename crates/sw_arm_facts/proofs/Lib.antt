@@ -1,0 +1,3 @@
+pub mod Armless
+pub mod Inner
+pub mod Weighed
