@@ -6,6 +6,7 @@ use Rattle.sw_types.specs.declared.shape.Part.{Part}
 use Rattle.sw_types.specs.declared.shape.Shape.{Shape}
 use Rattle.sw_types.specs.declared.shape.ShapeKind.{ShapeKind}
 use Rattle.sw_types.specs.declared.shape.ShapeKind.TheVariants as shapes
+use Rattle.sw_graph.specs.declared.graph.Graph.{Graph}
 use Rattle.sw_graph.specs.declared.instr.Instr.{Instr}
 use Rattle.sw_graph.specs.declared.instr.Instr.TheVariants as instr
 use Rattle.sw_graph.specs.declared.instr.Operand.{Operand}
@@ -15,6 +16,7 @@ use Rattle.sw_value.specs.declared.cell.HeapCell.TheVariants as cell
 use Rattle.sw_value.specs.declared.cell.Slot.{Slot}
 use Rattle.sw_value.specs.declared.cell.Slot.TheVariants as slots
 use Rattle.sw_value.specs.declared.effect.Effect.TheVariants as effect
+use Rattle.sw_value.specs.declared.state.State.{State}
 use Rattle.sw_value.specs.declared.value.Value.{Value}
 use Rattle.sw_value.specs.declared.value.Value.TheVariants as value
 use Rattle.sw_value.specs.Cell.{slot_of, task_of}
@@ -27,10 +29,10 @@ use Rattle.sw_tree_work.specs.Work as work
 use Rattle.sw_tree_work.specs.Work.{Work}
 use Rattle.sw_tree_step.specs.Acting.{Rests, Waits, Writes, WritesGlobal, adds, besides, given_to, kept_at}
 use Rattle.sw_tree_step.specs.Acting.{kept_by, kept_of, loaded, new_cell, slot_at, writes}
-use Rattle.sw_tree_step.specs.State.{Closed, Kept, TreeCell}
-use Rattle.sw_spots.specs.Spots.{AreParts, Gives, IsInstr, NewAt, reg_given}
+use Rattle.sw_tree_step.specs.State.{Closed, Kept, TreeCell, TreeState}
+use Rattle.sw_spots.specs.Spots.{AreParts, Gives, IsInstr, NewAt, Program, reg_given}
 use Rattle.sw_tree_same.specs.Frames.{AreTemps}
-use Rattle.sw_tree_same.specs.States.{CellsMatch, IsNoClosure}
+use Rattle.sw_tree_same.specs.States.{CellsMatch, IsNoClosure, StatesMatch}
 use Rattle.sw_tree_same.proofs.Computing.{now_is, sets}
 use Rattle.sw_tree_same.proofs.Following.{given, passed}
 use Rattle.sw_tree_same.proofs.Scene.{Does, Follows, Have, Related, Relates, Rest, Scene, has_value}
@@ -80,18 +82,16 @@ no_closure shapes.Enum number parts = tt
 no_closure shapes.Class number parts = tt
 no_closure shapes.Actor number parts = tt
 
-module _ (c : Scene) where
-  pub cell_count : length c.trees.cells ≡ length c.state.cells
-  cell_count = zip_length (CellsMatch c.p) c.trees.cells c.state.cells c.match_states.cells
-
-  -- What is said of a cell is the same, if it is said of no closure.
-  kept_same : {X : Type 0} (f : HeapCell → Option X)
-      → ((number : ℕ) (values : List Value) → f (cell.Closure number values) ≡ None) → (k : ℕ)
-      → option_and_then f (kept_at c.trees k) ≡ option_and_then f (slice_get c.state.cells k)
-  kept_same {X} f none k = by (slice_get c.trees.cells k) (slice_get c.state.cells k)
-      (zip_get (CellsMatch c.p) c.trees.cells c.state.cells k c.match_states.cells) where
+-- What is said of a cell is the same on both machines, if it is said of no closure.
+module _ {X : Type 0} (f : HeapCell → Option X)
+    (none : (number : ℕ) (values : List Value) → f (cell.Closure number values) ≡ None) where
+  pub kept_same : (p : Program) (graph : Graph) (trees : TreeState) (state : State)
+      → StatesMatch p graph trees state → (k : ℕ)
+      → option_and_then f (kept_at trees k) ≡ option_and_then f (slice_get state.cells k)
+  kept_same p graph trees state m k = by (slice_get trees.cells k) (slice_get state.cells k)
+      (zip_get (CellsMatch p) trees.cells state.cells k m.cells) where
         by : (one : Option TreeCell) (other : Option HeapCell)
-            → BothOrNone (CellsMatch c.p) one other
+            → BothOrNone (CellsMatch p) one other
             → option_and_then f (option_and_then kept_of one) ≡ option_and_then f other
         by None None both = refl
         by (Some (Kept one)) (Some other) both = ap f both.0
@@ -100,6 +100,16 @@ module _ (c : Scene) where
         by (Some (Closed key params body env)) (Some other) both = absurd both
         by None (Some other) both = absurd both
         by (Some one) None both = absurd both
+
+module _ (c : Scene) where
+  -- the same of a scene
+  kept_here : {X : Type 0} (f : HeapCell → Option X)
+      → ((number : ℕ) (values : List Value) → f (cell.Closure number values) ≡ None) → (k : ℕ)
+      → option_and_then f (kept_at c.trees k) ≡ option_and_then f (slice_get c.state.cells k)
+  kept_here f none k = kept_same f none c.p c.graph c.trees c.state c.match_states k
+
+  pub cell_count : length c.trees.cells ≡ length c.state.cells
+  cell_count = zip_length (CellsMatch c.p) c.trees.cells c.state.cells c.match_states.cells
 
   -- so it is of the cell of an operand
   pub held_same : {X : Type 0} (f : HeapCell → Option X)
@@ -115,7 +125,7 @@ module _ (c : Scene) where
             → option_and_then f (option_and_then (λ k. slice_get c.state.cells k) reference)
             ≡ option_and_then f (option_and_then (kept_at c.trees) reference)
         by None = refl
-        by (Some k) = sym (kept_same f none k)
+        by (Some k) = sym (kept_here f none k)
 
   pub loaded_same : (slot : Slot) (o : Operand) (r : ℕ) (v : Value) → o.reg ≡ r
       → value_at c.frame.regs r ≡ Some v
@@ -136,7 +146,7 @@ module _ (c : Scene) where
             ≡ option_and_then (λ k. option_map (λ old. k)
             (option_and_then (slot_of slot) (kept_at c.trees k))) reference
         by None = refl
-        by (Some k) = ap (option_map (λ old. k)) (sym (kept_same (slot_of slot) (no_slot slot) k))
+        by (Some k) = ap (option_map (λ old. k)) (sym (kept_here (slot_of slot) (no_slot slot) k))
 
   -- a value is written into a slot
   pub writes_slot : (slot : Slot) (rest : Work) (all : List ℕ) (temps : List Value)

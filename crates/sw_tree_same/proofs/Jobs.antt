@@ -24,7 +24,7 @@ use Rattle.sw_tree_same.specs.States.{JobsMatch, StatusesMatch}
 use Rattle.sw_tree_same.proofs.Stacks.{top_there}
 use Rattle.sw_tree_same.proofs.Zips.{BothOrNone, zip_get}
 
-ended_same : (one : TreeStatus) (other : Status) → StatusesMatch one other
+pub ended_same : (one : TreeStatus) (other : Status) → StatusesMatch one other
     → step.ended_with one ≡ ended_with other
 ended_same state.Ready status.Ready same = refl
 ended_same state.Running status.Running same = refl

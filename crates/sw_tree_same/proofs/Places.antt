@@ -40,19 +40,24 @@ module _ (graph : Graph) (state : State) (depth : ℕ) (frame : Frame) (function
       ap (point_in function) at.point
       ∙ point_of_block function.blocks spot.block block spot.index is inside
 
-  pub instr_here : (instr : Instr) → IsInstr function spot instr
-      → effect_of graph state depth frame
-      ≡ instr_effect graph state depth frame (frame.point + 1) instr
+  -- the instruction that is next
+  pub instr_there : (instr : Instr) → IsInstr function spot instr
+      → point_in function frame.point ≡ Some (Middle instr)
   unfolding instrs_at
-  instr_here instr is =
+  instr_there instr is =
       let found = found_within function.blocks spot.block at.within in
       let block = found.0 in
       let here : slice_get block.instrs spot.index ≡ Some instr =
       ap (λ o. slice_get (instrs_of o) spot.index) (sym found.1) ∙ is in
       let inside = slice_get_within block.instrs spot.index instr here in
-      point_is (Middle instr) (in_block block found.1 (omega (arith, inside))
+      in_block block found.1 (omega (arith, inside))
       ∙ slice_get_before (map Middle block.instrs) (End block.last ∷ []) spot.index (Middle instr)
-      (slice_get-map Middle block.instrs spot.index ∙ ap (option_map Middle) here))
+      (slice_get-map Middle block.instrs spot.index ∙ ap (option_map Middle) here)
+
+  pub instr_here : (instr : Instr) → IsInstr function spot instr
+      → effect_of graph state depth frame
+      ≡ instr_effect graph state depth frame (frame.point + 1) instr
+  instr_here instr is = point_is (Middle instr) (instr_there instr is)
 
   pub last_here : (last : Last) → IsEnd function spot last
       → effect_of graph state depth frame ≡ last_effect graph frame last
