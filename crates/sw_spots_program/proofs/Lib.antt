@@ -1,0 +1,9 @@
+pub mod Ones
+pub mod Declared
+pub mod Outside
+pub mod Needing
+pub mod Making
+pub mod Functions
+pub mod Initialisers
+pub mod Getters
+pub mod Declarations
