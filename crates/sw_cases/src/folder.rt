@@ -16,10 +16,13 @@ pub fn names_in<R: Files + AllocGlobal + Clone + Drop>(
     Ok(names)
 }
 
-/// The paths of the case files of all topics.
-pub fn topic_files<R: Files + AllocGlobal + Clone + Drop>(rt: &R) -> io::Result<Vec<String>> {
+/// The paths of the case files of all topics, which are the folders in a folder.
+pub fn topic_files<R: Files + AllocGlobal + Clone + Drop>(
+    rt: &R,
+    folder: &str,
+) -> io::Result<Vec<String>> {
     let mut paths = Vec::new(rt.alloc());
-    for topic in &names_in(rt, "cases")? {
+    for topic in &names_in(rt, folder)? {
         let mut files = names_in(rt, topic.as_str())?;
         paths.append(&mut files)?;
     }

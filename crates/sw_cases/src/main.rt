@@ -1,8 +1,8 @@
 //! Calls of the tool as data. Each file `data/cases/TOPIC/NAME.case` has the words of a call, its
 //! files and its reply; each file `data/differing/NAME.case` has a reply that its call doesn't
-//! have, and so tests the comparison. The calls that `data/shown.md` shows are made too. The
-//! program prints each call that is wrong, with what the tool replied, and at the end the numbers
-//! of calls.
+//! have, and so tests the comparison. Those in `data/see` are calls of `swiftcheck_see`. The calls
+//! that `data/shown.md` shows are made too. The program prints each call that is wrong, with what
+//! the tool replied, and at the end the numbers of calls.
 //!
 //! Each call of a case in `data/cases` whose first word is `run` is made once more with `trace` in
 //! the place of that word, unless its reply is a refusal, and should have the very same reply. That
@@ -26,7 +26,7 @@ mod transcript;
 
 use case::Case;
 use folder::{files_in, names_in, topic_files};
-use outcome::Outcome;
+use outcome::{Outcome, Program};
 use std::alloc::{AllocError, Global};
 use std::process::ExitCode;
 use std::rt::Files;
@@ -41,7 +41,7 @@ fn run_case<R: Print + AllocGlobal>(
     name: &str,
     case: &Case,
 ) -> io::Result<()> {
-    let outcome = Outcome::of(rt.alloc(), case)?;
+    let outcome = Outcome::of(rt.alloc(), tally.program, case)?;
     let is_reply = outcome.is_reply(case.exit, case.reply.as_slice());
     if tally.count(is_reply) {
         return Ok(());
@@ -115,14 +115,15 @@ fn trace_files<R: Files + Print + AllocGlobal>(
     Ok(())
 }
 
-/// Makes the calls that a document shows, over the files of the examples.
+/// Makes the calls that a document shows by lines that begin so, over the files of the examples.
 fn run_document<R: Files + Print + AllocGlobal + Clone + Drop>(
     rt: &R,
     tally: &mut Tally,
     path: &str,
+    begin: &str,
 ) -> io::Result<()> {
     let text = fs::read_to_string(rt, path)?;
-    for case in shown_calls(rt.alloc(), text.as_str())? {
+    for case in shown_calls(rt.alloc(), begin, text.as_str())? {
         run_shown(rt, tally, path, case)?;
     }
     Ok(())
@@ -149,30 +150,48 @@ fn report<R: Print>(rt: &R, tally: &Tally, what: &str) -> io::Result<u64> {
 
 /// Makes the calls of the cases of all topics, and returns how many are wrong.
 fn all_cases<R: Files + Print + AllocGlobal + Clone + Drop>(rt: &R) -> io::Result<u64> {
-    let mut cases = Tally::new(true);
-    run_files(rt, &mut cases, topic_files(rt)?.as_slice())?;
+    let mut cases = Tally::new(Program::Check, true);
+    run_files(rt, &mut cases, topic_files(rt, "cases")?.as_slice())?;
     report(rt, &cases, "cases")
+}
+
+/// Makes the calls of the cases of `swiftcheck_see`, and returns how many are wrong.
+fn all_seen<R: Files + Print + AllocGlobal + Clone + Drop>(rt: &R) -> io::Result<u64> {
+    let mut seen = Tally::new(Program::See, true);
+    run_files(rt, &mut seen, topic_files(rt, "see")?.as_slice())?;
+    report(rt, &seen, "cases of swiftcheck_see")
 }
 
 /// Makes the calls of the cases with another reply, and returns how many are wrong.
 fn all_differing<R: Files + Print + AllocGlobal + Clone + Drop>(rt: &R) -> io::Result<u64> {
-    let mut differing = Tally::new(false);
+    let mut differing = Tally::new(Program::Check, false);
     run_files(rt, &mut differing, names_in(rt, "differing")?.as_slice())?;
     report(rt, &differing, "cases with another reply")
 }
 
 /// Makes the calls that the documents show, and returns how many are wrong.
 fn all_shown<R: Files + Print + AllocGlobal + Clone + Drop>(rt: &R) -> io::Result<u64> {
-    let mut shown = Tally::new(true);
-    run_document(rt, &mut shown, "shown.md")?;
+    let mut shown = Tally::new(Program::Check, true);
+    run_document(rt, &mut shown, "shown.md", "$ ./swiftcheck ")?;
     report(rt, &shown, "calls that the documents show")
+}
+
+/// Makes the calls of `swiftcheck_see` that the documents show, and returns how many are wrong.
+fn all_shown_seen<R: Files + Print + AllocGlobal + Clone + Drop>(rt: &R) -> io::Result<u64> {
+    let mut shown = Tally::new(Program::See, true);
+    run_document(rt, &mut shown, "shown.md", "$ swiftcheck_see ")?;
+    report(
+        rt,
+        &shown,
+        "calls of swiftcheck_see that the documents show",
+    )
 }
 
 /// Makes the calls of the cases of all topics with `trace` in the place of `run`, and returns how
 /// many are wrong.
 fn all_traced<R: Files + Print + AllocGlobal + Clone + Drop>(rt: &R) -> io::Result<u64> {
-    let mut traced = Tally::new(true);
-    trace_files(rt, &mut traced, topic_files(rt)?.as_slice())?;
+    let mut traced = Tally::new(Program::Check, true);
+    trace_files(rt, &mut traced, topic_files(rt, "cases")?.as_slice())?;
     report(rt, &traced, "cases of run with the same reply by trace")
 }
 
@@ -181,7 +200,9 @@ fn run_all<R: Files + Print + AllocGlobal + Clone + Drop>(rt: &R) -> io::Result<
     let wrong = all_cases(rt)?;
     let wrong = wrong.saturating_add(all_differing(rt)?);
     let wrong = wrong.saturating_add(all_shown(rt)?);
-    Ok(wrong.saturating_add(all_traced(rt)?))
+    let wrong = wrong.saturating_add(all_traced(rt)?);
+    let wrong = wrong.saturating_add(all_seen(rt)?);
+    Ok(wrong.saturating_add(all_shown_seen(rt)?))
 }
 
 fn main(rt: HostRuntime) -> io::Result<ExitCode> {

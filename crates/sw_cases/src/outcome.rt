@@ -2,8 +2,33 @@ ghost use Rattle.std.specs.Prelude.{◌≡◌, ◌↔◌, IsTrue, Some, IfSome};
 
 use crate::case::Case;
 use std::alloc::{AllocError, Global};
-use sw_check::run_words;
 use sw_outside::{MemShelf, MemSink};
+use sw_see::Exit;
+
+/// The program of which a call is.
+#[derive(Clone, Copy)]
+pub enum Program {
+    /// `swiftcheck`
+    Check,
+    /// `swiftcheck_see`
+    See,
+}
+
+impl Program {
+    /// Answers words over files in memory, and writes the reply into a sink in memory.
+    fn run_words(
+        self,
+        alloc: Global,
+        words: &Vec<String>,
+        shelf: &mut MemShelf,
+        sink: &mut MemSink,
+    ) -> Exit {
+        match self {
+            Program::Check => sw_check::run_words(alloc, words, shelf, sink),
+            Program::See => sw_see::run_words(alloc, words, shelf, sink),
+        }
+    }
+}
 
 /// The files of a case in memory.
 fn shelf_of(alloc: Global, case: &Case) -> Result<MemShelf, AllocError> {
@@ -23,11 +48,13 @@ pub struct Outcome {
 
 impl Outcome {
     /// Makes the call of a case over its files in memory.
-    pub fn of(alloc: Global, case: &Case) -> Result<Outcome, AllocError> {
+    pub fn of(alloc: Global, program: Program, case: &Case) -> Result<Outcome, AllocError> {
         let mut shelf = shelf_of(alloc, case)?;
         let sink = &case.sink;
         let mut sink = MemSink::new(alloc, sink.step.max(1), sink.fails.as_slice(), sink.room)?;
-        let exit = run_words(alloc, &case.words, &mut shelf, &mut sink).status();
+        let exit = program
+            .run_words(alloc, &case.words, &mut shelf, &mut sink)
+            .status();
         let bytes = Vec::from_slice(alloc, sink.bytes())?;
         Ok(Outcome { exit, bytes })
     }

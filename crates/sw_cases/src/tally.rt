@@ -1,8 +1,12 @@
 ghost use Rattle.std.specs.Prelude.{◌≡◌};
 
+use crate::outcome::Program;
+
 /// How many calls were made, and how many of them were wrong.
 #[derive(Drop)]
 pub struct Tally {
+    /// The program that is called.
+    pub program: Program,
     /// Whether each call should have the reply of its case.
     should_have_reply: bool,
     pub calls: u64,
@@ -10,8 +14,9 @@ pub struct Tally {
 }
 
 impl Tally {
-    pub fn new(should_have_reply: bool) -> Tally {
+    pub fn new(program: Program, should_have_reply: bool) -> Tally {
         Tally {
+            program,
             should_have_reply,
             calls: 0,
             wrong: 0,
